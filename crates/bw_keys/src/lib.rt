@@ -1,0 +1,10 @@
+//! Keys, fences, ranges, page ids, versions and the configuration of a table.
+#![tactic(auto)]
+
+mod config;
+mod page;
+mod range;
+
+pub use config::{BadConfig, Config, Field};
+pub use page::{MAX_DEPTH, MAX_LEVEL, Pid, Version};
+pub use range::{Fence, Key, Range};

@@ -1,0 +1,82 @@
+ghost use Rattle.std.specs.Prelude.{◌<◌, ◌↔◌, IsTrue};
+ghost use Rattle.bw_keys.specs.Ranges.{Holds, end_of};
+
+use std::fmt;
+
+/// A key of the map. Every u64 is one, 2^64 - 1 included.
+pub type Key = u64;
+
+/// Where a range ends: before a key, or above every key.
+#[derive(Clone, Copy, Debug, PartialEq, Eq, PartialOrd, Ord, Hash)]
+pub enum Fence {
+    /// The range ends before this key.
+    Key(Key),
+    /// The range has every key from its low on.
+    Top,
+}
+
+impl Fence {
+    /// Whether the key lies below the fence. Every key lies below `Top`.
+    pub fn is_above(self, key: Key) -> bool
+        ensures { IsTrue result ↔ (key < end_of self) }
+    {
+        match self {
+            Fence::Key(high) => key < high,
+            Fence::Top => true,
+        }
+    }
+}
+
+impl fmt::Display for Fence {
+    fn fmt<W: fmt::Write>(&self, f: &mut fmt::Formatter<W>) -> fmt::Result {
+        match self {
+            Fence::Key(high) => write!(f, "{high}"),
+            Fence::Top => f.write_str("top"),
+        }
+    }
+}
+
+/// The keys from `low` on and below `high`.
+#[derive(Clone, Copy, Debug, PartialEq, Eq, Hash)]
+pub struct Range {
+    /// The least key of the range, if the range has any.
+    pub low: Key,
+    /// Where the range ends.
+    pub high: Fence,
+}
+
+impl Range {
+    /// Whether the key is one of the range.
+    pub fn holds(self, key: Key) -> bool
+        ensures { IsTrue result ↔ Holds self key }
+    {
+        self.low <= key && self.high.is_above(key)
+    }
+}
+
+#[cfg(test)]
+mod tests {
+    use super::*;
+
+    #[test]
+    fn the_last_key_lies_below_top_alone(rt: HostRuntime) {
+        let below_last = Range {
+            low: 3,
+            high: Fence::Key(u64::MAX),
+        };
+        let to_top = Range {
+            low: 3,
+            high: Fence::Top,
+        };
+        for (key, in_first, in_second) in [
+            (2, false, false),
+            (3, true, true),
+            (u64::MAX - 1, true, true),
+            (u64::MAX, false, true),
+        ] {
+            assert_eq!(rt; below_last.holds(key), in_first, "at {key}");
+            assert_eq!(rt; to_top.holds(key), in_second, "at {key}");
+        }
+        assert!(rt; Fence::Key(u64::MAX) < Fence::Top);
+    }
+}
