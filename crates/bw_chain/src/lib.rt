@@ -1,0 +1,18 @@
+//! What one delta chain says: search, consolidation, halving and comparison.
+//!
+//! A chain is read from its newest record down to a base page (Levandoski et al., ICDE 2013;
+//! Wang et al., "Building a Bw-Tree Takes More Than Just Buzz Words", SIGMOD 2018). Only
+//! [`consolidate`] and [`halve`] take memory.
+#![tactic(auto)]
+
+mod change;
+mod plain;
+mod search;
+mod shape;
+mod sorted;
+mod value;
+mod walk;
+
+pub use plain::consolidate;
+pub use search::find;
+pub use shape::{depth, fences, is_leaf};

@@ -1,0 +1,92 @@
+ghost use Rattle.std.specs.Prelude.{◌≡◌, ◌↔◌, IsTrue};
+ghost use Rattle.bw_chain.specs.Ascends.{IsAscending};
+
+use crate::change::Change;
+use bw_delta::{Base, Delta, Entries};
+use bw_keys::{Key, Pid};
+use std::alloc::Allocator;
+
+/// What an entry has beside its key: the number of a pair, or the page of a route. What a chain
+/// says is worked out once for both.
+pub(crate) trait EntryValue: Copy {
+    ghost use Rattle.std.specs.Prelude.{ℕ, List};
+    ghost use Rattle.bw_delta.specs.Pages.{Listed};
+    ghost use Rattle.bw_delta.specs.declared.chain.Delta.{Delta};
+    ghost use Rattle.bw_chain.specs.declared.change.Change.{Change};
+
+    /// The entries of this kind that a page lists.
+    ghost own_entries: { Listed → List (ℕ × Self) };
+
+    /// What a record changes of them.
+    ghost own_change: { Delta → Change Self };
+
+    /// The entries of this kind on a base page.
+    fn entries_on<A: Allocator>(base: &Base<A>) -> &[(Key, Self)]
+        ensures listed { result.now ≡ own_entries base.now.listed }
+        ensures ascending { IsAscending result.now };
+
+    /// What the record changes of the entries below it.
+    fn change_by(delta: Delta) -> Change<Self>
+        ensures { result ≡ own_change delta };
+
+    fn is_same(self, other: Self) -> bool
+        ensures { IsTrue result ↔ (self ≡ other) };
+}
+
+impl EntryValue for u64 {
+    ghost use Rattle.bw_delta.specs.Pairs.{pairs_listed};
+    ghost use Rattle.bw_chain.specs.Changes.{pair_change};
+
+    ghost own_entries = { pairs_listed };
+
+    ghost own_change = { pair_change };
+
+    fn entries_on<A: Allocator>(base: &Base<A>) -> &[(Key, u64)] {
+        match &base.entries {
+            Entries::Pairs(pairs) => pairs,
+            Entries::Routes(_) => &[],
+        }
+    }
+
+    fn change_by(delta: Delta) -> Change<u64> {
+        match delta {
+            Delta::Insert(key, value) => Change::Put(key, value),
+            Delta::Delete(key) => Change::Without(key),
+            Delta::Split(separator, _) => Change::Below(separator),
+            Delta::Remove | Delta::TermAdd(_, _) | Delta::TermDelete(_) => Change::Nothing,
+        }
+    }
+
+    fn is_same(self, other: u64) -> bool {
+        self == other
+    }
+}
+
+impl EntryValue for Pid {
+    ghost use Rattle.bw_delta.specs.Pairs.{routes_listed};
+    ghost use Rattle.bw_chain.specs.Changes.{route_change};
+
+    ghost own_entries = { routes_listed };
+
+    ghost own_change = { route_change };
+
+    fn entries_on<A: Allocator>(base: &Base<A>) -> &[(Key, Pid)] {
+        match &base.entries {
+            Entries::Pairs(_) => &[],
+            Entries::Routes(routes) => routes,
+        }
+    }
+
+    fn change_by(delta: Delta) -> Change<Pid> {
+        match delta {
+            Delta::TermAdd(separator, child) => Change::Put(separator, child),
+            Delta::TermDelete(separator) => Change::Without(separator),
+            Delta::Split(separator, _) => Change::Below(separator),
+            Delta::Remove | Delta::Insert(_, _) | Delta::Delete(_) => Change::Nothing,
+        }
+    }
+
+    fn is_same(self, other: Pid) -> bool {
+        self == other
+    }
+}

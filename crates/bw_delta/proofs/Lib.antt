@@ -1,0 +1,4 @@
+pub mod Following
+pub mod At
+pub mod Rises
+pub mod Stands

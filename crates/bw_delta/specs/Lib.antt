@@ -1,0 +1,9 @@
+pub mod Entries
+pub mod Pages
+pub mod Records
+pub mod Codes
+pub mod PageView
+pub mod RecordsView
+pub mod Fence
+pub mod Pairs
+pub mod Sound

@@ -1,0 +1,59 @@
+-- Which chains are sound, and the page that a sound chain stands for.
+use Rattle.std.specs.Prelude.{◌≡◌, ℕ, ◌+◌, ◌<◌, ◌≤◌, Bool, true, false, if◌then◌else◌, length}
+use Rattle.bw_keys.specs.declared.range.Fence.TheVariants.{Key}
+use Rattle.bw_keys.specs.declared.page.TheConstants.{MAX_DEPTH}
+use Rattle.bw_keys.specs.Ranges.{end_of}
+use Rattle.bw_delta.specs.declared.chain.Delta.{Delta}
+use Rattle.bw_delta.specs.declared.chain.Delta.TheVariants.{Insert, Delete, Split, Remove, TermAdd, TermDelete}
+use Rattle.bw_delta.specs.declared.chain.Merging.{Merging}
+use Rattle.bw_delta.specs.declared.fences.Fences.{Fences}
+use Rattle.bw_delta.specs.Pages.{Page, Listed, IsPage, pairs_of, routes_of}
+use Rattle.bw_delta.specs.Records.{Records, bare, above, merged, depth}
+use Rattle.bw_delta.specs.Fence.{fences, is_leaf}
+use Rattle.bw_delta.specs.Pairs.{pairs, routes}
+
+-- the key lies in the range
+pub record LiesIn (key : ℕ) (fence : Fences) : Type 0 where
+  pub from_low : fence.low ≤ key
+  pub below_high : key < end_of fence.high
+
+-- the record may stand over a chain with this fence, of a leaf or not
+abbrev pub MayStandOver : Delta → Fences → Bool → Type 0
+MayStandOver (Insert key value) fence leaf = (leaf ≡ true) × LiesIn key fence
+MayStandOver (Delete key) fence leaf = (leaf ≡ true) × LiesIn key fence
+MayStandOver (Split separator right) fence leaf = (fence.low < separator) × LiesIn separator fence
+MayStandOver Remove fence leaf = Unit {0}
+MayStandOver (TermAdd separator child) fence leaf = (leaf ≡ false) × LiesIn separator fence
+MayStandOver (TermDelete separator) fence leaf = (leaf ≡ false) × LiesIn separator fence
+
+-- the halves of a merge meet at its separator, and it ends where the right half does
+pub record Joins (merging : Merging) (left right : Fences) : Type 0 where
+  pub left_ends : left.high ≡ Key merging.separator
+  pub right_begins : right.low ≡ merging.separator
+  pub same_high : right.high ≡ merging.high
+  pub same_right : right.right ≡ merging.right
+
+-- each record may stand where it stands
+abbrev pub IsWellBuilt : Records → Type 0
+IsWellBuilt (bare page) = IsPage page
+IsWellBuilt (above delta chain) = IsWellBuilt chain × MayStandOver delta (fences chain) (is_leaf chain)
+IsWellBuilt (merged merging left right) = IsWellBuilt left × IsWellBuilt right × (is_leaf left ≡ is_leaf right) × Joins merging (fences left) (fences right)
+
+pub record IsSound (chain : Records) : Type 0 where
+  pub built : IsWellBuilt chain
+  pub not_deep : depth chain ≤ MAX_DEPTH
+
+-- what a chain lists: pairs where it is a leaf's, and routes otherwise
+abbrev pub listed_for : Bool → Records → Listed
+listed_for leaf chain = if leaf then pairs_of (pairs chain) else routes_of (routes chain)
+
+abbrev pub page_with : Fences → Listed → Page
+page_with fence listed = record { low = fence.low; high = fence.high; right = fence.right; listed = listed }
+
+-- the base page with all of a chain's effects
+abbrev pub page_for : Records → Page
+page_for chain = page_with (fences chain) (listed_for (is_leaf chain) chain)
+
+-- how many pairs or routes the chain has; one of the lists is empty
+abbrev pub entry_count : Records → ℕ
+entry_count chain = length (pairs chain) + length (routes chain)

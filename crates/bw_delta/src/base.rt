@@ -1,0 +1,145 @@
+ghost use Rattle.std.specs.Prelude.{◌≡◌, ◌↔◌, [], Err, None, IfOk, false};
+ghost use Rattle.bw_keys.specs.declared.range.Fence.TheVariants.{Top};
+ghost use Rattle.bw_keys.specs.Ranges.{end_of};
+ghost use Rattle.bw_delta.specs.Entries.{rises};
+ghost use Rattle.bw_delta.specs.Pages.{pairs_of, routes_of, is_page};
+
+use crate::fault::{BaseFault, NoMemory};
+use bw_keys::{Fence, Key, Pid};
+use std::alloc::Allocator;
+use std::marker::Model;
+
+/// A base page: the pairs of a leaf or the routes of an inner page, with strictly rising keys
+/// inside its range.
+#[derive(Drop)]
+pub struct Base<A: Allocator> {
+    /// The least key of the range.
+    pub low: Key,
+    /// Where the range ends.
+    pub high: Fence,
+    /// The page to the right, if there is one.
+    pub right: Option<Pid>,
+    pub entries: Entries<A>,
+}
+
+/// What a base page lists.
+#[derive(Drop)]
+pub enum Entries<A: Allocator> {
+    /// The keys and values of a leaf.
+    Pairs(Vec<(Key, u64), A>),
+    /// The separators of an inner page, each with the page that is searched from it on.
+    Routes(Vec<(Key, Pid), A>),
+}
+
+impl<A: Allocator> Model for Base<A> {
+    ghost use Rattle.bw_delta.specs.Pages.{Page, IsPage};
+    ghost use Rattle.bw_delta.specs.Codes.{page_code};
+
+    ghost Value = { Page };
+
+    ghost coded = { page_code };
+
+    ghost use Rattle.bw_delta.specs.PageView.{page_of};
+
+    ghost view = { λ b. page_of b.low b.high b.right b.entries };
+
+    ghost invariant = { λ b. IsPage (page_of b.low b.high b.right b.entries) };
+}
+
+impl<A: Allocator + Copy> Base<A> {
+    /// The leaf for all keys that has no pairs. It takes no memory.
+    pub fn empty(alloc: A) -> Base<A>
+        ensures { result ≡ record { low = 0; high = Top; right = None; listed = pairs_of [] } }
+    {
+        Base {
+            low: 0,
+            high: Fence::Top,
+            right: None,
+            entries: Entries::Pairs(Vec::new(alloc)),
+        }
+    }
+
+    /// A leaf with these pairs.
+    pub fn leaf(
+        alloc: A,
+        low: Key,
+        high: Fence,
+        right: Option<Pid>,
+        entries: &[(Key, u64)],
+    ) -> Result<Base<A>, BaseFault>
+        ensures ok { IfOk result (λ base. base ≡ record { low = low; high = high; right = right; listed = pairs_of entries.now }) }
+        ensures bad { (result ≡ Err BaseFault.BadEntries) ↔ (is_page (record { low = low; high = high; right = right; listed = pairs_of entries.now }) ≡ false) }
+    {
+        if !high.is_above(low) || !rises_inside(low, high, entries) {
+            return Err(BaseFault::BadEntries);
+        }
+        let Ok(pairs) = Vec::from_slice(alloc, entries) else {
+            return Err(BaseFault::NoMemory);
+        };
+        Ok(Base {
+            low,
+            high,
+            right,
+            entries: Entries::Pairs(pairs),
+        })
+    }
+
+    /// An inner page with these routes.
+    pub fn inner(
+        alloc: A,
+        low: Key,
+        high: Fence,
+        right: Option<Pid>,
+        entries: &[(Key, Pid)],
+    ) -> Result<Base<A>, BaseFault>
+        ensures ok { IfOk result (λ base. base ≡ record { low = low; high = high; right = right; listed = routes_of entries.now }) }
+        ensures bad { (result ≡ Err BaseFault.BadEntries) ↔ (is_page (record { low = low; high = high; right = right; listed = routes_of entries.now }) ≡ false) }
+    {
+        if !high.is_above(low) || !rises_inside(low, high, entries) {
+            return Err(BaseFault::BadEntries);
+        }
+        let Ok(routes) = Vec::from_slice(alloc, entries) else {
+            return Err(BaseFault::NoMemory);
+        };
+        Ok(Base {
+            low,
+            high,
+            right,
+            entries: Entries::Routes(routes),
+        })
+    }
+
+    /// An equal base with memory of its own.
+    pub fn copy_in(&self, alloc: A) -> Result<Base<A>, NoMemory>
+        ensures { IfOk result (λ copy. copy ≡ self.now) }
+    {
+        let entries = match &self.entries {
+            Entries::Pairs(pairs) => Entries::Pairs(Vec::from_slice(alloc, pairs)?),
+            Entries::Routes(routes) => Entries::Routes(Vec::from_slice(alloc, routes)?),
+        };
+        Ok(Base {
+            low: self.low,
+            high: self.high,
+            right: self.right,
+            entries,
+        })
+    }
+}
+
+/// Whether the keys rise strictly from `low` on, and stay below `high`.
+fn rises_inside<X>(low: Key, high: Fence, entries: &[(Key, X)]) -> bool
+    ensures { result ≡ rises low (end_of high) entries.now }
+{
+    let mut last: Option<Key> = None;
+    for (key, _) in entries {
+        let follows = match last {
+            None => low <= *key,
+            Some(last) => last < *key,
+        };
+        if !follows || !high.is_above(*key) {
+            return false;
+        }
+        last = Some(*key);
+    }
+    true
+}

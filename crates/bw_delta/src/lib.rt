@@ -1,0 +1,15 @@
+//! Base pages and the delta chains over them (Levandoski et al., ICDE 2013, "delta updating").
+//!
+//! A change of a page is a record on top of its chain. A chain holds itself through boxes, so a
+//! record goes on top by a swap into a box that was prepared before: it takes no memory.
+#![tactic(auto)]
+
+mod base;
+mod chain;
+mod fault;
+mod fences;
+
+pub use base::{Base, Entries};
+pub use chain::{Chain, Delta, Merging, Node, Spare};
+pub use fault::{BaseFault, NoMemory};
+pub use fences::Fences;

@@ -1,0 +1,145 @@
+-- What an accepted step makes of the table, and its receipt.
+use Rattle.std.specs.Prelude.{◌≡◌, ℕ, suc, ◌+◌, ◌-◌, ◌==◌, max, if◌then◌else◌, List, [], ◌∷◌, ◌++◌, Option, Some, None, option_map, unwrap_or, slice_set}
+use Rattle.bw_keys.specs.declared.range.Fence.{Fence}
+use Rattle.bw_keys.specs.declared.range.Fence.TheVariants.{Key, Top}
+use Rattle.bw_keys.specs.declared.page.Pid.{Pid}
+use Rattle.bw_delta.specs.declared.chain.Delta.{Delta}
+use Rattle.bw_delta.specs.declared.chain.Delta.TheVariants.{Insert, Delete, Split, Remove, TermAdd, TermDelete}
+use Rattle.bw_delta.specs.declared.chain.Merging.{Merging}
+use Rattle.bw_delta.specs.Entries.{at}
+use Rattle.bw_delta.specs.Pages.{Page, listed_length}
+use Rattle.bw_delta.specs.Records.{Records, bare, above, merged}
+use Rattle.bw_step.specs.declared.receipt.Kind.TheVariants as kinds
+use Rattle.bw_step.specs.declared.receipt.Receipt.{Receipt}
+use Rattle.bw_step.specs.declared.receipt.Receipt.TheVariants.{Inserted, Deleted, Shaped}
+use Rattle.bw_step.specs.declared.view.Stage.{Stage}
+use Rattle.bw_step.specs.declared.view.Stage.TheVariants.{Unposted, Posted, Marked, Merged}
+use Rattle.bw_step.specs.Proposals.{Proposal, insert, delete, consolidate, split, term_add, grow, mark, merge, term_delete}
+use Rattle.bw_law.specs.Slots.{SlotValue, free_slot, pairs_in, last_number}
+use Rattle.bw_law.specs.Tables.{TableValue, slot_at, number_of}
+use Rattle.bw_law.specs.Refusals.{new_id, all_but_last}
+
+-- the slot with a record more on its chain, and the count that this makes
+abbrev pub with_record : Delta → ℕ → SlotValue → SlotValue
+with_record delta count slot = record slot { version = suc slot.version; count = count; depth = suc slot.depth; chain = option_map (above delta) slot.chain }
+
+abbrev pub with_stage : Stage → SlotValue → SlotValue
+with_stage stage slot = record slot { version = suc slot.version; stage = stage }
+
+-- the base alone, which lists what the chain did
+abbrev pub consolidated : Page → SlotValue → SlotValue
+consolidated base slot = record slot { version = suc slot.version; depth = 0; chain = Some (bare base) }
+
+-- the page below the separator, when the base goes to the new page
+abbrev pub lower_half : ℕ → Pid → Page → SlotValue → SlotValue
+lower_half separator new base slot =
+    record (with_record (Split separator new) (slot.count - listed_length base.listed) slot) { high = Key separator; right = Some new }
+
+-- the new page, in a slot that had the version
+abbrev pub upper_half : ℕ → ℕ → Page → SlotValue → SlotValue
+upper_half version separator base slot = record {
+  version = suc version;
+  stage = Unposted;
+  low = separator;
+  high = slot.high;
+  right = slot.right;
+  level = slot.level;
+  count = listed_length base.listed;
+  depth = 0;
+  chain = Some (bare base);
+}
+
+-- the new root, in a slot that had the version, one level above the old one
+abbrev pub grown_root : ℕ → ℕ → Page → SlotValue
+grown_root version level base =
+    record (free_slot (suc version)) { stage = Posted; level = suc level; count = listed_length base.listed; chain = Some (bare base) }
+
+abbrev pub marked : SlotValue → SlotValue
+marked slot = record (with_record Remove slot.count slot) { stage = Marked }
+
+abbrev pub merging_of : SlotValue → Merging
+merging_of slot = record { separator = slot.low; high = slot.high; right = slot.right }
+
+abbrev pub merged_chains : Merging → Option Records → Option Records → Option Records
+merged_chains merging None taken = None
+merged_chains merging (Some left) None = None
+merged_chains merging (Some left) (Some taken) = Some (merged merging left taken)
+
+-- the left page, once it has taken in the other
+abbrev pub joined : SlotValue → SlotValue → SlotValue
+joined into slot = record into {
+  version = suc into.version;
+  high = slot.high;
+  right = slot.right;
+  count = into.count + slot.count;
+  depth = suc (max into.depth slot.depth);
+  chain = merged_chains (merging_of slot) into.chain slot.chain;
+}
+
+-- the page that was taken in keeps its low and its level, until its term is taken out
+abbrev pub taken_in : SlotValue → SlotValue
+taken_in slot = record (free_slot (suc slot.version)) { stage = Merged; low = slot.low; level = slot.level }
+
+-- a page whose version is used up isn't given again
+abbrev pub freed : List ℕ → ℕ → ℕ → List ℕ
+freed free page version = if version == last_number then free else free ++ page ∷ []
+
+abbrev pub pid : ℕ → Pid
+pid page = record { 0 = page }
+
+-- the table after an accepted step
+abbrev pub after : TableValue → Proposal → TableValue
+after table (insert page seen key value) =
+    let slot = slot_at table page in
+    record table { slots = slice_set table.slots page (with_record (Insert key value) (suc slot.count) slot); book = record table.book { inserted = suc table.book.inserted } }
+after table (delete page seen key) =
+    let slot = slot_at table page in
+    record table { slots = slice_set table.slots page (with_record (Delete key) (slot.count - 1) slot); book = record table.book { removed = suc table.book.removed } }
+after table (consolidate page seen base) = record table { slots = slice_set table.slots page (consolidated base (slot_at table page)) }
+after table (split page seen separator base) =
+    let slot = slot_at table page in
+    let new = new_id table in
+    record table {
+      slots = slice_set (slice_set table.slots page (lower_half separator (pid new) base slot)) new (upper_half (slot_at table new).version separator base slot);
+      free = all_but_last table.free;
+    }
+after table (term_add parent parent_seen child child_seen) =
+    let over = slot_at table parent in
+    let under = slot_at table child in
+    record table { slots = slice_set (slice_set table.slots parent (with_record (TermAdd under.low (pid child)) (suc over.count) over)) child (with_stage Posted under) }
+after table (grow child seen base) =
+    let new = new_id table in
+    record table {
+      slots = slice_set (slice_set table.slots child (with_stage Posted (slot_at table child))) new
+          (grown_root (slot_at table new).version (slot_at table table.root).level base);
+      root = new;
+      free = all_but_last table.free;
+    }
+after table (mark page seen parent) = record table { slots = slice_set table.slots page (marked (slot_at table page)) }
+after table (merge left left_seen page seen) =
+    let into = slot_at table left in
+    let slot = slot_at table page in
+    record table { slots = slice_set (slice_set table.slots left (joined into slot)) page (taken_in slot) }
+after table (term_delete parent parent_seen child child_seen) =
+    let over = slot_at table parent in
+    let under = slot_at table child in
+    record table {
+      slots = slice_set (slice_set table.slots parent (with_record (TermDelete under.low) (over.count - 1) over)) child (free_slot (suc under.version));
+      free = freed table.free child (suc under.version);
+    }
+
+abbrev pub receipt_of : TableValue → Proposal → Receipt
+receipt_of table (insert page seen key value) = Inserted (suc (number_of table.book)) key value
+receipt_of table (delete page seen key) = Deleted (suc (number_of table.book)) key (unwrap_or (at key (pairs_in (slot_at table page))) 0)
+receipt_of table (consolidate page seen base) = Shaped kinds.Consolidate (pid page) None
+receipt_of table (split page seen separator base) = Shaped kinds.Split (pid page) (Some (pid (new_id table)))
+receipt_of table (term_add parent parent_seen child child_seen) = Shaped kinds.TermAdd (pid parent) (Some (pid child))
+receipt_of table (grow child seen base) = Shaped kinds.Grow (pid (new_id table)) (Some (pid child))
+receipt_of table (mark page seen parent) = Shaped kinds.Mark (pid page) None
+receipt_of table (merge left left_seen page seen) = Shaped kinds.Merge (pid left) (Some (pid page))
+receipt_of table (term_delete parent parent_seen child child_seen) = Shaped kinds.TermDelete (pid parent) (Some (pid child))
+
+-- the accepted step leads from the old table to the new one, and this is its receipt
+pub record TakesStep (old : TableValue) (step : Proposal) (receipt : Receipt) (new : TableValue) : Type 0 where
+  pub leads : new ≡ after old step
+  pub told : receipt ≡ receipt_of old step

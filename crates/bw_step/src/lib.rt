@@ -1,0 +1,17 @@
+//! The plain types that a mapping table is asked and answers with: places and views of pages,
+//! proposed steps, receipts of accepted ones, and the reasons why a step is refused.
+#![tactic(auto)]
+
+mod place;
+mod receipt;
+mod refused;
+mod step;
+mod survey;
+mod view;
+
+pub use place::{Go, Next, Place, Todo};
+pub use receipt::{Kind, Receipt};
+pub use refused::Refused;
+pub use step::Step;
+pub use survey::{Book, Leaf, Survey};
+pub use view::{Look, Stage, View};
