@@ -160,12 +160,7 @@ impl<A: Allocator + Copy> Chain<A> {
         ensures { IfOk result (λ copy. copy ≡ self.now) }
     {
         match &self.node {
-            Node::Bare(base) => {
-                let base = base.copy_in(alloc)?;
-                Ok(Chain {
-                    node: Node::Bare(base),
-                })
-            }
+            Node::Bare(base) => Ok(Chain::bare(base.copy_in(alloc)?)),
             Node::Above(delta, below) => {
                 let below = Box::new(alloc, below.copy_in(alloc)?)?;
                 Ok(Chain {

@@ -1,5 +1,5 @@
 -- The ranges of a configuration.
-use Rattle.std.specs.Prelude.{ℕ, Bool, ◌&&◌, not, nat_le, [], ◌∷◌, Option}
+use Rattle.std.specs.Prelude.{ℕ, Bool, ◌&&◌, not, nat_le, List, [], ◌∷◌, Option}
 use Rattle.bw_keys.specs.Reasons.{when, first_reason}
 use Rattle.bw_keys.specs.declared.config.Config.{Config}
 use Rattle.bw_keys.specs.declared.config.Field.{Field}
@@ -9,14 +9,17 @@ use Rattle.bw_keys.specs.declared.config.Field.TheVariants.{Fanout, Chain, Pages
 abbrev pub is_out_of : ℕ → ℕ → ℕ → Bool
 is_out_of low high n = not (nat_le low n && nat_le n high)
 
-abbrev pub first_bad_field : Config → Option Field
-first_bad_field config =
-    first_reason
-    (when (is_out_of 4 64 config.fanout) Fanout
+-- a reason for each field that is out of its range, in the order of the fields
+abbrev pub field_reasons : Config → List (Option Field)
+field_reasons config =
+    when (is_out_of 4 64 config.fanout) Fanout
     ∷ when (is_out_of 1 32 config.chain) Chain
     ∷ when (is_out_of 8 65536 config.pages) Pages
     ∷ when (is_out_of 1 1000 config.tries) Tries
-    ∷ [])
+    ∷ []
+
+abbrev pub first_bad_field : Config → Option Field
+first_bad_field config = first_reason (field_reasons config)
 
 abbrev pub usual_config : Config
 usual_config = record { fanout = 16; chain = 8; pages = 4096; tries = 1000; first_version = 0 }

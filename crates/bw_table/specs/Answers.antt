@@ -1,0 +1,17 @@
+-- What the table answers to a step, and to a configuration.
+use Rattle.std.specs.Prelude.{◌≡◌, Option, Some, None, Result, Ok, Err}
+use Rattle.bw_keys.specs.declared.config.Config.{Config}
+use Rattle.bw_keys.specs.Limits.{first_bad_field}
+use Rattle.bw_step.specs.declared.refused.Refused.{Refused}
+use Rattle.bw_table.specs.declared.fault.NewFault.{NewFault}
+use Rattle.bw_table.specs.declared.fault.NewFault.TheVariants.{BadConfig, NoMemory}
+
+-- fine, or the reason
+abbrev pub verdict : Option Refused → Result (Unit {0}) Refused
+verdict None = Ok tt
+verdict (Some reason) = Err reason
+
+-- the first bad field, or want of memory where there is none
+abbrev pub IsNewFault : Config → NewFault → Type 0
+IsNewFault config (BadConfig bad) = first_bad_field config ≡ Some bad.0
+IsNewFault config NoMemory = first_bad_field config ≡ None

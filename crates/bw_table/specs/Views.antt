@@ -1,0 +1,53 @@
+-- What the table answers of its pages.
+use Rattle.std.specs.Prelude.{◌≡◌, ℕ, ◌+◌, ◌&&◌, ◌==◌, if◌then◌else◌, List, Option, Some, None, map}
+use Rattle.bw_keys.specs.declared.page.Pid.{Pid}
+use Rattle.bw_keys.specs.Ranges.{is_within}
+use Rattle.bw_delta.specs.Entries.{at}
+use Rattle.bw_step.specs.declared.view.View.{View}
+use Rattle.bw_step.specs.declared.view.Look.{Look}
+use Rattle.bw_step.specs.declared.survey.Leaf.{Leaf}
+use Rattle.bw_step.specs.declared.survey.Survey.{Survey}
+use Rattle.bw_law.specs.Slots.{SlotValue, slot_in, pairs_in, is_free}
+use Rattle.bw_law.specs.Walks.{IsRow}
+use Rattle.bw_law.specs.Tables.{TableValue, slot_at, number_of, outlines, is_leaf_in_row, joined_pairs}
+
+abbrev pub view_of : Pid → SlotValue → View
+view_of pid slot = record {
+  pid = pid;
+  version = record { 0 = slot.version };
+  stage = slot.stage;
+  low = slot.low;
+  high = slot.high;
+  right = slot.right;
+  level = slot.level;
+  count = slot.count;
+  depth = slot.depth;
+}
+
+-- the page of a slot that isn't free
+abbrev pub view_at : TableValue → Pid → Option View
+view_at table pid = let slot = slot_at table pid.0 in if is_free slot.stage then None else Some (view_of pid slot)
+
+-- the value at the key and the book's number, in a leaf in its row whose range holds the key
+abbrev pub look_at : TableValue → ℕ → ℕ → Option Look
+look_at table page key =
+    let slot = slot_at table page in
+    if is_leaf_in_row slot && is_within slot.low slot.high key
+    then Some (record { found = at key (pairs_in slot); at = number_of table.book })
+    else None
+
+abbrev pub leaf_of : Pid → SlotValue → Leaf
+leaf_of pid slot = record { pid = pid; range = record { low = slot.low; high = slot.high }; count = slot.count; stage = slot.stage }
+
+abbrev pub leaf_at : List SlotValue → ℕ → Leaf
+leaf_at slots page = leaf_of (record { 0 = page }) (slot_in slots page)
+
+-- the levels, the leaves in the order of their row, and the book
+pub record IsSurveyOf (table : TableValue) (survey : Survey) : Type 0 where
+  pub levels : survey.levels ≡ (slot_at table table.root).level + 1
+  pub leaves : (row : List ℕ) → IsRow (outlines table.slots) 0 row → survey.leaves.items ≡ map (leaf_at table.slots) row
+  pub book : survey.book ≡ table.book
+
+-- the pairs of the map, in the order of their keys: those of the leaf row
+abbrev pub ArePairsOf : TableValue → List (ℕ × ℕ) → Type 0
+ArePairsOf table pairs = (row : List ℕ) → IsRow (outlines table.slots) 0 row → pairs ≡ joined_pairs table.slots row

@@ -1,0 +1,131 @@
+//! Puts four keys into a table of one leaf, each by a checked step, and prints what it then has.
+#![tactic(auto)]
+
+use bw_delta::{NoMemory, Spare};
+use bw_keys::{Config, Key, Pid};
+use bw_table::{NewFault, Refused, Step, Table};
+use std::alloc::{AllocError, Allocator, Global};
+use std::process::ExitCode;
+use thiserror::Error;
+
+/// Why the program stops.
+#[derive(Clone, Copy, Debug, PartialEq, Eq, Error)]
+enum Stop {
+    #[error("memory")]
+    Memory,
+    #[error("{0}")]
+    BadConfig(NewFault),
+    #[error("{0}")]
+    Refused(Refused),
+}
+
+impl From<NoMemory> for Stop {
+    fn from(_: NoMemory) -> Stop {
+        Stop::Memory
+    }
+}
+
+impl From<AllocError> for Stop {
+    fn from(_: AllocError) -> Stop {
+        Stop::Memory
+    }
+}
+
+impl From<NewFault> for Stop {
+    fn from(fault: NewFault) -> Stop {
+        match fault {
+            NewFault::NoMemory => Stop::Memory,
+            NewFault::BadConfig(_) => Stop::BadConfig(fault),
+        }
+    }
+}
+
+impl Stop {
+    fn status(self) -> u8 {
+        match self {
+            Stop::Memory => 3,
+            Stop::BadConfig(_) | Stop::Refused(_) => 1,
+        }
+    }
+}
+
+/// Gives the key itself as value, by the version that the leaf has now.
+fn put<A: Allocator + Copy>(alloc: A, table: &mut Table<A>, key: Key) -> Result<(), Stop> {
+    let page = Pid(0);
+    let view = table.peek(page).ok_or(Stop::Refused(Refused::Absent))?;
+    let step = Step::Insert {
+        page,
+        seen: view.version,
+        key,
+        value: key,
+        spare: Spare::new(alloc)?,
+    };
+    match table.install(step) {
+        Ok(_) => Ok(()),
+        Err(reason) => Err(Stop::Refused(reason)),
+    }
+}
+
+/// The lines that the program prints: each leaf, and then the book and the number of pairs.
+fn report<A: Allocator + Copy>(machine: Global, alloc: A) -> Result<String, Stop> {
+    let mut table = Table::new(machine, alloc, Config::default())?;
+    for key in 1..5 {
+        put(alloc, &mut table, key)?;
+    }
+    let survey = table.survey(machine)?;
+    let pairs = table.pairs(machine)?.len();
+    let mut text = String::new(machine);
+    for leaf in &survey.leaves {
+        let line = format!(in machine; "{} {} {}\n", leaf.range.low, leaf.range.high, leaf.count)?;
+        text.push_str(&line)?;
+    }
+    let book = survey.book;
+    let line = format!(in machine;
+        "inserted {} removed {} pairs {pairs}\n",
+        book.inserted,
+        book.removed
+    )?;
+    text.push_str(&line)?;
+    Ok(text)
+}
+
+fn main(rt: HostRuntime) -> ExitCode {
+    match report(rt.alloc(), rt.alloc()) {
+        Ok(text) => match print!(rt; "{text}") {
+            Ok(()) => ExitCode::SUCCESS,
+            Err(_) => ExitCode::FAILURE,
+        },
+        Err(stop) => {
+            let _ = eprintln!(rt; "first: {stop}");
+            ExitCode::from(stop.status())
+        }
+    }
+}
+
+#[cfg(test)]
+mod tests {
+    use super::*;
+    use linked_list_allocator::LocalHeap;
+    use std::test::Fail;
+
+    // A heap grows by 16 bytes from run to run, so each request is once the first to be refused.
+    #[test]
+    fn each_request_refused_ends_the_program(rt: HostRuntime) -> Result<(), Fail> {
+        let mut refused = 0;
+        for cells in 1..200usize {
+            let heap = LocalHeap::new(rt.alloc(), 16 * cells)?;
+            match report(rt.alloc(), &heap) {
+                Ok(text) => {
+                    assert_eq!(rt; text.as_str(), "0 top 4\ninserted 4 removed 0 pairs 4\n");
+                }
+                Err(stop) => {
+                    assert_eq!(rt; stop.status(), 3);
+                    refused += 1;
+                }
+            }
+            assert_eq!(rt; heap.used(), 0);
+        }
+        assert!(rt; refused > 0 && refused < 199);
+        Ok(())
+    }
+}
