@@ -1,1 +1,10 @@
-pub mod Kinds
+pub mod Bridges
+pub mod Ascending
+pub mod Partitions
+pub mod Firsts
+pub mod Lasts
+pub mod Edits
+pub mod GapLemmas
+pub mod HalfPages
+pub mod Tries
+pub mod Listing

@@ -1,2 +1,4 @@
 pub mod Ascends
 pub mod Changes
+pub mod Gaps
+pub mod Halves

@@ -5,14 +5,23 @@
 //! [`consolidate`] and [`halve`] take memory.
 #![tactic(auto)]
 
+mod bounds;
+mod candidates;
 mod change;
+mod compare;
+mod entries;
+mod halving;
 mod plain;
 mod search;
 mod shape;
 mod sorted;
 mod value;
-mod walk;
 
+pub use compare::{count, same};
+pub use halving::{HalveFault, halve};
 pub use plain::consolidate;
-pub use search::find;
+pub use search::{child, find, next_at, route_before};
 pub use shape::{depth, fences, is_leaf};
+
+#[cfg(test)]
+mod tests;

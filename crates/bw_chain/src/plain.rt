@@ -15,8 +15,9 @@ use bw_delta::{Base, Chain, Entries, Fences, NoMemory, Node};
 use bw_keys::Key;
 use std::alloc::Allocator;
 
-/// The base page that has all of the chain's effects: its entries, its range and its side link.
-#[tactic(auto, using(Rattle::bw_delta::proofs::Stands::page_for_is_page))]
+/// The base page that has all of the chain's effects: its entries, its range and its side link
+/// (Levandoski et al., ICDE 2013, "page consolidation"). Fails only for want of memory.
+#[tactic(auto, using(bw_delta::proofs::Stands::page_for_is_page))]
 pub fn consolidate<A: Allocator + Copy>(alloc: A, chain: &Chain<A>) -> Result<Base<A>, NoMemory>
     requires sound { IsSound chain.now }
     ensures { IfOk result (λ base. base ≡ page_for chain.now) }
@@ -32,7 +33,7 @@ pub fn consolidate<A: Allocator + Copy>(alloc: A, chain: &Chain<A>) -> Result<Ba
 }
 
 /// What the chain lists, of whichever kind.
-#[tactic(auto, using(crate::proofs::Kinds::kinds))]
+#[tactic(auto, using(crate::proofs::Bridges::both_kinds))]
 fn entries_of<A: Allocator + Copy>(alloc: A, chain: &Chain<A>) -> Result<Entries<A>, NoMemory>
     ensures { IfOk result (λ entries. listed entries ≡ listed_for (is_leaf chain.now) chain.now) }
 {
@@ -44,7 +45,7 @@ fn entries_of<A: Allocator + Copy>(alloc: A, chain: &Chain<A>) -> Result<Entries
 }
 
 /// The entries of one kind, listed.
-fn list<X: EntryValue, A: Allocator + Copy>(
+fn list<A: Allocator + Copy, X: EntryValue>(
     alloc: A,
     chain: &Chain<A>,
 ) -> Result<Vec<(Key, X), A>, NoMemory>
@@ -77,7 +78,7 @@ fn apply<X: Copy, A: Allocator + Copy>(
 {
     match change {
         Change::Put(key, value) => put(entries, key, value)?,
-        Change::Without(key) => entries.retain(|entry| entry.0 != key),
+        Change::Without(key) => remove(entries, key),
         Change::Below(bound) => keep_below(entries, bound),
         Change::Nothing => {}
     }
@@ -105,6 +106,12 @@ fn put<X: Copy, A: Allocator + Copy>(
     }
     entries.push((key, value))?;
     Ok(())
+}
+
+fn remove<X: Copy, A: Allocator + Copy>(entries: &mut Vec<(Key, X), A>, key: Key)
+    ensures { entries.new.items ≡ without key entries.old.items }
+{
+    entries.retain(|entry| entry.0 != key);
 }
 
 fn keep_below<X: Copy, A: Allocator + Copy>(entries: &mut Vec<(Key, X), A>, bound: Key)

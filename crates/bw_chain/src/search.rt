@@ -1,17 +1,49 @@
 ghost use Rattle.std.specs.Prelude.{◌≡◌};
-ghost use Rattle.bw_delta.specs.Entries.{at};
-ghost use Rattle.bw_delta.specs.Pairs.{pairs};
+ghost use Rattle.bw_delta.specs.Entries.{at, first_from, last_below, last_upto};
+ghost use Rattle.bw_delta.specs.Pairs.{pairs, routes};
+ghost use Rattle.bw_delta.specs.Sound.{IsSound};
 
-use crate::walk::find_entry;
+use crate::bounds::past;
+use crate::entries::{find_entry, first_from, last_below};
 use bw_delta::Chain;
-use bw_keys::Key;
+use bw_keys::{Fence, Key, Pid};
 use std::alloc::Allocator;
 
-/// The value at the key. The newest record for the key decides; the base page is searched by
-/// halving where no record does.
-#[tactic(auto, using(crate::proofs::Kinds::kinds))]
+/// The value at the key: that of the newest record which names the key, and the base page's where
+/// none does (Levandoski et al., ICDE 2013, "page search"). The base page is searched by halving.
+/// An inner page has no values.
+#[tactic(auto, using(crate::proofs::Bridges::both_kinds))]
 pub fn find<A: Allocator + Copy>(chain: &Chain<A>, key: Key) -> Option<u64>
     ensures { result ≡ at key (pairs chain.now) }
 {
     find_entry(chain, key)
+}
+
+/// The pair with the least key at or above the key, if there is one. It takes one walk over the
+/// chain, and another for each deleted key on the way.
+#[tactic(auto, using(crate::proofs::Bridges::both_kinds))]
+pub fn next_at<A: Allocator + Copy>(chain: &Chain<A>, key: Key) -> Option<(Key, u64)>
+    requires sound { IsSound chain.now }
+    ensures { result ≡ first_from key (pairs chain.now) }
+{
+    first_from(chain, Fence::Key(key))
+}
+
+/// The route with the greatest separator at or below the key: the page that a search for the key
+/// goes down to. There is none below the least separator, and none on a leaf.
+#[tactic(auto, using(crate::proofs::Bridges::both_kinds))]
+pub fn child<A: Allocator + Copy>(chain: &Chain<A>, key: Key) -> Option<(Key, Pid)>
+    requires sound { IsSound chain.now }
+    ensures { result ≡ last_upto key (routes chain.now) }
+{
+    last_below(chain, past(key))
+}
+
+/// The route with the greatest separator strictly below the key.
+#[tactic(auto, using(crate::proofs::Bridges::both_kinds))]
+pub fn route_before<A: Allocator + Copy>(chain: &Chain<A>, key: Key) -> Option<(Key, Pid)>
+    requires sound { IsSound chain.now }
+    ensures { result ≡ last_below key (routes chain.now) }
+{
+    last_below(chain, Fence::Key(key))
 }

@@ -1,6 +1,6 @@
 ghost use Rattle.std.specs.Prelude.{◌≡◌, ◌≤◌, length, take, drop};
 ghost use Rattle.bw_keys.specs.Ranges.{end_of};
-ghost use Rattle.bw_delta.specs.Entries.{at, below, from};
+ghost use Rattle.bw_delta.specs.Entries.{at, below, from, first_from, last_below};
 ghost use Rattle.bw_chain.specs.Ascends.{IsAscending};
 
 use bw_keys::{Fence, Key};
@@ -15,13 +15,30 @@ fn count_below<X: Copy>(entries: &[(Key, X)], fence: Fence) -> usize
     entries.partition_point(|entry| fence.is_above(entry.0))
 }
 
+/// The first entry from the fence on.
+pub(crate) fn first_listed<X: Copy>(entries: &[(Key, X)], fence: Fence) -> Option<(Key, X)>
+    requires ascending { IsAscending entries.now }
+    ensures { result ≡ first_from (end_of fence) entries.now }
+{
+    entries.get(count_below(entries, fence)).copied()
+}
+
+/// The last entry below the fence.
+pub(crate) fn last_listed<X: Copy>(entries: &[(Key, X)], fence: Fence) -> Option<(Key, X)>
+    requires ascending { IsAscending entries.now }
+    ensures { result ≡ last_below (end_of fence) entries.now }
+{
+    entries[..count_below(entries, fence)].last().copied()
+}
+
 /// What stands at the key.
+#[tactic(auto, using(crate::proofs::Firsts::stands_at))]
 pub(crate) fn value_at<X: Copy>(entries: &[(Key, X)], key: Key) -> Option<X>
     requires ascending { IsAscending entries.now }
     ensures { result ≡ at key entries.now }
 {
-    match entries.get(count_below(entries, Fence::Key(key))) {
-        Some((listed, value)) if *listed == key => Some(*value),
+    match first_listed(entries, Fence::Key(key)) {
+        Some(entry) if entry.0 == key => Some(entry.1),
         _ => None,
     }
 }

@@ -20,7 +20,7 @@ pub(crate) trait EntryValue: Copy {
     /// What a record changes of them.
     ghost own_change: { Delta → Change Self };
 
-    /// The entries of this kind on a base page.
+    /// The entries of this kind on a base page: none, if the page is of the other kind.
     fn entries_on<A: Allocator>(base: &Base<A>) -> &[(Key, Self)]
         ensures listed { result.now ≡ own_entries base.now.listed }
         ensures ascending { IsAscending result.now };
@@ -29,6 +29,7 @@ pub(crate) trait EntryValue: Copy {
     fn change_by(delta: Delta) -> Change<Self>
         ensures { result ≡ own_change delta };
 
+    /// Whether the values are equal.
     fn is_same(self, other: Self) -> bool
         ensures { IsTrue result ↔ (self ≡ other) };
 }

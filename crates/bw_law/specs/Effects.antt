@@ -1,7 +1,6 @@
 -- What an accepted step makes of the table, and its receipt.
 use Rattle.std.specs.Prelude.{◌≡◌, ℕ, suc, ◌+◌, ◌-◌, ◌==◌, max, if◌then◌else◌, List, [], ◌∷◌, ◌++◌, Option, Some, None, option_map, unwrap_or, slice_set}
-use Rattle.bw_keys.specs.declared.range.Fence.{Fence}
-use Rattle.bw_keys.specs.declared.range.Fence.TheVariants.{Key, Top}
+use Rattle.bw_keys.specs.declared.range.Fence.TheVariants.{Key}
 use Rattle.bw_keys.specs.declared.page.Pid.{Pid}
 use Rattle.bw_delta.specs.declared.chain.Delta.{Delta}
 use Rattle.bw_delta.specs.declared.chain.Delta.TheVariants.{Insert, Delete, Split, Remove, TermAdd, TermDelete}

@@ -5,3 +5,7 @@ pub mod Walks
 pub mod Tables
 pub mod Refusals
 pub mod Effects
+pub mod Runs
+pub mod Laws
+pub mod Numbers
+pub mod Examples

@@ -1,12 +1,12 @@
 -- Why a step is refused: for each of the nine steps the reasons in the order of their numbers, each tried over all the pages that the step names.
-use Rattle.std.specs.Prelude.{ℕ, suc, ◌+◌, ◌-◌, Bool, true, false, ◌&&◌, ◌||◌, not, ◌==◌, nat_lt, nat_le, max, is_some, is_none, if◌then◌else◌, List, [], ◌∷◌, ◌++◌, Option, Some, None, option_map, unwrap_or, filter}
+use Rattle.std.specs.Prelude.{ℕ, ◌+◌, ◌-◌, Bool, false, ◌||◌, not, ◌==◌, nat_lt, nat_le, max, is_some, is_none, if◌then◌else◌, List, [], ◌∷◌, Option, Some, None, option_map, unwrap_or}
 use Rattle.std.specs.List.{list_any}
 use Rattle.bw_keys.specs.declared.page.TheConstants.{MAX_DEPTH, MAX_LEVEL}
 use Rattle.bw_keys.specs.declared.range.Fence.TheVariants.{Top}
 use Rattle.bw_keys.specs.declared.page.Pid.{Pid}
 use Rattle.bw_keys.specs.Ranges.{is_within}
 use Rattle.bw_keys.specs.Reasons.{when, first_reason}
-use Rattle.bw_delta.specs.Entries.{at, from, first_entry}
+use Rattle.bw_delta.specs.Entries.{at, from}
 use Rattle.bw_delta.specs.Pages.{Page, Listed, pairs_of, routes_of, lists_pairs}
 use Rattle.bw_delta.specs.Sound.{page_for}
 use Rattle.bw_step.specs.declared.refused.Refused.{Refused}

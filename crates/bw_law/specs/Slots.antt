@@ -1,5 +1,5 @@
 -- An entry of the mapping table as contracts see it.
-use Rattle.std.specs.Prelude.{ℕ, ◌-◌, ◌^◌, Bool, true, false, List, [], Option, Some, None, slice_index_or, unwrap_or, option_map}
+use Rattle.std.specs.Prelude.{ℕ, ◌-◌, ◌^◌, Bool, true, false, List, [], Option, None, slice_index_or, unwrap_or, option_map}
 use Rattle.bw_keys.specs.declared.range.Fence.{Fence}
 use Rattle.bw_keys.specs.declared.range.Fence.TheVariants.{Top}
 use Rattle.bw_keys.specs.declared.page.Pid.{Pid}

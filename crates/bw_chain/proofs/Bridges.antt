@@ -1,9 +1,14 @@
 -- The entries of each kind are the pairs and the routes.
-use Rattle.std.proofs.Common.{◌≡◌, List, ◌++◌, refl, ap}
+use Rattle.std.proofs.Common.{◌≡◌, true, false, length, refl, ap, arith}
 use Rattle.bw_delta.specs.declared.chain.Delta.TheVariants.{Insert, Delete, Split, Remove, TermAdd, TermDelete}
-use Rattle.bw_delta.specs.Entries.{below, from, put, without}
+use Rattle.bw_delta.specs.Entries.{below, put, without}
 use Rattle.bw_delta.specs.Records.{Records, bare, above, merged}
 use Rattle.bw_delta.specs.Pairs.{pairs, pairs_listed, routes, routes_listed}
+use Rattle.bw_delta.specs.Sound.{IsSound, entry_count}
+use Rattle.bw_delta.specs.Fence.{is_leaf}
+use Rattle.bw_delta.proofs.Stands.{leaf_has_no_routes, inner_has_no_pairs}
+use Rattle.bw_chain.specs.Ascends.{IsAscending}
+use Rattle.bw_chain.proofs.Ascending.{pairs_ascend, routes_ascend}
 use Rattle.bw_chain.specs.Changes.{entries_by, pair_change, route_change}
 
 pub pairs_are : (chain : Records) → entries_by pairs_listed pair_change chain ≡ pairs chain
@@ -26,4 +31,17 @@ routes_are (above (TermAdd separator child) chain) = ap (put separator child) (r
 routes_are (above (TermDelete separator) chain) = ap (without separator) (routes_are chain)
 routes_are (merged merging left right) = rw (routes_are left, routes_are right) refl
 
-pub ruleset kinds = (pairs_are, routes_are)
+pub own_pairs_ascend : (chain : Records) → IsSound chain → IsAscending (entries_by pairs_listed pair_change chain)
+own_pairs_ascend chain sound = rw (pairs_are chain) (pairs_ascend chain sound.built)
+
+pub own_routes_ascend : (chain : Records) → IsSound chain → IsAscending (entries_by routes_listed route_change chain)
+own_routes_ascend chain sound = rw (routes_are chain) (routes_ascend chain sound.built)
+
+-- a chain has entries of one kind alone
+pub own_pair_count : (chain : Records) → IsSound chain → is_leaf chain ≡ true → length (entries_by pairs_listed pair_change chain) ≡ entry_count chain
+own_pair_count chain sound leaf = omega (arith, ap length (pairs_are chain), ap length (leaf_has_no_routes chain sound.built leaf))
+
+pub own_route_count : (chain : Records) → IsSound chain → is_leaf chain ≡ false → length (entries_by routes_listed route_change chain) ≡ entry_count chain
+own_route_count chain sound inner = omega (arith, ap length (routes_are chain), ap length (inner_has_no_pairs chain sound.built inner))
+
+pub ruleset both_kinds = (pairs_are, routes_are, own_pairs_ascend, own_routes_ascend)

@@ -1,0 +1,66 @@
+ghost use Rattle.std.specs.Prelude.{◌≡◌, ◌+◌, ◌<◌, ◌↔◌, min, max, IsTrue, MatchOption};
+ghost use Rattle.bw_keys.specs.Ranges.{end_of};
+
+use bw_keys::{Fence, Key};
+
+/// The fence right above the key.
+pub(crate) fn past(key: Key) -> Fence
+    ensures { end_of result ≡ key + 1 }
+{
+    match key.checked_add(1) {
+        Some(next) => Fence::Key(next),
+        None => Fence::Top,
+    }
+}
+
+/// The greatest key below the fence. No key lies below 0.
+pub(crate) fn last_key_below(fence: Fence) -> Option<Key>
+    ensures { MatchOption result (end_of fence ≡ 0) (λ key. end_of fence ≡ key + 1) }
+{
+    match fence {
+        Fence::Key(key) => key.checked_sub(1),
+        Fence::Top => Some(u64::MAX),
+    }
+}
+
+/// Whether the fence comes before the key.
+pub(crate) fn is_before(fence: Fence, key: Key) -> bool
+    ensures { IsTrue result ↔ (end_of fence < key) }
+{
+    match fence {
+        Fence::Key(end) => end < key,
+        Fence::Top => false,
+    }
+}
+
+/// The fence, or the key where that is less.
+pub(crate) fn at_most(fence: Fence, key: Key) -> Fence
+    ensures { end_of result ≡ min (end_of fence) key }
+{
+    if fence.is_above(key) {
+        Fence::Key(key)
+    } else {
+        fence
+    }
+}
+
+/// The fence, or the key where that is greater.
+pub(crate) fn at_least(fence: Fence, key: Key) -> Fence
+    ensures { end_of result ≡ max (end_of fence) key }
+{
+    if fence.is_above(key) {
+        fence
+    } else {
+        Fence::Key(key)
+    }
+}
+
+/// The fence that comes later.
+pub(crate) fn later(one: Fence, other: Fence) -> Fence
+    ensures { end_of result ≡ max (end_of one) (end_of other) }
+{
+    match other {
+        Fence::Key(key) => at_least(one, key),
+        Fence::Top => Fence::Top,
+    }
+}

@@ -1,0 +1,80 @@
+ghost use Rattle.std.specs.Prelude.{◌≡◌, ◌↔◌, ◌<◌, ◌^◌, IsTrue, length};
+ghost use Rattle.bw_delta.specs.Fence.{is_leaf};
+ghost use Rattle.bw_delta.specs.Sound.{IsSound, entry_count, listed_for, page_for};
+ghost use Rattle.bw_chain.specs.Ascends.{IsAscending};
+ghost use Rattle.bw_chain.specs.Changes.{entries_by};
+
+use crate::bounds::past;
+use crate::entries::first_from;
+use crate::shape::{fences, is_leaf};
+use crate::value::EntryValue;
+use bw_delta::{Base, Chain, Entries, Fences};
+use bw_keys::{Fence, Key, Pid};
+use std::alloc::Allocator;
+
+/// How many pairs a leaf chain has, or how many routes an inner one. A leaf for all keys could
+/// have one pair more than the answer can say.
+#[tactic(auto, using(crate::proofs::Bridges::both_kinds))]
+pub fn count<A: Allocator + Copy>(chain: &Chain<A>) -> u64
+    requires sound { IsSound chain.now }
+    requires countable { entry_count chain.now < 2 ^ 64 }
+    ensures { result ≡ entry_count chain.now }
+{
+    if is_leaf(chain) {
+        count_entries::<A, u64>(chain)
+    } else {
+        count_entries::<A, Pid>(chain)
+    }
+}
+
+fn count_entries<A: Allocator + Copy, X: EntryValue>(chain: &Chain<A>) -> u64
+    requires ascending { IsAscending (entries_by X.own_entries X.own_change chain.now) }
+    requires countable { length (entries_by X.own_entries X.own_change chain.now) < 2 ^ 64 }
+    ensures { result ≡ length (entries_by X.own_entries X.own_change chain.now) }
+{
+    let mut count = 0;
+    let mut from = Fence::Key(0);
+    'entries: while let Some(entry) = first_from::<A, X>(chain, from) {
+        count += 1;
+        from = past(entry.0);
+    }
+    count
+}
+
+/// Whether the base page is the one that the chain stands for: it has the chain's range, its
+/// side link and its entries, and no others. It takes no memory, so that a consolidated page can
+/// be checked while the mapping table is held.
+pub fn same<A: Allocator + Copy>(base: &Base<A>, chain: &Chain<A>) -> bool
+    requires sound { IsSound chain.now }
+    ensures { IsTrue result ↔ (base.now ≡ page_for chain.now) }
+{
+    let Fences { low, high, right } = fences(chain);
+    base.low == low && base.high == high && base.right == right && lists_same(base, chain)
+}
+
+/// Whether the base page lists what the chain does.
+#[tactic(auto, using(crate::proofs::Bridges::both_kinds))]
+fn lists_same<A: Allocator + Copy>(base: &Base<A>, chain: &Chain<A>) -> bool
+    requires sound { IsSound chain.now }
+    ensures { IsTrue result ↔ (base.now.listed ≡ listed_for (is_leaf chain.now) chain.now) }
+{
+    match &base.entries {
+        Entries::Pairs(pairs) => is_leaf(chain) && are_entries(pairs, chain),
+        Entries::Routes(routes) => !is_leaf(chain) && are_entries(routes, chain),
+    }
+}
+
+/// Whether these are the chain's entries, one by one.
+fn are_entries<A: Allocator + Copy, X: EntryValue>(list: &[(Key, X)], chain: &Chain<A>) -> bool
+    requires ascending { IsAscending (entries_by X.own_entries X.own_change chain.now) }
+    ensures { IsTrue result ↔ (list.now ≡ entries_by X.own_entries X.own_change chain.now) }
+{
+    let mut from = Fence::Key(0);
+    'entries: for entry in list {
+        match first_from::<A, X>(chain, from) {
+            Some(next) if next.0 == entry.0 && next.1.is_same(entry.1) => from = past(entry.0),
+            _ => return false,
+        }
+    }
+    first_from::<A, X>(chain, from).is_none()
+}
