@@ -1,27 +1,39 @@
 -- A list of entries compared with those of a chain, from the first on.
-use Rattle.std.proofs.Common.{◌≡◌, ℕ, ◌+◌, ◌<◌, List, [], ◌∷◌, ◌++◌, length, take, get_or, append_assoc, ap, arith, ◌∙◌}
-use Rattle.std.specs.Prelude.{Some}
+use Rattle.std.proofs.Common.{◌≡◌, ℕ, ◌+◌, ◌<◌, ◌≤◌, List, [], ◌∷◌, ◌++◌, length, take, get_or, append_assoc, refl, ap, arith, ◌∙◌}
+use Rattle.std.specs.Prelude.{Some, None}
+use Rattle.std.proofs.lemmas.Bool.Decides.{nat_tests}
 use Rattle.std.proofs.lemmas.List.{take_more}
 use Rattle.bw_keys.specs.Ranges.{key_count}
 use Rattle.bw_delta.specs.Entries.{from, first_from}
+use Rattle.bw_delta.specs.Pages.{Listed, pairs_of, routes_of, listed_from}
 use Rattle.bw_chain.specs.Ascends.{IsAscending}
-use Rattle.bw_chain.proofs.Firsts.{from_step}
+use Rattle.bw_chain.proofs.Firsts.{from_step, from_zero}
 
-module _ {X : Type 0} (list es : List (ℕ × X)) (i : ℕ) where
-  one_more : (left rest : List (ℕ × X)) (e : ℕ × X) → i < length list → es ≡ take i list ++ left → left ≡ e ∷ rest → e ≡ get_or list i e → es ≡ take (i + 1) list ++ rest
-  one_more left rest e inside whole next same =
+module _ {X : Type 0} (list whole es : List (ℕ × X)) (i : ℕ) where
+  one_more : (left rest : List (ℕ × X)) (e : ℕ × X) → i < length list → whole ≡ take i list ++ left → left ≡ e ∷ rest → e ≡ get_or list i e → whole ≡ take (i + 1) list ++ rest
+  one_more left rest e inside parts next same =
       let more : take (i + 1) list ≡ take i list ++ get_or list i e ∷ [] = take_more list i e inside in
       rw more (simp append_assoc (cc))
 
   -- the entry of the list is the first of those left: one more is the same
-  pub same_more : (bound : ℕ) (next e : ℕ × X) → IsAscending es → i < length list → es ≡ take i list ++ from bound es → first_from bound es ≡ Some next → next.0 ≡ e.0 → next.1 ≡ e.1 → e ≡ get_or list i e → es ≡ take (i + 1) list ++ from (e.0 + 1) es
-  same_more bound next e ascending inside whole first keys values item =
+  pub same_more : (bound : ℕ) (next e : ℕ × X) → IsAscending es → i < length list → whole ≡ take i list ++ from bound es → first_from bound es ≡ Some next → next.0 ≡ e.0 → next.1 ≡ e.1 → e ≡ get_or list i e → whole ≡ take (i + 1) list ++ from (e.0 + 1) es
+  same_more bound next e ascending inside parts first keys values item =
       let same : next ≡ e = λ n. (keys n, values n) in
       let found : first_from bound es ≡ Some e = first ∙ ap Some same in
-      one_more (from bound es) (from (e.0 + 1) es) e inside whole (from_step 0 key_count bound e es ascending found) item
+      one_more (from bound es) (from (e.0 + 1) es) e inside parts (from_step 0 key_count bound e es ascending found) item
 
 -- behind the first of those left stands one less
 pub length-from_step : {X : Type 0} → (es : List (ℕ × X)) (bound next : ℕ) (e : ℕ × X) → IsAscending es → first_from bound es ≡ Some e → next ≡ e.0 + 1 → length (from bound es) ≡ length (from next es) + 1
 length-from_step es bound next e ascending first behind =
     let rest : from next es ≡ from (e.0 + 1) es = ap (λ n. from n es) behind in
     omega (arith, ap length (from_step 0 key_count bound e es ascending first), ap length rest)
+
+-- nothing is left where there is no first of those left
+pub from_none : {X : Type 0} → (bound : ℕ) (es : List (ℕ × X)) → first_from bound es ≡ None → from bound es ≡ []
+from_none bound [] none = refl
+from_none bound (e ∷ es) none = grind (arith, nat_tests, from_none bound es)
+
+-- all of a page's entries are there from 0 on
+pub listed_from_zero : (listed : Listed) → listed_from 0 listed ≡ listed
+listed_from_zero (pairs_of es) = ap pairs_of (from_zero es)
+listed_from_zero (routes_of es) = ap routes_of (from_zero es)

@@ -1,6 +1,6 @@
--- The upper half of a base page.
+-- The upper half of a base page's entries.
 use Rattle.std.specs.Prelude.{ℕ, ◌/◌, List, Option, option_map, length, drop, slice_get}
-use Rattle.bw_delta.specs.Pages.{Page, Listed, pairs_of, routes_of}
+use Rattle.bw_delta.specs.Pages.{Listed, pairs_of, routes_of}
 
 -- the key of the middle entry: of n entries, the one with number n / 2, counted from 0
 abbrev pub middle_key : {X : Type 0} → List (ℕ × X) → Option ℕ
@@ -17,7 +17,3 @@ upper_half es = drop (length es / 2) es
 abbrev pub listed_upper_half : Listed → Listed
 listed_upper_half (pairs_of es) = pairs_of (upper_half es)
 listed_upper_half (routes_of es) = routes_of (upper_half es)
-
--- the page of the entries from the middle one on, which begins at the separator
-abbrev pub upper_page : Page → ℕ → Page
-upper_page page separator = record { low = separator; high = page.high; right = page.right; listed = listed_upper_half page.listed }

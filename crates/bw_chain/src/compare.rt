@@ -1,5 +1,8 @@
 ghost use Rattle.std.specs.Prelude.{◌≡◌, ◌↔◌, ◌<◌, ◌^◌, IsTrue, length};
+ghost use Rattle.bw_keys.specs.Ranges.{end_of};
+ghost use Rattle.bw_delta.specs.Entries.{from};
 ghost use Rattle.bw_delta.specs.Fence.{is_leaf};
+ghost use Rattle.bw_delta.specs.Pages.{listed_from, upper_part};
 ghost use Rattle.bw_delta.specs.Sound.{IsSound, entry_count, listed_for, page_for};
 ghost use Rattle.bw_chain.specs.Ascends.{IsAscending};
 ghost use Rattle.bw_chain.specs.Changes.{entries_by};
@@ -44,32 +47,57 @@ fn count_entries<A: Allocator + Copy, X: EntryValue>(chain: &Chain<A>) -> u64
 /// Whether the base page is the one that the chain stands for: it has the chain's range, its
 /// side link and its entries, and no others. It takes no memory, so that a consolidated page can
 /// be checked while the mapping table is held.
+#[tactic(auto, using(crate::proofs::Listing::listed_from_zero))]
 pub fn same<A: Allocator + Copy>(base: &Base<A>, chain: &Chain<A>) -> bool
     requires sound { IsSound chain.now }
     ensures { IsTrue result ↔ (base.now ≡ page_for chain.now) }
 {
     let Fences { low, high, right } = fences(chain);
-    base.low == low && base.high == high && base.right == right && lists_same(base, chain)
+    base.low == low
+        && base.high == high
+        && base.right == right
+        && lists_from(base, chain, Fence::Key(0))
 }
 
-/// Whether the base page lists what the chain does.
-#[tactic(auto, using(crate::proofs::Bridges::both_kinds))]
-fn lists_same<A: Allocator + Copy>(base: &Base<A>, chain: &Chain<A>) -> bool
+/// Whether the base page is the part from the separator on of the page that the chain stands for.
+/// It takes no memory.
+pub fn is_upper_part<A: Allocator + Copy>(
+    base: &Base<A>,
+    chain: &Chain<A>,
+    separator: Key,
+) -> bool
     requires sound { IsSound chain.now }
-    ensures { IsTrue result ↔ (base.now.listed ≡ listed_for (is_leaf chain.now) chain.now) }
+    ensures { IsTrue result ↔ (base.now ≡ upper_part separator (page_for chain.now)) }
+{
+    let whole = fences(chain);
+    base.low == separator
+        && base.high == whole.high
+        && base.right == whole.right
+        && lists_from(base, chain, Fence::Key(separator))
+}
+
+/// Whether the base page lists what the chain does from the fence on.
+#[tactic(auto, using(crate::proofs::Bridges::both_kinds))]
+fn lists_from<A: Allocator + Copy>(base: &Base<A>, chain: &Chain<A>, fence: Fence) -> bool
+    requires sound { IsSound chain.now }
+    ensures { IsTrue result ↔ (base.now.listed ≡ listed_from (end_of fence) (listed_for (is_leaf chain.now) chain.now)) }
 {
     match &base.entries {
-        Entries::Pairs(pairs) => is_leaf(chain) && are_entries(pairs, chain),
-        Entries::Routes(routes) => !is_leaf(chain) && are_entries(routes, chain),
+        Entries::Pairs(pairs) => is_leaf(chain) && are_entries(pairs, chain, fence),
+        Entries::Routes(routes) => !is_leaf(chain) && are_entries(routes, chain, fence),
     }
 }
 
-/// Whether these are the chain's entries, one by one.
-fn are_entries<A: Allocator + Copy, X: EntryValue>(list: &[(Key, X)], chain: &Chain<A>) -> bool
+/// Whether these are the chain's entries from the fence on, one by one.
+fn are_entries<A: Allocator + Copy, X: EntryValue>(
+    list: &[(Key, X)],
+    chain: &Chain<A>,
+    fence: Fence,
+) -> bool
     requires ascending { IsAscending (entries_by X.own_entries X.own_change chain.now) }
-    ensures { IsTrue result ↔ (list.now ≡ entries_by X.own_entries X.own_change chain.now) }
+    ensures { IsTrue result ↔ (list.now ≡ from (end_of fence) (entries_by X.own_entries X.own_change chain.now)) }
 {
-    let mut from = Fence::Key(0);
+    let mut from = fence;
     'entries: for entry in list {
         match first_from::<A, X>(chain, from) {
             Some(next) if next.0 == entry.0 && next.1.is_same(entry.1) => from = past(entry.0),

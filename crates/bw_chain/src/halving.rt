@@ -1,7 +1,7 @@
 ghost use Rattle.std.specs.Prelude.{◌≡◌, ◌↔◌, ◌<◌, length, Some, Err, IfOk};
-ghost use Rattle.bw_delta.specs.Pages.{listed_length};
+ghost use Rattle.bw_delta.specs.Pages.{listed_length, upper_part};
 ghost use Rattle.bw_delta.specs.PageView.{listed};
-ghost use Rattle.bw_chain.specs.Halves.{listed_middle_key, listed_upper_half, middle_key, upper_half, upper_page};
+ghost use Rattle.bw_chain.specs.Halves.{listed_middle_key, listed_upper_half, middle_key, upper_half};
 
 use bw_delta::{Base, Entries};
 use bw_keys::Key;
@@ -25,7 +25,7 @@ pub enum HalveFault {
 pub fn halve<A: Allocator + Copy>(alloc: A, base: &Base<A>) -> Result<(Key, Base<A>), HalveFault>
     ensures small { (result ≡ Err HalveFault.TooSmall) ↔ (listed_length base.now.listed < 2) }
     ensures separator { IfOk result (λ half. listed_middle_key base.now.listed ≡ Some half.0) }
-    ensures page { IfOk result (λ half. half.1 ≡ upper_page base.now half.0) }
+    ensures page { IfOk result (λ half. half.1 ≡ upper_part half.0 base.now) }
 {
     let (separator, entries) = upper_entries(alloc, &base.entries)?;
     let upper = Base {

@@ -5,6 +5,7 @@
 //! [`consolidate`] and [`halve`] take memory.
 #![tactic(auto)]
 
+mod append;
 mod bounds;
 mod candidates;
 mod change;
@@ -13,14 +14,17 @@ mod entries;
 mod halving;
 mod plain;
 mod search;
+mod separator;
 mod shape;
 mod sorted;
 mod value;
 
-pub use compare::{count, same};
+pub use append::append_pairs;
+pub use compare::{count, is_upper_part, same};
 pub use halving::{HalveFault, halve};
 pub use plain::consolidate;
-pub use search::{child, find, next_at, route_before};
+pub use search::{child, find, next_at, route_at, route_before};
+pub use separator::is_later_key;
 pub use shape::{depth, fences, is_leaf};
 
 #[cfg(test)]

@@ -29,6 +29,14 @@ pub fn next_at<A: Allocator + Copy>(chain: &Chain<A>, key: Key) -> Option<(Key, 
     first_from(chain, Fence::Key(key))
 }
 
+/// The page that is routed at this very separator, if one is.
+#[tactic(auto, using(crate::proofs::Bridges::both_kinds))]
+pub fn route_at<A: Allocator + Copy>(chain: &Chain<A>, separator: Key) -> Option<Pid>
+    ensures { result ≡ at separator (routes chain.now) }
+{
+    find_entry(chain, separator)
+}
+
 /// The route with the greatest separator at or below the key: the page that a search for the key
 /// goes down to. There is none below the least separator, and none on a leaf.
 #[tactic(auto, using(crate::proofs::Bridges::both_kinds))]

@@ -1,5 +1,5 @@
 -- Maps from keys as lists of entries, whose keys rise strictly.
-use Rattle.std.specs.Prelude.{ℕ, ◌+◌, Bool, true, ◌&&◌, not, if◌then◌else◌, ◌==◌, nat_lt, nat_le, List, [], ◌∷◌, Option, Some, None, unwrap_or, filter}
+use Rattle.std.specs.Prelude.{ℕ, ◌+◌, Bool, true, false, ◌&&◌, not, if◌then◌else◌, ◌==◌, nat_lt, nat_le, List, [], ◌∷◌, Option, Some, None, unwrap_or, filter}
 
 -- what stands at the key
 abbrev pub at : {X : Type 0} → ℕ → List (ℕ × X) → Option X
@@ -47,3 +47,8 @@ last_below key es = last_entry (below key es)
 -- the greatest entry at or below the key
 abbrev pub last_upto : {X : Type 0} → ℕ → List (ℕ × X) → Option (ℕ × X)
 last_upto key es = last_below (key + 1) es
+
+-- the key is that of the first entry
+abbrev pub starts_at : {X : Type 0} → ℕ → List (ℕ × X) → Bool
+starts_at key [] = false
+starts_at key (e ∷ es) = e.0 == key

@@ -3,7 +3,7 @@ use Rattle.std.specs.Prelude.{◌≡◌, ℕ, Bool, true, false, ◌&&◌, List,
 use Rattle.bw_keys.specs.declared.range.Fence.{Fence}
 use Rattle.bw_keys.specs.declared.page.Pid.{Pid}
 use Rattle.bw_keys.specs.Ranges.{key_count, end_of}
-use Rattle.bw_delta.specs.Entries.{rises}
+use Rattle.bw_delta.specs.Entries.{rises, from}
 
 -- what a page lists: the pairs of a leaf, or the routes of an inner page
 pub data Listed : Type 0 where
@@ -35,3 +35,11 @@ is_page page = nat_le (end_of page.high) key_count && nat_lt page.low (end_of pa
 
 abbrev pub IsPage : Page → Type 0
 IsPage page = is_page page ≡ true
+
+abbrev pub listed_from : ℕ → Listed → Listed
+listed_from key (pairs_of es) = pairs_of (from key es)
+listed_from key (routes_of es) = routes_of (from key es)
+
+-- the part of a page from the separator on
+abbrev pub upper_part : ℕ → Page → Page
+upper_part separator page = record page { low = separator; listed = listed_from separator page.listed }

@@ -1,5 +1,5 @@
 -- Which chains are sound, and the page that a sound chain stands for.
-use Rattle.std.specs.Prelude.{◌≡◌, ℕ, ◌+◌, ◌<◌, ◌≤◌, Bool, true, false, if◌then◌else◌, length}
+use Rattle.std.specs.Prelude.{◌≡◌, ℕ, ◌+◌, ◌<◌, ◌≤◌, Bool, true, false, if◌then◌else◌, ◌&&◌, ◌||◌, not, is_some, length}
 use Rattle.bw_keys.specs.declared.range.Fence.TheVariants.{Key}
 use Rattle.bw_keys.specs.declared.page.TheConstants.{MAX_DEPTH}
 use Rattle.bw_keys.specs.Ranges.{end_of}
@@ -9,6 +9,7 @@ use Rattle.bw_delta.specs.declared.chain.Merging.{Merging}
 use Rattle.bw_delta.specs.declared.fences.Fences.{Fences}
 use Rattle.bw_delta.specs.Pages.{Page, Listed, IsPage, pairs_of, routes_of}
 use Rattle.bw_delta.specs.Records.{Records, bare, above, merged, depth}
+use Rattle.bw_delta.specs.Entries.{at, starts_at}
 use Rattle.bw_delta.specs.Fence.{fences, is_leaf}
 use Rattle.bw_delta.specs.Pairs.{pairs, routes}
 
@@ -57,3 +58,8 @@ page_for chain = page_with (fences chain) (listed_for (is_leaf chain) chain)
 -- how many pairs or routes the chain has; one of the lists is empty
 abbrev pub entry_count : Records → ℕ
 entry_count chain = length (pairs chain) + length (routes chain)
+
+-- the key is that of an entry of the chain, and not of the first: a page can be split there
+abbrev pub is_later_key : ℕ → Records → Bool
+is_later_key key chain =
+    (is_some (at key (pairs chain)) || is_some (at key (routes chain))) && not (starts_at key (pairs chain) || starts_at key (routes chain))

@@ -1,8 +1,8 @@
-ghost use Rattle.std.specs.Prelude.{◌≡◌, ◌↔◌, [], Err, None, IfOk, false};
+ghost use Rattle.std.specs.Prelude.{◌≡◌, ◌↔◌, [], Err, None, IfOk, IsTrue, false};
 ghost use Rattle.bw_keys.specs.declared.range.Fence.TheVariants.{Top};
 ghost use Rattle.bw_keys.specs.Ranges.{end_of};
 ghost use Rattle.bw_delta.specs.Entries.{rises};
-ghost use Rattle.bw_delta.specs.Pages.{pairs_of, routes_of, is_page};
+ghost use Rattle.bw_delta.specs.Pages.{pairs_of, routes_of, is_page, lists_pairs, listed_length};
 
 use crate::fault::{BaseFault, NoMemory};
 use bw_keys::{Fence, Key, Pid};
@@ -107,6 +107,33 @@ impl<A: Allocator + Copy> Base<A> {
             right,
             entries: Entries::Routes(routes),
         })
+    }
+
+    /// Whether this is a leaf's base.
+    pub fn is_leaf(&self) -> bool
+        ensures { result ≡ lists_pairs self.now.listed }
+    {
+        match &self.entries {
+            Entries::Pairs(_) => true,
+            Entries::Routes(_) => false,
+        }
+    }
+
+    /// How many entries the base has.
+    pub fn len(&self) -> usize
+        ensures { result ≡ listed_length self.now.listed }
+    {
+        match &self.entries {
+            Entries::Pairs(pairs) => pairs.len(),
+            Entries::Routes(routes) => routes.len(),
+        }
+    }
+
+    /// Whether the base has no entries.
+    pub fn is_empty(&self) -> bool
+        ensures { IsTrue result ↔ (listed_length self.now.listed ≡ 0) }
+    {
+        self.len() == 0
     }
 
     /// An equal base with memory of its own.

@@ -14,7 +14,8 @@ use Rattle.bw_step.specs.Stages.{is_in_row}
 use Rattle.bw_step.specs.Proposals.{insert, delete, consolidate, split, term_add, grow, mark, merge, term_delete}
 use Rattle.bw_law.specs.Slots.{SlotValue, chain_in, pairs_in, routes_in, last_number}
 use Rattle.bw_law.specs.Tables.{TableValue, slot_at, number_of}
-use Rattle.bw_law.specs.Refusals.{last_id, new_id, is_bad_separator, upper_part, root_page, reasons, refusal}
+use Rattle.bw_delta.specs.Pages.{upper_part}
+use Rattle.bw_law.specs.Refusals.{last_id, new_id, is_bad_separator, root_page, reasons, refusal}
 use Rattle.bw_law.proofs.SameTests.{same_page, same_link}
 
 -- each is none

@@ -10,7 +10,7 @@ use Rattle.bw_delta.specs.Pairs.{pairs, pairs_listed, routes, routes_listed}
 use Rattle.bw_delta.specs.Sound.{IsSound, listed_for, page_for}
 use Rattle.bw_delta.proofs.Rises.{rises-from}
 use Rattle.bw_delta.proofs.Stands.{inner_has_no_pairs, leaf_has_no_routes}
-use Rattle.bw_law.specs.Refusals.{listed_from, upper_part}
+use Rattle.bw_delta.specs.Pages.{listed_from, upper_part}
 
 -- a base lists the pairs and the routes of the chain
 pub pairs_of_base : (chain : Records) → IsSound chain → pairs_listed (page_for chain).listed ≡ pairs chain

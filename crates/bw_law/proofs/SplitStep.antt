@@ -19,7 +19,9 @@ use Rattle.bw_step.specs.Proposals.{split}
 use Rattle.bw_law.specs.Slots.{SlotValue, slot_in, pairs_in, routes_in}
 use Rattle.bw_law.specs.Rows.{Rows}
 use Rattle.bw_law.specs.Tables.{TableValue, slot_at, id_of, outline, outlines, IsPageOf, Lawful, is_leaf_in_row, leaf_pairs, Booked}
-use Rattle.bw_law.specs.Refusals.{new_id, starts_at, is_leaving_at, upper_part}
+use Rattle.bw_delta.specs.Entries.{starts_at}
+use Rattle.bw_delta.specs.Pages.{upper_part}
+use Rattle.bw_law.specs.Refusals.{new_id, is_leaving_at}
 use Rattle.bw_law.specs.Effects.{lower_half, upper_half, pid, after}
 use Rattle.bw_law.specs.Laws.{KeptBy}
 use Rattle.bw_law.proofs.Outlines as outlined

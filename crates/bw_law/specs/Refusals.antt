@@ -6,8 +6,8 @@ use Rattle.bw_keys.specs.declared.range.Fence.TheVariants.{Top}
 use Rattle.bw_keys.specs.declared.page.Pid.{Pid}
 use Rattle.bw_keys.specs.Ranges.{is_within}
 use Rattle.bw_keys.specs.Reasons.{when, first_reason}
-use Rattle.bw_delta.specs.Entries.{at, from}
-use Rattle.bw_delta.specs.Pages.{Page, Listed, pairs_of, routes_of, lists_pairs}
+use Rattle.bw_delta.specs.Entries.{at, starts_at}
+use Rattle.bw_delta.specs.Pages.{Page, routes_of, lists_pairs, upper_part}
 use Rattle.bw_delta.specs.Sound.{page_for}
 use Rattle.bw_step.specs.declared.refused.Refused.{Refused}
 use Rattle.bw_step.specs.declared.refused.Refused.TheVariants.{Absent, Stale, Frozen, WrongKind, OutOfRange, Present, NoKey, NotBare, BadSeparator, NotSame, WrongStage, WrongParent, TermStands, Leftmost, NotNeighbours, Deep, TooTall, TableFull, Worn}
@@ -69,87 +69,96 @@ all_but_last [] = []
 all_but_last (id ∷ []) = []
 all_but_last (id ∷ next ∷ rest) = id ∷ all_but_last (next ∷ rest)
 
--- the separator is the key of the first entry
-abbrev pub starts_at : {X : Type 0} → ℕ → List (ℕ × X) → Bool
-starts_at separator [] = false
-starts_at separator (e ∷ es) = e.0 == separator
-
 -- the page that is routed at the separator is being removed
 abbrev pub is_leaving_at : List SlotValue → Option Pid → Bool
 is_leaving_at slots None = false
 is_leaving_at slots (Some child) = is_leaving (slot_in slots child.0).stage
 
 -- the separator is no key of an entry, or the first one's, or that of a child that is being removed
-abbrev pub is_bad_separator : List SlotValue → SlotValue → ℕ → Bool
-is_bad_separator slots slot separator =
+abbrev pub is_bad_key : SlotValue → Bool → ℕ → Bool
+is_bad_key slot child_leaving separator =
     not (is_some (at separator (pairs_in slot)) || is_some (at separator (routes_in slot)))
     || (starts_at separator (pairs_in slot) || starts_at separator (routes_in slot))
-    || is_leaving_at slots (at separator (routes_in slot))
+    || child_leaving
 
-abbrev pub listed_from : ℕ → Listed → Listed
-listed_from separator (pairs_of es) = pairs_of (from separator es)
-listed_from separator (routes_of es) = routes_of (from separator es)
-
--- the part of a page from the separator on
-abbrev pub upper_part : ℕ → Page → Page
-upper_part separator page = record page { low = separator; listed = listed_from separator page.listed }
+abbrev pub is_bad_separator : List SlotValue → SlotValue → ℕ → Bool
+is_bad_separator slots slot separator = is_bad_key slot (is_leaving_at slots (at separator (routes_in slot))) separator
 
 -- the base of a new root over the old one and the child
 abbrev pub root_page : ℕ → ℕ → ℕ → Page
 root_page root low child = record { low = 0; high = Top; right = None; listed = routes_of ((0, record { 0 = root }) ∷ (low, record { 0 = child }) ∷ []) }
 
--- The reasons against each step.
+-- The reasons against each step, by the slots of the pages that it names.
 
-abbrev pub reasons : TableValue → Proposal → List (Option Refused)
-reasons table (insert page seen key value) =
-    let slot = slot_at table page in
+abbrev pub insert_reasons : SlotValue → ℕ → ℕ → ℕ → List (Option Refused)
+insert_reasons slot number seen key =
     absent (slot ∷ []) ∷ stale ((slot, seen) ∷ []) ∷ frozen slot ∷ when (nat_lt 0 slot.level) WrongKind ∷ when (is_outside slot key) OutOfRange
-    ∷ option_map Present (at key (pairs_in slot)) ∷ when (is_full slot) Deep ∷ worn_change slot (number_of table.book) ∷ []
-reasons table (delete page seen key) =
-    let slot = slot_at table page in
+    ∷ option_map Present (at key (pairs_in slot)) ∷ when (is_full slot) Deep ∷ worn_change slot number ∷ []
+
+abbrev pub delete_reasons : SlotValue → ℕ → ℕ → ℕ → List (Option Refused)
+delete_reasons slot number seen key =
     absent (slot ∷ []) ∷ stale ((slot, seen) ∷ []) ∷ frozen slot ∷ when (nat_lt 0 slot.level) WrongKind ∷ when (is_outside slot key) OutOfRange
-    ∷ when (is_none (at key (pairs_in slot))) NoKey ∷ when (is_full slot) Deep ∷ worn_change slot (number_of table.book) ∷ []
-reasons table (consolidate page seen base) =
-    let slot = slot_at table page in
+    ∷ when (is_none (at key (pairs_in slot))) NoKey ∷ when (is_full slot) Deep ∷ worn_change slot number ∷ []
+
+abbrev pub consolidate_reasons : SlotValue → ℕ → Page → List (Option Refused)
+consolidate_reasons slot seen base =
     absent (slot ∷ []) ∷ stale ((slot, seen) ∷ []) ∷ frozen slot ∷ when (is_other_kind base slot) WrongKind
     ∷ when (not (is_same_page base (page_for (chain_in slot)))) NotSame ∷ worn (slot ∷ []) ∷ []
-reasons table (split page seen separator base) =
-    let slot = slot_at table page in
+
+-- the child routed at the separator may be leaving, the free list may be empty, and the new page takes a slot
+abbrev pub split_reasons : SlotValue → SlotValue → Bool → Bool → ℕ → ℕ → Page → List (Option Refused)
+split_reasons slot new child_leaving no_room seen separator base =
     absent (slot ∷ []) ∷ stale ((slot, seen) ∷ []) ∷ frozen slot ∷ when (is_other_kind base slot) WrongKind ∷ when (is_outside slot separator) OutOfRange
-    ∷ when (nat_lt 0 slot.depth) NotBare ∷ when (is_bad_separator table.slots slot separator) BadSeparator
+    ∷ when (nat_lt 0 slot.depth) NotBare ∷ when (is_bad_key slot child_leaving separator) BadSeparator
     ∷ when (not (is_same_page base (upper_part separator (page_for (chain_in slot))))) NotSame
-    ∷ when (is_none (last_id table.free)) TableFull ∷ worn (slot ∷ slot_at table (new_id table) ∷ []) ∷ []
-reasons table (term_add parent parent_seen child child_seen) =
-    let over = slot_at table parent in
-    let under = slot_at table child in
+    ∷ when no_room TableFull ∷ worn (slot ∷ new ∷ []) ∷ []
+
+abbrev pub term_add_reasons : SlotValue → SlotValue → ℕ → ℕ → List (Option Refused)
+term_add_reasons over under parent_seen child_seen =
     absent (over ∷ under ∷ []) ∷ stale ((over, parent_seen) ∷ (under, child_seen) ∷ []) ∷ frozen over ∷ when (not (over.level == under.level + 1)) WrongKind
     ∷ when (not (is_unposted under.stage)) WrongStage ∷ when (is_outside over under.low) WrongParent ∷ option_map TermStands (at under.low (routes_in over))
     ∷ when (is_full over) Deep ∷ worn (over ∷ under ∷ []) ∷ []
-reasons table (grow child seen base) =
-    let under = slot_at table child in
-    let root = slot_at table table.root in
+
+-- the base is to be the new root's, which takes a slot
+abbrev pub grow_reasons : SlotValue → SlotValue → SlotValue → Bool → ℕ → Page → Page → List (Option Refused)
+grow_reasons under root new no_room seen base wanted =
     absent (under ∷ []) ∷ stale ((under, seen) ∷ []) ∷ when (lists_pairs base.listed) WrongKind
-    ∷ when (not (is_same_page base (root_page table.root under.low child))) NotSame ∷ when (not (is_unposted under.stage)) WrongStage
-    ∷ when (not (under.level == root.level)) WrongParent ∷ when (nat_le MAX_LEVEL root.level) TooTall ∷ when (is_none (last_id table.free)) TableFull
-    ∷ worn (under ∷ slot_at table (new_id table) ∷ []) ∷ []
-reasons table (mark page seen parent) =
-    let slot = slot_at table page in
-    let over = slot_at table parent in
+    ∷ when (not (is_same_page base wanted)) NotSame ∷ when (not (is_unposted under.stage)) WrongStage
+    ∷ when (not (under.level == root.level)) WrongParent ∷ when (nat_le MAX_LEVEL root.level) TooTall ∷ when no_room TableFull
+    ∷ worn (under ∷ new ∷ []) ∷ []
+
+abbrev pub mark_reasons : SlotValue → SlotValue → ℕ → List (Option Refused)
+mark_reasons slot over seen =
     absent (slot ∷ over ∷ []) ∷ stale ((slot, seen) ∷ []) ∷ frozen slot ∷ when (not (over.level == slot.level + 1)) WrongKind
     ∷ when (not (is_plainly_posted slot.stage)) WrongStage ∷ when (is_outside over slot.low) WrongParent ∷ when (slot.low == over.low) Leftmost
     ∷ when (nat_lt (MAX_DEPTH - 2) slot.depth) Deep ∷ worn (slot ∷ []) ∷ []
-reasons table (merge left left_seen page seen) =
-    let into = slot_at table left in
-    let slot = slot_at table page in
+
+abbrev pub merge_reasons : SlotValue → SlotValue → ℕ → ℕ → ℕ → List (Option Refused)
+merge_reasons into slot left_seen seen page =
     absent (into ∷ slot ∷ []) ∷ stale ((into, left_seen) ∷ (slot, seen) ∷ []) ∷ frozen into ∷ when (not (into.level == slot.level)) WrongKind
     ∷ when (not (is_marked slot.stage)) WrongStage ∷ when (not (is_same_link into.right (Some (record { 0 = page })))) NotNeighbours
     ∷ when (nat_le MAX_DEPTH (max into.depth slot.depth)) Deep ∷ worn (into ∷ slot ∷ []) ∷ []
-reasons table (term_delete parent parent_seen child child_seen) =
-    let over = slot_at table parent in
-    let under = slot_at table child in
+
+abbrev pub term_delete_reasons : SlotValue → SlotValue → ℕ → ℕ → List (Option Refused)
+term_delete_reasons over under parent_seen child_seen =
     when (not (is_in_row over.stage) || is_free under.stage) Absent ∷ stale ((over, parent_seen) ∷ (under, child_seen) ∷ []) ∷ frozen over
     ∷ when (not (over.level == under.level + 1)) WrongKind ∷ when (not (is_merged under.stage)) WrongStage ∷ when (is_outside over under.low) WrongParent
     ∷ when (is_full over) Deep ∷ worn (over ∷ under ∷ []) ∷ []
+
+abbrev pub reasons : TableValue → Proposal → List (Option Refused)
+reasons table (insert page seen key value) = insert_reasons (slot_at table page) (number_of table.book) seen key
+reasons table (delete page seen key) = delete_reasons (slot_at table page) (number_of table.book) seen key
+reasons table (consolidate page seen base) = consolidate_reasons (slot_at table page) seen base
+reasons table (split page seen separator base) =
+    split_reasons (slot_at table page) (slot_at table (new_id table)) (is_leaving_at table.slots (at separator (routes_in (slot_at table page))))
+    (is_none (last_id table.free)) seen separator base
+reasons table (term_add parent parent_seen child child_seen) = term_add_reasons (slot_at table parent) (slot_at table child) parent_seen child_seen
+reasons table (grow child seen base) =
+    grow_reasons (slot_at table child) (slot_at table table.root) (slot_at table (new_id table)) (is_none (last_id table.free)) seen base
+    (root_page table.root (slot_at table child).low child)
+reasons table (mark page seen parent) = mark_reasons (slot_at table page) (slot_at table parent) seen
+reasons table (merge left left_seen page seen) = merge_reasons (slot_at table left) (slot_at table page) left_seen seen page
+reasons table (term_delete parent parent_seen child child_seen) = term_delete_reasons (slot_at table parent) (slot_at table child) parent_seen child_seen
 
 -- the first reason to refuse the step
 abbrev pub refusal : TableValue → Proposal → Option Refused

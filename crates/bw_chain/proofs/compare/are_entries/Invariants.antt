@@ -7,4 +7,4 @@ use Rattle.bw_chain.proofs.compare.are_entries.Given as goal
 abbrev pub invariant-entries : goal.invariant-entries
 invariant-entries g l =
     let all = entries_by g.X.EntryValue.own_entries g.X.EntryValue.own_change l.chain in
-    all ≡ take l.entry-index l.list ++ from (end_of l.from) all
+    from (end_of l.initial.from) all ≡ take l.entry-index l.list ++ from (end_of l.from) all
