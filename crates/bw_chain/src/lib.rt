@@ -28,4 +28,8 @@ pub use separator::is_later_key;
 pub use shape::{depth, fences, is_leaf};
 
 #[cfg(test)]
+mod memory;
+#[cfg(test)]
+mod random;
+#[cfg(test)]
 mod tests;

@@ -7,7 +7,7 @@ use crate::{
 };
 use bw_delta::{Base, Chain, Delta, Entries, Fences, Spare};
 use bw_keys::{Fence, Key, Pid};
-use std::alloc::Global;
+use std::alloc::{Allocator, Global};
 use std::test::Fail;
 
 /// The leaf for all keys with (1, 10), (3, 30) and (5, 50): 3 deleted, 4 inserted, 1 deleted.
@@ -79,7 +79,7 @@ fn merged_inner(alloc: Global) -> Result<Chain<Global>, Fail>
     Ok(left)
 }
 
-fn lists_pairs(base: &Base<Global>, pairs: &[(Key, u64)]) -> bool {
+pub(crate) fn lists_pairs<A: Allocator>(base: &Base<A>, pairs: &[(Key, u64)]) -> bool {
     match &base.entries {
         Entries::Pairs(list) => list.as_slice() == pairs,
         Entries::Routes(_) => false,

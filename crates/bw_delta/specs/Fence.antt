@@ -1,5 +1,5 @@
 -- Where a chain's range begins and ends, its right link, and its kind.
-use Rattle.std.specs.Prelude.{Option, Some, Bool}
+use Rattle.std.specs.Prelude.{Some, Bool}
 use Rattle.bw_keys.specs.declared.range.Fence.TheVariants.{Key}
 use Rattle.bw_delta.specs.declared.chain.Delta.{Delta}
 use Rattle.bw_delta.specs.declared.chain.Delta.TheVariants.{Insert, Delete, Split, Remove, TermAdd, TermDelete}

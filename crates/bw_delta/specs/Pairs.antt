@@ -4,7 +4,7 @@ use Rattle.bw_keys.specs.declared.page.Pid.{Pid}
 use Rattle.bw_delta.specs.declared.chain.Delta.{Delta}
 use Rattle.bw_delta.specs.declared.chain.Delta.TheVariants.{Insert, Delete, Split, Remove, TermAdd, TermDelete}
 use Rattle.bw_delta.specs.Entries.{put, without, below, from}
-use Rattle.bw_delta.specs.Pages.{Page, Listed, pairs_of, routes_of}
+use Rattle.bw_delta.specs.Pages.{Listed, pairs_of, routes_of}
 use Rattle.bw_delta.specs.Records.{Records, bare, above, merged}
 
 abbrev pub pairs_listed : Listed → List (ℕ × ℕ)

@@ -1,5 +1,4 @@
 -- The records that the node of a chain is.
-use Rattle.std.specs.Prelude.{ℕ}
 use Rattle.bw_delta.specs.Records.{Records, bare, above, merged}
 use Rattle.bw_delta.specs.declared.chain.Node.{Node}
 use Rattle.bw_delta.specs.declared.chain.Node.TheVariants.{Bare, Above, Merged}

@@ -5,12 +5,7 @@ use std::alloc::{Allocator, Global};
 use std::test::Fail;
 
 /// What a base may be asked for, and whether it is one.
-fn leaf_is_refused(
-    alloc: Global,
-    low: u64,
-    high: Fence,
-    entries: &[(u64, u64)],
-) -> bool {
+fn leaf_is_refused(alloc: Global, low: u64, high: Fence, entries: &[(u64, u64)]) -> bool {
     Base::leaf(alloc, low, high, None, entries).err() == Some(BaseFault::BadEntries)
 }
 
@@ -23,12 +18,27 @@ fn bases_are_made_of_rising_entries_in_their_range(rt: HostRuntime) {
     assert!(rt; !leaf_is_refused(alloc, 3, key(6), &[(3, 0), (5, 0)]));
     assert!(rt; !leaf_is_refused(alloc, 3, Fence::Top, &[(last, 1)]));
     assert!(rt; leaf_is_refused(alloc, 3, key(3), &[]), "an empty range");
-    assert!(rt; leaf_is_refused(alloc, 3, key(2), &[]), "a range that ends before it begins");
-    assert!(rt; leaf_is_refused(alloc, 3, key(6), &[(2, 0)]), "below the low");
+    assert!(rt;
+        leaf_is_refused(alloc, 3, key(2), &[]),
+        "a range that ends before it begins"
+    );
+    assert!(rt;
+        leaf_is_refused(alloc, 3, key(6), &[(2, 0)]),
+        "below the low"
+    );
     assert!(rt; leaf_is_refused(alloc, 3, key(6), &[(6, 0)]), "at the high");
-    assert!(rt; leaf_is_refused(alloc, 3, key(last), &[(last, 0)]), "the last key at the high");
-    assert!(rt; leaf_is_refused(alloc, 0, key(6), &[(1, 0), (1, 1)]), "twice the same");
-    assert!(rt; leaf_is_refused(alloc, 0, key(6), &[(2, 0), (1, 1)]), "falling");
+    assert!(rt;
+        leaf_is_refused(alloc, 3, key(last), &[(last, 0)]),
+        "the last key at the high"
+    );
+    assert!(rt;
+        leaf_is_refused(alloc, 0, key(6), &[(1, 0), (1, 1)]),
+        "twice the same"
+    );
+    assert!(rt;
+        leaf_is_refused(alloc, 0, key(6), &[(2, 0), (1, 1)]),
+        "falling"
+    );
 }
 
 #[test]

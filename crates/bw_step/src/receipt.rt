@@ -16,9 +16,17 @@ pub enum Kind {
 #[derive(Clone, Copy, Debug, PartialEq, Eq, Hash)]
 pub enum Receipt {
     /// The key got the value, by the change with this number.
-    Inserted { number: u64, key: Key, value: u64 },
+    Inserted {
+        number: u64,
+        key: Key,
+        value: u64,
+    },
     /// The key lost the value, by the change with this number.
-    Deleted { number: u64, key: Key, value: u64 },
+    Deleted {
+        number: u64,
+        key: Key,
+        value: u64,
+    },
     /// The key had this value, or none, after the change with the number `at`.
     Looked {
         at: u64,

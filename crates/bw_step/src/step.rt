@@ -45,7 +45,10 @@ impl<A: Allocator + Copy> Step<A> {
                 spare: Spare::new(alloc)?,
             }),
             Step::Delete {
-                page, seen, key, ..
+                page,
+                seen,
+                key,
+                ..
             } => Ok(Step::Delete {
                 page: *page,
                 seen: *seen,

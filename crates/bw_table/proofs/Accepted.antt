@@ -58,7 +58,7 @@ room_and_key : (table : TableValue) (page seen key : ℕ) (o : Option Refused) �
 room_and_key table page seen key o law none =
     let slot = slot_at table page in
     let (absent, (stale, (frozen, (kind, (range, (sixth, (deep, (worn, _)))))))) =
-        all_none (leaf_reasons slot seen key ++ o ∷ room_reasons slot (number_of table.book)) none in
+    all_none (leaf_reasons slot seen key ++ o ∷ room_reasons slot (number_of table.book)) none in
     let in_row : is_in_row slot.stage ≡ true = grind (arith, nat_tests) in
     let bound = law.bounds.versions page in
     let number = law.bounds.number in (

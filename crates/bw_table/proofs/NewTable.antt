@@ -74,6 +74,7 @@ whole-new config fine fits =
     other_free : (page : ℕ) → 0 < page → (slot_at (new_table config) page).stage ≡ Free
     other_free zero above = absurd (omega arith)
     other_free (suc page) above = free_among (config.pages - 1) page config.first_version
+
     version_at : (page : ℕ) → (slot_at (new_table config) page).version < 2 ^ 64
     version_at zero = fits
     version_at (suc page) = version_among (config.pages - 1) page config.first_version fits

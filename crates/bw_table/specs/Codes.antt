@@ -23,7 +23,7 @@ abbrev pub slot_code : Coded SlotValue
 slot_code =
     code_by SlotParts
     (coded× coded_ℕ (coded× stage.the_row.coded (coded× coded_ℕ (coded× fence.the_row.coded (coded× (coded_option pid.the_row.coded)
-        (coded× coded_ℕ (coded× coded_ℕ (coded× coded_ℕ (coded_option records_code)))))))))
+    (coded× coded_ℕ (coded× coded_ℕ (coded× coded_ℕ (coded_option records_code)))))))))
     (λ s. (s.version, (s.stage, (s.low, (s.high, (s.right, (s.level, (s.count, (s.depth, s.chain)))))))))
     (λ p. record {
       version = p.0;

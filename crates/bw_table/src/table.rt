@@ -126,7 +126,10 @@ impl<A: Allocator + Copy> Table<A> {
                 ..
             } => self.check_insert(*page, *seen, *key, *value),
             Step::Delete {
-                page, seen, key, ..
+                page,
+                seen,
+                key,
+                ..
             } => self.check_delete(*page, *seen, *key),
         }
     }
@@ -205,14 +208,7 @@ impl<A: Allocator + Copy> Table<A> {
         }
     }
 
-    fn insert(
-        &mut self,
-        page: Pid,
-        seen: Version,
-        key: Key,
-        value: u64,
-        spare: Spare<A>,
-    ) -> Receipt
+    fn insert(&mut self, page: Pid, seen: Version, key: Key, value: u64, spare: Spare<A>) -> Receipt
         requires room { HasRoom self.old page.0 key }
         requires absent { at key (pairs_in (slot_at self.old page.0)) ≡ None }
         ensures { TakesStep self.old (insert page.0 seen.0 key value) result self.new }

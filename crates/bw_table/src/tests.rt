@@ -188,7 +188,10 @@ fn the_first_reason_is_the_answer(rt: HostRuntime) {
     assert_eq!(rt; merged.check_insert(0, Version(9), 4), Err(Refused::Absent));
     let inner = Slot { level: 1, ..page() };
     assert_eq!(rt; inner.check_insert(0, seen, 9), Err(Refused::WrongKind));
-    let leaf = Slot { depth: 64, ..page() };
+    let leaf = Slot {
+        depth: 64,
+        ..page()
+    };
     assert_eq!(rt; leaf.check_insert(0, seen, 2), Err(Refused::OutOfRange));
     assert_eq!(rt; leaf.check_delete(0, seen, 5), Err(Refused::OutOfRange));
     assert_eq!(rt; leaf.check_delete(u64::MAX, seen, 4), Err(Refused::NoKey));
@@ -211,7 +214,10 @@ fn a_new_table_is_an_empty_leaf(rt: HostRuntime) -> Result<(), Fail> {
     assert_eq!(rt; survey.levels, 1);
     assert_eq!(rt; survey.leaves.len(), 1);
     let leaf = survey.leaves[0];
-    assert_eq!(rt; (leaf.pid, leaf.count, leaf.stage), (Pid(0), 0, Stage::Posted));
+    assert_eq!(rt;
+        (leaf.pid, leaf.count, leaf.stage),
+        (Pid(0), 0, Stage::Posted)
+    );
     assert_eq!(rt; (leaf.range.low, leaf.range.high), (0, Fence::Top));
     assert!(rt; table.peek(Pid(1)).is_none() && table.peek(Pid(8)).is_none());
     assert!(rt; table.look(Pid(1), 0).is_none());

@@ -82,8 +82,7 @@ fn report<A: Allocator + Copy>(machine: Global, alloc: A) -> Result<String, Stop
     let book = survey.book;
     let line = format!(in machine;
         "inserted {} removed {} pairs {pairs}\n",
-        book.inserted,
-        book.removed
+        book.inserted, book.removed
     )?;
     text.push_str(&line)?;
     Ok(text)
