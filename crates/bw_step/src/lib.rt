@@ -13,5 +13,5 @@ pub use place::{Go, Next, Place, Todo};
 pub use receipt::{Kind, Receipt};
 pub use refused::Refused;
 pub use step::Step;
-pub use survey::{Book, Leaf, Survey};
+pub use survey::{Book, Leaf, Summary, Survey};
 pub use view::{Look, Stage, View};

@@ -1,6 +1,8 @@
 -- The ids of a new table's free slots.
-use Rattle.std.proofs.Common.{◌≡◌, ℕ, ◌-◌, ◌<◌, ◌≤◌, ◌++◌, List, [], ◌∷◌, zero, suc, refl, ap, sym, ◌∙◌, arith, append_assoc}
+use Rattle.std.proofs.Common.{◌≡◌, ℕ, ◌-◌, ◌<◌, ◌≤◌, ◌++◌, List, [], ◌∷◌, length, zero, suc, Option, Some, None, IsSome, refl, ap, sym, ◌∙◌, arith, append_assoc}
+use Rattle.std.specs.Prelude.{slice_get, unwrap_or, option_to_list}
 use Rattle.bw_law.specs.Tables.{ids_down}
+use Rattle.bw_law.specs.Refusals.{last_id, all_but_last}
 
 -- the first id, and those after it
 pub next_id : (n : ℕ) → 1 < n → ids_down n ≡ (n - 1) ∷ ids_down (n - 1)
@@ -18,3 +20,30 @@ no_ids (suc zero) few = refl
 no_ids (suc (suc n)) few = absurd (omega arith)
 
 pub ruleset next_ids = (next_id, pushed_id)
+
+-- the last id is the one at the end
+pub last_id_at_end : (ids : List ℕ) → slice_get ids (length ids - 1) ≡ last_id ids
+last_id_at_end [] = refl
+last_id_at_end (id ∷ []) = refl
+last_id_at_end (id ∷ next ∷ rest) =
+    let shorter : length (id ∷ next ∷ rest) - 1 ≡ suc (length (next ∷ rest) - 1) = omega arith in
+    rw shorter (last_id_at_end (next ∷ rest))
+
+last_id-append : (ids : List ℕ) (id : ℕ) → last_id (ids ++ id ∷ []) ≡ Some id
+last_id-append [] id = refl
+last_id-append (first ∷ []) id = refl
+last_id-append (first ∷ next ∷ rest) id = last_id-append (next ∷ rest) id
+
+all_but_last-append : (ids : List ℕ) (id : ℕ) → all_but_last (ids ++ id ∷ []) ≡ ids
+all_but_last-append [] id = refl
+all_but_last-append (first ∷ []) id = refl
+all_but_last-append (first ∷ next ∷ rest) id = ap (λ ids. first ∷ ids) (all_but_last-append (next ∷ rest) id)
+
+-- what was popped was the last id, and the others are left
+pub popped : (old new : List ℕ) (popped : Option ℕ) → IsSome (last_id old) → old ≡ new ++ option_to_list popped → IsSome popped → (last_id old ≡ Some (unwrap_or popped 0)) × (new ≡ all_but_last old)
+popped old new None there parts some = cc
+popped old new (Some id) there parts some = (ap last_id parts ∙ last_id-append new id, sym (ap all_but_last parts ∙ all_but_last-append new id))
+
+pub ruleset last_ids = (last_id_at_end)
+
+pub ruleset taken_ids = (popped)

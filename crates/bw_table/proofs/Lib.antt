@@ -1,6 +1,8 @@
+pub mod Doing
 pub mod FreeIds
-pub mod Lengths
-pub mod Accepted
+pub mod LiveRoutes
+pub mod RowWalk
+pub mod Same
+pub mod Ways
 pub mod Whole
-pub mod NewTable
-pub mod Rows
+pub mod Writes

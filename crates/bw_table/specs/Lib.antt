@@ -1,6 +1,7 @@
-pub mod Codes
-pub mod OneLeaf
-pub mod Views
 pub mod Answers
-pub mod Checks
-pub mod Room
+pub mod Codes
+pub mod LeafRows
+pub mod SlotFacts
+pub mod Views
+pub mod Visits
+pub mod Whole

@@ -1,14 +1,17 @@
 -- What the table answers of its pages.
-use Rattle.std.specs.Prelude.{◌≡◌, ℕ, ◌+◌, ◌&&◌, ◌==◌, if◌then◌else◌, List, Option, Some, None, map}
+use Rattle.std.specs.Prelude.{◌≡◌, ℕ, ◌+◌, ◌&&◌, if◌then◌else◌, List, Option, Some, None, map}
 use Rattle.bw_keys.specs.declared.page.Pid.{Pid}
-use Rattle.bw_keys.specs.Ranges.{is_within}
+use Rattle.bw_keys.specs.Ranges.{is_within, key_count}
 use Rattle.bw_delta.specs.Entries.{at}
 use Rattle.bw_step.specs.declared.view.View.{View}
 use Rattle.bw_step.specs.declared.view.Look.{Look}
+use Rattle.bw_step.specs.declared.place.Place.{Place}
 use Rattle.bw_step.specs.declared.survey.Leaf.{Leaf}
+use Rattle.bw_step.specs.declared.survey.Summary.{Summary}
 use Rattle.bw_step.specs.declared.survey.Survey.{Survey}
 use Rattle.bw_law.specs.Slots.{SlotValue, slot_in, pairs_in, is_free}
-use Rattle.bw_law.specs.Walks.{IsRow}
+use Rattle.bw_law.specs.Walks.{IsRowOf}
+use Rattle.bw_table.specs.SlotFacts.{summary_of}
 use Rattle.bw_law.specs.Tables.{TableValue, slot_at, number_of, outlines, is_leaf_in_row, joined_pairs}
 
 abbrev pub view_of : Pid → SlotValue → View
@@ -28,6 +31,14 @@ view_of pid slot = record {
 abbrev pub view_at : TableValue → Pid → Option View
 view_at table pid = let slot = slot_at table pid.0 in if is_free slot.stage then None else Some (view_of pid slot)
 
+-- what is kept of it beside its chain
+abbrev pub summary_at : TableValue → Pid → Option Summary
+summary_at table pid = let slot = slot_at table pid.0 in if is_free slot.stage then None else Some (summary_of slot)
+
+-- where every search begins
+abbrev pub root_place : TableValue → Place
+root_place table = record { pid = record { 0 = table.root }; level = (slot_at table table.root).level; from = 0 }
+
 -- the value at the key and the book's number, in a leaf in its row whose range holds the key
 abbrev pub look_at : TableValue → ℕ → ℕ → Option Look
 look_at table page key =
@@ -45,9 +56,13 @@ leaf_at slots page = leaf_of (record { 0 = page }) (slot_in slots page)
 -- the levels, the leaves in the order of their row, and the book
 pub record IsSurveyOf (table : TableValue) (survey : Survey) : Type 0 where
   pub levels : survey.levels ≡ (slot_at table table.root).level + 1
-  pub leaves : (row : List ℕ) → IsRow (outlines table.slots) 0 row → survey.leaves.items ≡ map (leaf_at table.slots) row
+  pub row : List ℕ
+  pub is_row : IsRowOf (outlines table.slots) key_count 0 row
+  pub leaves : survey.leaves.items ≡ map (leaf_at table.slots) row
   pub book : survey.book ≡ table.book
 
 -- the pairs of the map, in the order of their keys: those of the leaf row
-abbrev pub ArePairsOf : TableValue → List (ℕ × ℕ) → Type 0
-ArePairsOf table pairs = (row : List ℕ) → IsRow (outlines table.slots) 0 row → pairs ≡ joined_pairs table.slots row
+pub record ArePairsOf (table : TableValue) (pairs : List (ℕ × ℕ)) : Type 0 where
+  pub row : List ℕ
+  pub is_row : IsRowOf (outlines table.slots) key_count 0 row
+  pub joined : pairs ≡ joined_pairs table.slots row

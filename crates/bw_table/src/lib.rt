@@ -4,14 +4,22 @@
 
 mod change;
 mod check;
+mod copy;
 mod fault;
+mod free;
 mod fresh;
+mod install;
 mod slot;
 mod survey;
 mod table;
 #[cfg(test)]
 mod tests;
+mod verdict;
+mod visit;
 
-pub use bw_step::{Book, Leaf, Look, Receipt, Refused, Stage, Step, Survey, View};
-pub use fault::NewFault;
+pub use bw_step::{
+    Book, Go, Kind, Leaf, Look, Next, Place, Receipt, Refused, Stage, Step, Summary, Survey, Todo,
+    View,
+};
+pub use fault::{CopyFault, NewFault};
 pub use table::Table;

@@ -1,14 +1,21 @@
-ghost use Rattle.std.specs.Prelude.{◌≡◌};
+ghost use Rattle.std.specs.Prelude.{◌≡◌, ◌+◌, ◌==◌, ◌&&◌, ◌||◌, not, is_some, true};
 ghost use Rattle.bw_keys.specs.Ranges.{is_within};
-ghost use Rattle.bw_delta.specs.Entries.{at};
-ghost use Rattle.bw_law.specs.Slots.{free_slot, pairs_in};
+ghost use Rattle.bw_delta.specs.Entries.{at, starts_at, last_upto, last_below};
+ghost use Rattle.bw_delta.specs.Pages.{upper_part};
+ghost use Rattle.bw_delta.specs.Sound.{IsSound, page_for};
+ghost use Rattle.bw_step.specs.Stages.{is_in_row};
+ghost use Rattle.bw_law.specs.Same.{is_same_page};
+ghost use Rattle.bw_law.specs.Slots.{free_slot, chain_in, pairs_in, routes_in};
 ghost use Rattle.bw_law.specs.Tables.{first_slot, is_leaf_in_row};
+ghost use Rattle.bw_law.specs.Refusals.{is_full, is_worn, is_other_kind};
+ghost use Rattle.bw_table.specs.SlotFacts.{HasSoundChain};
 ghost use Rattle.bw_table.specs.Views.{view_of};
+ghost use Rattle.bw_table.specs.Visits.{is_there, own_todo};
 
-use bw_chain::find;
+use bw_chain::{child, find, is_later_key, is_upper_part, route_at, route_before, same};
 use bw_delta::{Base, Chain};
-use bw_keys::{Fence, Key, Pid, Range, Version};
-use bw_step::{Stage, View};
+use bw_keys::{Fence, Key, MAX_DEPTH, Pid, Range, Version};
+use bw_step::{Place, Stage, Summary, Todo, View};
 use std::alloc::Allocator;
 use std::marker::Model;
 
@@ -17,12 +24,7 @@ use std::marker::Model;
 pub(crate) struct Slot<A: Allocator> {
     pub(crate) version: u64,
     pub(crate) stage: Stage,
-    pub(crate) low: Key,
-    pub(crate) high: Fence,
-    pub(crate) right: Option<Pid>,
-    pub(crate) level: u8,
-    pub(crate) count: u64,
-    pub(crate) depth: u8,
+    pub(crate) summary: Summary,
     pub(crate) chain: Option<Chain<A>>,
 }
 
@@ -34,8 +36,18 @@ impl<A: Allocator> Model for Slot<A> {
 
     ghost coded = { slot_code };
 
-    ghost view = { λ s. record { version = s.version; stage = s.stage; low = s.low; high = s.high; right = s.right; level = s.level; count = s.count; depth = s.depth; chain = s.chain } };
+    ghost view = { λ s. record { version = s.version; stage = s.stage; low = s.summary.low; high = s.summary.high; right = s.summary.right; level = s.summary.level; count = s.summary.count; depth = s.summary.depth; chain = s.chain } };
 }
+
+/// The summary of no page.
+pub(crate) const NOTHING: Summary = Summary {
+    low: 0,
+    high: Fence::Top,
+    right: None,
+    level: 0,
+    count: 0,
+    depth: 0,
+};
 
 impl<A: Allocator + Copy> Slot<A> {
     /// A slot of no page.
@@ -45,12 +57,7 @@ impl<A: Allocator + Copy> Slot<A> {
         Slot {
             version,
             stage: Stage::Free,
-            low: 0,
-            high: Fence::Top,
-            right: None,
-            level: 0,
-            count: 0,
-            depth: 0,
+            summary: NOTHING,
             chain: None,
         }
     }
@@ -60,9 +67,10 @@ impl<A: Allocator + Copy> Slot<A> {
         ensures { result ≡ first_slot version }
     {
         Slot {
+            version,
             stage: Stage::Posted,
+            summary: NOTHING,
             chain: Some(Chain::bare(Base::empty(alloc))),
-            ..Slot::free(version)
         }
     }
 
@@ -74,12 +82,12 @@ impl<A: Allocator + Copy> Slot<A> {
             pid,
             version: Version(self.version),
             stage: self.stage,
-            low: self.low,
-            high: self.high,
-            right: self.right,
-            level: self.level,
-            count: self.count,
-            depth: self.depth,
+            low: self.summary.low,
+            high: self.summary.high,
+            right: self.summary.right,
+            level: self.summary.level,
+            count: self.summary.count,
+            depth: self.summary.depth,
         }
     }
 
@@ -88,8 +96,8 @@ impl<A: Allocator + Copy> Slot<A> {
         ensures { result ≡ is_within self.now.low self.now.high key }
     {
         let range = Range {
-            low: self.low,
-            high: self.high,
+            low: self.summary.low,
+            high: self.summary.high,
         };
         range.holds(key)
     }
@@ -98,7 +106,28 @@ impl<A: Allocator + Copy> Slot<A> {
     pub(crate) fn is_leaf_in_row(&self) -> bool
         ensures { result ≡ is_leaf_in_row self.now }
     {
-        self.stage.is_in_row() && self.level == 0
+        self.stage.is_in_row() && self.summary.level == 0
+    }
+
+    /// Whether the other page is on the level below.
+    pub(crate) fn is_above(&self, under: &Slot<A>) -> bool
+        ensures { result ≡ (self.now.level == under.now.level + 1) }
+    {
+        u16::from(self.summary.level) == u16::from(under.summary.level) + 1
+    }
+
+    /// Whether no further record may stand on the chain.
+    pub(crate) fn is_full(&self) -> bool
+        ensures { result ≡ is_full self.now }
+    {
+        self.summary.depth >= MAX_DEPTH
+    }
+
+    /// Whether the version can't rise any more.
+    pub(crate) fn is_worn(&self) -> bool
+        ensures { result ≡ is_worn self.now }
+    {
+        self.version == u64::MAX
     }
 
     /// The value at a key.
@@ -110,4 +139,121 @@ impl<A: Allocator + Copy> Slot<A> {
             None => None,
         }
     }
+
+    /// The page that is routed at the separator.
+    pub(crate) fn route_at(&self, separator: Key) -> Option<Pid>
+        ensures { result ≡ at separator (routes_in self.now) }
+    {
+        match &self.chain {
+            Some(chain) => route_at(chain, separator),
+            None => None,
+        }
+    }
+
+    /// The route with the greatest separator at or below the key.
+    pub(crate) fn child(&self, key: Key) -> Option<(Key, Pid)>
+        requires in_row { is_in_row self.now.stage ≡ true }
+        requires sound { HasSoundChain self.now }
+        ensures { result ≡ last_upto key (routes_in self.now) }
+    {
+        match &self.chain {
+            Some(chain) => child(chain, key),
+            None => None,
+        }
+    }
+
+    /// The route with the greatest separator strictly below the key.
+    pub(crate) fn route_before(&self, key: Key) -> Option<(Key, Pid)>
+        requires in_row { is_in_row self.now.stage ≡ true }
+        requires sound { HasSoundChain self.now }
+        ensures { result ≡ last_below key (routes_in self.now) }
+    {
+        match &self.chain {
+            Some(chain) => route_before(chain, key),
+            None => None,
+        }
+    }
+
+    /// Whether the page is there as the place says, on a search for the key down to the goal.
+    pub(crate) fn is_there(&self, place: Place, key: Key, goal: u8) -> bool
+        ensures { result ≡ is_there self.now place key goal }
+    {
+        self.stage.is_in_row()
+            && self.summary.level == place.level
+            && goal <= self.summary.level
+            && place.from <= self.summary.low
+            && self.summary.low <= key
+    }
+
+    /// What the stage of the page, which has the id, asks for.
+    pub(crate) fn todo(&self, pid: Pid) -> Option<Todo>
+        ensures { result ≡ own_todo self.now.stage pid }
+    {
+        match self.stage {
+            Stage::Marked => Some(Todo::Merge(pid)),
+            Stage::Unposted => Some(Todo::Post(pid)),
+            Stage::Free | Stage::Posted | Stage::Merged => None,
+        }
+    }
+
+    /// Whether the base is of another kind than pages of this level.
+    pub(crate) fn is_other_kind(&self, base: &Base<A>) -> bool
+        ensures { result ≡ is_other_kind base.now self.now }
+    {
+        if base.is_leaf() {
+            self.summary.level > 0
+        } else {
+            self.summary.level == 0
+        }
+    }
+
+    /// Whether the separator is the key of an entry that isn't the first.
+    pub(crate) fn is_later_key(&self, separator: Key) -> bool
+        requires in_row { is_in_row self.now.stage ≡ true }
+        requires sound { HasSoundChain self.now }
+        ensures { result ≡ ((is_some (at separator (pairs_in self.now)) || is_some (at separator (routes_in self.now))) && not (starts_at separator (pairs_in self.now) || starts_at separator (routes_in self.now))) }
+    {
+        match &self.chain {
+            Some(chain) => is_later_key(chain, separator),
+            None => false,
+        }
+    }
+
+    /// Whether the base lists just what the chain does.
+    pub(crate) fn is_same_as(&self, base: &Base<A>) -> bool
+        requires in_row { is_in_row self.now.stage ≡ true }
+        requires sound { HasSoundChain self.now }
+        ensures { result ≡ is_same_page base.now (page_for (chain_in self.now)) }
+    {
+        match &self.chain {
+            Some(chain) => is_consolidated(base, chain),
+            None => false,
+        }
+    }
+
+    /// Whether the base lists just what the chain does from the separator on.
+    pub(crate) fn has_upper_part(&self, base: &Base<A>, separator: Key) -> bool
+        requires in_row { is_in_row self.now.stage ≡ true }
+        requires sound { HasSoundChain self.now }
+        ensures { result ≡ is_same_page base.now (upper_part separator (page_for (chain_in self.now))) }
+    {
+        match &self.chain {
+            Some(chain) => is_split_off(base, chain, separator),
+            None => false,
+        }
+    }
+}
+
+fn is_consolidated<A: Allocator + Copy>(base: &Base<A>, chain: &Chain<A>) -> bool
+    requires sound { IsSound chain.now }
+    ensures { result ≡ is_same_page base.now (page_for chain.now) }
+{
+    same(base, chain)
+}
+
+fn is_split_off<A: Allocator + Copy>(base: &Base<A>, chain: &Chain<A>, separator: Key) -> bool
+    requires sound { IsSound chain.now }
+    ensures { result ≡ is_same_page base.now (upper_part separator (page_for chain.now)) }
+{
+    is_upper_part(base, chain, separator)
 }

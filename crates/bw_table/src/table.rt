@@ -1,41 +1,42 @@
-ghost use Rattle.std.specs.Prelude.{◌≡◌, ◌+◌, ◌<◌, ◌^◌, ◌↔◌, None, Some, IsOk, IfOk, IfErr, IfSome, IfNone, OnErr, IsSome};
+ghost use Rattle.std.specs.Prelude.{◌≡◌, ◌+◌, ◌<◌, ◌≤◌, ◌^◌, ◌↔◌, ℕ, None, Some, IsOk, IsSome, IfOk, IfErr, IfSome, IfNone, OnErr, is_none};
+ghost use Rattle.std.specs.Option.{option_copied};
 ghost use Rattle.bw_keys.specs.Limits.{first_bad_field};
-ghost use Rattle.bw_delta.specs.Entries.{at};
-ghost use Rattle.bw_step.specs.Proposals.{insert, delete};
 ghost use Rattle.bw_step.specs.ProposalView.{proposal_of};
-ghost use Rattle.bw_law.specs.Slots.{free_slot, pairs_in};
-ghost use Rattle.bw_law.specs.Tables.{slot_at, number_of, new_table};
-ghost use Rattle.bw_law.specs.Refusals.{refusal};
+ghost use Rattle.bw_law.specs.Slots.{free_slot};
+ghost use Rattle.bw_law.specs.Tables.{Lawful, Booked, slot_at, number_of, new_table};
+ghost use Rattle.bw_law.specs.Refusals.{refusal, new_id, last_id};
 ghost use Rattle.bw_law.specs.Effects.{TakesStep};
 ghost use Rattle.bw_table.specs.Answers.{verdict, IsNewFault};
-ghost use Rattle.bw_table.specs.OneLeaf.{IsOneLeaf};
-ghost use Rattle.bw_table.specs.Room.{HasRoom};
-ghost use Rattle.bw_table.specs.Views.{view_at, look_at};
+ghost use Rattle.bw_table.specs.SlotFacts.{HasSoundChain};
+ghost use Rattle.bw_table.specs.Views.{view_at, summary_at, look_at, root_place};
+ghost use Rattle.bw_table.specs.Visits.{IsOnTheWay};
 
-use crate::change::{delete_at, insert_at};
 use crate::fault::NewFault;
+use crate::free;
 use crate::fresh::{first_slots, free_ids};
 use crate::slot::Slot;
-use bw_delta::{NoMemory, Spare};
-use bw_keys::{Config, Key, Pid, Version};
-use bw_step::{Book, Look, Receipt, Refused, Stage, Step, View};
+use bw_delta::NoMemory;
+use bw_keys::{Config, Key, Pid};
+use bw_step::{Book, Look, Place, Receipt, Refused, Stage, Step, Summary, View};
 use std::alloc::{Allocator, Global};
 use std::marker::Model;
 
-/// The mapping table of a tree of one leaf, and the book of its changes.
+/// The mapping table: an entry for each page id, the ids that are free, the root, and the book of
+/// the map's changes. The law of the tree is a fact of this type.
 #[derive(Drop)]
 pub struct Table<A: Allocator> {
-    slots: Vec<Slot<A>>,
-    free: Vec<u32>,
-    root: u32,
-    book: Book,
-    config: Config,
+    pub(crate) slots: Vec<Slot<A>>,
+    pub(crate) free: Vec<u32>,
+    pub(crate) root: u32,
+    pub(crate) book: Book,
+    pub(crate) config: Config,
 }
 
 impl<A: Allocator> Model for Table<A> {
+    ghost use Rattle.std.specs.Prelude.{vec_capacity};
     ghost use Rattle.bw_law.specs.Tables.{TableValue};
     ghost use Rattle.bw_table.specs.Codes.{table_code};
-    ghost use Rattle.bw_table.specs.OneLeaf.{IsWhole};
+    ghost use Rattle.bw_table.specs.Whole.{IsWhole};
 
     ghost Value = { TableValue };
 
@@ -43,7 +44,7 @@ impl<A: Allocator> Model for Table<A> {
 
     ghost view = { λ t. record { slots = t.slots.items; free = t.free.items; root = t.root; book = t.book; config = t.config } };
 
-    ghost invariant = { λ t. IsWhole (record { slots = t.slots.items; free = t.free.items; root = t.root; book = t.book; config = t.config }) };
+    ghost invariant = { λ t. IsWhole (record { slots = t.slots.items; free = t.free.items; root = t.root; book = t.book; config = t.config }) (vec_capacity t.free) };
 }
 
 impl<A: Allocator + Copy> Table<A> {
@@ -88,6 +89,18 @@ impl<A: Allocator + Copy> Table<A> {
         self.config
     }
 
+    /// Where every search begins.
+    pub fn root(&self) -> Place
+        ensures place { result ≡ root_place self.now }
+        ensures on_the_way { (key goal : ℕ) → goal ≤ result.level → IsOnTheWay self.now result key goal }
+    {
+        Place {
+            pid: Pid(self.root),
+            level: self.root_slot().summary.level,
+            from: 0,
+        }
+    }
+
     /// The page with the id, if the id isn't past the end and its slot isn't free.
     pub fn peek(&self, pid: Pid) -> Option<View>
         ensures { result ≡ view_at self.now pid }
@@ -97,6 +110,17 @@ impl<A: Allocator + Copy> Table<A> {
             return None;
         }
         Some(slot.view(pid))
+    }
+
+    /// What is kept of the page beside its chain, where `peek` sees it.
+    pub fn summary(&self, pid: Pid) -> Option<&Summary>
+        ensures { option_copied result ≡ summary_at self.now pid }
+    {
+        let slot = self.slot(pid)?;
+        if slot.stage == Stage::Free {
+            return None;
+        }
+        Some(&slot.summary)
     }
 
     /// What the map has at the key, if the page is a leaf in its row whose range holds the key.
@@ -113,128 +137,41 @@ impl<A: Allocator + Copy> Table<A> {
         })
     }
 
-    /// What `install` would answer. It changes nothing.
-    pub fn check(&self, step: &Step<A>) -> Result<(), Refused>
-        ensures { result ≡ verdict (refusal self.now (proposal_of step.now)) }
-    {
-        match step {
-            Step::Insert {
-                page,
-                seen,
-                key,
-                value,
-                ..
-            } => self.check_insert(*page, *seen, *key, *value),
-            Step::Delete {
-                page,
-                seen,
-                key,
-                ..
-            } => self.check_delete(*page, *seen, *key),
-        }
-    }
-
-    /// Takes the step, or answers the first reason to refuse it and gives its memory up.
-    pub fn install(&mut self, step: Step<A>) -> Result<Receipt, Refused>
-        ensures accepted { IsOk result ↔ (refusal self.old (proposal_of step) ≡ None) }
-        ensures taken { IfOk result (λ receipt. TakesStep self.old (proposal_of step) receipt self.new) }
-        ensures refused { IfErr result (λ reason. refusal self.old (proposal_of step) ≡ Some reason) }
-        ensures unchanged { OnErr result (self.new ≡ self.old) }
-    {
-        self.check(&step)?;
-        // The law of the table is what gives the step its room.
-        let _ = &self.root;
-        Ok(match step {
-            Step::Insert {
-                page,
-                seen,
-                key,
-                value,
-                spare,
-            } => self.insert(page, seen, key, value, spare),
-            Step::Delete {
-                page,
-                seen,
-                key,
-                spare,
-            } => self.delete(page, seen, key, spare),
-        })
-    }
-
-    /// The one page in a row.
-    pub(crate) fn leaf(&self) -> &Slot<A>
-        ensures leaf { result.now ≡ slot_at self.now 0 }
-        ensures one_leaf { IsOneLeaf self.now }
-    {
-        &self.slots[0]
-    }
-
-    pub(crate) fn book(&self) -> Book
-        ensures { result ≡ self.now.book }
-    {
-        self.book
-    }
-
     /// How many changes of the map there were.
-    fn number(&self) -> u64
+    pub(crate) fn number(&self) -> u64
         ensures { result ≡ number_of self.now.book }
     {
         self.book.inserted + self.book.removed
     }
 
-    fn slot(&self, pid: Pid) -> Option<&Slot<A>>
+    /// The slot of a page, if the id isn't past the end.
+    #[tactic(auto, using(crate::proofs::Whole::has_sound_chain))]
+    pub(crate) fn slot(&self, pid: Pid) -> Option<&Slot<A>>
         ensures there { IfSome result (λ slot. slot.now ≡ slot_at self.now pid.0) }
         ensures nowhere { IfNone result (slot_at self.now pid.0 ≡ free_slot 0) }
+        ensures sound { HasSoundChain (slot_at self.now pid.0) }
     {
         self.slots.get(pid.0 as usize)
     }
 
-    fn check_insert(&self, page: Pid, seen: Version, key: Key, value: u64) -> Result<(), Refused>
-        ensures { result ≡ verdict (refusal self.now (insert page.0 seen.0 key value)) }
+    pub(crate) fn root_slot(&self) -> &Slot<A>
+        ensures { result.now ≡ slot_at self.now self.now.root }
     {
-        let _ = value;
-        match self.slot(page) {
-            Some(slot) => slot.check_insert(self.number(), seen, key),
-            None => Err(Refused::Absent),
-        }
+        &self.slots[self.root as usize]
     }
 
-    fn check_delete(&self, page: Pid, seen: Version, key: Key) -> Result<(), Refused>
-        ensures { result ≡ verdict (refusal self.now (delete page.0 seen.0 key)) }
+    /// The slot that a new page takes; page 0's, if none is free.
+    pub(crate) fn new_slot(&self) -> &Slot<A>
+        ensures { result.now ≡ slot_at self.now (new_id self.now) }
     {
-        match self.slot(page) {
-            Some(slot) => slot.check_delete(self.number(), seen, key),
-            None => Err(Refused::Absent),
-        }
+        let id = free::last(&self.free).unwrap_or(0);
+        &self.slots[id as usize]
     }
 
-    fn insert(&mut self, page: Pid, seen: Version, key: Key, value: u64, spare: Spare<A>) -> Receipt
-        requires room { HasRoom self.old page.0 key }
-        requires absent { at key (pairs_in (slot_at self.old page.0)) ≡ None }
-        ensures { TakesStep self.old (insert page.0 seen.0 key value) result self.new }
+    /// Whether no slot is free.
+    pub(crate) fn has_no_room(&self) -> bool
+        ensures { result ≡ is_none (last_id self.now.free) }
     {
-        let _ = seen;
-        insert_at(&mut self.slots, page, key, value, spare);
-        self.book.inserted += 1;
-        Receipt::Inserted {
-            number: self.book.inserted + self.book.removed,
-            key,
-            value,
-        }
-    }
-
-    fn delete(&mut self, page: Pid, seen: Version, key: Key, spare: Spare<A>) -> Receipt
-        requires room { HasRoom self.old page.0 key }
-        requires present { IsSome (at key (pairs_in (slot_at self.old page.0))) }
-        ensures { TakesStep self.old (delete page.0 seen.0 key) result self.new }
-    {
-        let _ = seen;
-        let value = delete_at(&mut self.slots, page, key, spare);
-        self.book.removed += 1;
-        Receipt::Deleted {
-            number: self.book.inserted + self.book.removed,
-            key,
-            value,
-        }
+        free::last(&self.free).is_none()
     }
 }

@@ -1,10 +1,21 @@
-use Rattle.bw_table.proofs.Whole.{whole-insert, count_fits}
+use Rattle.std.proofs.Common.{arith, add-one}
+use Rattle.bw_step.specs.Proposals.{insert}
+use Rattle.bw_table.proofs.Doing.{does_insert}
+use Rattle.bw_table.proofs.Whole.{whole_after}
 use Rattle.bw_table.proofs.table.Table.insert.Goals as goal
 
+pub insert_at-requires-clause-deeper : goal.insert_at-requires-clause-deeper
+insert_at-requires-clause-deeper g c = (does_insert _ _ c.self.invariant c.args.page.0 c.args.seen.0 c.args.key c.args.value (rw (← c.self.view_is) at c.requires)).deeper
+
 pub insert_at-requires-clause-count : goal.insert_at-requires-clause-count
-insert_at-requires-clause-count g c = count_fits _ c.args.page.0 c.args.key c.self.invariant (rw (← c.self.view_is) at c.requires.room)
+insert_at-requires-clause-count g c = (does_insert _ _ c.self.invariant c.args.page.0 c.args.seen.0 c.args.key c.args.value (rw (← c.self.view_is) at c.requires)).count
+
+pub overflow_add-self : goal.overflow_add-self
+overflow_add-self g c = omega (arith, (does_insert _ _ c.self.invariant c.args.page.0 c.args.seen.0 c.args.key c.args.value (rw (← c.self.view_is) at c.requires)).number)
+
+pub overflow_add-result : goal.overflow_add-result
+overflow_add-result g c = omega (arith, (does_insert _ _ c.self.invariant c.args.page.0 c.args.seen.0 c.args.key c.args.value (rw (← c.self.view_is) at c.requires)).number)
 
 pub invariant_of-self : goal.invariant_of-self
 invariant_of-self g c =
-    rw c.insert_at.ensures
-    (whole-insert _ c.args.page.0 c.args.key c.args.value c.self.invariant (rw (← c.self.view_is) at c.requires.room) (rw (← c.self.view_is) at c.requires.absent))
+    rw (c.insert_at.ensures, add-one c.self.inside.book.inserted) (whole_after _ (insert c.args.page.0 c.args.seen.0 c.args.key c.args.value) _ c.self.invariant (rw (← c.self.view_is) at c.requires))

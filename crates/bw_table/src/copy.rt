@@ -1,0 +1,54 @@
+//! A page's chain, copied for work outside the table.
+
+ghost use Rattle.std.specs.Prelude.{◌≡◌, ◌≢◌, ◌↔◌, true, false, Some, Err, IfOk, IfSome, IfNone};
+ghost use Rattle.bw_delta.specs.Sound.{IsSound};
+ghost use Rattle.bw_step.specs.Stages.{is_in_row};
+ghost use Rattle.bw_law.specs.Tables.{slot_at};
+ghost use Rattle.bw_table.specs.SlotFacts.{HasSoundChain};
+
+use crate::fault::CopyFault;
+use crate::slot::Slot;
+use crate::table::Table;
+use bw_delta::{Chain, NoMemory};
+use bw_keys::{Pid, Version};
+use std::alloc::Allocator;
+
+impl<A: Allocator + Copy> Table<A> {
+    /// A copy of the page's chain in `alloc`, if the page is in a row and still has the version
+    /// that was seen.
+    pub fn copy_page(&self, alloc: A, pid: Pid, seen: Version) -> Result<Chain<A>, CopyFault>
+        ensures absent { (result ≡ Err CopyFault.Absent) ↔ (is_in_row (slot_at self.now pid.0).stage ≡ false) }
+        ensures stale { (result ≡ Err CopyFault.Stale) ↔ ((is_in_row (slot_at self.now pid.0).stage ≡ true) × ((slot_at self.now pid.0).version ≢ seen.0)) }
+        ensures copied { IfOk result (λ chain. (slot_at self.now pid.0).chain ≡ Some chain) }
+        ensures sound { IfOk result IsSound }
+    {
+        let Some(slot) = self.slot(pid) else {
+            return Err(CopyFault::Absent);
+        };
+        let Some(chain) = slot.chain_in_row() else {
+            return Err(CopyFault::Absent);
+        };
+        if slot.version != seen.0 {
+            return Err(CopyFault::Stale);
+        }
+        match chain.copy_in(alloc) {
+            Ok(copy) => Ok(copy),
+            Err(NoMemory) => Err(CopyFault::NoMemory),
+        }
+    }
+}
+
+impl<A: Allocator + Copy> Slot<A> {
+    /// The chain of the page, if it is in a row.
+    fn chain_in_row(&self) -> Option<&Chain<A>>
+        requires { HasSoundChain self.now }
+        ensures chain { IfSome result (λ chain. self.now.chain ≡ Some chain.now) }
+        ensures in_row { IfSome result (λ chain. is_in_row self.now.stage ≡ true) }
+        ensures outside { IfNone result (is_in_row self.now.stage ≡ false) }
+    {
+        if !self.stage.is_in_row() {
+            return None;
+        }
+        self.chain.as_ref()
+    }
+}
