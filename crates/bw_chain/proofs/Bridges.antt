@@ -1,8 +1,8 @@
 -- The entries of each kind are the pairs and the routes.
-use Rattle.std.proofs.Common.{◌≡◌, ℕ, List, ◌++◌, Bool, true, false, ◌&&◌, ◌||◌, not, is_some, length, refl, ap, sym, subst, arith}
+use Rattle.std.proofs.Common.{◌≡◌, ℕ, List, Bool, true, false, ◌&&◌, ◌||◌, not, is_some, length, refl, ap, sym, subst, arith}
 use Rattle.bw_keys.specs.declared.page.Pid.{Pid}
 use Rattle.bw_delta.specs.declared.chain.Delta.TheVariants.{Insert, Delete, Split, Remove, TermAdd, TermDelete}
-use Rattle.bw_delta.specs.Entries.{at, below, from, put, without, starts_at}
+use Rattle.bw_delta.specs.Entries.{at, below, put, without, starts_at}
 use Rattle.bw_delta.specs.Records.{Records, bare, above, merged}
 use Rattle.bw_delta.specs.Pairs.{pairs, pairs_listed, routes, routes_listed}
 use Rattle.bw_delta.specs.Sound.{IsSound, entry_count, is_later_key}
@@ -55,13 +55,13 @@ nothing_more false false = refl
 pub later_pair : (key : ℕ) (chain : Records) → IsSound chain → is_leaf chain ≡ true → (is_some (at key (pairs chain)) && not (starts_at key (pairs chain))) ≡ is_later_key key chain
 later_pair key chain sound leaf =
     let P : List (ℕ × Pid) → Type 0 = λ es. (is_some (at key (pairs chain)) && not (starts_at key (pairs chain)))
-        ≡ ((is_some (at key (pairs chain)) || is_some (at key es)) && not (starts_at key (pairs chain) || starts_at key es)) in
+    ≡ ((is_some (at key (pairs chain)) || is_some (at key es)) && not (starts_at key (pairs chain) || starts_at key es)) in
     subst P (sym (leaf_has_no_routes chain sound.built leaf)) (nothing_more (is_some (at key (pairs chain))) (starts_at key (pairs chain)))
 
 pub later_route : (key : ℕ) (chain : Records) → IsSound chain → is_leaf chain ≡ false → (is_some (at key (routes chain)) && not (starts_at key (routes chain))) ≡ is_later_key key chain
 later_route key chain sound inner =
     let P : List (ℕ × ℕ) → Type 0 = λ es. (is_some (at key (routes chain)) && not (starts_at key (routes chain)))
-        ≡ ((is_some (at key es) || is_some (at key (routes chain))) && not (starts_at key es || starts_at key (routes chain))) in
+    ≡ ((is_some (at key es) || is_some (at key (routes chain))) && not (starts_at key es || starts_at key (routes chain))) in
     subst P (sym (inner_has_no_pairs chain sound.built inner)) refl
 
 pub ruleset both_kinds = (pairs_are, routes_are, own_pairs_ascend, own_routes_ascend)

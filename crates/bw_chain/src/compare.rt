@@ -61,11 +61,7 @@ pub fn same<A: Allocator + Copy>(base: &Base<A>, chain: &Chain<A>) -> bool
 
 /// Whether the base page is the part from the separator on of the page that the chain stands for.
 /// It takes no memory.
-pub fn is_upper_part<A: Allocator + Copy>(
-    base: &Base<A>,
-    chain: &Chain<A>,
-    separator: Key,
-) -> bool
+pub fn is_upper_part<A: Allocator + Copy>(base: &Base<A>, chain: &Chain<A>, separator: Key) -> bool
     requires sound { IsSound chain.now }
     ensures { IsTrue result ↔ (base.now ≡ upper_part separator (page_for chain.now)) }
 {

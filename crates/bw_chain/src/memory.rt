@@ -55,7 +55,12 @@ fn make_products<A: Allocator + Copy>(alloc: A) -> Result<Products<A>, HalveFaul
     let (separator, upper) = halve(alloc, &whole)?;
     let mut pairs = Vec::new(alloc);
     match append_pairs(&copy, &mut pairs) {
-        Ok(()) => Ok(Products { whole, separator, upper, pairs }),
+        Ok(()) => Ok(Products {
+            whole,
+            separator,
+            upper,
+            pairs,
+        }),
         Err(_) => Err(HalveFault::NoMemory),
     }
 }

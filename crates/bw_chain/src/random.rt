@@ -162,8 +162,14 @@ fn searches_agree(leaf: &Leaf) -> bool
 {
     for number in 0..KEYS {
         let key = key_numbered(number);
-        let next = leaf.pairs.range(key..).next().map(|pair| (*pair.0, *pair.1));
-        if find(&leaf.chain, key) != leaf.pairs.get(&key).copied() || next_at(&leaf.chain, key) != next {
+        let next = leaf
+            .pairs
+            .range(key..)
+            .next()
+            .map(|pair| (*pair.0, *pair.1));
+        if find(&leaf.chain, key) != leaf.pairs.get(&key).copied()
+            || next_at(&leaf.chain, key) != next
+        {
             return false;
         }
     }

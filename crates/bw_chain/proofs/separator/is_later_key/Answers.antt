@@ -1,4 +1,4 @@
-use Rattle.std.proofs.Common.{◌≡◌, ◌&&◌, not, is_some, ap, ◌∙◌, sym}
+use Rattle.std.proofs.Common.{◌&&◌, not, is_some, ap, ◌∙◌, sym}
 use Rattle.bw_delta.specs.Entries.{at, starts_at}
 use Rattle.bw_chain.proofs.Bridges.{pairs_are, routes_are, later_pair, later_route}
 use Rattle.bw_chain.proofs.separator.is_later_key.Goals as goal
