@@ -12,11 +12,11 @@ use Rattle.bw_delta.proofs.Stands.{RisesIn, routes_rise}
 use Rattle.bw_step.specs.declared.place.Todo.{Todo}
 use Rattle.bw_step.specs.declared.place.Todo.TheVariants as todos
 use Rattle.bw_step.specs.Stages.{is_in_row}
+use Rattle.bw_chain.proofs.Firsts.{at-before}
+use Rattle.bw_chain.proofs.Lasts.{last_from_low, last_below-bound}
 use Rattle.bw_law.specs.Slots.{SlotValue, slot_in, routes_in, is_merged}
 use Rattle.bw_table.specs.SlotFacts.{HasSoundChain}
 use Rattle.bw_table.specs.Visits.{is_live, live_routes, route_todo}
-use Rattle.bw_chain.proofs.Firsts.{at-before}
-use Rattle.bw_chain.proofs.Lasts.{last_from_low, last_below-bound}
 
 module _ {X : Type 0} (test : ℕ × X → Bool) where
   -- no entry below a bound, and so none that passes
@@ -68,7 +68,7 @@ pub some_stands : {X : Type 0} → (bound key : ℕ) (x : X) (es : List (ℕ × 
 some_stands bound key x [] here under none = cc
 some_stands bound key x (d ∷ es) here under none = grind (arith, nat_tests, some_stands bound key x es)
 
--- the live routes of a page in a row, tried from the greatest one on
+-- the greatest live route of a page in a row below a bound, found by trying its routes from the greatest one down
 module _ (slots : List SlotValue) (slot : SlotValue) (in_row : is_in_row slot.stage ≡ true) (sound : HasSoundChain slot) (bound : ℕ) where
   -- a route to a merged page is passed
   pub dead_is_passed : (route : ℕ × Pid) → last_below bound (routes_in slot) ≡ Some route → is_merged (slot_in slots route.1.0).stage ≡ true
@@ -84,16 +84,17 @@ module _ (slots : List SlotValue) (slot : SlotValue) (in_row : is_in_row slot.st
   pub live_is_last : (route : ℕ × Pid) → last_below bound (routes_in slot) ≡ Some route → is_merged (slot_in slots route.1.0).stage ≡ false → last_below bound (live_routes slots slot) ≡ Some route
   live_is_last route last live = last_passes (is_live slots) bound route (routes_in slot) last (ap not live)
 
+  -- where there is no route there is no live one
   pub none_is_live : last_below bound (routes_in slot) ≡ None → last_below bound (live_routes slots slot) ≡ None
   none_is_live none = none_passes (is_live slots) bound (routes_in slot) none
 
--- what is to be done on the way down, where the greatest route is live, or isn't
-
+-- what the greatest route at or below the key asks for: nothing where it is live
 pub live_asks_nothing : (slots : List SlotValue) (own : Option Todo) (o : Option (ℕ × Pid)) (route : ℕ × Pid) → o ≡ Some route → is_merged (slot_in slots route.1.0).stage ≡ false
     → own ≡ option_or own (route_todo slots o)
 live_asks_nothing slots None o route is live = rw (is, live) refl
 live_asks_nothing slots (Some todo) o route is live = refl
 
+-- and to be taken out where it leads to a merged page
 pub dead_is_dropped : (slots : List SlotValue) (o : Option (ℕ × Pid)) (route : ℕ × Pid) → o ≡ Some route → is_merged (slot_in slots route.1.0).stage ≡ true
     → Some (todos.DropTerm route.1) ≡ route_todo slots o
 dead_is_dropped slots o route is dead = rw (is, dead) refl

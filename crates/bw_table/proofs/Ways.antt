@@ -17,23 +17,23 @@ use Rattle.bw_law.specs.Slots.{SlotValue, routes_in, is_merged}
 use Rattle.bw_law.specs.Tables.{TableValue, slot_at, outlines, Lawful}
 use Rattle.bw_law.specs.Walks.{last_of}
 use Rattle.bw_law.specs.Laws.{IsLeafOf}
-use Rattle.bw_law.proofs.Facts.{root_is_here, root_is_first, range_is_not_empty, right_is_next, last_ends_at_top, route_is_term, first_child}
+use Rattle.bw_law.proofs.Facts.{range_is_not_empty, right_is_next, last_ends_at_top, route_is_term, first_child}
 use Rattle.bw_law.proofs.MapAndTerms.{routes_in_rise}
 use Rattle.bw_law.proofs.Walk.{posted_in_row, walk_ends}
-use Rattle.bw_table.specs.Visits.{is_there, is_live, live_routes, right_to, down_by, way_on, next_by, IsOnTheWay, IsFound, TellsWhetherOnTheWay, StaysOnTheWay, ComesNearer, FindsPage, EachWalkEndsAt}
-use Rattle.bw_table.specs.Views.{view_of, root_place}
 use Rattle.bw_chain.proofs.Lasts.{last_below-bound}
+use Rattle.bw_table.specs.Views.{view_of}
+use Rattle.bw_table.specs.Visits.{is_there, is_live, live_routes, right_to, down_by, way_on, next_by, IsOnTheWay, IsFound, TellsWhetherOnTheWay, StaysOnTheWay, ComesNearer, FindsPage, EachWalkEndsAt}
 use Rattle.bw_table.proofs.LiveRoutes.{at-passes, last_stands, last_tested, some_stands}
 
--- what an answer says of the place and of the way on
-pub record IsRight (table : TableValue) (place : Place) (key goal : ℕ) (go : Go) : Type 0 where
+-- what an answer is to tell of its place, and of the way on
+pub record IsProper (table : TableValue) (place : Place) (key goal : ℕ) (go : Go) : Type 0 where
   pub gone : TellsWhetherOnTheWay table place key goal go
   pub stays : StaysOnTheWay table key goal go
   pub nearer : ComesNearer place go
   pub found : FindsPage table place key goal go
 
--- the test of a place says whether it is on the way
-pub there_is_on_the_way : (table : TableValue) (place : Place) (key goal : ℕ) → is_there (slot_at table place.pid.0) place key goal ≡ true → IsOnTheWay table place key goal
+-- the test of a place tells whether it is on the way
+there_is_on_the_way : (table : TableValue) (place : Place) (key goal : ℕ) → is_there (slot_at table place.pid.0) place key goal ≡ true → IsOnTheWay table place key goal
 there_is_on_the_way table place key goal there = record {
   in_row = grind (arith, nat_tests);
   level = grind (arith, nat_tests);
@@ -64,7 +64,7 @@ module _ (table : TableValue) (law : Lawful table) (place : Place) (key goal : �
   slot = slot_at table page
 
   -- to the right
-  right_way : end_of slot.high ≤ key → (right : Option Pid) → slot.right ≡ right → IsRight table place key goal (right_to slot right)
+  right_way : end_of slot.high ≤ key → (right : Option Pid) → slot.right ≡ right → IsProper table place key goal (right_to slot right)
   right_way past None is = absurd (omega (arith, last_ends_at_top table law page on.in_row is))
   right_way past (Some right) is =
       let next = right_is_next table law page right on.in_row is in record {
@@ -81,7 +81,7 @@ module _ (table : TableValue) (law : Lawful table) (place : Place) (key goal : �
       }
 
   -- down
-  down_way : goal < slot.level → (route : Option (ℕ × Pid)) → last_upto key (live_routes table.slots slot) ≡ route → IsRight table place key goal (down_by slot route)
+  down_way : goal < slot.level → (route : Option (ℕ × Pid)) → last_upto key (live_routes table.slots slot) ≡ route → IsProper table place key goal (down_by slot route)
   down_way above None is =
       let first = first_child table law page (slot.level - 1) on.in_row (omega arith) in
       let live : is_live table.slots (slot.low, first.0) ≡ true = ap not (row_is_unmerged (slot_at table first.0.0).stage first.2) in
@@ -103,8 +103,8 @@ module _ (table : TableValue) (law : Lawful table) (place : Place) (key goal : �
         found = tt;
       }
 
-  -- and on the goal's level the search ends
-  end_way : key < end_of slot.high → slot.level ≤ goal → IsRight table place key goal (Here (view_of place.pid slot))
+  -- nowhere: on the goal's level the search ends
+  end_way : key < end_of slot.high → slot.level ≤ goal → IsProper table place key goal (Here (view_of place.pid slot))
   end_way inside low_level = record {
     gone = on;
     stays = tt;
@@ -112,26 +112,28 @@ module _ (table : TableValue) (law : Lawful table) (place : Place) (key goal : �
     found = record { its_view = refl; in_row = on.in_row; level = omega (arith, on.level, on.goal_below); low_from = on.low_from; low_upto = on.low_upto; below_high = inside };
   }
 
-  inside_way : key < end_of slot.high → (above : Bool) → nat_lt goal slot.level ≡ above → IsRight table place key goal (cond above (down_by slot (last_upto key (live_routes table.slots slot))) (Here (view_of place.pid slot)))
+  -- down or nowhere, where the page holds the key
+  inside_way : key < end_of slot.high → (above : Bool) → nat_lt goal slot.level ≡ above → IsProper table place key goal (cond above (down_by slot (last_upto key (live_routes table.slots slot))) (Here (view_of place.pid slot)))
   inside_way inside true is = down_way (grind (arith, nat_tests)) (last_upto key (live_routes table.slots slot)) refl
   inside_way inside false is = end_way inside (grind (arith, nat_tests))
 
-  each_way : (past : Bool) → nat_le (end_of slot.high) key ≡ past → IsRight table place key goal (cond past (right_to slot slot.right) (cond (nat_lt goal slot.level) (down_by slot (last_upto key (live_routes table.slots slot))) (Here (view_of place.pid slot))))
+  -- the one of these that the slot asks for
+  each_way : (past : Bool) → nat_le (end_of slot.high) key ≡ past → IsProper table place key goal (cond past (right_to slot slot.right) (cond (nat_lt goal slot.level) (down_by slot (last_upto key (live_routes table.slots slot))) (Here (view_of place.pid slot))))
   each_way true is = right_way (grind (arith, nat_tests)) slot.right refl
   each_way false is = inside_way (grind (arith, nat_tests)) (nat_lt goal slot.level) refl
 
-  pub way_is_right : IsRight table place key goal (way_on table.slots place.pid slot key goal)
-  way_is_right = each_way (nat_le (end_of slot.high) key) refl
+  way_is_proper : IsProper table place key goal (way_on table.slots place.pid slot key goal)
+  way_is_proper = each_way (nat_le (end_of slot.high) key) refl
 
--- the root is on the way to each key
-pub root_is_on_the_way : (table : TableValue) (key goal : ℕ) → Lawful table → goal ≤ (slot_at table table.root).level → IsOnTheWay table (root_place table) key goal
-root_is_on_the_way table key goal law below = record {
-  in_row = root_is_here table law;
-  level = refl;
-  goal_below = below;
-  low_from = omega arith;
-  low_upto = omega (arith, root_is_first table law);
-}
+-- so is the answer that was made of the page's slot
+pub next_is_proper : (table : TableValue) (place : Place) (key goal : ℕ) (slot : SlotValue) (next : Next) → Lawful table → key < key_count
+    → slot ≡ slot_at table place.pid.0 → is_there slot place key goal ≡ true → next ≡ next_by table.slots place.pid slot key (way_on table.slots place.pid slot key goal)
+    → IsProper table place key goal next.go
+next_is_proper table place key goal slot next law is_key same there is =
+    let on : is_there (slot_at table place.pid.0) place key goal ≡ true = rw (← same) there in
+    let go : next.go ≡ way_on table.slots place.pid (slot_at table place.pid.0) key goal =
+    ap (λ (n : Next). n.go) is ∙ ap (λ (s : SlotValue). way_on table.slots place.pid s key goal) same in
+    subst (IsProper table place key goal) (sym go) (way_is_proper table law place key goal (there_is_on_the_way table place key goal on) is_key)
 
 -- each walk from the root ends at the leaf whose range holds the key
 pub each_walk_ends_there : (table : TableValue) (key leaf : ℕ) → Lawful table → IsLeafOf table key leaf → EachWalkEndsAt table key leaf
@@ -147,13 +149,3 @@ found_leaf table place key view found =
       is_leaf = subst (λ (v : View). v.level ≡ 0) found.its_view found.level;
       spans = (subst (λ (v : View). v.low ≤ key) found.its_view found.low_upto, subst (λ (v : View). key < end_of v.high) found.its_view found.below_high);
     })
-
--- so does the answer that was made of the page's slot
-pub next_is_right : (table : TableValue) (place : Place) (key goal : ℕ) (slot : SlotValue) (next : Next) → Lawful table → key < key_count
-    → slot ≡ slot_at table place.pid.0 → is_there slot place key goal ≡ true → next ≡ next_by table.slots place.pid slot key (way_on table.slots place.pid slot key goal)
-    → IsRight table place key goal next.go
-next_is_right table place key goal slot next law is_key same there is =
-    let on : is_there (slot_at table place.pid.0) place key goal ≡ true = rw (← same) there in
-    let go : next.go ≡ way_on table.slots place.pid (slot_at table place.pid.0) key goal =
-    ap (λ (n : Next). n.go) is ∙ ap (λ (s : SlotValue). way_on table.slots place.pid s key goal) same in
-    subst (IsRight table place key goal) (sym go) (way_is_right table law place key goal (there_is_on_the_way table place key goal on) is_key)
