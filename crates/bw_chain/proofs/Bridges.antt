@@ -1,42 +1,34 @@
 -- The entries of each kind are the pairs and the routes.
-use Rattle.std.proofs.Common.{◌≡◌, ℕ, List, Bool, true, false, ◌&&◌, ◌||◌, not, is_some, length, refl, ap, sym, subst, arith}
+use Rattle.std.proofs.Common.{◌≡◌, ◌≤◌, ℕ, List, Bool, true, false, ◌&&◌, ◌||◌, not, is_some, length, refl, ap, sym, subst, arith}
 use Rattle.bw_keys.specs.declared.page.Pid.{Pid}
+use Rattle.bw_keys.specs.Ranges.{end_of}
+use Rattle.bw_delta.specs.declared.chain.Delta.{Delta}
 use Rattle.bw_delta.specs.declared.chain.Delta.TheVariants.{Insert, Delete, Split, Remove, TermAdd, TermDelete}
-use Rattle.bw_delta.specs.Entries.{at, below, put, without, starts_at}
-use Rattle.bw_delta.specs.Records.{Records, bare, above, merged}
+use Rattle.bw_delta.specs.Entries.{at, starts_at}
+use Rattle.bw_delta.specs.Records.{Records, above}
 use Rattle.bw_delta.specs.Pairs.{pairs, pairs_listed, routes, routes_listed}
-use Rattle.bw_delta.specs.Sound.{IsSound, entry_count, is_later_key}
-use Rattle.bw_delta.specs.Fence.{is_leaf}
+use Rattle.bw_delta.specs.Sound.{IsWellBuilt, IsSound, entry_count, is_later_key}
+use Rattle.bw_delta.specs.Fence.{fences, is_leaf}
 use Rattle.bw_delta.proofs.Stands.{leaf_has_no_routes, inner_has_no_pairs}
 use Rattle.bw_chain.specs.Ascends.{IsAscending}
 use Rattle.bw_chain.proofs.Ascending.{pairs_ascend, routes_ascend}
 use Rattle.bw_chain.specs.Changes.{entries_by, pair_change, route_change}
-
-pub pairs_are : (chain : Records) → entries_by pairs_listed pair_change chain ≡ pairs chain
-pairs_are (bare page) = refl
-pairs_are (above (Insert key value) chain) = ap (put key value) (pairs_are chain)
-pairs_are (above (Delete key) chain) = ap (without key) (pairs_are chain)
-pairs_are (above (Split separator right) chain) = ap (below separator) (pairs_are chain)
-pairs_are (above Remove chain) = pairs_are chain
-pairs_are (above (TermAdd separator child) chain) = pairs_are chain
-pairs_are (above (TermDelete separator) chain) = pairs_are chain
-pairs_are (merged merging left right) = rw (pairs_are left, pairs_are right) refl
-
-pub routes_are : (chain : Records) → entries_by routes_listed route_change chain ≡ routes chain
-routes_are (bare page) = refl
-routes_are (above (Insert key value) chain) = routes_are chain
-routes_are (above (Delete key) chain) = routes_are chain
-routes_are (above (Split separator right) chain) = ap (below separator) (routes_are chain)
-routes_are (above Remove chain) = routes_are chain
-routes_are (above (TermAdd separator child) chain) = ap (put separator child) (routes_are chain)
-routes_are (above (TermDelete separator) chain) = ap (without separator) (routes_are chain)
-routes_are (merged merging left right) = rw (routes_are left, routes_are right) refl
+use Rattle.bw_chain.specs.Kinds.{pairs_are, routes_are}
 
 pub own_pairs_ascend : (chain : Records) → IsSound chain → IsAscending (entries_by pairs_listed pair_change chain)
 own_pairs_ascend chain sound = rw (pairs_are chain) (pairs_ascend chain sound.built)
 
 pub own_routes_ascend : (chain : Records) → IsSound chain → IsAscending (entries_by routes_listed route_change chain)
 own_routes_ascend chain sound = rw (routes_are chain) (routes_ascend chain sound.built)
+
+-- no record takes the range further
+pub ranges_shrink : (delta : Delta) (chain : Records) → IsWellBuilt (above delta chain) → end_of (fences (above delta chain)).high ≤ end_of (fences chain).high
+ranges_shrink (Insert key value) chain built = omega arith
+ranges_shrink (Delete key) chain built = omega arith
+ranges_shrink (Split separator right) chain built = omega (arith, built.1.1.below_high)
+ranges_shrink Remove chain built = omega arith
+ranges_shrink (TermAdd separator child) chain built = omega arith
+ranges_shrink (TermDelete separator) chain built = omega arith
 
 -- a chain has entries of one kind alone
 pub own_pair_count : (chain : Records) → IsSound chain → is_leaf chain ≡ true → length (entries_by pairs_listed pair_change chain) ≡ entry_count chain

@@ -15,7 +15,7 @@ module _ {X : Type 0} where
   last_from_low low past end e [] h last = cc
   last_from_low low past end e (d ∷ es) h last = grind (arith, nat_tests, last_from_low (d.0 + 1) past end e es)
 
-  below_low : (low past bound : ℕ) (es : List (ℕ × X)) → rises low past es ≡ true → bound ≤ low → below bound es ≡ []
+  pub below_low : (low past bound : ℕ) (es : List (ℕ × X)) → rises low past es ≡ true → bound ≤ low → below bound es ≡ []
   below_low low past bound [] h le = refl
   below_low low past bound (d ∷ es) h le = grind (arith, nat_tests, below_low (d.0 + 1) past bound es)
 

@@ -3,8 +3,14 @@ pub mod Ascending
 pub mod Partitions
 pub mod Firsts
 pub mod Lasts
-pub mod Edits
+pub mod Writes
+pub mod Counts
+pub mod Descents
 pub mod GapLemmas
 pub mod HalfPages
 pub mod Tries
 pub mod Listing
+pub mod Notes
+pub mod Overlays
+pub mod Passes
+pub mod Passing

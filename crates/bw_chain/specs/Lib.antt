@@ -1,4 +1,9 @@
+pub mod Appends
 pub mod Ascends
 pub mod Changes
+pub mod Cuts
+pub mod Edited
 pub mod Gaps
 pub mod Halves
+pub mod Kinds
+pub mod Rests

@@ -1,16 +1,16 @@
-ghost use Rattle.std.specs.Prelude.{◌≡◌, ◌++◌, OnOk};
-ghost use Rattle.bw_keys.specs.Ranges.{end_of};
-ghost use Rattle.bw_delta.specs.Entries.{first_from};
+ghost use Rattle.std.specs.Prelude.{◌≡◌, ◌++◌, [], OnOk};
 ghost use Rattle.bw_delta.specs.Pairs.{pairs};
 ghost use Rattle.bw_delta.specs.Sound.{IsSound};
 
-use crate::bounds::past;
-use crate::entries::first_from;
-use bw_delta::{Chain, NoMemory};
-use bw_keys::{Fence, Key};
+use crate::edits::Edits;
+use crate::pass::pass;
+use crate::shape::{allocator, fences};
+use bw_delta::{Chain, Fences, NoMemory};
+use bw_keys::Key;
 use std::alloc::Allocator;
 
 /// Appends the pairs of the chain to the list, in the order of their keys.
+#[tactic(auto, using(crate::proofs::Bridges::both_kinds))]
 pub fn append_pairs<A: Allocator + Copy, B: Allocator>(
     chain: &Chain<A>,
     list: &mut Vec<(Key, u64), B>,
@@ -18,18 +18,7 @@ pub fn append_pairs<A: Allocator + Copy, B: Allocator>(
     requires sound { IsSound chain.now }
     ensures { OnOk result (list.new.items ≡ list.old.items ++ pairs chain.now) }
 {
-    let mut from = Fence::Key(0);
-    'pairs: while let Some(pair) = next_pair(chain, from) {
-        list.push(pair)?;
-        from = past(pair.0);
-    }
-    Ok(())
-}
-
-#[tactic(auto, using(crate::proofs::Bridges::both_kinds))]
-fn next_pair<A: Allocator + Copy>(chain: &Chain<A>, fence: Fence) -> Option<(Key, u64)>
-    requires sound { IsSound chain.now }
-    ensures { result ≡ first_from (end_of fence) (pairs chain.now) }
-{
-    first_from(chain, fence)
+    let Fences { high, .. } = fences(chain);
+    let mut edits: Edits<'_, u64, A> = Edits::new(allocator(chain));
+    pass(chain, high, &mut edits, list)
 }

@@ -1,14 +1,19 @@
-ghost use Rattle.std.specs.Prelude.{◌≡◌, ◌↔◌, ◌<◌, ◌^◌, IsTrue, length};
+ghost use Rattle.std.specs.Prelude.{◌≡◌, ◌↔◌, ◌<◌, ◌^◌, [], IsTrue, length};
 ghost use Rattle.bw_keys.specs.Ranges.{end_of};
 ghost use Rattle.bw_delta.specs.Entries.{from};
 ghost use Rattle.bw_delta.specs.Fence.{is_leaf};
 ghost use Rattle.bw_delta.specs.Pages.{listed_from, upper_part};
-ghost use Rattle.bw_delta.specs.Sound.{IsSound, entry_count, listed_for, page_for};
+ghost use Rattle.bw_delta.specs.Records.{depth};
+ghost use Rattle.bw_delta.specs.Sound.{IsSound, IsWellBuilt, entry_count, listed_for, page_for};
 ghost use Rattle.bw_chain.specs.Ascends.{IsAscending};
 ghost use Rattle.bw_chain.specs.Changes.{entries_by};
+ghost use Rattle.smallvec.specs.SmallVec.{HasRoomFor};
 
 use crate::bounds::past;
+use crate::compared::{Compared, Differs};
+use crate::edits::Edits;
 use crate::entries::first_from;
+use crate::pass::pass;
 use crate::shape::{fences, is_leaf};
 use crate::value::EntryValue;
 use bw_delta::{Base, Chain, Entries, Fences};
@@ -79,26 +84,36 @@ fn lists_from<A: Allocator + Copy>(base: &Base<A>, chain: &Chain<A>, fence: Fenc
     ensures { IsTrue result ↔ (base.now.listed ≡ listed_from (end_of fence) (listed_for (is_leaf chain.now) chain.now)) }
 {
     match &base.entries {
-        Entries::Pairs(pairs) => is_leaf(chain) && are_entries(pairs, chain, fence),
-        Entries::Routes(routes) => !is_leaf(chain) && are_entries(routes, chain, fence),
+        Entries::Pairs(pairs) => {
+            let mut edits: Edits<'_, u64, A> = Edits::new(pairs.allocator());
+            is_leaf(chain) && are_entries(pairs, chain, fence, &mut edits)
+        }
+        Entries::Routes(routes) => {
+            let mut edits: Edits<'_, Pid, A> = Edits::new(routes.allocator());
+            !is_leaf(chain) && are_entries(routes, chain, fence, &mut edits)
+        }
     }
 }
 
-/// Whether these are the chain's entries from the fence on, one by one.
+/// Whether these are the chain's entries from the fence on.
 fn are_entries<A: Allocator + Copy, X: EntryValue>(
     list: &[(Key, X)],
     chain: &Chain<A>,
     fence: Fence,
+    edits: &mut Edits<'_, X, A>,
 ) -> bool
-    requires ascending { IsAscending (entries_by X.own_entries X.own_change chain.now) }
+    requires built { IsWellBuilt chain.now }
+    requires none { edits.old.items ≡ [] }
+    requires room { HasRoomFor edits.old (depth chain.now) }
     ensures { IsTrue result ↔ (list.now ≡ from (end_of fence) (entries_by X.own_entries X.own_change chain.now)) }
 {
-    let mut from = fence;
-    'entries: for entry in list {
-        match first_from::<A, X>(chain, from) {
-            Some(next) if next.0 == entry.0 && next.1.is_same(entry.1) => from = past(entry.0),
-            _ => return false,
-        }
+    let mut compared = Compared {
+        rest: list,
+        from: fence,
+    };
+    let Fences { high, .. } = fences(chain);
+    match pass(chain, high, edits, &mut compared) {
+        Ok(()) => compared.rest.is_empty(),
+        Err(Differs) => false,
     }
-    first_from::<A, X>(chain, from).is_none()
 }

@@ -10,25 +10,32 @@ mod bounds;
 mod candidates;
 mod change;
 mod compare;
+mod compared;
+mod consolidation;
+mod edits;
 mod entries;
 mod halving;
-mod plain;
+mod pass;
+pub mod plain;
 mod search;
 mod separator;
 mod shape;
+mod sink;
 mod sorted;
 mod value;
 
 pub use append::append_pairs;
 pub use compare::{count, is_upper_part, same};
+pub use consolidation::consolidate;
 pub use halving::{HalveFault, halve};
-pub use plain::consolidate;
 pub use search::{child, find, next_at, route_at, route_before};
 pub use separator::is_later_key;
 pub use shape::{depth, fences, is_leaf};
 
 #[cfg(test)]
 mod memory;
+#[cfg(test)]
+mod one_pass;
 #[cfg(test)]
 mod random;
 #[cfg(test)]

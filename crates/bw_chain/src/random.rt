@@ -20,8 +20,8 @@ const KEYS: u32 = 40;
 
 /// A leaf chain, and beside it what it stands for: its pairs, and its range with the side link.
 #[derive(Drop)]
-struct Leaf {
-    chain: Chain<Global>,
+pub(crate) struct Leaf {
+    pub(crate) chain: Chain<Global>,
     pairs: BTreeMap<Key, u64>,
     ends: Fences,
     has_merge: bool,
@@ -137,7 +137,7 @@ fn take_in(alloc: Global, rng: &mut Pcg32, leaf: &mut Leaf) -> Result<(), Fail>
 }
 
 /// A leaf with more records, and merges among them.
-fn drawn_chain(alloc: Global, rng: &mut Pcg32) -> Result<Leaf, Fail>
+pub(crate) fn drawn_chain(alloc: Global, rng: &mut Pcg32) -> Result<Leaf, Fail>
     ensures sound { IfOk result (λ leaf. IsSound leaf.chain) }
     ensures kind { IfOk result (λ leaf. is_leaf leaf.chain ≡ true) }
 {

@@ -3,7 +3,7 @@ ghost use Rattle.bw_delta.specs.Fence.{fences, is_leaf};
 ghost use Rattle.bw_delta.specs.Records.{depth};
 
 use bw_delta::{Chain, Delta, Entries, Fences, Node};
-use bw_keys::Fence;
+use bw_keys::{Fence, Key};
 use std::alloc::Allocator;
 
 /// The fence keys and the side link of the page that the chain stands for: a split ends the range
@@ -19,7 +19,7 @@ pub fn fences<A: Allocator + Copy>(chain: &Chain<A>) -> Fences
         },
         Node::Above(delta, below) => match *delta {
             Delta::Split(separator, right) => Fences {
-                low: fences(below).low,
+                low: low(below),
                 high: Fence::Key(separator),
                 right: Some(right),
             },
@@ -30,10 +30,21 @@ pub fn fences<A: Allocator + Copy>(chain: &Chain<A>) -> Fences
             | Delta::TermDelete(_) => fences(below),
         },
         Node::Merged(merging, left, _) => Fences {
-            low: fences(left).low,
+            low: low(left),
             high: merging.high,
             right: merging.right,
         },
+    }
+}
+
+/// The least key of the chain's range, which no record moves.
+fn low<A: Allocator + Copy>(chain: &Chain<A>) -> Key
+    ensures { result ≡ (fences chain.now).low }
+{
+    match &chain.node {
+        Node::Bare(base) => base.low,
+        Node::Above(_, below) => low(below),
+        Node::Merged(_, left, _) => low(left),
     }
 }
 
@@ -56,4 +67,16 @@ pub fn depth<A: Allocator + Copy>(chain: &Chain<A>) -> u8
     ensures { result ≡ depth chain.now }
 {
     chain.depth()
+}
+
+/// The allocator that the chain lies in.
+pub(crate) fn allocator<A: Allocator + Copy>(chain: &Chain<A>) -> &A {
+    match &chain.node {
+        Node::Bare(base) => match &base.entries {
+            Entries::Pairs(pairs) => pairs.allocator(),
+            Entries::Routes(routes) => routes.allocator(),
+        },
+        Node::Above(_, below) => Box::allocator(below),
+        Node::Merged(_, left, _) => Box::allocator(left),
+    }
 }

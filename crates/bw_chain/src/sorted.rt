@@ -1,4 +1,4 @@
-ghost use Rattle.std.specs.Prelude.{◌≡◌, ◌≤◌, length, take, drop};
+ghost use Rattle.std.specs.Prelude.{◌≡◌, ◌≤◌, ◌+◌, length, take, drop};
 ghost use Rattle.bw_keys.specs.Ranges.{end_of};
 ghost use Rattle.bw_delta.specs.Entries.{at, below, from, first_from, last_below};
 ghost use Rattle.bw_chain.specs.Ascends.{IsAscending};
@@ -15,12 +15,28 @@ fn count_below<X: Copy>(entries: &[(Key, X)], fence: Fence) -> usize
     entries.partition_point(|entry| fence.is_above(entry.0))
 }
 
+/// The entries below the fence.
+pub(crate) fn below_fence<X: Copy>(entries: &[(Key, X)], fence: Fence) -> &[(Key, X)]
+    requires ascending { IsAscending entries.now }
+    ensures { result.now ≡ below (end_of fence) entries.now }
+{
+    &entries[..count_below(entries, fence)]
+}
+
+/// The entries from the fence on.
+pub(crate) fn from_fence<X: Copy>(entries: &[(Key, X)], fence: Fence) -> &[(Key, X)]
+    requires ascending { IsAscending entries.now }
+    ensures { result.now ≡ from (end_of fence) entries.now }
+{
+    &entries[count_below(entries, fence)..]
+}
+
 /// The first entry from the fence on.
 pub(crate) fn first_listed<X: Copy>(entries: &[(Key, X)], fence: Fence) -> Option<(Key, X)>
     requires ascending { IsAscending entries.now }
     ensures { result ≡ first_from (end_of fence) entries.now }
 {
-    entries.get(count_below(entries, fence)).copied()
+    from_fence(entries, fence).first().copied()
 }
 
 /// The last entry below the fence.
@@ -28,7 +44,7 @@ pub(crate) fn last_listed<X: Copy>(entries: &[(Key, X)], fence: Fence) -> Option
     requires ascending { IsAscending entries.now }
     ensures { result ≡ last_below (end_of fence) entries.now }
 {
-    entries[..count_below(entries, fence)].last().copied()
+    below_fence(entries, fence).last().copied()
 }
 
 /// What stands at the key.
@@ -41,4 +57,39 @@ pub(crate) fn value_at<X: Copy>(entries: &[(Key, X)], key: Key) -> Option<X>
         Some(entry) if entry.0 == key => Some(entry.1),
         _ => None,
     }
+}
+
+/// The entries before the key, and those behind it.
+pub(crate) fn part_at<X: Copy>(entries: &[(Key, X)], key: Key) -> (&[(Key, X)], &[(Key, X)])
+    requires ascending { IsAscending entries.now }
+    ensures before { result.0.now ≡ below key entries.now }
+    ensures after { result.1.now ≡ from (key + 1) entries.now }
+{
+    let (front, rest) = entries.split_at(count_before(entries, key));
+    match rest.split_first() {
+        Some((first, behind)) => {
+            if first.0 == key {
+                (front, behind)
+            } else {
+                (front, rest)
+            }
+        }
+        None => (front, rest),
+    }
+}
+
+/// How many of the entries lie before the key, counted one by one: a pass over a page looks for
+/// keys that lie close together.
+fn count_before<X: Copy>(entries: &[(Key, X)], key: Key) -> usize
+    requires ascending { IsAscending entries.now }
+    ensures within { result ≤ length entries.now }
+    ensures before { below key entries.now ≡ take result entries.now }
+    ensures after { from key entries.now ≡ drop result entries.now }
+{
+    for i in 0..entries.len() {
+        if key <= entries[i].0 {
+            return i;
+        }
+    }
+    entries.len()
 }

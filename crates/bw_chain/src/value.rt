@@ -12,6 +12,14 @@ pub(crate) trait EntryValue: Copy {
     ghost use Rattle.std.specs.Prelude.{ℕ, List};
     ghost use Rattle.bw_delta.specs.Pages.{Listed};
     ghost use Rattle.bw_delta.specs.declared.chain.Delta.{Delta};
+    ghost use Rattle.std.specs.Prelude.{true};
+    ghost use Rattle.bw_keys.specs.Ranges.{end_of};
+    ghost use Rattle.bw_delta.specs.Entries.{rises};
+    ghost use Rattle.bw_delta.specs.Fence.{fences};
+    ghost use Rattle.bw_delta.specs.Records.{Records, above};
+    ghost use Rattle.bw_delta.specs.Sound.{IsWellBuilt};
+    ghost use Rattle.bw_chain.specs.Changes.{entries_by};
+    ghost use Rattle.bw_chain.specs.Cuts.{IsUncut};
     ghost use Rattle.bw_chain.specs.declared.change.Change.{Change};
 
     /// The entries of this kind that a page lists.
@@ -32,15 +40,26 @@ pub(crate) trait EntryValue: Copy {
     /// Whether the values are equal.
     fn is_same(self, other: Self) -> bool
         ensures { IsTrue result ↔ (self ≡ other) };
+
+    // The entries of a chain rise inside its range.
+    ghost rise: { (chain : Records) → IsWellBuilt chain → rises (fences chain).low (end_of (fences chain).high) (entries_by own_entries own_change chain) ≡ true };
+
+    // A chain's range ends where its newest record cuts the entries off.
+    ghost cut: { (delta : Delta) (chain : Records) → IsUncut (end_of (fences (above delta chain)).high) (own_change delta) };
 }
 
 impl EntryValue for u64 {
     ghost use Rattle.bw_delta.specs.Pairs.{pairs_listed};
     ghost use Rattle.bw_chain.specs.Changes.{pair_change};
+    ghost use Rattle.bw_chain.specs.Kinds.{pairs_rise_in_range, pairs_cut_at_high};
 
     ghost own_entries = { pairs_listed };
 
     ghost own_change = { pair_change };
+
+    ghost rise = { pairs_rise_in_range };
+
+    ghost cut = { pairs_cut_at_high };
 
     fn entries_on<A: Allocator>(base: &Base<A>) -> &[(Key, u64)] {
         match &base.entries {
@@ -66,10 +85,15 @@ impl EntryValue for u64 {
 impl EntryValue for Pid {
     ghost use Rattle.bw_delta.specs.Pairs.{routes_listed};
     ghost use Rattle.bw_chain.specs.Changes.{route_change};
+    ghost use Rattle.bw_chain.specs.Kinds.{routes_rise_in_range, routes_cut_at_high};
 
     ghost own_entries = { routes_listed };
 
     ghost own_change = { route_change };
+
+    ghost rise = { routes_rise_in_range };
+
+    ghost cut = { routes_cut_at_high };
 
     fn entries_on<A: Allocator>(base: &Base<A>) -> &[(Key, Pid)] {
         match &base.entries {

@@ -1,5 +1,5 @@
 use Rattle.std.proofs.Common.{◌<◌, length, arith}
-use Rattle.bw_chain.proofs.Edits.{put_at}
+use Rattle.bw_chain.proofs.Writes.{put_at}
 use Rattle.bw_chain.proofs.plain.put.Goals as goal
 
 pub returns-then-listed-key : goal.returns-then-listed-key

@@ -1,6 +1,7 @@
 use Rattle.std.proofs.Common.{◌&&◌, not, is_some, ap, ◌∙◌, sym}
 use Rattle.bw_delta.specs.Entries.{at, starts_at}
-use Rattle.bw_chain.proofs.Bridges.{pairs_are, routes_are, later_pair, later_route}
+use Rattle.bw_chain.specs.Kinds.{pairs_are, routes_are}
+use Rattle.bw_chain.proofs.Bridges.{later_pair, later_route}
 use Rattle.bw_chain.proofs.separator.is_later_key.Goals as goal
 
 pub returns-then-is_leaf : goal.returns-then-is_leaf

@@ -2,9 +2,9 @@ use Rattle.std.proofs.Common.{◌≡◌, ◌++◌, take}
 use Rattle.bw_keys.specs.Ranges.{end_of}
 use Rattle.bw_delta.specs.Entries.{from}
 use Rattle.bw_chain.specs.Changes.{entries_by}
-use Rattle.bw_chain.proofs.compare.are_entries.Given as goal
+use Rattle.bw_chain.proofs.plain.are_entries.Given as goal
 
 abbrev pub invariant-entries : goal.invariant-entries
 invariant-entries g l =
     let all = entries_by g.X.EntryValue.own_entries g.X.EntryValue.own_change l.chain in
-    from (end_of l.initial.from) all ≡ take l.entry-index l.list ++ from (end_of l.from) all
+    all ≡ take l.entry-index l.list ++ from (end_of l.from) all

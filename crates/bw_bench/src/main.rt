@@ -1,0 +1,70 @@
+//! Times the index on the machine that it runs on, each program beside a plain one.
+#![tactic(auto)]
+
+mod chains;
+mod consolidation;
+
+use std::alloc::AllocError;
+use std::process::ExitCode;
+use std::{env, io};
+use thiserror::Error;
+
+const USAGE: &str = "usage: bw_bench consolidation ROUNDS\n";
+
+/// Why no time is told.
+#[derive(Debug, Drop, Error)]
+pub(crate) enum Stop {
+    #[error("memory")]
+    Memory,
+    #[error("{0}")]
+    System(io::Error),
+    #[error("an answer was wrong")]
+    Wrong,
+}
+
+impl From<AllocError> for Stop {
+    fn from(_: AllocError) -> Stop {
+        Stop::Memory
+    }
+}
+
+impl From<bw_delta::NoMemory> for Stop {
+    fn from(_: bw_delta::NoMemory) -> Stop {
+        Stop::Memory
+    }
+}
+
+impl From<io::Error> for Stop {
+    fn from(error: io::Error) -> Stop {
+        Stop::System(error)
+    }
+}
+
+/// What the words ask for, as the lines that the program prints.
+fn report(rt: &HostRuntime) -> Result<String, Stop> {
+    let alloc = rt.alloc();
+    let words: Vec<String> = env::args(rt)?.collect(alloc)?;
+    let text = match words.as_slice() {
+        [_, workload, rounds] if workload.as_str() == "consolidation" => {
+            match rounds.as_str().parse::<u32>() {
+                Ok(rounds) => consolidation::report(rt, alloc, rounds)?,
+                Err(_) => String::from_str(alloc, USAGE)?,
+            }
+        }
+        _ => String::from_str(alloc, USAGE)?,
+    };
+    Ok(text)
+}
+
+fn main(rt: HostRuntime) -> ExitCode {
+    match report(&rt) {
+        Ok(text) => match print!(rt; "{text}") {
+            Ok(()) => ExitCode::SUCCESS,
+            Err(_) => ExitCode::FAILURE,
+        },
+        Err(stop) => {
+            let _ = eprintln!(rt; "bw_bench: {stop}");
+            ExitCode::FAILURE
+        }
+    }
+}

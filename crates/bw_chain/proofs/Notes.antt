@@ -1,0 +1,102 @@
+-- Where an edit is noted among falling ones.
+use Rattle.std.proofs.Common.{◌≡◌, ◌≢◌, ℕ, zero, suc, ◌+◌, ◌<◌, ◌≤◌, true, List, [], ◌∷◌, ◌++◌, length, take, drop, get_or, refl, ap, sym, ◌∙◌, arith}
+use Rattle.std.specs.Prelude.{◌-◌, Some, None, nat_le, slice_get}
+use Rattle.std.specs.List.{insert}
+use Rattle.std.specs.List.Sorted.{IsPartitionedBy}
+use Rattle.std.proofs.lemmas.List.{take-append-drop}
+use Rattle.std.proofs.lemmas.Option.{slice_get_within, get_or_from_slice_get}
+use Rattle.std.proofs.lemmas.Bool.Decides.{nat_tests}
+use Rattle.bw_delta.specs.Entries.{below, from}
+use Rattle.bw_chain.specs.Edited.{falls, noted}
+
+module _ {X : Type 0} where
+  pub length-noted : (key : ℕ) (x : X) (es : List (ℕ × X)) → length (noted key x es) ≤ length es + 1
+  length-noted key x [] = omega arith
+  length-noted key x (e ∷ es) = grind (arith, nat_tests, length-noted key x es)
+
+  -- all keys lie below the end
+  key_below_end : (low end : ℕ) (es : List (ℕ × X)) (i : ℕ) (d : ℕ × X) → falls low end es ≡ true → i < length es → (get_or es i d).0 < end
+  key_below_end low end [] i d f inside = absurd (omega arith)
+  key_below_end low end (e ∷ es) zero d f inside = grind (arith, nat_tests)
+  key_below_end low end (e ∷ es) (suc i) d f inside =
+      let rest : falls low e.0 es ≡ true = grind (arith, nat_tests) in
+      let first : e.0 < end = grind (arith, nat_tests) in
+      omega (arith, key_below_end low e.0 es i d rest (omega arith))
+
+  pub falls-IsPartitionedBy : (low end key : ℕ) (es : List (ℕ × X)) → falls low end es ≡ true → IsPartitionedBy (λ e. nat_le (key + 1) e.0) es
+  falls-IsPartitionedBy low end key [] f i j d le inside passes = absurd (omega arith)
+  falls-IsPartitionedBy low end key (e ∷ es) f zero zero d le inside passes = passes
+  falls-IsPartitionedBy low end key (e ∷ es) f zero (suc j) d le inside passes =
+      let rest : falls low e.0 es ≡ true = grind (arith, nat_tests) in
+      let later : (get_or es j d).0 < e.0 = key_below_end low e.0 es j d rest (omega arith) in
+      grind (arith, nat_tests)
+  falls-IsPartitionedBy low end key (e ∷ es) f (suc i) zero d le inside passes = absurd (omega arith)
+  falls-IsPartitionedBy low end key (e ∷ es) f (suc i) (suc j) d le inside passes =
+      let rest : falls low e.0 es ≡ true = grind (arith, nat_tests) in
+      falls-IsPartitionedBy low e.0 key es rest i j d (omega arith) (omega arith) passes
+
+  none_greater : (low end key : ℕ) (es : List (ℕ × X)) → falls low end es ≡ true → end ≤ key → from (key + 1) es ≡ []
+  none_greater low end key [] f le = refl
+  none_greater low end key (e ∷ es) f le = grind (arith, nat_tests, none_greater low e.0 key es)
+
+  all_upto : (low end key : ℕ) (es : List (ℕ × X)) → falls low end es ≡ true → end ≤ key → below (key + 1) es ≡ es
+  all_upto low end key [] f le = refl
+  all_upto low end key (e ∷ es) f le = grind (arith, nat_tests, all_upto low e.0 key es)
+
+  -- an edit is noted behind those of greater keys
+  pub noted-parts : (low end key : ℕ) (x : X) (es : List (ℕ × X)) → falls low end es ≡ true → noted key x es ≡ from (key + 1) es ++ noted key x (below (key + 1) es)
+  noted-parts low end key x [] f = refl
+  noted-parts low end key x (e ∷ es) f = grind (arith, nat_tests, noted-parts low e.0 key x es, none_greater low e.0 key es, all_upto low e.0 key es)
+
+  first_passes : (key : ℕ) (e : ℕ × X) (es rest : List (ℕ × X)) → below (key + 1) es ≡ e ∷ rest → e.0 ≤ key
+  first_passes key e [] rest same = cc
+  first_passes key e (d ∷ es) rest same = grind (arith, nat_tests, first_passes key e es rest)
+
+  first_is : (e : ℕ × X) (es : List (ℕ × X)) → slice_get es 0 ≡ Some e → es ≡ e ∷ drop 1 es
+  first_is e [] first = cc
+  first_is e (d ∷ es) first = cc
+
+  none_is : (es : List (ℕ × X)) → slice_get es 0 ≡ None → es ≡ []
+  none_is [] none = refl
+  none_is (e ∷ es) none = cc
+
+  module _ (end key i : ℕ) (es : List (ℕ × X)) (f : falls 0 end es ≡ true) (before : from (key + 1) es ≡ take i es) (after : below (key + 1) es ≡ drop i es) where
+    parts : (x : X) → noted key x es ≡ take i es ++ noted key x (drop i es)
+    parts x = noted-parts 0 end key x es f ∙ ap (λ l. l ++ noted key x (below (key + 1) es)) before ∙ ap (λ l. take i es ++ noted key x l) after
+
+    -- a key's newer edit stays
+    pub noted-newer : (e : ℕ × X) (x : X) → slice_get (drop i es) 0 ≡ Some e → e.0 ≡ key → noted key x es ≡ es
+    noted-newer e x here same =
+        let kept : noted key x (e ∷ drop 1 (drop i es)) ≡ e ∷ drop 1 (drop i es) = grind (arith, nat_tests) in
+        let rest = first_is e (drop i es) here in
+        parts x ∙ ap (λ l. take i es ++ l) (ap (noted key x) rest ∙ kept ∙ sym rest) ∙ take-append-drop i es
+
+    -- a new one is put in
+    pub noted-before : (e : ℕ × X) (x : X) → slice_get (drop i es) 0 ≡ Some e → e.0 ≢ key → noted key x es ≡ insert es i (key, x)
+    noted-before e x here other =
+        let rest = first_is e (drop i es) here in
+        let le = first_passes key e es (drop 1 (drop i es)) (after ∙ rest) in
+        let new : noted key x (e ∷ drop 1 (drop i es)) ≡ (key, x) ∷ e ∷ drop 1 (drop i es) = grind (arith, nat_tests) in
+        parts x ∙ ap (λ l. take i es ++ l) (ap (noted key x) rest ∙ new ∙ ap (λ l. (key, x) ∷ l) (sym rest))
+
+    pub noted-last : (x : X) → slice_get (drop i es) 0 ≡ None → noted key x es ≡ insert es i (key, x)
+    noted-last x none =
+        let rest = none_is (drop i es) none in
+        parts x ∙ ap (λ l. take i es ++ l) (ap (noted key x) rest ∙ ap (λ l. (key, x) ∷ l) (sym rest))
+
+  last_inside : (low end : ℕ) (e : ℕ × X) (es : List (ℕ × X)) → falls low end es ≡ true → slice_get es (length es - 1) ≡ Some e → e.0 < end
+  last_inside low end e es f last =
+      let inside = slice_get_within es (length es - 1) e last in
+      let same = get_or_from_slice_get es (length es - 1) e e last in
+      rw (← same) (key_below_end low end es (length es - 1) e f inside)
+
+  -- the last of falling entries has the least key
+  pub below-last : (low end bound : ℕ) (e : ℕ × X) (es : List (ℕ × X)) → falls low end es ≡ true → slice_get es (length es - 1) ≡ Some e → bound ≤ e.0 → below bound es ≡ []
+  below-last low end bound e [] f last le = refl
+  below-last low end bound e (d ∷ []) f last le = grind (arith, nat_tests)
+  below-last low end bound e (d ∷ b ∷ es) f last le =
+      let rest : falls low d.0 (b ∷ es) ≡ true = grind (arith, nat_tests) in
+      let one_less : length (d ∷ b ∷ es) - 1 ≡ suc (length (b ∷ es) - 1) = omega arith in
+      let later : slice_get (b ∷ es) (length (b ∷ es) - 1) ≡ Some e = sym (ap (slice_get (d ∷ b ∷ es)) one_less) ∙ last in
+      let above : e.0 < d.0 = last_inside low d.0 e (b ∷ es) rest later in
+      grind (arith, nat_tests, below-last low d.0 bound e (b ∷ es) rest later le)

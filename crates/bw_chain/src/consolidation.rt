@@ -1,0 +1,88 @@
+//! Consolidation in one pass over the records and the base pages.
+
+ghost use Rattle.std.specs.Prelude.{◌≡◌, [], IfOk};
+ghost use Rattle.bw_delta.specs.Fence.{fences, is_leaf};
+ghost use Rattle.bw_delta.specs.PageView.{listed};
+ghost use Rattle.bw_delta.specs.Records.{depth};
+ghost use Rattle.bw_delta.specs.Sound.{IsSound, IsWellBuilt, listed_for, page_for};
+ghost use Rattle.bw_chain.specs.Changes.{entries_by};
+ghost use Rattle.smallvec.specs.SmallVec.{HasRoomFor};
+
+use crate::change::Change;
+use crate::edits::Edits;
+use crate::pass::pass;
+use crate::shape::{fences, is_leaf};
+use crate::value::EntryValue;
+use bw_delta::{Base, Chain, Entries, Fences, NoMemory, Node};
+use bw_keys::{Fence, Key, Pid};
+use std::alloc::Allocator;
+
+/// The base page that has all of the chain's effects: its entries, its range and its side link
+/// (Levandoski et al., ICDE 2013, "page consolidation"). Fails only for want of memory.
+#[tactic(auto, using(bw_delta::proofs::Stands::page_for_is_page))]
+pub fn consolidate<A: Allocator + Copy>(alloc: A, chain: &Chain<A>) -> Result<Base<A>, NoMemory>
+    requires sound { IsSound chain.now }
+    ensures { IfOk result (λ base. base ≡ page_for chain.now) }
+{
+    let Fences { low, high, right } = fences(chain);
+    let entries = entries_below(alloc, chain, high)?;
+    Ok(Base {
+        low,
+        high,
+        right,
+        entries,
+    })
+}
+
+/// What the chain lists, of whichever kind.
+#[tactic(auto, using(crate::proofs::Bridges::both_kinds))]
+fn entries_below<A: Allocator + Copy>(
+    alloc: A,
+    chain: &Chain<A>,
+    high: Fence,
+) -> Result<Entries<A>, NoMemory>
+    requires sound { IsSound chain.now }
+    requires high { high ≡ (fences chain.now).high }
+    ensures { IfOk result (λ entries. listed entries ≡ listed_for (is_leaf chain.now) chain.now) }
+{
+    if is_leaf(chain) {
+        let mut edits: Edits<'_, u64, A> = Edits::new(&alloc);
+        Ok(Entries::Pairs(list(alloc, chain, high, &mut edits)?))
+    } else {
+        let mut edits: Edits<'_, Pid, A> = Edits::new(&alloc);
+        Ok(Entries::Routes(list(alloc, chain, high, &mut edits)?))
+    }
+}
+
+/// The entries of one kind, listed.
+fn list<A: Allocator + Copy, X: EntryValue>(
+    alloc: A,
+    chain: &Chain<A>,
+    high: Fence,
+    edits: &mut Edits<'_, X, A>,
+) -> Result<Vec<(Key, X), A>, NoMemory>
+    requires built { IsWellBuilt chain.now }
+    requires high { high ≡ (fences chain.now).high }
+    requires none { edits.old.items ≡ [] }
+    requires room { HasRoomFor edits.old (depth chain.now) }
+    ensures { IfOk result (λ entries. entries.items ≡ entries_by X.own_entries X.own_change chain.now) }
+{
+    let mut entries = Vec::with_capacity(alloc, most_entries::<A, X>(chain))?;
+    pass(chain, high, edits, &mut entries)?;
+    Ok(entries)
+}
+
+/// No fewer than the chain has entries of the kind: those of its base pages, and one for each
+/// record that puts one.
+fn most_entries<A: Allocator + Copy, X: EntryValue>(chain: &Chain<A>) -> usize {
+    match &chain.node {
+        Node::Bare(base) => X::entries_on(base).len(),
+        Node::Above(delta, below) => match X::change_by(*delta) {
+            Change::Put(_, _) => most_entries::<A, X>(below).saturating_add(1),
+            Change::Without(_) | Change::Below(_) | Change::Nothing => most_entries::<A, X>(below),
+        },
+        Node::Merged(_, left, right) => {
+            most_entries::<A, X>(left).saturating_add(most_entries::<A, X>(right))
+        }
+    }
+}

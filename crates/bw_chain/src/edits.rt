@@ -1,0 +1,120 @@
+//! The newest record for each key, gathered on the way down a chain.
+
+ghost use Rattle.std.specs.Prelude.{◌≡◌, ◌≤◌, ◌+◌, ◌<◌, true, List, ℕ, [], ◌∷◌, ◌++◌, length, take, drop, insert, MatchOption};
+ghost use Rattle.bw_keys.specs.Ranges.{end_of, key_count};
+ghost use Rattle.bw_delta.specs.Entries.{below, from};
+ghost use Rattle.bw_chain.specs.Ascends.{IsAscending};
+ghost use Rattle.bw_chain.specs.Changes.{changed};
+ghost use Rattle.bw_chain.specs.Edited.{edited_at, edited_below, falls, noted};
+ghost use Rattle.bw_chain.specs.Cuts.{IsUncut};
+ghost use Rattle.smallvec.specs.SmallVec.{HasRoomFor, small_vec_len};
+
+use crate::change::Change;
+use bw_keys::{Fence, Key};
+use smallvec::SmallVec;
+use std::alloc::Allocator;
+
+/// What the newest record for each key says, the greatest key first: the key's value, or that it
+/// has none. No path of a chain has more records than lie inline, so the allocator is never asked.
+pub(crate) type Edits<'a, X, A> = SmallVec<(Key, Option<X>), 64, &'a A>;
+
+/// Notes what a record changes below the end.
+pub(crate) fn note_change<A: Allocator + Copy, X: Copy>(
+    edits: &mut Edits<'_, X, A>,
+    change: Change<X>,
+    end: Fence,
+)
+    requires uncut { IsUncut (end_of end) change }
+    requires among { end_of end ≤ key_count }
+    requires falling { falls 0 key_count edits.old.items ≡ true }
+    requires room { HasRoomFor edits.old 1 }
+    ensures noted { (es : List (ℕ × X)) → IsAscending es → edited_below (end_of end) edits.new.items es ≡ edited_below (end_of end) edits.old.items (changed change es) }
+    ensures others { from (end_of end) edits.new.items ≡ from (end_of end) edits.old.items }
+    ensures falling { falls 0 key_count edits.new.items ≡ true }
+    ensures one_more { small_vec_len edits.new ≤ small_vec_len edits.old + 1 }
+    ensures capacity { edits.new.capacity ≡ edits.old.capacity }
+{
+    match change {
+        Change::Put(key, value) => note_below(edits, end, key, Some(value)),
+        Change::Without(key) => note_below(edits, end, key, None),
+        Change::Below(_) => {}
+        Change::Nothing => {}
+    }
+}
+
+/// Notes an edit of the key, if it lies below the end.
+fn note_below<A: Allocator + Copy, X: Copy>(
+    edits: &mut Edits<'_, X, A>,
+    end: Fence,
+    key: Key,
+    edit: Option<X>,
+)
+    requires among { end_of end ≤ key_count }
+    requires falling { falls 0 key_count edits.old.items ≡ true }
+    requires room { HasRoomFor edits.old 1 }
+    ensures noted { (es : List (ℕ × X)) → IsAscending es → edited_below (end_of end) edits.new.items es ≡ edited_below (end_of end) edits.old.items (edited_at key edit es) }
+    ensures others { from (end_of end) edits.new.items ≡ from (end_of end) edits.old.items }
+    ensures falling { falls 0 key_count edits.new.items ≡ true }
+    ensures one_more { small_vec_len edits.new ≤ small_vec_len edits.old + 1 }
+    ensures capacity { edits.new.capacity ≡ edits.old.capacity }
+{
+    if end.is_above(key) {
+        note(edits, key, edit);
+    }
+}
+
+/// Notes an edit of the key, unless a newer one was noted.
+fn note<A: Allocator + Copy, X: Copy>(edits: &mut Edits<'_, X, A>, key: Key, edit: Option<X>)
+    requires falling { falls 0 key_count edits.old.items ≡ true }
+    requires room { HasRoomFor edits.old 1 }
+    ensures items { edits.new.items ≡ noted key edit edits.old.items }
+    ensures capacity { edits.new.capacity ≡ edits.old.capacity }
+{
+    if let Some(place) = place_for(edits.as_slice(), key) {
+        let _there_is_room = edits.insert(place, (key, edit));
+    }
+}
+
+/// Where to put in an edit of the key, unless one is there.
+fn place_for<X: Copy>(edits: &[(Key, X)], key: Key) -> Option<usize>
+    requires falling { falls 0 key_count edits.now ≡ true }
+    ensures { MatchOption result
+        ((x : X) → noted key x edits.now ≡ edits.now)
+        (λ place. (place ≤ length edits.now) × ((x : X) → noted key x edits.now ≡ insert edits.now place (key, x))) }
+{
+    let place = count_past(edits, key);
+    let (_, upto) = edits.split_at(place);
+    match upto.first().copied() {
+        Some(edit) => { if edit.0 == key { None } else { Some(place) } }
+        None => Some(place),
+    }
+}
+
+/// How many edits have greater keys, by halving.
+fn count_past<X: Copy>(edits: &[(Key, X)], key: Key) -> usize
+    requires falling { falls 0 key_count edits.now ≡ true }
+    ensures within { result ≤ length edits.now }
+    ensures before { from (key + 1) edits.now ≡ take result edits.now }
+    ensures after { below (key + 1) edits.now ≡ drop result edits.now }
+{
+    edits.partition_point(|edit| key < edit.0)
+}
+
+/// Takes out the edit of the least key, if that lies below the end.
+pub(crate) fn pop_below<A: Allocator + Copy, X: Copy>(
+    edits: &mut Edits<'_, X, A>,
+    end: Fence,
+) -> Option<(Key, Option<X>)>
+    requires falling { falls 0 key_count edits.old.items ≡ true }
+    ensures popped { MatchOption result
+        ((below (end_of end) edits.old.items ≡ []) × (edits.new.items ≡ edits.old.items))
+        (λ edit. (edits.old.items ≡ edits.new.items ++ edit ∷ []) × (edit.0 < end_of end)) }
+    ensures capacity { edits.new.capacity ≡ edits.old.capacity }
+{
+    let least = edits.as_slice().last().copied()?;
+    if end.is_above(least.0) {
+        edits.pop()
+    } else {
+        None
+    }
+}
