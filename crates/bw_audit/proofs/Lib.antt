@@ -1,0 +1,7 @@
+pub mod Counting
+pub mod Laws
+pub mod Converse
+pub mod Indexing
+pub mod Adding
+pub mod Explained
+pub mod Interleaved

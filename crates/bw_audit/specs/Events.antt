@@ -1,0 +1,28 @@
+-- Events as contracts see them: turns of the workers.
+use Rattle.std.specs.Prelude.{◌≡◌, ◌<◌, List, Some, None, map}
+use Rattle.bw_keys.specs.declared.config.Config.{Config}
+use Rattle.bw_keys.specs.Limits.{first_bad_field}
+use Rattle.bw_step.specs.declared.receipt.Receipt.{Receipt}
+use Rattle.bw_step.specs.ProposalView.{proposal_of}
+use Rattle.bw_law.specs.Tables.{TableValue}
+use Rattle.bw_audit.specs.declared.event.Act.{Act}
+use Rattle.bw_audit.specs.declared.event.Act.TheVariants.{Step, Look}
+use Rattle.bw_audit.specs.declared.event.Event.{Event}
+use Rattle.bw_audit.specs.declared.replayer.ReplayFault.{ReplayFault}
+use Rattle.bw_audit.specs.declared.replayer.ReplayFault.TheVariants.{BadConfig, NoMemory}
+use Rattle.bw_audit.specs.Replays.{Deed, proposes, looks, Turn, World}
+
+abbrev pub deed_of : Act → Deed
+deed_of (Step step) = proposes (proposal_of step)
+deed_of (Look key) = looks key
+
+abbrev pub turn_of : Event → Turn
+turn_of event = record { worker = event.worker; deed = deed_of event.act }
+
+abbrev pub world_of : TableValue → List (List Receipt) → World
+world_of table trails = record { table = table; trails = trails }
+
+-- a bad configuration is named by its first bad field, and memory is asked for only with a good one
+abbrev pub IsReplayFault : Config → ReplayFault → Type 0
+IsReplayFault config (BadConfig bad) = first_bad_field config ≡ Some bad.0
+IsReplayFault config NoMemory = first_bad_field config ≡ None

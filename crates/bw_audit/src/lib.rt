@@ -1,0 +1,18 @@
+//! Whether the receipts of several workers have one order that explains each of them, and the
+//! replay of a run, event by event, on a new table.
+#![tactic(auto)]
+
+mod auditor;
+mod change;
+mod event;
+mod index;
+mod law;
+mod replayer;
+mod rules;
+mod verdict;
+
+pub use auditor::audit;
+pub use event::{Act, Event};
+pub use law::every_interleaving_is_legal;
+pub use replayer::{Replayed, ReplayFault, replay};
+pub use verdict::{AuditFault, Verdict};

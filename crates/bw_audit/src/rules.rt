@@ -1,0 +1,105 @@
+//! What makes a receipt bad, and the first bad one.
+
+ghost use Rattle.std.specs.Prelude.{◌≡◌, ◌+◌, ◌≤◌, IfNone, length, map};
+ghost use Rattle.bw_audit.specs.Changes.{all_changes, changes_of};
+ghost use Rattle.bw_audit.specs.Legal.{position_after, rises_from};
+ghost use Rattle.bw_audit.specs.Verdicts.{first_bad, first_fault, is_bad, is_bad_change, is_bad_look, is_misnumbered};
+
+use crate::change::Change;
+use crate::index::Index;
+use bw_keys::Key;
+use bw_step::Receipt;
+
+/// Whether a receipt may stand behind the position: a change above it, a look not below it.
+fn does_rise(last: u64, receipt: &Receipt) -> bool
+    ensures { result ≡ rises_from last receipt.now }
+{
+    match *receipt {
+        Receipt::Inserted { number, .. } | Receipt::Deleted { number, .. } => last < number,
+        Receipt::Looked { at, .. } => last <= at,
+        Receipt::Shaped { .. } => true,
+    }
+}
+
+/// The position of what stands behind the receipt.
+fn moved_on(last: u64, receipt: &Receipt) -> u64
+    ensures { result ≡ position_after last receipt.now }
+{
+    match *receipt {
+        Receipt::Inserted { number, .. } | Receipt::Deleted { number, .. } => number,
+        Receipt::Looked { at, .. } => at,
+        Receipt::Shaped { .. } => last,
+    }
+}
+
+/// Whether the number is none of 1 to the count, or one of the first changes bears it.
+fn is_misnumbered(index: &Index, before: usize, number: u64) -> bool
+    ensures { result ≡ is_misnumbered index.now before number }
+{
+    number == 0 || index.count() < number || index.is_borne_before(before, number)
+}
+
+fn is_bad_change(index: &Index, before: usize, change: &Change) -> bool
+    ensures { result ≡ is_bad_change index.now before change.now }
+{
+    if is_misnumbered(index, before, change.number) {
+        return true;
+    }
+    index.value_after(change.number - 1, change.key) != change.before
+}
+
+fn is_bad_look(index: &Index, at: u64, key: Key, found: Option<u64>) -> bool
+    ensures { result ≡ is_bad_look index.now at key found }
+{
+    index.count() < at || index.value_after(at, key) != found
+}
+
+fn is_bad(index: &Index, before: usize, last: u64, receipt: &Receipt) -> bool
+    ensures { result ≡ is_bad index.now before last receipt.now }
+{
+    if !does_rise(last, receipt) {
+        return true;
+    }
+    if let Some(change) = Change::of(receipt) {
+        return is_bad_change(index, before, &change);
+    }
+    match *receipt {
+        Receipt::Looked { at, key, found } => is_bad_look(index, at, key, found),
+        _ => false,
+    }
+}
+
+/// The place of the first bad receipt of a trail. With none, `before` counts the trail's changes too.
+fn first_bad(index: &Index, before: &mut usize, trail: &[Receipt]) -> Option<usize>
+    requires { before.old + length (changes_of trail.now) ≤ length index.now }
+    ensures place { result ≡ first_bad index.now before.old 0 0 trail.now }
+    ensures passed { IfNone result (before.new ≡ before.old + length (changes_of trail.now)) }
+{
+    // That so many changes can be counted is known where they are.
+    let _ = index.count();
+    let mut last = 0;
+    for (place, receipt) in trail.iter().enumerate() {
+        if is_bad(index, *before, last, receipt) {
+            return Some(place);
+        }
+        if Change::of(receipt).is_some() {
+            *before += 1;
+        }
+        last = moved_on(last, receipt);
+    }
+    None
+}
+
+/// The worker and the place of the first bad receipt.
+pub fn first_fault(index: &Index, trails: &[Vec<Receipt>]) -> Option<(usize, usize)>
+    requires { length (all_changes (map (λ trail. trail.items) trails.now)) ≤ length index.now }
+    ensures { result ≡ first_fault index.now 0 0 (map (λ trail. trail.items) trails.now) }
+{
+    let mut before = 0;
+    for (worker, trail) in trails.iter().enumerate() {
+        if let Some(place) = first_bad(index, &mut before, trail.as_slice()) {
+            return Some((worker, place));
+        }
+    }
+    None
+}
