@@ -78,9 +78,9 @@ module _ (table : TableValue) (trails : List (List Receipt)) (is : Explains tabl
         numbers = subst (λ cs. (m : ℕ) → 0 < m → m ≤ length cs → times_borne cs m ≡ 1) (sym e) is.numbers;
         no_others = subst (λ cs. (m : ℕ) → length cs < m → bearer cs m ≡ None) (sym e) is.no_others;
         fine = subst (λ cs. AllByRecursion (IsFineTrail cs) (add_receipts trails worker (r ∷ []))) (sym e)
-        (all_added (IsFineTrail old) (IsFineTrail old) trails worker (r ∷ []) is.fine (λ t whole. whole) (trail_longer old old (omega arith) (λ m key within. refl) r fine up));
+            (all_added (IsFineTrail old) (IsFineTrail old) trails worker (r ∷ []) is.fine (λ t whole. whole) (trail_longer old old (omega arith) (λ m key within. refl) r fine up));
         left = subst (λ cs. (key value : ℕ) → (value_at cs (length cs) key ≡ Some value) ↔ Maps next.slots key value) (sym e)
-        (λ key value. (λ found. (map key value).1 ((is.left key value).0 found), λ maps. (is.left key value).1 ((map key value).0 maps)));
+            (λ key value. (λ found. (map key value).1 ((is.left key value).0 found), λ maps. (is.left key value).1 ((map key value).0 maps)));
       }
 
   -- a receipt of the next change
@@ -101,25 +101,25 @@ module _ (table : TableValue) (trails : List (List Receipt)) (is : Explains tabl
         booked = booked;
         counted = number ∙ (ap suc is.counted ∙ sym m.count);
         numbers = λ j above within.
-        elim (c.number == j) as (λ t. (c.number == j) ≡ t → times_borne new j ≡ 1) [
-          | true ↦ λ own.
-              let e : c.number ≡ j = grind (arith, nat_tests) in
-              let none : times_borne old j ≡ 0 = unborne old j (rw (← e) fresh) in
-              let one : cond {A = ℕ} (c.number == j) 1 0 ≡ 1 = rw own refl in
-              omega (arith, m.times j, none, one)
-          | false ↦ λ other.
-              let apart : c.number ≢ j = λ e. cc (same_number c.number j e, other) in
-              let zero_more : cond {A = ℕ} (c.number == j) 1 0 ≡ 0 = rw other refl in
-              let before : j ≤ n = grind (arith, m.count, numbered) in
-              omega (arith, m.times j, is.numbers j above before, zero_more)
-        ] refl;
+            elim (c.number == j) as (λ t. (c.number == j) ≡ t → times_borne new j ≡ 1) [
+              | true ↦ λ own.
+                  let e : c.number ≡ j = grind (arith, nat_tests) in
+                  let none : times_borne old j ≡ 0 = unborne old j (rw (← e) fresh) in
+                  let one : cond {A = ℕ} (c.number == j) 1 0 ≡ 1 = rw own refl in
+                  omega (arith, m.times j, none, one)
+              | false ↦ λ other.
+                  let apart : c.number ≢ j = λ e. cc (same_number c.number j e, other) in
+                  let zero_more : cond {A = ℕ} (c.number == j) 1 0 ≡ 0 = rw other refl in
+                  let before : j ≤ n = grind (arith, m.count, numbered) in
+                  omega (arith, m.times j, is.numbers j above before, zero_more)
+            ] refl;
         no_others = λ j above. m.others j (other_number c.number j (λ e. omega (arith, e, numbered, above, m.count))) ∙ is.no_others j (omega (arith, above, m.count));
         fine = all_added (IsFineTrail old) (IsFineTrail new) trails worker (r ∷ []) is.fine (trail_later old new (omega (arith, m.count)) same)
-        (trail_longer old new (omega (arith, m.count)) same r (fine new m.count (same n c.key (omega arith))) up);
+            (trail_longer old new (omega (arith, m.count)) same r (fine new m.count (same n c.key (omega arith))) up);
         left = λ key value.
             let own : bearer new (suc n) ≡ Some c = rw (← numbered) (m.its_own fresh) in
             let latest : value_at new (length new) key ≡ changed_by (Some c) key (value_at old n key) =
-                ap (λ k. value_at new k key) m.count ∙ (ap (λ o. changed_by o key (value_at new n key)) own ∙ ap (changed_by (Some c) key) (same n key (omega arith))) in
+            ap (λ k. value_at new k key) m.count ∙ (ap (λ o. changed_by o key (value_at new n key)) own ∙ ap (changed_by (Some c) key) (same n key (omega arith))) in
             subst (λ o. (o ≡ Some value) ↔ Maps next.slots key value) (sym latest) (left key value);
       }
 
@@ -154,19 +154,21 @@ module _ (table : TableValue) (trails : List (List Receipt)) (is : Explains tabl
       (λ new count same. (omega (arith, count, is.counted), rw (is.counted, one_less (length (all_changes trails))) (same ∙ none)))
       (λ k v. elim (key == k) as (λ t. (key == k) ≡ t → (cond t (Some value) (value_at (all_changes trails) (length (all_changes trails)) k) ≡ Some v) ↔ Maps (after table step).slots k v) [
         | true ↦ λ own.
-            let e : key ≡ k = grind (arith, nat_tests) in
-            ((λ found. (kept.map.is_added k v).1 (inl (sym e, cc))),
-            (λ maps. elim ((kept.map.is_added k v).0 maps) as (λ _. Some value ≡ Some v) [
-              | inl new ↦ ap Some (sym new.1)
-              | inr had ↦ absurd (kept.map.was_absent v (rw e had))
-            ]))
+            let e : key ≡ k = grind (arith, nat_tests) in (
+              (λ found. (kept.map.is_added k v).1 (inl (sym e, cc))),
+              (λ maps. elim ((kept.map.is_added k v).0 maps) as (λ _. Some value ≡ Some v) [
+                | inl new ↦ ap Some (sym new.1)
+                | inr had ↦ absurd (kept.map.was_absent v (rw e had))
+              ]),
+            )
         | false ↦ λ other.
-            let apart : k ≢ key = λ e. cc (same_number key k (sym e), other) in
-            ((λ found. (kept.map.is_added k v).1 (inr ((is.left k v).0 found))),
-            (λ maps. elim ((kept.map.is_added k v).0 maps) as (λ _. value_at (all_changes trails) (length (all_changes trails)) k ≡ Some v) [
-              | inl new ↦ absurd (apart new.0)
-              | inr had ↦ (is.left k v).1 had
-            ]))
+            let apart : k ≢ key = λ e. cc (same_number key k (sym e), other) in (
+              (λ found. (kept.map.is_added k v).1 (inr ((is.left k v).0 found))),
+              (λ maps. elim ((kept.map.is_added k v).0 maps) as (λ _. value_at (all_changes trails) (length (all_changes trails)) k ≡ Some v) [
+                | inl new ↦ absurd (apart new.0)
+                | inr had ↦ (is.left k v).1 had
+              ]),
+            )
       ] refl)
 
   deleted : (page seen key : ℕ) → KeptBy table (delete page seen key) → Keeps (delete page seen key)
@@ -183,9 +185,10 @@ module _ (table : TableValue) (trails : List (List Receipt)) (is : Explains tabl
             let e : key ≡ k = grind (arith, nat_tests) in
             ((λ found. cc found), (λ maps. absurd (((kept.map.is_taken k v).0 maps).0 (sym e))))
         | false ↦ λ other.
-            let apart : k ≢ key = λ e. cc (same_number key k (sym e), other) in
-            ((λ found. (kept.map.is_taken k v).1 (apart, (is.left k v).0 found)),
-            (λ maps. (is.left k v).1 ((kept.map.is_taken k v).0 maps).1))
+            let apart : k ≢ key = λ e. cc (same_number key k (sym e), other) in (
+              (λ found. (kept.map.is_taken k v).1 (apart, (is.left k v).0 found)),
+              (λ maps. (is.left k v).1 ((kept.map.is_taken k v).0 maps).1),
+            )
       ] refl)
 
   pub step_keeps : (step : Proposal) → refusal table step ≡ None → Keeps step
@@ -218,9 +221,9 @@ module _ (table : TableValue) (trails : List (List Receipt)) (is : Explains tabl
   look_keeps key r look =
       let told = look.told in
       let seen : value_at (all_changes trails) (length (all_changes trails)) key ≡ look.found =
-          same_options _ look.found (λ v. ((λ found. (look.is_there v).1 ((is.left key v).0 found)), (λ found. (is.left key v).1 ((look.is_there v).0 found)))) in
+      same_options _ look.found (λ v. ((λ found. (look.is_there v).1 ((is.left key v).0 found)), (λ found. (is.left key v).1 ((look.is_there v).0 found)))) in
       let fine : IsFine (all_changes trails) (Looked (number_of table.book) key look.found) =
-          (omega (arith, is.counted), (omega (arith, is.counted), rw is.counted seen)) in
+      (omega (arith, is.counted), (omega (arith, is.counted), rw is.counted seen)) in
       subst (λ q. Explains table (add_receipts trails worker (q ∷ []))) (sym told)
       (keeps_silent table trails is worker inside table is.lawful is.booked (Looked (number_of table.book) key look.found) (λ last within. grind (arith, nat_tests, is.counted))
       refl (λ k v. ((λ maps. maps), (λ maps. maps))) refl fine)

@@ -105,10 +105,9 @@ bearer-snoc (d ∷ cs) c m =
       | false ↦ rest
     ]
 
-
 suc_placed : (o : Option ℕ) (c : Change) (m here : ℕ) → option_map suc (or_placed o c m here) ≡ or_placed (option_map suc o) c m (suc here)
 suc_placed (Some place) c m here = refl
-suc_placed None c m here = elim (c.number == m) as (λ t. option_map suc (cond t (Some here) None) ≡ cond t (Some (suc here)) None) [ | true ↦ refl | false ↦ refl ]
+suc_placed None c m here = elim (c.number == m) as (λ t. option_map suc (cond t (Some here) None) ≡ cond t (Some (suc here)) None) [ true ↦ refl | false ↦ refl ]
 
 place-snoc : (cs : List Change) (c : Change) (m : ℕ) → first_place (cs ++ c ∷ []) m ≡ or_placed (first_place cs m) c m (length cs)
 place-snoc [] c m = refl
@@ -210,9 +209,9 @@ module _ (cs : List Change) (places : ℕ → Option ℕ) (values : ℕ × ℕ �
   pub index_same : is_some (places c.number) ≡ true → IsIndexOf (cs ++ c ∷ []) places values
   index_same known = record {
     placed = λ m. is.placed m
-    ∙ (sym (same_place (first_place cs m) c m (length cs) (λ same. rw (← same, ← is.placed c.number) known)) ∙ sym (place-snoc cs c m));
+        ∙ (sym (same_place (first_place cs m) c m (length cs) (λ same. rw (← same, ← is.placed c.number) known)) ∙ sym (place-snoc cs c m));
     valued = λ m key. is.valued m key
-    ∙ ap (λ o. value_there o key) (sym (same_bearer (bearer cs m) c m (λ same. sym (placed_is_borne cs m) ∙ rw (← same, ← is.placed c.number) known)) ∙ sym (bearer-snoc cs c m));
+        ∙ ap (λ o. value_there o key) (sym (same_bearer (bearer cs m) c m (λ same. sym (placed_is_borne cs m) ∙ rw (← same, ← is.placed c.number) known)) ∙ sym (bearer-snoc cs c m));
   }
 
   pub index_more : (more_places : ℕ → Option ℕ) (more_values : ℕ × ℕ → Option (Option ℕ))
@@ -225,11 +224,11 @@ module _ (cs : List Change) (places : ℕ → Option ℕ) (values : ℕ × ℕ �
       let no_bearer : bearer cs c.number ≡ None = none_of (bearer cs c.number) (sym (placed_is_borne cs c.number) ∙ ap is_some no_place) in
       record {
         placed = λ m. p m
-        ∙ (ap (λ o. cond (is_eq (nat_cmp c.number m)) (Some (length cs)) o) (is.placed m)
-        ∙ (kept_place (first_place cs m) c m (length cs) (λ same. rw (← same) no_place) ∙ sym (place-snoc cs c m)));
+            ∙ (ap (λ o. cond (is_eq (nat_cmp c.number m)) (Some (length cs)) o) (is.placed m)
+            ∙ (kept_place (first_place cs m) c m (length cs) (λ same. rw (← same) no_place) ∙ sym (place-snoc cs c m)));
         valued = λ m key. v (key, m)
-        ∙ (kept_value (bearer cs m) c m key (values (key, m)) (is.valued m key) (λ same. rw (← same) no_bearer)
-        ∙ ap (λ o. value_there o key) (sym (bearer-snoc cs c m)));
+            ∙ (kept_value (bearer cs m) c m key (values (key, m)) (is.valued m key) (λ same. rw (← same) no_bearer)
+            ∙ ap (λ o. value_there o key) (sym (bearer-snoc cs c m)));
       }
 
 -- an index of the first changes, and the next one

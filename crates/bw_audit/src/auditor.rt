@@ -1,5 +1,6 @@
 ghost use Rattle.std.specs.Prelude.{◌≡◌, ◌↔◌, IfOk, map};
-ghost use Rattle.bw_delta.specs.Entries.{at, from};
+ghost use Rattle.bw_keys.specs.Ranges.{key_count};
+ghost use Rattle.bw_delta.specs.Entries.{at, from, rises};
 ghost use Rattle.bw_chain.specs.Ascends.{IsAscending};
 ghost use Rattle.bw_audit.specs.Changes.{all_changes};
 ghost use Rattle.bw_audit.specs.Legal.{IsLegal};
@@ -37,6 +38,23 @@ pub fn audit(
     let changes = gather(machine, trails)?;
     let index = Index::new(machine, changes)?;
     Ok(judge(&index, trails, pairs))
+}
+
+/// Whether the keys of the pairs rise strictly, as those of an audit do.
+pub fn is_ascending(pairs: &[(Key, u64)]) -> bool
+    ensures { result ≡ rises 0 key_count pairs.now }
+{
+    let Some((first, rest)) = pairs.split_first() else {
+        return true;
+    };
+    let mut last = first.0;
+    for pair in rest {
+        if pair.0 <= last {
+            return false;
+        }
+        last = pair.0;
+    }
+    true
 }
 
 /// The first bad receipt, or else whether the changes leave the pairs.

@@ -4,15 +4,19 @@
 
 mod auditor;
 mod change;
+#[cfg(test)]
+mod drawn;
 mod event;
 mod index;
 mod law;
 mod replayer;
 mod rules;
+#[cfg(test)]
+mod tests;
 mod verdict;
 
-pub use auditor::audit;
+pub use auditor::{audit, is_ascending};
 pub use event::{Act, Event};
 pub use law::every_interleaving_is_legal;
-pub use replayer::{Replayed, ReplayFault, replay};
+pub use replayer::{ReplayFault, Replayed, replay};
 pub use verdict::{AuditFault, Verdict};

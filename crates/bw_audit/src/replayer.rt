@@ -128,7 +128,11 @@ fn look(table: &Table<Global>, key: Key) -> Receipt
 }
 
 /// Puts the receipt at the end of the worker's trail.
-fn add_receipt(trails: &mut Vec<Vec<Receipt>>, worker: u32, receipt: Receipt) -> Result<(), NoMemory>
+fn add_receipt(
+    trails: &mut Vec<Vec<Receipt>>,
+    worker: u32,
+    receipt: Receipt,
+) -> Result<(), NoMemory>
     requires { worker < length trails.old.items }
     ensures { OnOk result (map (λ trail. trail.items) trails.new.items ≡ add_receipts (map (λ trail. trail.items) trails.old.items) worker (receipt ∷ [])) }
 {

@@ -1,6 +1,7 @@
 //! Times the index on the machine that it runs on, each program beside a plain one.
 #![tactic(auto)]
 
+mod audit;
 mod chains;
 mod consolidation;
 
@@ -9,7 +10,7 @@ use std::process::ExitCode;
 use std::{env, io};
 use thiserror::Error;
 
-const USAGE: &str = "usage: bw_bench consolidation ROUNDS\n";
+const USAGE: &str = "usage: bw_bench consolidation ROUNDS\n       bw_bench audit RECEIPTS\n";
 
 /// Why no time is told.
 #[derive(Debug, Drop, Error)]
@@ -34,6 +35,12 @@ impl From<bw_delta::NoMemory> for Stop {
     }
 }
 
+impl From<bw_audit::AuditFault> for Stop {
+    fn from(_: bw_audit::AuditFault) -> Stop {
+        Stop::Memory
+    }
+}
+
 impl From<io::Error> for Stop {
     fn from(error: io::Error) -> Stop {
         Stop::System(error)
@@ -45,12 +52,11 @@ fn report(rt: &HostRuntime) -> Result<String, Stop> {
     let alloc = rt.alloc();
     let words: Vec<String> = env::args(rt)?.collect(alloc)?;
     let text = match words.as_slice() {
-        [_, workload, rounds] if workload.as_str() == "consolidation" => {
-            match rounds.as_str().parse::<u32>() {
-                Ok(rounds) => consolidation::report(rt, alloc, rounds)?,
-                Err(_) => String::from_str(alloc, USAGE)?,
-            }
-        }
+        [_, workload, count] => match (workload.as_str(), count.as_str().parse::<u32>()) {
+            ("consolidation", Ok(rounds)) => consolidation::report(rt, alloc, rounds)?,
+            ("audit", Ok(receipts)) => audit::report(rt, alloc, receipts)?,
+            _ => String::from_str(alloc, USAGE)?,
+        },
         _ => String::from_str(alloc, USAGE)?,
     };
     Ok(text)
