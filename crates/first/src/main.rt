@@ -1,6 +1,8 @@
 //! Puts four keys into a table of one leaf, each by a checked step, and prints what it then has.
 #![tactic(auto)]
 
+ghost use Rattle.std.specs.Prelude.{◌≡◌, ◌≢◌};
+
 use bw_delta::{NoMemory, Spare};
 use bw_keys::{Config, Key, Pid};
 use bw_table::{NewFault, Refused, Step, Table};
@@ -20,19 +22,26 @@ enum Stop {
 }
 
 impl From<NoMemory> for Stop {
-    fn from(_: NoMemory) -> Stop {
+    fn from(_: NoMemory) -> Stop
+        ensures { result ≡ Stop.Memory }
+    {
         Stop::Memory
     }
 }
 
 impl From<AllocError> for Stop {
-    fn from(_: AllocError) -> Stop {
+    fn from(_: AllocError) -> Stop
+        ensures { result ≡ Stop.Memory }
+    {
         Stop::Memory
     }
 }
 
 impl From<NewFault> for Stop {
-    fn from(fault: NewFault) -> Stop {
+    fn from(fault: NewFault) -> Stop
+        ensures memory { fault ≡ NewFault.NoMemory → result ≡ Stop.Memory }
+        ensures config { fault ≢ NewFault.NoMemory → result ≡ Stop.BadConfig fault }
+    {
         match fault {
             NewFault::NoMemory => Stop::Memory,
             NewFault::BadConfig(_) => Stop::BadConfig(fault),
