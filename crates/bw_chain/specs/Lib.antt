@@ -3,6 +3,7 @@ pub mod Ascends
 pub mod Changes
 pub mod Cuts
 pub mod Edited
+pub mod Ends
 pub mod Gaps
 pub mod Halves
 pub mod Kinds

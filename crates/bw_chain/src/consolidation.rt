@@ -8,12 +8,11 @@ ghost use Rattle.bw_delta.specs.Sound.{IsSound, IsWellBuilt, listed_for, page_fo
 ghost use Rattle.bw_chain.specs.Changes.{entries_by};
 ghost use Rattle.smallvec.specs.SmallVec.{HasRoomFor};
 
-use crate::change::Change;
 use crate::edits::Edits;
 use crate::pass::pass;
 use crate::shape::{fences, is_leaf};
 use crate::value::EntryValue;
-use bw_delta::{Base, Chain, Entries, Fences, NoMemory, Node};
+use bw_delta::{Base, Chain, Delta, Entries, Fences, NoMemory, Node};
 use bw_keys::{Fence, Key, Pid};
 use std::alloc::Allocator;
 
@@ -67,22 +66,24 @@ fn list<A: Allocator + Copy, X: EntryValue>(
     requires room { HasRoomFor edits.old (depth chain.now) }
     ensures { IfOk result (λ entries. entries.items ≡ entries_by X.own_entries X.own_change chain.now) }
 {
-    let mut entries = Vec::with_capacity(alloc, most_entries::<A, X>(chain))?;
+    let mut entries = Vec::with_capacity(alloc, most_entries(chain, 0))?;
     pass(chain, high, edits, &mut entries)?;
     Ok(entries)
 }
 
-/// No fewer than the chain has entries of the kind: those of its base pages, and one for each
-/// record that puts one.
-fn most_entries<A: Allocator + Copy, X: EntryValue>(chain: &Chain<A>) -> usize {
+/// As many as that, and no fewer than the chain has entries: those of its base pages, and one for
+/// each record that puts one.
+fn most_entries<A: Allocator + Copy>(chain: &Chain<A>, more: usize) -> usize {
     match &chain.node {
-        Node::Bare(base) => X::entries_on(base).len(),
-        Node::Above(delta, below) => match X::change_by(*delta) {
-            Change::Put(_, _) => most_entries::<A, X>(below).saturating_add(1),
-            Change::Without(_) | Change::Below(_) | Change::Nothing => most_entries::<A, X>(below),
+        Node::Bare(base) => base.len().saturating_add(more),
+        Node::Above(delta, below) => match *delta {
+            Delta::Insert(_, _) | Delta::TermAdd(_, _) => {
+                most_entries(below, more.saturating_add(1))
+            }
+            Delta::Delete(_) | Delta::TermDelete(_) | Delta::Split(_, _) | Delta::Remove => {
+                most_entries(below, more)
+            }
         },
-        Node::Merged(_, left, right) => {
-            most_entries::<A, X>(left).saturating_add(most_entries::<A, X>(right))
-        }
+        Node::Merged(_, left, right) => most_entries(left, most_entries(right, more)),
     }
 }

@@ -1,9 +1,11 @@
-ghost use Rattle.std.specs.Prelude.{◌≡◌};
+ghost use Rattle.std.specs.Prelude.{◌≡◌, true};
 ghost use Rattle.bw_delta.specs.Fence.{fences, is_leaf};
+ghost use Rattle.bw_delta.specs.Pages.{lists_pairs};
 ghost use Rattle.bw_delta.specs.Records.{depth};
+ghost use Rattle.bw_chain.specs.Ends.{ends_range};
 
-use bw_delta::{Chain, Delta, Entries, Fences, Node};
-use bw_keys::{Fence, Key};
+use bw_delta::{Base, Chain, Delta, Entries, Fences, Node};
+use bw_keys::Fence;
 use std::alloc::Allocator;
 
 /// The fence keys and the side link of the page that the chain stands for: a split ends the range
@@ -11,40 +13,58 @@ use std::alloc::Allocator;
 pub fn fences<A: Allocator + Copy>(chain: &Chain<A>) -> Fences
     ensures { result ≡ fences chain.now }
 {
-    match &chain.node {
+    let low = first_base(chain).low;
+    match &newest_end(chain).node {
         Node::Bare(base) => Fences {
-            low: base.low,
+            low,
             high: base.high,
             right: base.right,
         },
-        Node::Above(delta, below) => match *delta {
+        Node::Above(delta, _) => match *delta {
             Delta::Split(separator, right) => Fences {
-                low: low(below),
+                low,
                 high: Fence::Key(separator),
                 right: Some(right),
             },
-            Delta::Insert(_, _)
-            | Delta::Delete(_)
-            | Delta::Remove
-            | Delta::TermAdd(_, _)
-            | Delta::TermDelete(_) => fences(below),
+            _ => unreachable!(),
         },
-        Node::Merged(merging, left, _) => Fences {
-            low: low(left),
+        Node::Merged(merging, _, _) => Fences {
+            low,
             high: merging.high,
             right: merging.right,
         },
     }
 }
 
-/// The least key of the chain's range, which no record moves.
-fn low<A: Allocator + Copy>(chain: &Chain<A>) -> Key
-    ensures { result ≡ (fences chain.now).low }
+/// The part of the chain from the newest record on that says where the range ends. Both walks
+/// are loops once they are built, as they call themselves last and answer a reference.
+fn newest_end<A: Allocator + Copy>(chain: &Chain<A>) -> &Chain<A>
+    ensures high { (fences result.now).high ≡ (fences chain.now).high }
+    ensures right { (fences result.now).right ≡ (fences chain.now).right }
+    ensures ends { ends_range result.now ≡ true }
 {
     match &chain.node {
-        Node::Bare(base) => base.low,
-        Node::Above(_, below) => low(below),
-        Node::Merged(_, left, _) => low(left),
+        Node::Bare(_) | Node::Merged(_, _, _) => chain,
+        Node::Above(delta, below) => match *delta {
+            Delta::Split(_, _) => chain,
+            Delta::Insert(_, _)
+            | Delta::Delete(_)
+            | Delta::Remove
+            | Delta::TermAdd(_, _)
+            | Delta::TermDelete(_) => newest_end(below),
+        },
+    }
+}
+
+/// The base page at the low end of the chain's range.
+fn first_base<A: Allocator + Copy>(chain: &Chain<A>) -> &Base<A>
+    ensures low { result.now.low ≡ (fences chain.now).low }
+    ensures kind { lists_pairs result.now.listed ≡ is_leaf chain.now }
+{
+    match &chain.node {
+        Node::Bare(base) => base,
+        Node::Above(_, below) => first_base(below),
+        Node::Merged(_, left, _) => first_base(left),
     }
 }
 
@@ -52,14 +72,7 @@ fn low<A: Allocator + Copy>(chain: &Chain<A>) -> Key
 pub fn is_leaf<A: Allocator + Copy>(chain: &Chain<A>) -> bool
     ensures { result ≡ is_leaf chain.now }
 {
-    match &chain.node {
-        Node::Bare(base) => match &base.entries {
-            Entries::Pairs(_) => true,
-            Entries::Routes(_) => false,
-        },
-        Node::Above(_, below) => is_leaf(below),
-        Node::Merged(_, left, _) => is_leaf(left),
-    }
+    first_base(chain).is_leaf()
 }
 
 /// How many records stand above a base page, along the deepest path: 0 to 64.
