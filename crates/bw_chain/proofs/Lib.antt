@@ -14,3 +14,4 @@ pub mod Notes
 pub mod Overlays
 pub mod Passes
 pub mod Passing
+pub mod Inserts

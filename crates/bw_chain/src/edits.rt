@@ -1,6 +1,6 @@
 //! The newest record for each key, gathered on the way down a chain.
 
-ghost use Rattle.std.specs.Prelude.{◌≡◌, ◌≤◌, ◌+◌, ◌<◌, true, List, ℕ, [], ◌∷◌, ◌++◌, length, take, drop, insert, MatchOption};
+ghost use Rattle.std.specs.Prelude.{◌≡◌, ◌≤◌, ◌+◌, ◌-◌, ◌<◌, true, List, ℕ, [], ◌∷◌, ◌++◌, length, take, drop, insert, MatchOption};
 ghost use Rattle.bw_keys.specs.Ranges.{end_of, key_count};
 ghost use Rattle.bw_delta.specs.Entries.{below, from};
 ghost use Rattle.bw_chain.specs.Ascends.{IsAscending};
@@ -71,8 +71,22 @@ fn note<A: Allocator + Copy, X: Copy>(edits: &mut Edits<'_, X, A>, key: Key, edi
     ensures capacity { edits.new.capacity ≡ edits.old.capacity }
 {
     if let Some(place) = place_for(edits.as_slice(), key) {
-        let _there_is_room = edits.insert(place, (key, edit));
+        edits.push_reserved((key, edit));
+        put_in(edits.as_mut_slice(), place, (key, edit));
     }
+}
+
+/// Puts the item in at the place. The items from there on move up by one, over the last one.
+fn put_in<T: Copy>(items: &mut [T], place: usize, item: T)
+    requires { place < length items.old }
+    ensures { items.new ≡ insert (take (length items.old - 1) items.old) place item }
+{
+    let mut i = items.len() - 1;
+    'up: while place < i {
+        items[i] = items[i - 1];
+        i -= 1;
+    }
+    items[place] = item;
 }
 
 /// Where to put in an edit of the key, unless one is there.
