@@ -4,7 +4,7 @@ use Rattle.std.specs.Prelude.{◌-◌}
 use Rattle.std.specs.List.{insert, refill}
 use Rattle.std.proofs.Math.ListN.{set}
 use Rattle.std.proofs.Math.Seq.{take-append_seam, take-length}
-use Rattle.std.proofs.lemmas.List.{set_split, drop_all, length-append, length-take-le, length-drop}
+use Rattle.std.proofs.lemmas.List.{set_split, drop_all, take_all, length-append, length-take-le, length-drop}
 
 module _ {Y : Type 0} where
   take-of_take : (i n : ℕ) (ys : List Y) → i ≤ n → take i (take n ys) ≡ take i ys
@@ -38,3 +38,15 @@ module _ {Y : Type 0} where
       ∙ ap (λ k. take k items) (count ∙ sym as_many)
       ∙ take-length items
       ∙ now
+
+  -- a list of which the front was written over, cut there
+  pub refill-front : (end n : ℕ) (xs ws : List Y) → length ws ≡ length xs → length xs ≡ n → end ≤ n → take end (refill n xs ws) ≡ take end ws
+  refill-front end n xs ws as_many is le =
+      let none : drop (length ws) xs ≡ [] = drop_all (length ws) xs (omega (arith, as_many)) in
+      take-of_take end n (ws ++ drop (length ws) xs) le ∙ ap (λ l. take end (ws ++ l)) none ∙ ap (take end) (append-nil ws)
+
+  -- a list to which places were added, up to them
+  pub grown-front : (start room : ℕ) (xs more : List Y) → length xs ≡ start → start ≤ room → take start (take room xs ++ more) ≡ xs
+  grown-front start room xs more is le =
+      let whole : take room xs ≡ xs = take_all room xs (omega (arith, is)) in
+      ap (λ l. take start (l ++ more)) whole ∙ ap (λ k. take k (xs ++ more)) (sym is) ∙ take-append_seam xs more

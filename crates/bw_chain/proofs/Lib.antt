@@ -15,3 +15,5 @@ pub mod Overlays
 pub mod Passes
 pub mod Passing
 pub mod Inserts
+pub mod Fronts
+pub mod Merges

@@ -23,17 +23,17 @@ module _ {X : Type 0} where
       let first : e.0 < end = grind (arith, nat_tests) in
       omega (arith, key_below_end low e.0 es i d rest (omega arith))
 
-  pub falls-IsPartitionedBy : (low end key : ℕ) (es : List (ℕ × X)) → falls low end es ≡ true → IsPartitionedBy (λ e. nat_le (key + 1) e.0) es
-  falls-IsPartitionedBy low end key [] f i j d le inside passes = absurd (omega arith)
-  falls-IsPartitionedBy low end key (e ∷ es) f zero zero d le inside passes = passes
-  falls-IsPartitionedBy low end key (e ∷ es) f zero (suc j) d le inside passes =
+  pub falls-IsPartitionedBy : (low end bound : ℕ) (es : List (ℕ × X)) → falls low end es ≡ true → IsPartitionedBy (λ e. nat_le bound e.0) es
+  falls-IsPartitionedBy low end bound [] f i j d le inside passes = absurd (omega arith)
+  falls-IsPartitionedBy low end bound (e ∷ es) f zero zero d le inside passes = passes
+  falls-IsPartitionedBy low end bound (e ∷ es) f zero (suc j) d le inside passes =
       let rest : falls low e.0 es ≡ true = grind (arith, nat_tests) in
       let later : (get_or es j d).0 < e.0 = key_below_end low e.0 es j d rest (omega arith) in
       grind (arith, nat_tests)
-  falls-IsPartitionedBy low end key (e ∷ es) f (suc i) zero d le inside passes = absurd (omega arith)
-  falls-IsPartitionedBy low end key (e ∷ es) f (suc i) (suc j) d le inside passes =
+  falls-IsPartitionedBy low end bound (e ∷ es) f (suc i) zero d le inside passes = absurd (omega arith)
+  falls-IsPartitionedBy low end bound (e ∷ es) f (suc i) (suc j) d le inside passes =
       let rest : falls low e.0 es ≡ true = grind (arith, nat_tests) in
-      falls-IsPartitionedBy low e.0 key es rest i j d (omega arith) (omega arith) passes
+      falls-IsPartitionedBy low e.0 bound es rest i j d (omega arith) (omega arith) passes
 
   none_greater : (low end key : ℕ) (es : List (ℕ × X)) → falls low end es ≡ true → end ≤ key → from (key + 1) es ≡ []
   none_greater low end key [] f le = refl

@@ -131,7 +131,7 @@ module _ {X : Type 0} where
   edited_at-parts low end key (Some x) (e ∷ es) h = grind (arith, nat_tests, edited_at-parts (e.0 + 1) end key (Some x) es, below_low (e.0 + 1) end key es, from_all end (e.0 + 1) key es, from_all end (e.0 + 1) (key + 1) es)
   edited_at-parts low end key None (e ∷ es) h = grind (arith, nat_tests, edited_at-parts (e.0 + 1) end key None es, below_low (e.0 + 1) end key es, from_all end (e.0 + 1) (key + 1) es)
 
-  before_rises : (low end key : ℕ) (x : Option X) (es : List (ℕ × X)) → rises low end es ≡ true → low ≤ key → rises low (key + 1) (below key es ++ entry_of key x) ≡ true
+  pub before_rises : (low end key : ℕ) (x : Option X) (es : List (ℕ × X)) → rises low end es ≡ true → low ≤ key → rises low (key + 1) (below key es ++ entry_of key x) ≡ true
   before_rises low end key None es h le = rises-higher low key (key + 1) _ (omega arith) (rw append-nil (rises-below end low key es h))
   before_rises low end key (Some x) es h le =
       rises-append (key + 1) low key (below key es) (entry_of key (Some x)) le (omega arith) (rises-below end low key es h) (grind (arith, nat_tests))

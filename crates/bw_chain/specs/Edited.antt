@@ -1,5 +1,5 @@
 -- Entries under the newest record for each key. An edit says what the key has, or that it has nothing.
-use Rattle.std.specs.Prelude.{ℕ, Bool, true, ◌&&◌, if◌then◌else◌, ◌==◌, nat_lt, nat_le, List, [], ◌∷◌, Option, Some, None}
+use Rattle.std.specs.Prelude.{ℕ, ◌+◌, Bool, true, ◌&&◌, if◌then◌else◌, ◌==◌, nat_lt, nat_le, List, [], ◌∷◌, Option, Some, None}
 use Rattle.bw_delta.specs.Entries.{put, without, below}
 
 -- the entries with one edit
@@ -30,3 +30,13 @@ falls low end (e ∷ es) = nat_le low e.0 && nat_lt e.0 end && falls low e.0 es
 abbrev pub noted : {X : Type 0} → ℕ → X → List (ℕ × X) → List (ℕ × X)
 noted key x [] = (key, x) ∷ []
 noted key x (e ∷ es) = if nat_lt key e.0 then e ∷ noted key x es else (if e.0 == key then e ∷ es else (key, x) ∷ e ∷ es)
+
+-- 1 for an edit that puts an entry
+abbrev pub puts : {X : Type 0} → Option X → ℕ
+puts (Some x) = 1
+puts None = 0
+
+-- how many of the edits put an entry
+abbrev pub put_count : {X : Type 0} → List (ℕ × Option X) → ℕ
+put_count [] = 0
+put_count (edit ∷ edits) = put_count edits + puts edit.1

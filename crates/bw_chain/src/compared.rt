@@ -1,9 +1,13 @@
 //! A list that is compared with the entries that a pass hands on.
 
-ghost use Rattle.std.specs.Prelude.{◌≡◌, ◌≢◌, ◌↔◌, ◌++◌, List, ℕ, length, IsTrue, MatchOption};
+ghost use Rattle.std.specs.Prelude.{◌≡◌, ◌≢◌, ◌↔◌, ◌++◌, List, ℕ, length, true, IsTrue, MatchOption};
+ghost use Rattle.bw_keys.specs.Ranges.{key_count};
+ghost use Rattle.bw_chain.specs.Ascends.{IsAscending};
+ghost use Rattle.bw_chain.specs.Edited.{edited, entry_of, falls};
+ghost use Rattle.bw_chain.specs.Rests.{Begins, BeginsOtherwise};
 
 use crate::sink::Sink;
-use crate::sorted::from_fence;
+use crate::sorted::{from_fence, part_at};
 use crate::value::EntryValue;
 use bw_keys::{Fence, Key};
 
@@ -18,7 +22,7 @@ pub(crate) struct Compared<'a, X> {
 pub(crate) struct Differs;
 
 impl<'a, X: EntryValue> Sink<X> for Compared<'a, X> {
-    ghost use Rattle.std.specs.Prelude.{◌≡◌, refl};
+    ghost use Rattle.std.specs.Prelude.{◌≡◌};
     ghost use Rattle.std.proofs.Common.{◌∙◌};
     ghost use Rattle.bw_chain.specs.Rests.{Begins, BeginsOtherwise, begins_joined, otherwise_more, otherwise_later};
 
@@ -28,8 +32,12 @@ impl<'a, X: EntryValue> Sink<X> for Compared<'a, X> {
 
     ghost refuses = { λ s es. BeginsOtherwise s.from s.rest.now es };
 
-    fn take(&mut self, entries: &[(Key, X)]) -> Result<(), Differs> {
-        match without_front(self.rest, from_fence(entries, self.from)) {
+    fn take_edited(
+        &mut self,
+        entries: &[(Key, X)],
+        edits: &[(Key, Option<X>)],
+    ) -> Result<(), Differs> {
+        match without_edited(self.rest, self.from, entries, edits) {
             Some(rest) => {
                 self.rest = rest;
                 Ok(())
@@ -38,26 +46,61 @@ impl<'a, X: EntryValue> Sink<X> for Compared<'a, X> {
         }
     }
 
-    fn take_one(&mut self, key: Key, value: X) -> Result<(), Differs> {
-        if self.from.is_above(key) {
-            return Ok(());
-        }
-        match self.rest.split_first() {
-            Some((first, rest)) if first.0 == key && first.1.is_same(value) => {
-                self.rest = rest;
-                Ok(())
-            }
-            _ => Err(Differs),
-        }
-    }
-
-    ghost takes_none = { λ s. (refl, refl) };
-
     ghost takes_joined = { λ s t u es fs first second. (begins_joined s.from t.from s.rest.now t.rest.now u.rest.now es fs first.1 first.0 second.0, second.1 ∙ first.1) };
 
     ghost refuses_more = { λ s es fs other. otherwise_more s.from s.rest.now es fs other };
 
     ghost refuses_later = { λ s t es fs first other. otherwise_later s.from t.from s.rest.now t.rest.now es fs first.1 first.0 other };
+}
+
+/// What comes behind the entries with the edits, if the list begins with those from the fence on.
+fn without_edited<'a, X: EntryValue>(
+    list: &'a [(Key, X)],
+    fence: Fence,
+    entries: &[(Key, X)],
+    edits: &[(Key, Option<X>)],
+) -> Option<&'a [(Key, X)]>
+    requires ascending { IsAscending entries.now }
+    requires falling { falls 0 key_count edits.now ≡ true }
+    ensures { MatchOption result (BeginsOtherwise fence list.now (edited edits.now entries.now)) (λ rest. Begins fence list.now (edited edits.now entries.now) rest.now) }
+{
+    let (mut list, mut rest, mut left) = (list, entries, edits);
+    'edits: while let Some((edit, greater)) = left.split_last() {
+        let (key, value) = *edit;
+        let (before, after) = part_at(rest, key);
+        let Some(behind) = without_front(list, from_fence(before, fence)) else {
+            return None;
+        };
+        let Some(behind) = without_edit(behind, fence, key, value) else {
+            return None;
+        };
+        list = behind;
+        rest = after;
+        left = greater;
+    }
+    match without_front(list, from_fence(rest, fence)) {
+        Some(behind) => Some(behind),
+        None => None,
+    }
+}
+
+/// What comes behind the entry that the edit puts, if the list begins with it or it lies below
+/// the fence.
+fn without_edit<'a, X: EntryValue>(
+    list: &'a [(Key, X)],
+    fence: Fence,
+    key: Key,
+    edit: Option<X>,
+) -> Option<&'a [(Key, X)]>
+    ensures { MatchOption result (BeginsOtherwise fence list.now (entry_of key edit)) (λ rest. Begins fence list.now (entry_of key edit) rest.now) }
+{
+    match edit {
+        Some(value) if !fence.is_above(key) => match list.split_first() {
+            Some((first, rest)) if first.0 == key && first.1.is_same(value) => Some(rest),
+            _ => None,
+        },
+        _ => Some(list),
+    }
 }
 
 /// What comes behind the front, if the list begins so.

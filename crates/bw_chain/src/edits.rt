@@ -19,6 +19,7 @@ use std::alloc::Allocator;
 pub(crate) type Edits<'a, X, A> = SmallVec<(Key, Option<X>), 64, &'a A>;
 
 /// Notes what a record changes below the end.
+#[inline(always)]
 pub(crate) fn note_change<A: Allocator + Copy, X: Copy>(
     edits: &mut Edits<'_, X, A>,
     change: Change<X>,
@@ -43,6 +44,7 @@ pub(crate) fn note_change<A: Allocator + Copy, X: Copy>(
 }
 
 /// Notes an edit of the key, if it lies below the end.
+#[inline(always)]
 fn note_below<A: Allocator + Copy, X: Copy>(
     edits: &mut Edits<'_, X, A>,
     end: Fence,
@@ -64,6 +66,7 @@ fn note_below<A: Allocator + Copy, X: Copy>(
 }
 
 /// Notes an edit of the key, unless a newer one was noted.
+#[inline(always)]
 fn note<A: Allocator + Copy, X: Copy>(edits: &mut Edits<'_, X, A>, key: Key, edit: Option<X>)
     requires falling { falls 0 key_count edits.old.items ≡ true }
     requires room { HasRoomFor edits.old 1 }
@@ -77,6 +80,7 @@ fn note<A: Allocator + Copy, X: Copy>(edits: &mut Edits<'_, X, A>, key: Key, edi
 }
 
 /// Puts the item in at the place. The items from there on move up by one, over the last one.
+#[inline(always)]
 fn put_in<T: Copy>(items: &mut [T], place: usize, item: T)
     requires { place < length items.old }
     ensures { items.new ≡ insert (take (length items.old - 1) items.old) place item }
@@ -90,6 +94,7 @@ fn put_in<T: Copy>(items: &mut [T], place: usize, item: T)
 }
 
 /// Where to put in an edit of the key, unless one is there.
+#[inline(always)]
 fn place_for<X: Copy>(edits: &[(Key, X)], key: Key) -> Option<usize>
     requires falling { falls 0 key_count edits.now ≡ true }
     ensures { MatchOption result
@@ -105,6 +110,7 @@ fn place_for<X: Copy>(edits: &[(Key, X)], key: Key) -> Option<usize>
 }
 
 /// How many edits have greater keys, by halving.
+#[inline(always)]
 fn count_past<X: Copy>(edits: &[(Key, X)], key: Key) -> usize
     requires falling { falls 0 key_count edits.now ≡ true }
     ensures within { result ≤ length edits.now }
@@ -114,21 +120,12 @@ fn count_past<X: Copy>(edits: &[(Key, X)], key: Key) -> usize
     edits.partition_point(|edit| key < edit.0)
 }
 
-/// Takes out the edit of the least key, if that lies below the end.
-pub(crate) fn pop_below<A: Allocator + Copy, X: Copy>(
-    edits: &mut Edits<'_, X, A>,
-    end: Fence,
-) -> Option<(Key, Option<X>)>
-    requires falling { falls 0 key_count edits.old.items ≡ true }
-    ensures popped { MatchOption result
-        ((below (end_of end) edits.old.items ≡ []) × (edits.new.items ≡ edits.old.items))
-        (λ edit. (edits.old.items ≡ edits.new.items ++ edit ∷ []) × (edit.0 < end_of end)) }
-    ensures capacity { edits.new.capacity ≡ edits.old.capacity }
+/// How many edits have keys from the fence on. In a chain without merges none do.
+pub(crate) fn count_from<X: Copy>(edits: &[(Key, X)], fence: Fence) -> usize
+    requires falling { falls 0 key_count edits.now ≡ true }
+    ensures within { result ≤ length edits.now }
+    ensures before { from (end_of fence) edits.now ≡ take result edits.now }
+    ensures after { below (end_of fence) edits.now ≡ drop result edits.now }
 {
-    let least = edits.as_slice().last().copied()?;
-    if end.is_above(least.0) {
-        edits.pop()
-    } else {
-        None
-    }
+    edits.partition_point(|edit| !fence.is_above(edit.0))
 }

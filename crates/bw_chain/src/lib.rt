@@ -15,6 +15,7 @@ mod consolidation;
 mod edits;
 mod entries;
 mod halving;
+mod listed;
 mod pass;
 pub mod plain;
 mod search;

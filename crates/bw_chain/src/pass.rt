@@ -2,7 +2,7 @@
 //! and the page's entries are handed on in stretches between them. Under a merge the left half
 //! is done so, and then the right one.
 
-ghost use Rattle.std.specs.Prelude.{◌≡◌, ◌≤◌, ◌+◌, true, ◌++◌, OnOk, OnErr};
+ghost use Rattle.std.specs.Prelude.{◌≡◌, ◌≤◌, ◌+◌, true, OnOk, OnErr};
 ghost use Rattle.bw_keys.specs.Ranges.{end_of, key_count};
 ghost use Rattle.bw_delta.specs.Entries.{below, from};
 ghost use Rattle.bw_delta.specs.Fence.{fences};
@@ -10,13 +10,13 @@ ghost use Rattle.bw_delta.specs.Records.{depth};
 ghost use Rattle.bw_delta.specs.Sound.{IsWellBuilt};
 ghost use Rattle.bw_chain.specs.Ascends.{IsAscending};
 ghost use Rattle.bw_chain.specs.Changes.{entries_by};
-ghost use Rattle.bw_chain.specs.Edited.{edited_below, entry_of, falls};
+ghost use Rattle.bw_chain.specs.Edited.{edited_below, falls};
 ghost use Rattle.smallvec.specs.SmallVec.{HasRoomFor, small_vec_len};
 
 use crate::bounds::at_most;
-use crate::edits::{Edits, note_change, pop_below};
+use crate::edits::{Edits, count_from, note_change};
 use crate::sink::Sink;
-use crate::sorted::{below_fence, part_at};
+use crate::sorted::below_fence;
 use crate::value::EntryValue;
 use bw_delta::{Chain, Node};
 use bw_keys::{Fence, Key};
@@ -56,7 +56,8 @@ pub(crate) fn pass<A: Allocator + Copy, X: EntryValue, S: Sink<X>>(
 }
 
 /// Hands on the entries of a base page below the end, under the edits below it.
-fn pass_base<A: Allocator + Copy, X: Copy, S: Sink<X>>(
+#[inline(always)]
+fn pass_base<A: Allocator + Copy, X: EntryValue, S: Sink<X>>(
     entries: &[(Key, X)],
     end: Fence,
     edits: &mut Edits<'_, X, A>,
@@ -70,29 +71,9 @@ fn pass_base<A: Allocator + Copy, X: Copy, S: Sink<X>>(
     ensures left { OnOk result (edits.new.items ≡ from (end_of end) edits.old.items) }
     ensures capacity { OnOk result (edits.new.capacity ≡ edits.old.capacity) }
 {
-    let mut rest = below_fence(entries, end);
-    'edits: while let Some((key, edit)) = pop_below(edits, end) {
-        let (before, after) = part_at(rest, key);
-        pass_edit(before, key, edit, sink)?;
-        rest = after;
-    }
-    sink.take(rest)
-}
-
-/// Hands on the entries before an edit, and then what it puts at its key.
-fn pass_edit<X: Copy, S: Sink<X>>(
-    before: &[(Key, X)],
-    key: Key,
-    edit: Option<X>,
-    sink: &mut S,
-) -> Result<(), S::Stop>
-    requires ascending { IsAscending before.now }
-    ensures taken { OnOk result (S.takes sink.old (before.now ++ entry_of key edit) sink.new) }
-    ensures refused { OnErr result (S.refuses sink.old (before.now ++ entry_of key edit)) }
-{
-    sink.take(before)?;
-    match edit {
-        Some(value) => sink.take_one(key, value),
-        None => Ok(()),
-    }
+    let kept = count_from(edits.as_slice(), end);
+    let (_, here) = edits.as_slice().split_at(kept);
+    sink.take_edited(below_fence(entries, end), here)?;
+    edits.truncate(kept);
+    Ok(())
 }

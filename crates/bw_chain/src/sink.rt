@@ -1,13 +1,19 @@
-ghost use Rattle.std.specs.Prelude.{◌≡◌, [], ◌∷◌, OnOk, OnErr};
-ghost use Rattle.bw_chain.specs.Ascends.{IsAscending};
+//! What takes the entries that a pass over a chain hands on.
 
+ghost use Rattle.std.specs.Prelude.{◌≡◌, true, OnOk, OnErr};
+ghost use Rattle.bw_keys.specs.Ranges.{key_count};
+ghost use Rattle.bw_chain.specs.Ascends.{IsAscending};
+ghost use Rattle.bw_chain.specs.Edited.{edited, falls};
+
+use crate::listed::{count_puts, merge};
+use crate::value::EntryValue;
 use bw_delta::NoMemory;
 use bw_keys::Key;
 use std::alloc::Allocator;
 
-/// Takes entries as they come in the order of their keys, some at a time.
+/// Takes entries as they come in the order of their keys, those of one base page at a time.
 pub(crate) trait Sink<X> {
-    ghost use Rattle.std.specs.Prelude.{ℕ, List, [], ◌∷◌, ◌++◌};
+    ghost use Rattle.std.specs.Prelude.{ℕ, List, ◌++◌};
 
     /// Why it takes no more of them.
     type Stop;
@@ -18,18 +24,16 @@ pub(crate) trait Sink<X> {
     /// It doesn't take the entries, nor any that begin so.
     ghost refuses: { Self → List (ℕ × X) → Type 0 };
 
-    /// Takes these entries.
-    fn take(&mut self, entries: &[(Key, X)]) -> Result<(), Self::Stop>
+    /// Takes the entries with the edits, which come with the greatest key first.
+    fn take_edited(
+        &mut self,
+        entries: &[(Key, X)],
+        edits: &[(Key, Option<X>)],
+    ) -> Result<(), Self::Stop>
         requires ascending { IsAscending entries.now }
-        ensures taken { OnOk result (takes self.old entries.now self.new) }
-        ensures refused { OnErr result (refuses self.old entries.now) };
-
-    /// Takes one entry.
-    fn take_one(&mut self, key: Key, value: X) -> Result<(), Self::Stop>
-        ensures taken { OnOk result (takes self.old ((key, value) ∷ []) self.new) }
-        ensures refused { OnErr result (refuses self.old ((key, value) ∷ [])) };
-
-    ghost takes_none: { (s : Self) → takes s [] s };
+        requires falling { falls 0 key_count edits.now ≡ true }
+        ensures taken { OnOk result (takes self.old (edited edits.now entries.now) self.new) }
+        ensures refused { OnErr result (refuses self.old (edited edits.now entries.now)) };
 
     ghost takes_joined: { (s t u : Self) (es fs : List (ℕ × X)) → takes s es t → takes t fs u → takes s (es ++ fs) u };
 
@@ -38,10 +42,11 @@ pub(crate) trait Sink<X> {
     ghost refuses_later: { (s t : Self) (es fs : List (ℕ × X)) → takes s es t → refuses t fs → refuses s (es ++ fs) };
 }
 
-/// A list takes what it has room for.
-impl<X: Copy, A: Allocator> Sink<X> for Vec<(Key, X), A> {
+/// A list takes what it has room for. The room is filled first and then written over, as a list
+/// that grows by one entry after the other would count them in memory.
+impl<X: EntryValue, A: Allocator> Sink<X> for Vec<(Key, X), A> {
     ghost use Rattle.std.specs.Prelude.{◌≡◌, ◌++◌};
-    ghost use Rattle.bw_chain.specs.Appends.{none_appended, appended_twice};
+    ghost use Rattle.bw_chain.specs.Appends.{appended_twice};
 
     type Stop = NoMemory;
 
@@ -49,17 +54,24 @@ impl<X: Copy, A: Allocator> Sink<X> for Vec<(Key, X), A> {
 
     ghost refuses = { λ s es. Unit {0} };
 
-    fn take(&mut self, entries: &[(Key, X)]) -> Result<(), NoMemory> {
-        self.extend_from_slice(entries)?;
+    fn take_edited(
+        &mut self,
+        entries: &[(Key, X)],
+        edits: &[(Key, Option<X>)],
+    ) -> Result<(), NoMemory> {
+        let start = self.len();
+        let Some(room) = start.checked_add(entries.len()) else {
+            return Err(NoMemory);
+        };
+        let Some(room) = room.checked_add(count_puts(edits)) else {
+            return Err(NoMemory);
+        };
+        self.resize(room, (0, X::blank()))?;
+        let (end, rest) = merge(entries, edits, self.as_mut_slice(), start);
+        self.truncate(end);
+        self.extend_from_slice(rest)?;
         Ok(())
     }
-
-    fn take_one(&mut self, key: Key, value: X) -> Result<(), NoMemory> {
-        self.push((key, value))?;
-        Ok(())
-    }
-
-    ghost takes_none = { λ s. none_appended s.items };
 
     ghost takes_joined = { λ s t u es fs first second. appended_twice s.items t.items u.items es fs first second };
 

@@ -37,6 +37,9 @@ pub(crate) trait EntryValue: Copy {
     fn change_by(delta: Delta) -> Change<Self>
         ensures { result ≡ own_change delta };
 
+    /// A value that holds a place until one is written there.
+    fn blank() -> Self;
+
     /// Whether the values are equal.
     fn is_same(self, other: Self) -> bool
         ensures { IsTrue result ↔ (self ≡ other) };
@@ -77,6 +80,10 @@ impl EntryValue for u64 {
         }
     }
 
+    fn blank() -> u64 {
+        0
+    }
+
     fn is_same(self, other: u64) -> bool {
         self == other
     }
@@ -109,6 +116,10 @@ impl EntryValue for Pid {
             Delta::Split(separator, _) => Change::Below(separator),
             Delta::Remove | Delta::Insert(_, _) | Delta::Delete(_) => Change::Nothing,
         }
+    }
+
+    fn blank() -> Pid {
+        Pid(0)
     }
 
     fn is_same(self, other: Pid) -> bool {

@@ -10,13 +10,13 @@ use Rattle.bw_chain.proofs.edits.count_past.Goals as goal
 pub returns-clause-before : goal.returns-clause-before
 returns-clause-before g c =
     let key = c.args.key in
-    let parted = falls-IsPartitionedBy 0 key_count key c.args.edits.now c.requires.falling in
+    let parted = falls-IsPartitionedBy 0 key_count (key + 1) c.args.edits.now c.requires.falling in
     let point = IsPartitionPoint-from_clause (λ e. nat_le (key + 1) e.0) _ _ c.partition_point.ensures.partitioned parted (λ a r q k. search rules) in
     filter_before (λ e. nat_le (key + 1) e.0) (λ e. nat_lt e.0 (key + 1)) (λ e. grind (arith, nat_tests)) _ _ point
 
 pub returns-clause-after : goal.returns-clause-after
 returns-clause-after g c =
     let key = c.args.key in
-    let parted = falls-IsPartitionedBy 0 key_count key c.args.edits.now c.requires.falling in
+    let parted = falls-IsPartitionedBy 0 key_count (key + 1) c.args.edits.now c.requires.falling in
     let point = IsPartitionPoint-from_clause (λ e. nat_le (key + 1) e.0) _ _ c.partition_point.ensures.partitioned parted (λ a r q k. search rules) in
     filter_after (λ e. nat_le (key + 1) e.0) (λ e. nat_lt e.0 (key + 1)) (λ e. grind (arith, nat_tests)) _ _ point

@@ -1,0 +1,112 @@
+//! The entries of a base page with the edits, written one after the other.
+
+ghost use Rattle.std.specs.Prelude.{◌≡◌, ◌≤◌, ◌<◌, ◌+◌, ◌++◌, true, length, take, drop, slice_set};
+ghost use Rattle.bw_keys.specs.Ranges.{key_count};
+ghost use Rattle.bw_delta.specs.Entries.{below, from};
+ghost use Rattle.bw_chain.specs.Ascends.{IsAscending};
+ghost use Rattle.bw_chain.specs.Edited.{edited, falls, put_count, puts};
+
+use bw_keys::Key;
+
+/// How many of the edits put an entry.
+pub(crate) fn count_puts<X: Copy>(edits: &[(Key, Option<X>)]) -> usize
+    ensures { result ≡ put_count edits.now }
+{
+    let mut count = 0;
+    for i in 0..edits.len() {
+        count += puts(edits[i].1);
+    }
+    count
+}
+
+/// 1 for an edit that puts an entry.
+fn puts<X: Copy>(edit: Option<X>) -> usize
+    ensures { result ≡ puts edit }
+{
+    match edit {
+        Some(_) => 1,
+        None => 0,
+    }
+}
+
+/// Writes the entries with the edits from the start on, up to those behind the last edit, which
+/// it answers with the place where they go.
+#[inline(always)]
+pub(crate) fn merge<'a, X: Copy>(
+    entries: &'a [(Key, X)],
+    edits: &[(Key, Option<X>)],
+    list: &mut [(Key, X)],
+    start: usize,
+) -> (usize, &'a [(Key, X)])
+    requires ascending { IsAscending entries.now }
+    requires falling { falls 0 key_count edits.now ≡ true }
+    requires room { start + length entries.now + put_count edits.now ≤ length list.old }
+    ensures within { result.0 + length result.1.now ≤ length list.new }
+    ensures as_many { length list.new ≡ length list.old }
+    ensures written { take result.0 list.new ++ result.1.now ≡ take start list.old ++ edited edits.now entries.now }
+{
+    let (mut rest, mut left, mut end) = (entries, edits, start);
+    'edits: while let Some((edit, greater)) = left.split_last() {
+        let (key, value) = *edit;
+        let count = copy_before(rest, key, list, end);
+        end += count;
+        rest = behind(rest, count, key);
+        match value {
+            Some(put) => {
+                write(list, end, (key, put));
+                end += 1;
+            }
+            None => {}
+        }
+        left = greater;
+    }
+    (end, rest)
+}
+
+/// Writes the entries before the key from the place on, and counts them.
+#[inline(always)]
+fn copy_before<X: Copy>(
+    entries: &[(Key, X)],
+    key: Key,
+    list: &mut [(Key, X)],
+    place: usize,
+) -> usize
+    requires ascending { IsAscending entries.now }
+    requires room { place + length entries.now ≤ length list.old }
+    ensures within { result ≤ length entries.now }
+    ensures before { below key entries.now ≡ take result entries.now }
+    ensures after { from key entries.now ≡ drop result entries.now }
+    ensures as_many { length list.new ≡ length list.old }
+    ensures written { take (place + result) list.new ≡ take place list.old ++ take result entries.now }
+{
+    for i in 0..entries.len() {
+        if key <= entries[i].0 {
+            return i;
+        }
+        list[place + i] = entries[i];
+    }
+    entries.len()
+}
+
+#[inline(always)]
+fn write<T: Copy>(list: &mut [T], place: usize, item: T)
+    requires { place < length list.old }
+    ensures { list.new ≡ slice_set list.old place item }
+{
+    list[place] = item;
+}
+
+/// The entries behind the key, of which so many lie before it.
+#[inline(always)]
+fn behind<X: Copy>(entries: &[(Key, X)], count: usize, key: Key) -> &[(Key, X)]
+    requires ascending { IsAscending entries.now }
+    requires within { count ≤ length entries.now }
+    requires after { from key entries.now ≡ drop count entries.now }
+    ensures { result.now ≡ from (key + 1) entries.now }
+{
+    let (_, rest) = entries.split_at(count);
+    match rest.split_first() {
+        Some((first, behind)) => { if first.0 == key { behind } else { rest } }
+        None => rest,
+    }
+}
