@@ -13,7 +13,6 @@ pub mod Listing
 pub mod Notes
 pub mod Overlays
 pub mod Passes
-pub mod Passing
 pub mod Inserts
 pub mod Fronts
 pub mod Merges

@@ -1,10 +1,9 @@
 -- Where an edit is noted among falling ones.
 use Rattle.std.proofs.Common.{◌≡◌, ◌≢◌, ℕ, zero, suc, ◌+◌, ◌<◌, ◌≤◌, true, List, [], ◌∷◌, ◌++◌, length, take, drop, get_or, refl, ap, sym, ◌∙◌, arith}
-use Rattle.std.specs.Prelude.{◌-◌, Some, None, nat_le, slice_get}
+use Rattle.std.specs.Prelude.{Some, None, nat_le, slice_get}
 use Rattle.std.specs.List.{insert}
 use Rattle.std.specs.List.Sorted.{IsPartitionedBy}
 use Rattle.std.proofs.lemmas.List.{take-append-drop}
-use Rattle.std.proofs.lemmas.Option.{slice_get_within, get_or_from_slice_get}
 use Rattle.std.proofs.lemmas.Bool.Decides.{nat_tests}
 use Rattle.bw_delta.specs.Entries.{below, from}
 use Rattle.bw_chain.specs.Edited.{falls, noted}
@@ -83,20 +82,3 @@ module _ {X : Type 0} where
     noted-last x none =
         let rest = none_is (drop i es) none in
         parts x ∙ ap (λ l. take i es ++ l) (ap (noted key x) rest ∙ ap (λ l. (key, x) ∷ l) (sym rest))
-
-  last_inside : (low end : ℕ) (e : ℕ × X) (es : List (ℕ × X)) → falls low end es ≡ true → slice_get es (length es - 1) ≡ Some e → e.0 < end
-  last_inside low end e es f last =
-      let inside = slice_get_within es (length es - 1) e last in
-      let same = get_or_from_slice_get es (length es - 1) e e last in
-      rw (← same) (key_below_end low end es (length es - 1) e f inside)
-
-  -- the last of falling entries has the least key
-  pub below-last : (low end bound : ℕ) (e : ℕ × X) (es : List (ℕ × X)) → falls low end es ≡ true → slice_get es (length es - 1) ≡ Some e → bound ≤ e.0 → below bound es ≡ []
-  below-last low end bound e [] f last le = refl
-  below-last low end bound e (d ∷ []) f last le = grind (arith, nat_tests)
-  below-last low end bound e (d ∷ b ∷ es) f last le =
-      let rest : falls low d.0 (b ∷ es) ≡ true = grind (arith, nat_tests) in
-      let one_less : length (d ∷ b ∷ es) - 1 ≡ suc (length (b ∷ es) - 1) = omega arith in
-      let later : slice_get (b ∷ es) (length (b ∷ es) - 1) ≡ Some e = sym (ap (slice_get (d ∷ b ∷ es)) one_less) ∙ last in
-      let above : e.0 < d.0 = last_inside low d.0 e (b ∷ es) rest later in
-      grind (arith, nat_tests, below-last low d.0 bound e (b ∷ es) rest later le)

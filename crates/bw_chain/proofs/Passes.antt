@@ -1,6 +1,6 @@
 -- One pass over edits and the entries below them: what each record, each base page and each merge does to it.
 use Rattle.std.proofs.Common.{◌≡◌, ℕ, ◌+◌, ◌<◌, ◌≤◌, true, List, [], ◌∷◌, ◌++◌, length, append-nil, refl, ap, ◌∙◌, arith}
-use Rattle.std.specs.Prelude.{Bool, false, Option, Some, None, unwrap_or, filter, nat_lt, nat_le}
+use Rattle.std.specs.Prelude.{Option, Some, None, unwrap_or}
 use Rattle.std.proofs.lemmas.Bool.Decides.{nat_tests}
 use Rattle.bw_keys.specs.Ranges.{key_count}
 use Rattle.bw_delta.specs.Entries.{at, rises, put, without, below, from}
@@ -10,15 +10,7 @@ use Rattle.bw_chain.specs.Ascends.{IsAscending}
 use Rattle.bw_chain.specs.Edited.{edited_at, edited, edited_below, entry_of, falls, noted}
 use Rattle.bw_chain.proofs.Ascending.{rises-higher}
 use Rattle.bw_chain.proofs.Lasts.{below_low}
-use Rattle.bw_chain.proofs.Overlays.{overlay, same_entries, at-edited_at, at-edited_at_other, rises-edited_at, rises-edited_below, at-edited_below_in, at-edited_below_out, at-noted, at-noted_other, falls-noted, falls-below, falls-from, at-from_in}
-
-filter_snoc : {Y : Type 0} → (test : Y → Bool) (ys : List Y) (y : Y) → test y ≡ true → filter test (ys ++ y ∷ []) ≡ filter test ys ++ y ∷ []
-filter_snoc test [] y passes = rw passes refl
-filter_snoc test (z ∷ ys) y passes = grind (arith, filter_snoc test ys y passes)
-
-filter_snoc_out : {Y : Type 0} → (test : Y → Bool) (ys : List Y) (y : Y) → test y ≡ false → filter test (ys ++ y ∷ []) ≡ filter test ys
-filter_snoc_out test [] y fails = rw fails refl
-filter_snoc_out test (z ∷ ys) y fails = grind (arith, filter_snoc_out test ys y fails)
+use Rattle.bw_chain.proofs.Overlays.{overlay, same_entries, at-edited_at, at-edited_at_other, rises-edited_at, rises-edited_below, at-edited_below_in, at-edited_below_out, at-noted, at-noted_other, falls-noted, falls-from, at-from_in}
 
 pub falls-snoc : {Y : Type 0} → (low end : ℕ) (es : List (ℕ × Y)) (e : ℕ × Y) → falls low end (es ++ e ∷ []) ≡ true → falls (e.0 + 1) end es ≡ true
 falls-snoc low end [] e f = refl
@@ -135,25 +127,6 @@ module _ {X : Type 0} where
   before_rises low end key None es h le = rises-higher low key (key + 1) _ (omega arith) (rw append-nil (rises-below end low key es h))
   before_rises low end key (Some x) es h le =
       rises-append (key + 1) low key (below key es) (entry_of key (Some x)) le (omega arith) (rises-below end low key es h) (grind (arith, nat_tests))
-
-  -- the edits that are left once the one of the least key was made, and the entries after it
-  pub edited-popped : (end : ℕ) (edits rest : List (ℕ × Option X)) (e : ℕ × Option X) (es : List (ℕ × X)) → edits ≡ rest ++ e ∷ [] → e.0 < end → falls 0 key_count edits ≡ true → IsAscending es
-      → edited (below end edits) es ≡ (below e.0 es ++ entry_of e.0 e.1) ++ edited (below end rest) (from (e.0 + 1) es)
-  edited-popped end edits rest e es is inside f h =
-      let left : falls (e.0 + 1) key_count rest ≡ true = falls-snoc 0 key_count rest e (rw is at f) in
-      let last : below end edits ≡ below end rest ++ e ∷ [] = rw is (filter_snoc (λ d. nat_lt d.0 end) rest e (grind (arith, nat_tests))) in
-      let first = edited_at-parts 0 key_count e.0 e.1 es h in
-      rw last (edited-snoc (below end rest) e es)
-      ∙ ap (edited (below end rest)) first
-      ∙ edited-append 0 (e.0 + 1) end (below end rest) (below e.0 es ++ entry_of e.0 e.1) (from (e.0 + 1) es) (falls-below (e.0 + 1) key_count end rest left) (before_rises 0 key_count e.0 e.1 es h (omega arith))
-
-  pub from-popped : (end : ℕ) (edits rest : List (ℕ × Option X)) (e : ℕ × Option X) → edits ≡ rest ++ e ∷ [] → e.0 < end → from end edits ≡ from end rest
-  from-popped end edits rest e is inside = rw is (filter_snoc_out (λ d. nat_le end d.0) rest e (grind (arith, nat_tests)))
-
-  -- once no edit is left below the end, the others stand as they are
-  pub from-none_below : (end : ℕ) (es : List (ℕ × X)) → below end es ≡ [] → from end es ≡ es
-  from-none_below end [] none = refl
-  from-none_below end (e ∷ es) none = grind (arith, nat_tests, from-none_below end es)
 
   -- entries that rise go on rising behind a key
   pub ascending-from : (bound : ℕ) (es : List (ℕ × X)) → IsAscending es → IsAscending (from bound es)

@@ -1,9 +1,6 @@
 -- A list to whose end others are put.
-use Rattle.std.proofs.Common.{◌≡◌, List, [], ◌++◌, append-nil, append_assoc, ap, sym, ◌∙◌}
+use Rattle.std.proofs.Common.{◌≡◌, List, ◌++◌, append_assoc, ap, ◌∙◌}
 
 module _ {Y : Type 0} where
-  pub none_appended : (list : List Y) → list ≡ list ++ []
-  none_appended list = sym (append-nil list)
-
   pub appended_twice : (old middle new es fs : List Y) → middle ≡ old ++ es → new ≡ middle ++ fs → new ≡ old ++ (es ++ fs)
   appended_twice old middle new es fs first second = second ∙ ap (λ l. l ++ fs) first ∙ append_assoc old es fs

@@ -4,12 +4,13 @@ ghost use Rattle.bw_delta.specs.Sound.{IsSound};
 
 use crate::edits::Edits;
 use crate::pass::pass;
-use crate::shape::{allocator, fences};
+use crate::shape::{allocator, fences, most_entries};
 use bw_delta::{Chain, Fences, NoMemory};
 use bw_keys::Key;
 use std::alloc::Allocator;
 
-/// Appends the pairs of the chain to the list, in the order of their keys.
+/// Appends the pairs of the chain to the list, in the order of their keys. It asks for memory at
+/// most once.
 #[tactic(auto, using(crate::proofs::Bridges::both_kinds))]
 pub fn append_pairs<A: Allocator + Copy, B: Allocator>(
     chain: &Chain<A>,
@@ -18,6 +19,7 @@ pub fn append_pairs<A: Allocator + Copy, B: Allocator>(
     requires sound { IsSound chain.now }
     ensures { OnOk result (list.new.items ≡ list.old.items ++ pairs chain.now) }
 {
+    list.reserve(most_entries::<A, u64>(chain, 0))?;
     let Fences { high, .. } = fences(chain);
     let mut edits: Edits<'_, u64, A> = Edits::new(allocator(chain));
     pass(chain, high, &mut edits, list)

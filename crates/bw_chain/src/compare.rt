@@ -85,12 +85,18 @@ fn lists_from<A: Allocator + Copy>(base: &Base<A>, chain: &Chain<A>, fence: Fenc
 {
     match &base.entries {
         Entries::Pairs(pairs) => {
+            if !is_leaf(chain) {
+                return false;
+            }
             let mut edits: Edits<'_, u64, A> = Edits::new(pairs.allocator());
-            is_leaf(chain) && are_entries(pairs, chain, fence, &mut edits)
+            are_entries(pairs, chain, fence, &mut edits)
         }
         Entries::Routes(routes) => {
+            if is_leaf(chain) {
+                return false;
+            }
             let mut edits: Edits<'_, Pid, A> = Edits::new(routes.allocator());
-            !is_leaf(chain) && are_entries(routes, chain, fence, &mut edits)
+            are_entries(routes, chain, fence, &mut edits)
         }
     }
 }

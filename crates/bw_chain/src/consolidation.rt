@@ -10,9 +10,9 @@ ghost use Rattle.smallvec.specs.SmallVec.{HasRoomFor};
 
 use crate::edits::Edits;
 use crate::pass::pass;
-use crate::shape::{fences, is_leaf};
+use crate::shape::{fences, is_leaf, most_entries};
 use crate::value::EntryValue;
-use bw_delta::{Base, Chain, Delta, Entries, Fences, NoMemory, Node};
+use bw_delta::{Base, Chain, Entries, Fences, NoMemory};
 use bw_keys::{Fence, Key, Pid};
 use std::alloc::Allocator;
 
@@ -66,24 +66,7 @@ fn list<A: Allocator + Copy, X: EntryValue>(
     requires room { HasRoomFor edits.old (depth chain.now) }
     ensures { IfOk result (λ entries. entries.items ≡ entries_by X.own_entries X.own_change chain.now) }
 {
-    let mut entries = Vec::with_capacity(alloc, most_entries(chain, 0))?;
+    let mut entries = Vec::with_capacity(alloc, most_entries::<A, X>(chain, 0))?;
     pass(chain, high, edits, &mut entries)?;
     Ok(entries)
-}
-
-/// As many as that, and no fewer than the chain has entries: those of its base pages, and one for
-/// each record that puts one.
-fn most_entries<A: Allocator + Copy>(chain: &Chain<A>, more: usize) -> usize {
-    match &chain.node {
-        Node::Bare(base) => base.len().saturating_add(more),
-        Node::Above(delta, below) => match *delta {
-            Delta::Insert(_, _) | Delta::TermAdd(_, _) => {
-                most_entries(below, more.saturating_add(1))
-            }
-            Delta::Delete(_) | Delta::TermDelete(_) | Delta::Split(_, _) | Delta::Remove => {
-                most_entries(below, more)
-            }
-        },
-        Node::Merged(_, left, right) => most_entries(left, most_entries(right, more)),
-    }
 }

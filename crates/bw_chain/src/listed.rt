@@ -6,6 +6,7 @@ ghost use Rattle.bw_delta.specs.Entries.{below, from};
 ghost use Rattle.bw_chain.specs.Ascends.{IsAscending};
 ghost use Rattle.bw_chain.specs.Edited.{edited, falls, put_count, puts};
 
+use crate::sorted::behind;
 use bw_keys::Key;
 
 /// How many of the edits put an entry.
@@ -88,25 +89,11 @@ fn copy_before<X: Copy>(
     entries.len()
 }
 
+/// Writes the item over the one at the place.
 #[inline(always)]
 fn write<T: Copy>(list: &mut [T], place: usize, item: T)
     requires { place < length list.old }
     ensures { list.new ≡ slice_set list.old place item }
 {
     list[place] = item;
-}
-
-/// The entries behind the key, of which so many lie before it.
-#[inline(always)]
-fn behind<X: Copy>(entries: &[(Key, X)], count: usize, key: Key) -> &[(Key, X)]
-    requires ascending { IsAscending entries.now }
-    requires within { count ≤ length entries.now }
-    requires after { from key entries.now ≡ drop count entries.now }
-    ensures { result.now ≡ from (key + 1) entries.now }
-{
-    let (_, rest) = entries.split_at(count);
-    match rest.split_first() {
-        Some((first, behind)) => { if first.0 == key { behind } else { rest } }
-        None => rest,
-    }
 }

@@ -4,6 +4,8 @@ ghost use Rattle.bw_delta.specs.Pages.{lists_pairs};
 ghost use Rattle.bw_delta.specs.Records.{depth};
 ghost use Rattle.bw_chain.specs.Ends.{ends_range};
 
+use crate::change::Change;
+use crate::value::EntryValue;
 use bw_delta::{Base, Chain, Delta, Entries, Fences, Node};
 use bw_keys::Fence;
 use std::alloc::Allocator;
@@ -80,6 +82,26 @@ pub fn depth<A: Allocator + Copy>(chain: &Chain<A>) -> u8
     ensures { result ≡ depth chain.now }
 {
     chain.depth()
+}
+
+/// No fewer than the chain has entries of the kind, and as many more: it counts those of its base
+/// pages, and one for each record that puts one.
+pub(crate) fn most_entries<A: Allocator + Copy, X: EntryValue>(
+    chain: &Chain<A>,
+    more: usize,
+) -> usize {
+    match &chain.node {
+        Node::Bare(base) => more.saturating_add(X::entries_on(base).len()),
+        Node::Above(delta, below) => match X::change_by(*delta) {
+            Change::Put(_, _) => most_entries::<A, X>(below, more.saturating_add(1)),
+            Change::Without(_) | Change::Below(_) | Change::Nothing => {
+                most_entries::<A, X>(below, more)
+            }
+        },
+        Node::Merged(_, left, right) => {
+            most_entries::<A, X>(left, most_entries::<A, X>(right, more))
+        }
+    }
 }
 
 /// The allocator that the chain lies in.

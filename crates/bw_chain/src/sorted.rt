@@ -65,16 +65,23 @@ pub(crate) fn part_at<X: Copy>(entries: &[(Key, X)], key: Key) -> (&[(Key, X)], 
     ensures before { result.0.now ≡ below key entries.now }
     ensures after { result.1.now ≡ from (key + 1) entries.now }
 {
-    let (front, rest) = entries.split_at(count_before(entries, key));
+    let count = count_before(entries, key);
+    let (front, _) = entries.split_at(count);
+    (front, behind(entries, count, key))
+}
+
+/// The entries behind the key, of which so many lie before it.
+#[inline(always)]
+pub(crate) fn behind<X: Copy>(entries: &[(Key, X)], count: usize, key: Key) -> &[(Key, X)]
+    requires ascending { IsAscending entries.now }
+    requires within { count ≤ length entries.now }
+    requires after { from key entries.now ≡ drop count entries.now }
+    ensures { result.now ≡ from (key + 1) entries.now }
+{
+    let (_, rest) = entries.split_at(count);
     match rest.split_first() {
-        Some((first, behind)) => {
-            if first.0 == key {
-                (front, behind)
-            } else {
-                (front, rest)
-            }
-        }
-        None => (front, rest),
+        Some((first, behind)) => { if first.0 == key { behind } else { rest } }
+        None => rest,
     }
 }
 

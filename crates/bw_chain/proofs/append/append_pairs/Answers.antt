@@ -11,4 +11,4 @@ returns g c =
     let chain = c.args.chain.now in
     let high = ap (λ fence. fence.high) c.fences-high.ensures in
     let whole = unedited pairs_listed pair_change pairs_rise_in_range pairs_cut_at_high chain c.fences-high.result.high c.new-edits.result.items c.requires.sound.built high c.new-edits.ensures.items in
-    on_ok_weaker c.pass.result (λ taken. taken ∙ ap (λ list. c.args.list.now.items ++ list) (whole ∙ pairs_are chain)) c.pass.ensures.taken
+    on_ok_weaker c.pass.result (λ taken. (rw c.in_ok-reserve.ensures.items at taken) ∙ ap (λ list. c.args.list.now.items ++ list) (whole ∙ pairs_are chain)) c.pass.ensures.taken

@@ -1,7 +1,7 @@
 use Rattle.std.proofs.Common.{sym, ◌∙◌}
 use Rattle.bw_keys.specs.Ranges.{key_count}
 use Rattle.bw_chain.proofs.Counts.{from-own, from-later, from-none, no_items}
-use Rattle.bw_chain.proofs.listed.behind.Goals as goal
+use Rattle.bw_chain.proofs.sorted.behind.Goals as goal
 
 pub returns-then-first-key : goal.returns-then-first-key
 returns-then-first-key g c =
