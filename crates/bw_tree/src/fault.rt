@@ -1,0 +1,31 @@
+use bw_keys::BadConfig;
+use bw_step::Refused;
+use thiserror::Error;
+
+/// Why there is no new tree: the first fault that applies, in the order in which they stand here.
+#[derive(Clone, Copy, Debug, PartialEq, Eq, Error)]
+pub enum NewFault {
+    /// A field of the configuration is out of its range.
+    #[error("{0}")]
+    BadConfig(BadConfig),
+    /// There are no workers, or more than `MOST_WORKERS`.
+    #[error("bad workers")]
+    BadWorkers,
+    #[error("out of memory")]
+    NoMemory,
+}
+
+/// Fewer shares than all were gathered, so nothing is known of their sum.
+#[derive(Clone, Copy, Debug, PartialEq, Eq, Error)]
+#[error("a share is missing")]
+pub struct MissingShare;
+
+/// Why a proposed step wasn't taken.
+#[derive(Clone, Copy, Debug, PartialEq, Eq, Hash, Error)]
+pub enum Denied {
+    /// The table refused it.
+    #[error("{0}")]
+    Refused(Refused),
+    #[error("out of memory")]
+    NoMemory,
+}

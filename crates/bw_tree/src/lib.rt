@@ -1,0 +1,23 @@
+//! The mapping table shared by workers: its book is the sum of their shares, and a mutex lets each
+//! of them take one atomic step at a time.
+#![tactic(auto)]
+
+mod booked;
+#[cfg(test)]
+mod dice;
+#[cfg(test)]
+mod drawn;
+mod fault;
+mod proposes;
+mod share;
+mod shared;
+#[cfg(test)]
+mod tests;
+mod tree;
+
+pub use booked::Booked;
+pub use fault::{Denied, MissingShare, NewFault};
+pub use proposes::Proposes;
+pub use share::{Blanks, MOST_WORKERS, Share};
+pub use shared::Shared;
+pub use tree::Tree;

@@ -1,0 +1,117 @@
+//! The mutex round a booked table.
+
+ghost use Rattle.std.specs.Prelude.{◌≡◌, ◌<◌, ◌↔◌, IsOk, IfOk, IfErr, OnErr, MatchResult, All, length};
+ghost use Rattle.bw_step.specs.ProposalView.{proposal_of};
+ghost use Rattle.bw_tree.specs.Shares.{no_changes, counted, sum_of, Opens};
+ghost use Rattle.bw_tree.specs.Steps.{IsReceiptOf, IsRefusal};
+ghost use Rattle.bw_tree.specs.Trees.{IsTree, CountsPairs, IsNewFault, MayBeMade};
+
+use crate::booked::Booked;
+use crate::fault::{Denied, MissingShare, NewFault};
+use crate::share::{Blanks, Share};
+use crate::shared::Shared;
+use bw_delta::Chain;
+use bw_keys::{Config, Key, Pid, Version};
+use bw_step::{Look, Next, Place, Receipt, Step, View};
+use bw_table::{CopyFault, Table};
+use std::alloc::{Allocator, Global};
+use std::sync::ledger::Ledger;
+use std::sync::{Mutex, Wait};
+
+/// A booked table under its lock. Whoever takes the lock finds the table lawful and its book the sum
+/// of the shares, whatever steps others proposed. The runtime value is kept with the lock, so that
+/// code over any shared tree needs none.
+#[derive(Drop)]
+pub struct Tree<R: Wait + Drop, A: Allocator + Copy, I: Ledger, D: Ledger> {
+    rt: R,
+    config: Config,
+    booked: Mutex<Booked<A, I, D>>,
+}
+
+impl<R: Wait + Drop, A: Allocator + Copy, I: Ledger, D: Ledger> Tree<R, A, I, D> {
+    /// A tree without pairs, and the workers' shares, as `Booked::new` makes them.
+    pub fn new(
+        rt: R,
+        machine: Global,
+        alloc: A,
+        config: Config,
+        blanks: Blanks,
+    ) -> Result<(Tree<R, A, I, D>, Vec<Share<I, D>>), NewFault>
+        requires insertions { Opens I.name I.parts blanks.insertions }
+        requires removals { Opens D.name D.parts blanks.removals }
+        ensures config { IfOk result (λ made. made.0.config ≡ config) }
+        ensures count { IfOk result (λ made. length made.1.items ≡ blanks.workers) }
+        ensures shares { IfOk result (λ made. All (λ share. share ≡ no_changes) made.1.items) }
+        ensures fine { IsOk result → MayBeMade config blanks.workers }
+        ensures fault { IfErr result (IsNewFault config blanks.workers) }
+    {
+        let (booked, shares) = Booked::new(machine, alloc, config, blanks)?;
+        let tree = Tree {
+            rt,
+            config,
+            booked: Mutex::new(booked),
+        };
+        Ok((tree, shares))
+    }
+
+    /// Gives the table out, as `Booked::close` does.
+    pub fn close(self, shares: Vec<Share<I, D>>) -> Result<Table<A>, MissingShare>
+        ensures tree { IfOk result IsTree }
+        ensures book { IfOk result (λ table. table.book ≡ sum_of shares.items) }
+        ensures pairs { IfOk result (λ table. CountsPairs table (sum_of shares.items)) }
+        ensures all { IsOk result ↔ (length shares.items ≡ I.parts) }
+        ensures missing { OnErr result (length shares.items < I.parts) }
+    {
+        let Tree { booked, .. } = self;
+        booked.into_inner().close(shares)
+    }
+}
+
+impl<R: Wait + Drop, A: Allocator + Copy, I: Ledger, D: Ledger> Shared<A, Step<A>>
+    for Tree<R, A, I, D> {
+    type Insertions = I;
+
+    type Removals = D;
+
+    ghost made_by = { λ tree. tree.config };
+
+    fn config(&self) -> Config {
+        self.config
+    }
+
+    fn root(&self) -> Place {
+        self.booked.lock(&self.rt).table().root()
+    }
+
+    fn visit(&self, place: Place, key: Key, goal: u8) -> Next {
+        self.booked.lock(&self.rt).table().visit(place, key, goal)
+    }
+
+    fn peek(&self, pid: Pid) -> Option<View> {
+        self.booked.lock(&self.rt).table().peek(pid)
+    }
+
+    fn look(&self, pid: Pid, key: Key) -> Option<Look> {
+        self.booked.lock(&self.rt).table().look(pid, key)
+    }
+
+    fn copy_page(&self, alloc: A, pid: Pid, seen: Version) -> Result<Chain<A>, CopyFault> {
+        self.booked
+            .lock(&self.rt)
+            .table()
+            .copy_page(alloc, pid, seen)
+    }
+
+    /// Takes the step by `Booked::install`. It takes no memory.
+    fn install(&self, share: &mut Share<I, D>, step: Step<A>) -> Result<Receipt, Denied>
+        ensures share { MatchResult result (λ receipt. share.new ≡ counted share.old receipt) (λ _. share.new ≡ share.old) }
+        ensures receipt { IfOk result (IsReceiptOf (proposal_of step)) }
+        ensures no_want { IfErr result IsRefusal }
+    {
+        let answer = self.booked.lock(&self.rt).install(share, step);
+        match answer {
+            Ok(receipt) => Ok(receipt),
+            Err(reason) => Err(Denied::Refused(reason)),
+        }
+    }
+}
