@@ -1,0 +1,12 @@
+use Rattle.std.proofs.Common.{◌≡◌, ℕ, List, Some, length}
+use Rattle.bw_trace.specs.Reading.{HasReadAs, IsOpen}
+use Rattle.bw_trace.specs.Traces.{trace_row}
+use Rattle.bw_trace.proofs.trace.read_trace.Given as goal
+
+abbrev pub invariant-loop-done : goal.invariant-loop-done
+invariant-loop-done g l = record {
+  fresh : IsOpen l.reader;
+  count : length l.rows.items ≡ l.done;
+  read : (bytes : List ℕ) → g.R.Read.remaining l.fn.input ≡ Some bytes
+      → HasReadAs g.R.Read.remaining l.reader (trace_row l.fn.workers) bytes l.rows.items;
+}

@@ -1,0 +1,19 @@
+-- What the program says of a history.
+use Rattle.std.specs.Prelude.{ℕ, ◌≡◌, ◌↔◌, ◌++◌, List, codes, decimal}
+use Rattle.bw_step.specs.declared.receipt.Receipt.{Receipt}
+use Rattle.bw_audit.specs.declared.verdict.Verdict.{Verdict}
+use Rattle.bw_audit.specs.declared.verdict.Verdict.TheVariants.{Yes, No}
+use Rattle.bw_audit.specs.Legal.{IsLegal}
+use Rattle.bw_audit.specs.Verdicts.{verdict_of}
+use Rattle.bw_trace.specs.Histories.{IsHistory}
+
+-- the verdict on the history that a text has: Yes exactly where it is legal
+abbrev pub IsVerdictOn : List ℕ → Verdict → Type 0
+IsVerdictOn bytes verdict =
+    (trails : List (List Receipt)) × (pairs : List (ℕ × ℕ)) × IsHistory bytes trails pairs
+    × ((verdict ≡ Yes) ↔ IsLegal trails pairs) × (verdict ≡ verdict_of trails pairs)
+
+-- the line that tells a verdict
+abbrev pub verdict_line : Verdict → List ℕ
+verdict_line Yes = codes "audit yes\n"
+verdict_line (No worker place) = (codes "audit no " ++ decimal worker) ++ (codes " " ++ decimal place) ++ codes "\n"

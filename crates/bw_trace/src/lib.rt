@@ -1,0 +1,28 @@
+//! The texts of the map: traces, which say what workers are to do, and histories, which say what
+//! they were answered. Both are read and written row by row.
+#![tactic(auto)]
+
+mod fault;
+mod history;
+mod line;
+mod made;
+mod number;
+mod options;
+mod output;
+mod program;
+mod record;
+mod row;
+mod text;
+mod trace;
+
+pub use fault::{OutFault, TextFault};
+pub use history::{History, MOST_HISTORY_ROWS, read_history};
+pub use line::MOST_WORKERS;
+pub use made::make;
+pub use program::command;
+pub use record::write_history;
+pub use row::{Act, Part, Row};
+pub use trace::{MOST_TRACE_ROWS, read_trace, write_trace};
+
+#[cfg(test)]
+mod tests;

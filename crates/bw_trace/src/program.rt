@@ -1,0 +1,221 @@
+//! What the program does, over a reader and two writers.
+
+ghost use Rattle.std.specs.Prelude.{◌≡◌, ◌≤◌, IfOk, List, OnOk, Some, ℕ};
+ghost use Rattle.std.specs.Io.KnownBytes.{Appends};
+ghost use Rattle.bw_trace.specs.Verdicts.{IsVerdictOn, verdict_line};
+
+use crate::fault::{OutFault, TextFault};
+use crate::history::read_history;
+use crate::line::MOST_WORKERS;
+use crate::made::make;
+use crate::options::{Field, commands, ranged};
+use crate::trace::{MOST_TRACE_ROWS, write_trace};
+use bw_audit::{AuditFault, Verdict, audit};
+use bw_delta::NoMemory;
+use clap::ArgMatches;
+use clap::error::ErrorKind;
+use std::alloc::{AllocError, Global};
+use std::io;
+use std::io::{Read, Write};
+use thiserror::Error;
+
+const DONE: u8 = 0;
+
+const BAD_INPUT: u8 = 1;
+
+const BAD_USAGE: u8 = 2;
+
+const AT_A_LIMIT: u8 = 3;
+
+const AUDIT_NO: u8 = 4;
+
+/// Why the program ends without its result.
+#[derive(Debug, Drop, Error)]
+enum Fault {
+    #[error("bad {0}")]
+    Bad(Field),
+    #[error(transparent)]
+    Text(TextFault),
+    #[error("write")]
+    Write,
+    #[error("memory")]
+    Memory,
+}
+
+impl Fault {
+    fn status(&self) -> u8
+        ensures { result ≤ 4 }
+    {
+        match self {
+            Fault::Text(TextFault::Row(_, _) | TextFault::Read) | Fault::Write => BAD_INPUT,
+            Fault::Bad(_) => BAD_USAGE,
+            Fault::Text(TextFault::Rows | TextFault::Memory) | Fault::Memory => AT_A_LIMIT,
+        }
+    }
+}
+
+impl From<Field> for Fault {
+    fn from(field: Field) -> Fault {
+        Fault::Bad(field)
+    }
+}
+
+impl From<TextFault> for Fault {
+    fn from(fault: TextFault) -> Fault {
+        Fault::Text(fault)
+    }
+}
+
+impl From<OutFault> for Fault {
+    fn from(fault: OutFault) -> Fault {
+        match fault {
+            OutFault::Write => Fault::Write,
+            OutFault::Memory => Fault::Memory,
+        }
+    }
+}
+
+impl From<NoMemory> for Fault {
+    fn from(_: NoMemory) -> Fault {
+        Fault::Memory
+    }
+}
+
+impl From<AllocError> for Fault {
+    fn from(_: AllocError) -> Fault {
+        Fault::Memory
+    }
+}
+
+impl From<AuditFault> for Fault {
+    fn from(_: AuditFault) -> Fault {
+        Fault::Memory
+    }
+}
+
+impl From<io::Error> for Fault {
+    fn from(_: io::Error) -> Fault {
+        Fault::Write
+    }
+}
+
+/// Does what the words say, without the program's own name, and answers the exit status. Results
+/// and help go to the output, fault lines and the usage text to `faults`.
+///
+/// | Status | Case |
+/// |---|---|
+/// | 0 | it is done, or help was asked for |
+/// | 1 | the input can't be read, or the output written |
+/// | 2 | the words are none of the program's, or a value is out of its range |
+/// | 3 | a limit was met, or memory was refused |
+/// | 4 | the history isn't legal |
+pub fn command<R: Read + Drop, W: Write, E: Write>(
+    alloc: Global,
+    words: &[&str],
+    input: R,
+    output: &mut W,
+    faults: &mut E,
+) -> u8
+    ensures { result ≤ 4 }
+{
+    let Ok(commands) = commands(alloc) else {
+        return tell(faults, &Fault::Memory);
+    };
+    let matches = match commands.try_get_matches_from(words) {
+        Ok(matches) => matches,
+        Err(error) => return tell_usage(output, faults, &error),
+    };
+    match dispatch(alloc, &matches, input, output) {
+        Ok(status) => status,
+        Err(fault) => tell(faults, &fault),
+    }
+}
+
+fn dispatch<R: Read + Drop, W: Write>(
+    alloc: Global,
+    matches: &ArgMatches,
+    input: R,
+    output: &mut W,
+) -> Result<u8, Fault>
+    ensures { IfOk result (λ status. status ≤ 4) }
+{
+    match matches.subcommand() {
+        Some(("make", options)) => do_make(alloc, options, output),
+        _ => do_check(alloc, input, output),
+    }
+}
+
+fn do_make<W: Write>(alloc: Global, options: &ArgMatches, output: &mut W) -> Result<u8, Fault>
+    ensures { IfOk result (λ status. status ≤ 4) }
+{
+    let seed = options.get_one::<u64>("seed").unwrap_or(0);
+    let workers = ranged(
+        options,
+        "workers",
+        1,
+        u64::from(MOST_WORKERS),
+        Field::Workers,
+    )?;
+    let rows = ranged(options, "rows", 0, MOST_TRACE_ROWS, Field::Rows)?;
+    let span = ranged(options, "span", 1, u64::from(u32::MAX), Field::Span)?;
+    let made = make(alloc, seed, rows, workers as u32, span)?;
+    write_trace(output, &made)?;
+    Ok(DONE)
+}
+
+fn do_check<R: Read + Drop, W: Write>(alloc: Global, input: R, output: &mut W) -> Result<u8, Fault>
+    ensures { IfOk result (λ status. status ≤ 4) }
+{
+    let verdict = check(alloc, input)?;
+    write_verdict(output, verdict)?;
+    output.flush()?;
+    match verdict {
+        Verdict::Yes => Ok(DONE),
+        Verdict::No(_, _) => Ok(AUDIT_NO),
+    }
+}
+
+fn check<R: Read + Drop>(alloc: Global, input: R) -> Result<Verdict, Fault>
+    ensures { IfOk result (λ verdict. (bytes : List ℕ) → R.remaining input ≡ Some bytes → IsVerdictOn bytes verdict) }
+{
+    let history = read_history(alloc, input)?;
+    Ok(audit(alloc, &history.trails, &history.pairs)?)
+}
+
+fn write_verdict<W: Write>(output: &mut W, verdict: Verdict) -> io::Result<()>
+    ensures { OnOk result (Appends (W.contents output.old) (W.contents output.new) (verdict_line verdict)) }
+{
+    match verdict {
+        Verdict::Yes => writeln!(output, "audit yes"),
+        Verdict::No(worker, place) => writeln!(output, "audit no {worker} {place}"),
+    }
+}
+
+/// Where the words ask for help it is the result, and otherwise the usage is the fault.
+fn tell_usage<W: Write, E: Write>(output: &mut W, faults: &mut E, error: &clap::Error) -> u8
+    ensures { result ≤ 4 }
+{
+    if error.kind() == ErrorKind::OutOfMemory {
+        return tell(faults, &Fault::Memory);
+    }
+    if error.use_stderr() {
+        let _ = write!(faults, "{error}");
+        return BAD_USAGE;
+    }
+    match write_help(output, error) {
+        Ok(()) => DONE,
+        Err(_) => tell(faults, &Fault::Write),
+    }
+}
+
+fn write_help<W: Write>(output: &mut W, help: &clap::Error) -> io::Result<()> {
+    write!(output, "{help}")?;
+    output.flush()
+}
+
+fn tell<E: Write>(faults: &mut E, fault: &Fault) -> u8
+    ensures { result ≤ 4 }
+{
+    let _ = writeln!(faults, "bwtree: {fault}");
+    fault.status()
+}

@@ -1,0 +1,109 @@
+//! The rows of a trace.
+
+ghost use Rattle.std.specs.Prelude.{◌≡◌};
+ghost use Rattle.csv.specs.Records.{fields_of};
+ghost use Rattle.bw_trace.specs.Rows.{act_of, op_of, row_of, row_of_fields};
+
+use crate::number::{field, number, worker};
+use bw_keys::Key;
+use csv::ByteRecord;
+use std::fmt;
+
+/// What a row of a trace asks a worker to do.
+#[derive(Clone, Copy, Debug, PartialEq, Eq, Hash)]
+pub enum Act {
+    /// Give the key the value, if it has none.
+    Put { key: Key, value: u64 },
+    /// Say what the key has.
+    Get { key: Key },
+    /// Take the key out.
+    Delete { key: Key },
+}
+
+/// A row of a trace: what one worker is to do.
+#[derive(Clone, Copy, Debug, PartialEq, Eq, Hash)]
+pub struct Row {
+    pub worker: u32,
+    pub act: Act,
+}
+
+/// The parts of a row, in the order in which they are read. The first that can't be read names the
+/// fault.
+#[derive(Clone, Copy, Debug, PartialEq, Eq, Hash)]
+pub enum Part {
+    /// The number of fields.
+    Fields,
+    Worker,
+    Op,
+    Key,
+    Value,
+}
+
+impl fmt::Display for Part {
+    fn fmt<W: fmt::Write>(&self, f: &mut fmt::Formatter<W>) -> fmt::Result {
+        f.write_str(match self {
+            Part::Fields => "fields",
+            Part::Worker => "worker",
+            Part::Op => "op",
+            Part::Key => "key",
+            Part::Value => "value",
+        })
+    }
+}
+
+/// The row that a record of four fields writes, or its first faulty part.
+pub(crate) fn read_row(fields: &ByteRecord, workers: u32) -> Result<Row, Part>
+    ensures { result ≡ row_of workers (fields_of fields.now) }
+{
+    if fields.len() != 4 {
+        return Err(Part::Fields);
+    }
+    read_fields(
+        workers,
+        field(fields, 0),
+        field(fields, 1),
+        field(fields, 2),
+        field(fields, 3),
+    )
+}
+
+fn read_fields(workers: u32, first: &[u8], op: &[u8], key: &[u8], value: &[u8]) -> Result<Row, Part>
+    ensures { result ≡ row_of_fields workers first.now op.now key.now value.now }
+{
+    let worker = worker(first, workers).ok_or(Part::Worker)?;
+    let op = read_op(op).ok_or(Part::Op)?;
+    let key = number(key).ok_or(Part::Key)?;
+    let act = read_act(op, key, value).ok_or(Part::Value)?;
+    Ok(Row { worker, act })
+}
+
+#[derive(Clone, Copy, Debug, PartialEq, Eq)]
+enum Op {
+    Put,
+    Get,
+    Delete,
+}
+
+fn read_op(text: &[u8]) -> Option<Op>
+    ensures { result ≡ op_of text.now }
+{
+    match text {
+        b"put" => Some(Op::Put),
+        b"get" => Some(Op::Get),
+        b"del" => Some(Op::Delete),
+        _ => None,
+    }
+}
+
+fn read_act(op: Op, key: Key, value: &[u8]) -> Option<Act>
+    ensures { result ≡ act_of op key value.now }
+{
+    match op {
+        Op::Put => {
+            let value = number(value)?;
+            Some(Act::Put { key, value })
+        }
+        Op::Get => value.is_empty().then_some(Act::Get { key }),
+        Op::Delete => value.is_empty().then_some(Act::Delete { key }),
+    }
+}

@@ -1,0 +1,28 @@
+//! The texts and the command, over memory, on lines whose readings were worked out by hand.
+
+mod failing;
+mod histories;
+mod lines;
+mod traces;
+
+use crate::command;
+use std::process::Abort;
+use std::test::Fail;
+
+/// Gives the words and the input to the program, and compares all that it answers.
+fn ends(
+    rt: &(impl Abort + AllocGlobal),
+    words: &[&str],
+    input: &str,
+    wanted: (u8, &str, &str),
+) -> Result<(), Fail> {
+    let alloc = rt.alloc();
+    let (status, output, faults) = wanted;
+    let mut written = Vec::new(alloc);
+    let mut told = Vec::new(alloc);
+    let answer = command(alloc, words, input.as_bytes(), &mut written, &mut told);
+    assert_eq!(rt; std::str::from_utf8(told.as_slice())?, faults);
+    assert_eq!(rt; std::str::from_utf8(written.as_slice())?, output);
+    assert_eq!(rt; answer, status);
+    Ok(())
+}
