@@ -6,5 +6,5 @@ mod page;
 mod range;
 
 pub use config::{BadConfig, Config, Field};
-pub use page::{MAX_DEPTH, MAX_LEVEL, Pid, Version};
+pub use page::{MAX_DEPTH, MAX_LEVEL, MAX_WORKERS, Pid, Version};
 pub use range::{Fence, Key, Range};

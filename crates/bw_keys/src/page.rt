@@ -7,6 +7,9 @@ pub const MAX_DEPTH: u8 = 64;
 /// The greatest level of a page. Leaves have level 0.
 pub const MAX_LEVEL: u8 = 15;
 
+/// The greatest number of workers that one tree, or one history, may have.
+pub const MAX_WORKERS: u32 = 64;
+
 /// The logical id of a page: its place in the mapping table.
 #[derive(Clone, Copy, Debug, PartialEq, Eq, PartialOrd, Ord, Hash)]
 pub struct Pid(pub u32);

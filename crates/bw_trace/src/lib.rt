@@ -17,7 +17,6 @@ mod trace;
 
 pub use fault::{OutFault, TextFault};
 pub use history::{History, MOST_HISTORY_ROWS, read_history};
-pub use line::MOST_WORKERS;
 pub use made::make;
 pub use program::command;
 pub use record::write_history;

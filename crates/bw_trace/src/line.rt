@@ -7,12 +7,9 @@ ghost use Rattle.bw_trace.specs.Lines.{form_of, line_of, line_of_fields, pair_li
 
 use crate::number::{field, number, worker};
 use crate::row::Part;
-use bw_keys::Key;
+use bw_keys::{Key, MAX_WORKERS};
 use bw_step::Receipt;
 use csv::ByteRecord;
-
-/// The most workers that a history may name.
-pub const MOST_WORKERS: u32 = 64;
 
 /// A row of a history.
 #[derive(Clone, Copy, Debug, PartialEq, Eq)]
@@ -74,7 +71,7 @@ fn read_reply(
     if last.is_some() {
         return Err(Part::Worker);
     }
-    let worker = worker(first, MOST_WORKERS).ok_or(Part::Worker)?;
+    let worker = worker(first, MAX_WORKERS).ok_or(Part::Worker)?;
     let form = read_form(op).ok_or(Part::Op)?;
     let at = number(at).ok_or(Part::Key)?;
     let key = number(key).ok_or(Part::Key)?;

@@ -6,12 +6,12 @@ ghost use Rattle.bw_trace.specs.Verdicts.{IsVerdictOn, verdict_line};
 
 use crate::fault::{OutFault, TextFault};
 use crate::history::read_history;
-use crate::line::MOST_WORKERS;
 use crate::made::make;
 use crate::options::{Field, commands, ranged};
 use crate::trace::{MOST_TRACE_ROWS, write_trace};
 use bw_audit::{AuditFault, Verdict, audit};
 use bw_delta::NoMemory;
+use bw_keys::MAX_WORKERS;
 use clap::ArgMatches;
 use clap::error::ErrorKind;
 use std::alloc::{AllocError, Global};
@@ -153,7 +153,7 @@ fn do_make<W: Write>(alloc: Global, options: &ArgMatches, output: &mut W) -> Res
         options,
         "workers",
         1,
-        u64::from(MOST_WORKERS),
+        u64::from(MAX_WORKERS),
         Field::Workers,
     )?;
     let rows = ranged(options, "rows", 0, MOST_TRACE_ROWS, Field::Rows)?;

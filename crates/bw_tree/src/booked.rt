@@ -11,8 +11,8 @@ ghost use Rattle.bw_tree.specs.Steps.{IsReceiptOf};
 ghost use Rattle.bw_tree.specs.Trees.{IsTree, IsBookOf, CountsPairs, IsNewFault, MayBeMade, is_bad_number};
 
 use crate::fault::{MissingShare, NewFault};
-use crate::share::{Blanks, MOST_WORKERS, Share, audit};
-use bw_keys::Config;
+use crate::share::{Blanks, Share, audit};
+use bw_keys::{Config, MAX_WORKERS};
 use bw_step::{Receipt, Refused, Step};
 use bw_table::Table;
 use std::alloc::{Allocator, Global};
@@ -46,7 +46,7 @@ impl<A: Allocator + Copy, I: Ledger, D: Ledger> Model for Booked<A, I, D> {
 
 impl<A: Allocator + Copy, I: Ledger, D: Ledger> Booked<A, I, D> {
     /// A table without pairs, and a share of nothing for each worker that the blank ledgers were
-    /// made for, 1 to `MOST_WORKERS`. The chains will lie in `alloc`, all else in the machine's
+    /// made for, 1 to `MAX_WORKERS`. The chains will lie in `alloc`, all else in the machine's
     /// memory.
     pub fn new(
         machine: Global,
@@ -174,5 +174,5 @@ fn check(config: &Config, workers: u32) -> Result<(), NewFault>
 fn has_too_few_or_many(workers: u32) -> bool
     ensures { result ≡ is_bad_number workers }
 {
-    !(1..=MOST_WORKERS).contains(&workers)
+    !(1..=MAX_WORKERS).contains(&workers)
 }

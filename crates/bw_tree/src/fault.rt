@@ -8,7 +8,7 @@ pub enum NewFault {
     /// A field of the configuration is out of its range.
     #[error("{0}")]
     BadConfig(BadConfig),
-    /// There are no workers, or more than `MOST_WORKERS`.
+    /// There are no workers, or more than `MAX_WORKERS`.
     #[error("bad workers")]
     BadWorkers,
     #[error("out of memory")]

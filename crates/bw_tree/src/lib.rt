@@ -18,6 +18,6 @@ mod tree;
 pub use booked::Booked;
 pub use fault::{Denied, MissingShare, NewFault};
 pub use proposes::Proposes;
-pub use share::{Blanks, MOST_WORKERS, Share};
+pub use share::{Blanks, Share};
 pub use shared::Shared;
 pub use tree::Tree;

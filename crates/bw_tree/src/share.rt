@@ -10,9 +10,6 @@ use std::marker::Model;
 use std::sync::ledger;
 use std::sync::ledger::{Blank, Book, Ledger};
 
-/// How many workers a tree may have.
-pub const MOST_WORKERS: u32 = 64;
-
 /// Two new ledgers, of insertions and of removals, with a part for each worker. The types that are
 /// to stand for them name one tree.
 #[derive(Drop)]
