@@ -1,5 +1,5 @@
-//! Histories drawn at random, each judged by a plain second judge that builds the map anew for
-//! every receipt.
+//! Histories drawn at random, and each again with one field changed, judged by a plain second judge
+//! that builds the map anew for every receipt.
 
 use crate::{Verdict, audit, is_ascending};
 use bw_keys::{Key, Pid};
@@ -13,6 +13,16 @@ use std::test::Fail;
 const WORKERS: u32 = 3;
 
 const KEYS: u32 = 4;
+
+/// How many receipts a history has at most.
+const RECEIPTS: u32 = 24;
+
+/// What workers were answered, and the pairs that were left.
+#[derive(Debug, Drop, PartialEq, Eq)]
+struct History {
+    trails: Vec<Vec<Receipt>>,
+    pairs: Vec<(Key, u64)>,
+}
 
 fn drawn_key(rng: &mut Pcg32) -> Key {
     u64::from(rng.next_u32() % KEYS)
@@ -124,7 +134,8 @@ fn listed(alloc: Global, map: &BTreeMap<Key, u64>) -> Result<Vec<(Key, u64)>, Fa
 }
 
 /// The verdict by the plain rules, receipt by receipt.
-fn judged(alloc: Global, trails: &[Vec<Receipt>], pairs: &[(Key, u64)]) -> Result<Verdict, Fail> {
+fn judged(alloc: Global, history: &History) -> Result<Verdict, Fail> {
+    let trails = history.trails.as_slice();
     let mut seen = Vec::new(alloc);
     for (worker, trail) in trails.iter().enumerate() {
         for (place, receipt) in trail.iter().enumerate() {
@@ -137,10 +148,26 @@ fn judged(alloc: Global, trails: &[Vec<Receipt>], pairs: &[(Key, u64)]) -> Resul
         }
     }
     let left = listed(alloc, &map_after(alloc, trails, count_changes(trails))?)?;
-    if left.as_slice() == pairs {
+    if left == history.pairs {
         Ok(Verdict::Yes)
     } else {
         Ok(Verdict::No(trails.len(), 0))
+    }
+}
+
+/// What a receipt is to tell of.
+#[derive(Clone, Copy, PartialEq, Eq)]
+enum Telling {
+    Shape,
+    Look,
+    Change,
+}
+
+fn drawn_telling(rng: &mut Pcg32) -> Telling {
+    match rng.next_u32() % 4 {
+        0 => Telling::Shape,
+        1 => Telling::Look,
+        _ => Telling::Change,
     }
 }
 
@@ -148,19 +175,20 @@ fn judged(alloc: Global, trails: &[Vec<Receipt>], pairs: &[(Key, u64)]) -> Resul
 fn drawn_receipt(
     alloc: Global,
     rng: &mut Pcg32,
+    telling: Telling,
     trails: &[Vec<Receipt>],
     before: &[Receipt],
 ) -> Result<Receipt, Fail> {
     let key = drawn_key(rng);
     let count = count_changes(trails);
     let last = before.iter().filter_map(position).last().unwrap_or(0);
-    match rng.next_u32() % 4 {
-        0 => Ok(Receipt::Shaped {
+    match telling {
+        Telling::Shape => Ok(Receipt::Shaped {
             kind: Kind::Consolidate,
             page: Pid(0),
             other: None,
         }),
-        1 => {
+        Telling::Look => {
             let at = match drawn_number(rng) {
                 at if last <= at && at <= count => at,
                 _ => count,
@@ -171,108 +199,140 @@ fn drawn_receipt(
                 found: map_after(alloc, trails, at)?.get(&key).copied(),
             })
         }
-        _ => {
+        Telling::Change => {
             let number = count.saturating_add(1);
             match map_after(alloc, trails, count)?.get(&key).copied() {
                 Some(value) => Ok(Receipt::Deleted { number, key, value }),
                 None => Ok(Receipt::Inserted {
                     number,
                     key,
-                    value: u64::from(rng.next_u32() % KEYS),
+                    value: drawn_key(rng),
                 }),
             }
         }
     }
 }
 
-/// Trails of a few workers that one order of their changes explains.
+/// Trails of a few workers that one order of their changes explains. The first receipt tells of a
+/// change, so that each history has one.
 fn drawn_trails(alloc: Global, rng: &mut Pcg32) -> Result<Vec<Vec<Receipt>>, Fail> {
     let mut trails = Vec::new(alloc);
     for _ in 0..WORKERS {
         trails.push(Vec::new(alloc))?;
     }
-    for _ in 0..rng.next_u32() % 24 {
+    let mut telling = Telling::Change;
+    for _ in rng.next_u32() % RECEIPTS..RECEIPTS {
         let worker = (rng.next_u32() % WORKERS) as usize;
         if let Some(before) = trails.get(worker) {
-            let receipt = drawn_receipt(alloc, rng, trails.as_slice(), before.as_slice())?;
+            let receipt = drawn_receipt(alloc, rng, telling, trails.as_slice(), before.as_slice())?;
             if let Some(trail) = trails.get_mut(worker) {
                 trail.push(receipt)?;
             }
         }
+        telling = drawn_telling(rng);
     }
     Ok(trails)
 }
 
-/// The receipt with one of its fields drawn anew.
-fn altered(rng: &mut Pcg32, receipt: Receipt) -> Receipt {
-    let field = rng.next_u32() % 3;
-    match receipt {
-        Receipt::Inserted { number, key, value } => match field {
-            0 => Receipt::Inserted {
-                number: drawn_number(rng),
-                key,
-                value,
-            },
-            1 => Receipt::Inserted {
-                number,
-                key: drawn_key(rng),
-                value,
-            },
-            _ => Receipt::Inserted {
-                number,
-                key,
-                value: drawn_key(rng),
-            },
-        },
-        Receipt::Deleted { number, key, value } => match field {
-            0 => Receipt::Deleted {
-                number: drawn_number(rng),
-                key,
-                value,
-            },
-            1 => Receipt::Deleted {
-                number,
-                key: drawn_key(rng),
-                value,
-            },
-            _ => Receipt::Deleted {
-                number,
-                key,
-                value: drawn_key(rng),
-            },
-        },
-        Receipt::Looked { at, key, found } => match field {
-            0 => Receipt::Looked {
-                at: drawn_number(rng),
-                key,
-                found,
-            },
-            1 => Receipt::Looked {
-                at,
-                key: drawn_key(rng),
-                found,
-            },
-            _ => Receipt::Looked {
-                at,
-                key,
-                found: Some(drawn_key(rng)).filter(|_| found.is_none()),
-            },
-        },
-        shaped => shaped,
+/// A history that is legal.
+fn drawn_history(alloc: Global, rng: &mut Pcg32) -> Result<History, Fail> {
+    let trails = drawn_trails(alloc, rng)?;
+    let map = map_after(alloc, trails.as_slice(), count_changes(trails.as_slice()))?;
+    let pairs = listed(alloc, &map)?;
+    Ok(History { trails, pairs })
+}
+
+/// What was drawn, or the number behind it where that is the old one.
+fn other_than(old: u64, drawn: u64) -> u64 {
+    if drawn == old {
+        old.wrapping_add(1)
+    } else {
+        drawn
     }
 }
 
-/// Changes one field of one receipt, or of the pairs where there is none.
-fn alter(rng: &mut Pcg32, trails: &mut [Vec<Receipt>], pairs: &mut [(Key, u64)]) {
-    let worker = (rng.next_u32() % WORKERS) as usize;
-    let place = (rng.next_u32() % 8) as usize;
-    if let Some(receipt) = trails
-        .get_mut(worker)
-        .and_then(|trail| trail.get_mut(place))
-    {
-        *receipt = altered(rng, *receipt);
-    } else if let Some(pair) = pairs.first_mut() {
-        pair.1 = pair.1.wrapping_add(1);
+fn other_finding(rng: &mut Pcg32, found: Option<u64>) -> Option<u64> {
+    let drawn = drawn_key(rng);
+    match found {
+        Some(value) if rng.next_u32() % 2 == 0 => Some(other_than(value, drawn)),
+        Some(_) => None,
+        None => Some(drawn),
+    }
+}
+
+/// Changes one field of a change.
+fn alter_change(rng: &mut Pcg32, number: &mut u64, key: &mut Key, value: &mut u64) {
+    match rng.next_u32() % 3 {
+        0 => *number = other_than(*number, drawn_number(rng)),
+        1 => *key = other_than(*key, drawn_key(rng)),
+        _ => *value = other_than(*value, drawn_key(rng)),
+    }
+}
+
+/// Changes one field of a look.
+fn alter_look(rng: &mut Pcg32, at: &mut u64, key: &mut Key, found: &mut Option<u64>) {
+    match rng.next_u32() % 3 {
+        0 => *at = other_than(*at, drawn_number(rng)),
+        1 => *key = other_than(*key, drawn_key(rng)),
+        _ => *found = other_finding(rng, *found),
+    }
+}
+
+/// Changes one field of the receipt, unless it tells of a shape.
+fn alter_receipt(rng: &mut Pcg32, receipt: &mut Receipt) {
+    match receipt {
+        Receipt::Inserted { number, key, value } => alter_change(rng, number, key, value),
+        Receipt::Deleted { number, key, value } => alter_change(rng, number, key, value),
+        Receipt::Looked { at, key, found } => alter_look(rng, at, key, found),
+        Receipt::Shaped { .. } => {}
+    }
+}
+
+/// Changes the pair's value, or its key where the keys still rise with the one that is drawn.
+fn alter_pair(rng: &mut Pcg32, pairs: &mut [(Key, u64)], place: usize) {
+    let Some(&(key, value)) = pairs.get(place) else {
+        return;
+    };
+    pairs[place].0 = other_than(key, drawn_key(rng));
+    if rng.next_u32() % 2 == 0 || !is_ascending(pairs) {
+        pairs[place] = (key, other_than(value, drawn_key(rng)));
+    }
+}
+
+/// How many receipts tell of a key.
+fn count_answers(trails: &[Vec<Receipt>]) -> u64 {
+    let answers = trails.iter().flatten().filter_map(position);
+    answers.fold(0, |count: u64, _| count.saturating_add(1))
+}
+
+/// The history with one field changed: of a receipt that tells of a key, or of a pair.
+fn altered(alloc: Global, rng: &mut Pcg32, legal: &History) -> Result<History, Fail> {
+    let mut trails = legal.trails.clone()?;
+    let mut pairs = legal.pairs.clone()?;
+    let answers = count_answers(trails.as_slice());
+    let things = answers.saturating_add(pairs.len() as u64);
+    let drawn = rng.next_u64().checked_rem(things).unwrap_or(0);
+    match drawn.checked_sub(answers) {
+        Some(place) => alter_pair(rng, pairs.as_mut_slice(), place as usize),
+        None => {
+            let mut answers = trails
+                .iter_mut()
+                .flatten()
+                .filter(|receipt| position(receipt).is_some());
+            if let Some(receipt) = answers.nth(drawn as usize) {
+                alter_receipt(rng, receipt);
+            }
+        }
+    }
+    Ok(History { trails, pairs })
+}
+
+/// The auditor's verdict, where the keys of the pairs rise.
+fn audited(alloc: Global, history: &History) -> Result<Verdict, Fail> {
+    if is_ascending(history.pairs.as_slice()) {
+        Ok(audit(alloc, history.trails.as_slice(), history.pairs.as_slice())?)
+    } else {
+        Err("the keys of the pairs don't rise".into())
     }
 }
 
@@ -281,26 +341,17 @@ fn legal_histories_and_altered_ones_are_judged_alike(rt: HostRuntime) -> Result<
     let alloc = rt.alloc();
     let mut rng = Pcg32::seed_from_u64(7);
     let mut was_bad = false;
+    let mut was_legal = false;
     for _ in 0..1000 {
-        let mut trails = drawn_trails(alloc, &mut rng)?;
-        let map = map_after(alloc, trails.as_slice(), count_changes(trails.as_slice()))?;
-        let mut pairs = listed(alloc, &map)?;
-        if is_ascending(pairs.as_slice()) {
-            let verdict = audit(alloc, trails.as_slice(), pairs.as_slice())?;
-            assert_eq!(rt; verdict, Verdict::Yes);
-        } else {
-            panic!(rt; "the keys of a map rise");
-        }
-        alter(&mut rng, trails.as_mut_slice(), pairs.as_mut_slice());
-        let expected = judged(alloc, trails.as_slice(), pairs.as_slice())?;
-        if is_ascending(pairs.as_slice()) {
-            let verdict = audit(alloc, trails.as_slice(), pairs.as_slice())?;
-            assert_eq!(rt; verdict, expected);
-            was_bad = was_bad || verdict != Verdict::Yes;
-        } else {
-            panic!(rt; "the keys of the pairs rise");
-        }
+        let legal = drawn_history(alloc, &mut rng)?;
+        assert_eq!(rt; audited(alloc, &legal)?, Verdict::Yes);
+        let other = altered(alloc, &mut rng, &legal)?;
+        assert!(rt; other != legal);
+        let expected = judged(alloc, &other)?;
+        assert_eq!(rt; audited(alloc, &other)?, expected);
+        was_bad = was_bad || expected != Verdict::Yes;
+        was_legal = was_legal || expected == Verdict::Yes;
     }
-    assert!(rt; was_bad);
+    assert!(rt; was_bad && was_legal);
     Ok(())
 }

@@ -67,6 +67,15 @@ impl Told {
         }
     }
 
+    /// How many steps were answered.
+    fn total(&self) -> u64 {
+        let shaped = self.shaped.iter().map(|(_, count)| *count);
+        [self.inserted, self.deleted, self.refused]
+            .into_iter()
+            .chain(shaped)
+            .fold(0, |total: u64, count| total.saturating_add(count))
+    }
+
     fn join(&mut self, other: &Told) {
         self.inserted = self.inserted.saturating_add(other.inserted);
         self.deleted = self.deleted.saturating_add(other.deleted);
@@ -104,7 +113,10 @@ fn draw<S: Shared<Global, Step<Global>>>(
     Worked { share, told }
 }
 
-/// Two threads propose 5,000 drawn steps each.
+/// How many steps each of the two threads proposes.
+const STEPS: u32 = 5000;
+
+/// Two threads propose so many drawn steps each.
 fn draw_from_two<
     I: Ledger + Send + Sync,
     D: Ledger + Send + Sync,
@@ -121,8 +133,8 @@ fn draw_from_two<
     let shared = &tree;
     let (one, two) = join(
         &rt,
-        move || draw(shared, machine, one, seed, 5000),
-        move || draw(shared, machine, two, seed.wrapping_add(1), 5000),
+        move || draw(shared, machine, one, seed, STEPS),
+        move || draw(shared, machine, two, seed.wrapping_add(1), STEPS),
     );
     let Worked { share, mut told } = one;
     shares.push(share).ok()?;
@@ -152,6 +164,7 @@ fn drawn_steps_from_two_threads_are_counted(rt: HostRuntime) -> Result<(), Fail>
     else {
         return Err("the tree wasn't made or closed".into());
     };
+    assert_eq!(rt; told.total(), 10_000, "{told:?}");
     let pairs = table.pairs(machine)?;
     let left = told.inserted.checked_sub(told.deleted);
     assert_eq!(rt; Some(pairs.len() as u64), left);
