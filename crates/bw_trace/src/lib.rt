@@ -12,6 +12,7 @@ mod output;
 mod program;
 mod record;
 mod row;
+mod run_options;
 mod text;
 mod trace;
 

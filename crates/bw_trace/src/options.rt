@@ -2,6 +2,7 @@
 
 ghost use Rattle.std.specs.Prelude.{◌≤◌, IfOk};
 
+use crate::run_options::run_command;
 use clap::{Arg, ArgMatches, Command};
 use std::alloc::{AllocError, Global};
 use thiserror::Error;
@@ -9,8 +10,18 @@ use thiserror::Error;
 /// The options that have a range, by their names.
 #[derive(Clone, Copy, Debug, Drop, PartialEq, Eq, Error)]
 pub(crate) enum Field {
+    #[error("fanout")]
+    Fanout,
+    #[error("chain")]
+    Chain,
+    #[error("pages")]
+    Pages,
+    #[error("tries")]
+    Tries,
     #[error("workers")]
     Workers,
+    #[error("readers")]
+    Readers,
     #[error("rows")]
     Rows,
     #[error("span")]
@@ -23,6 +34,7 @@ pub(crate) fn commands<'a>(alloc: Global) -> Result<Command<'a>, AllocError> {
         .about("A Bw-tree in memory: traces, and histories of workers")
         .no_binary_name(true)
         .subcommand_required(true)
+        .subcommand(run_command(alloc)?)?
         .subcommand(make_command(alloc)?)?
         .subcommand(check_command(alloc))
 }
@@ -45,7 +57,8 @@ fn check_command<'a>(alloc: Global) -> Command<'a> {
     Command::new(alloc, "check").about("Says whether the history on standard input is legal")
 }
 
-fn option<'a>(alloc: Global, name: &'a str, default: &'a str, help: &'a str) -> Arg<'a> {
+/// An option whose value is a number.
+pub(crate) fn option<'a>(alloc: Global, name: &'a str, default: &'a str, help: &'a str) -> Arg<'a> {
     Arg::new(alloc, name)
         .long(name)
         .help(help)

@@ -8,6 +8,7 @@ use crate::fault::{OutFault, TextFault};
 use crate::history::read_history;
 use crate::made::make;
 use crate::options::{Field, commands, ranged};
+use crate::run_options::RunOptions;
 use crate::trace::{MOST_TRACE_ROWS, write_trace};
 use bw_audit::{AuditFault, Verdict, audit};
 use bw_delta::NoMemory;
@@ -29,9 +30,15 @@ const AT_A_LIMIT: u8 = 3;
 
 const AUDIT_NO: u8 = 4;
 
+/// The words that no words stand for.
+static USUAL: [&str; 1] = ["run"];
+
 /// Why the program ends without its result.
 #[derive(Debug, Drop, Error)]
 enum Fault {
+    /// The words ask for help, or are none of the program's.
+    #[error(transparent)]
+    Usage(clap::Error),
     #[error("bad {0}")]
     Bad(Field),
     #[error(transparent)]
@@ -48,8 +55,17 @@ impl Fault {
     {
         match self {
             Fault::Text(TextFault::Row(_, _) | TextFault::Read) | Fault::Write => BAD_INPUT,
-            Fault::Bad(_) => BAD_USAGE,
+            Fault::Usage(_) | Fault::Bad(_) => BAD_USAGE,
             Fault::Text(TextFault::Rows | TextFault::Memory) | Fault::Memory => AT_A_LIMIT,
+        }
+    }
+}
+
+impl From<clap::Error> for Fault {
+    fn from(error: clap::Error) -> Fault {
+        match error.kind() {
+            ErrorKind::OutOfMemory => Fault::Memory,
+            _ => Fault::Usage(error),
         }
     }
 }
@@ -99,8 +115,9 @@ impl From<io::Error> for Fault {
     }
 }
 
-/// Does what the words say, without the program's own name, and answers the exit status. Results
-/// and help go to the output, fault lines and the usage text to `faults`.
+/// Does what the words say, without the program's own name, and answers the exit status; no words
+/// stand for `run` alone. Results and help go to the output, fault lines and the usage text to
+/// `faults`.
 ///
 /// | Status | Case |
 /// |---|---|
@@ -118,31 +135,50 @@ pub fn command<R: Read + Drop, W: Write, E: Write>(
 ) -> u8
     ensures { result ≤ 4 }
 {
-    let Ok(commands) = commands(alloc) else {
-        return tell(faults, &Fault::Memory);
-    };
-    let matches = match commands.try_get_matches_from(words) {
-        Ok(matches) => matches,
-        Err(error) => return tell_usage(output, faults, &error),
-    };
-    match dispatch(alloc, &matches, input, output) {
+    match obey(alloc, words, input, output) {
         Ok(status) => status,
+        Err(Fault::Usage(error)) => tell_usage(output, faults, &error),
         Err(fault) => tell(faults, &fault),
     }
 }
 
-fn dispatch<R: Read + Drop, W: Write>(
+fn obey<R: Read + Drop, W: Write>(
     alloc: Global,
-    matches: &ArgMatches,
+    words: &[&str],
     input: R,
     output: &mut W,
 ) -> Result<u8, Fault>
     ensures { IfOk result (λ status. status ≤ 4) }
 {
+    let matches = parse(alloc, words)?;
     match matches.subcommand() {
+        Some(("run", options)) => do_run(alloc, RunOptions::of(options)?, input, output),
         Some(("make", options)) => do_make(alloc, options, output),
         _ => do_check(alloc, input, output),
     }
+}
+
+fn parse<'a>(alloc: Global, words: &'a [&'a str]) -> Result<ArgMatches<'a>, clap::Error> {
+    let commands = commands(alloc)?;
+    if words.is_empty() {
+        commands.try_get_matches_from(USUAL.as_slice())
+    } else {
+        commands.try_get_matches_from(words)
+    }
+}
+
+/// There are no runs yet, so the word is answered as one that the program doesn't know.
+fn do_run<R: Read + Drop, W: Write>(
+    alloc: Global,
+    _options: RunOptions,
+    _input: R,
+    _output: &mut W,
+) -> Result<u8, Fault>
+    ensures { IfOk result (λ status. status ≤ 4) }
+{
+    let text = "unrecognized subcommand 'run'";
+    let error = commands(alloc)?.error(ErrorKind::InvalidSubcommand, text)?;
+    Err(Fault::Usage(error))
 }
 
 fn do_make<W: Write>(alloc: Global, options: &ArgMatches, output: &mut W) -> Result<u8, Fault>
@@ -195,9 +231,6 @@ fn write_verdict<W: Write>(output: &mut W, verdict: Verdict) -> io::Result<()>
 fn tell_usage<W: Write, E: Write>(output: &mut W, faults: &mut E, error: &clap::Error) -> u8
     ensures { result ≤ 4 }
 {
-    if error.kind() == ErrorKind::OutOfMemory {
-        return tell(faults, &Fault::Memory);
-    }
     if error.use_stderr() {
         let _ = write!(faults, "{error}");
         return BAD_USAGE;

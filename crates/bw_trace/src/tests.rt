@@ -3,6 +3,7 @@
 mod failing;
 mod histories;
 mod lines;
+mod runs;
 mod traces;
 
 use crate::command;

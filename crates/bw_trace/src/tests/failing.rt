@@ -8,9 +8,9 @@ use std::test::Fail;
 
 /// Gives three bytes a read, and fails at one read.
 #[derive(Drop)]
-struct Failing<'a> {
-    text: &'a [u8],
-    before: u64,
+pub(super) struct Failing<'a> {
+    pub text: &'a [u8],
+    pub before: u64,
 }
 
 impl<'a> Read for Failing<'a> {
