@@ -4,13 +4,16 @@
 mod audit;
 mod chains;
 mod consolidation;
+mod traces;
 
+use bw_trace::{OutFault, TextFault};
 use std::alloc::AllocError;
 use std::process::ExitCode;
 use std::{env, io};
 use thiserror::Error;
 
-const USAGE: &str = "usage: bw_bench consolidation ROUNDS\n       bw_bench audit RECEIPTS\n";
+const USAGE: &str =
+    "usage: bw_bench consolidation ROUNDS\n       bw_bench audit RECEIPTS\n       bw_bench traces ROWS\n";
 
 /// Why no time is told.
 #[derive(Debug, Drop, Error)]
@@ -19,6 +22,10 @@ pub(crate) enum Stop {
     Memory,
     #[error("{0}")]
     System(io::Error),
+    #[error("{0}")]
+    Read(TextFault),
+    #[error("{0}")]
+    Written(OutFault),
     #[error("an answer was wrong")]
     Wrong,
 }
@@ -41,6 +48,18 @@ impl From<bw_audit::AuditFault> for Stop {
     }
 }
 
+impl From<TextFault> for Stop {
+    fn from(fault: TextFault) -> Stop {
+        Stop::Read(fault)
+    }
+}
+
+impl From<OutFault> for Stop {
+    fn from(fault: OutFault) -> Stop {
+        Stop::Written(fault)
+    }
+}
+
 impl From<io::Error> for Stop {
     fn from(error: io::Error) -> Stop {
         Stop::System(error)
@@ -55,6 +74,7 @@ fn report(rt: &HostRuntime) -> Result<String, Stop> {
         [_, workload, count] => match (workload.as_str(), count.as_str().parse::<u32>()) {
             ("consolidation", Ok(rounds)) => consolidation::report(rt, alloc, rounds)?,
             ("audit", Ok(receipts)) => audit::report(rt, alloc, receipts)?,
+            ("traces", Ok(rows)) => traces::report(rt, alloc, rows)?,
             _ => String::from_str(alloc, USAGE)?,
         },
         _ => String::from_str(alloc, USAGE)?,
