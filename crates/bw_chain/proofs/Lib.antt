@@ -16,3 +16,4 @@ pub mod Passes
 pub mod Inserts
 pub mod Fronts
 pub mod Merges
+pub mod Settles

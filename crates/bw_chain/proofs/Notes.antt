@@ -1,5 +1,5 @@
 -- Where an edit is noted among falling ones.
-use Rattle.std.proofs.Common.{◌≡◌, ◌≢◌, ℕ, zero, suc, ◌+◌, ◌<◌, ◌≤◌, true, List, [], ◌∷◌, ◌++◌, length, take, drop, get_or, refl, ap, sym, ◌∙◌, arith}
+use Rattle.std.proofs.Common.{◌≡◌, ◌≢◌, ℕ, zero, suc, ◌+◌, ◌<◌, ◌≤◌, true, List, [], ◌∷◌, ◌++◌, length, take, drop, get_or, append-nil, refl, ap, sym, ◌∙◌, arith}
 use Rattle.std.specs.Prelude.{Some, None, nat_le, slice_get}
 use Rattle.std.specs.List.{insert}
 use Rattle.std.specs.List.Sorted.{IsPartitionedBy}
@@ -82,3 +82,67 @@ module _ {X : Type 0} where
     noted-last x none =
         let rest = none_is (drop i es) none in
         parts x ∙ ap (λ l. take i es ++ l) (ap (noted key x) rest ∙ ap (λ l. (key, x) ∷ l) (sym rest))
+
+module _ {X : Type 0} where
+  -- a place whose key is greater, and all before it
+  greater_front : (low end key i : ℕ) (d : ℕ × X) (es : List (ℕ × X)) → falls low end es ≡ true → i < length es → key < (get_or es i d).0 → from (key + 1) es ≡ take (suc i) es ++ from (key + 1) (drop (suc i) es)
+  greater_front low end key i d [] f inside less = absurd (omega arith)
+  greater_front low end key zero d (e ∷ es) f inside less = grind (arith, nat_tests)
+  greater_front low end key (suc i) d (e ∷ es) f inside less =
+      let rest : falls low e.0 es ≡ true = grind (arith, nat_tests) in
+      let later : (get_or es i d).0 < e.0 = key_below_end low e.0 es i d rest (omega arith) in
+      let first : key + 1 ≤ e.0 = omega (arith, later, less) in
+      grind (arith, nat_tests, greater_front low e.0 key i d es rest)
+
+  lesser_behind : (low end key i : ℕ) (d : ℕ × X) (es : List (ℕ × X)) → falls low end es ≡ true → i < length es → key < (get_or es i d).0 → below (key + 1) es ≡ below (key + 1) (drop (suc i) es)
+  lesser_behind low end key i d [] f inside less = absurd (omega arith)
+  lesser_behind low end key zero d (e ∷ es) f inside less = grind (arith, nat_tests)
+  lesser_behind low end key (suc i) d (e ∷ es) f inside less =
+      let rest : falls low e.0 es ≡ true = grind (arith, nat_tests) in
+      let later : (get_or es i d).0 < e.0 = key_below_end low e.0 es i d rest (omega arith) in
+      let first : key + 1 ≤ e.0 = omega (arith, later, less) in
+      grind (arith, nat_tests, lesser_behind low e.0 key i d es rest)
+
+  module _ (end key i n : ℕ) (d : ℕ × X) (es : List (ℕ × X)) (f : falls 0 end es ≡ true) (inside : i < length es) (less : key < (get_or es i d).0) (next : suc i ≡ n) where
+    pub greater-before : from (key + 1) (drop n es) ≡ [] → from (key + 1) es ≡ take n es
+    greater-before none =
+        rw next at (greater_front 0 end key i d es f inside less) ∙ ap (λ l. take n es ++ l) none ∙ append-nil (take n es)
+
+    pub greater-after : below (key + 1) (drop n es) ≡ drop n es → below (key + 1) es ≡ drop n es
+    greater-after upto = rw next at (lesser_behind 0 end key i d es f inside less) ∙ upto
+
+module _ {X : Type 0} where
+  -- behind an edit of a smaller key all keys are smaller
+  pub falls-rest : (low end key i : ℕ) (d : ℕ × X) (es : List (ℕ × X)) → falls low end es ≡ true → i < length es → (get_or es i d).0 < key → falls low key (drop i es) ≡ true
+  falls-rest low end key i d [] f inside less = absurd (omega arith)
+  falls-rest low end key zero d (e ∷ es) f inside less = grind (arith, nat_tests)
+  falls-rest low end key (suc i) d (e ∷ es) f inside less =
+      let rest : falls low e.0 es ≡ true = grind (arith, nat_tests) in
+      falls-rest low e.0 key i d es rest (omega arith) less
+
+  noted-first : (key : ℕ) (x : X) (es : List (ℕ × X)) → falls 0 key es ≡ true → noted key x es ≡ (key, x) ∷ es
+  noted-first key x [] f = refl
+  noted-first key x (e ∷ es) f = grind (arith, nat_tests)
+
+  -- a key's newer edit stays
+  pub noted-there : (low end key i : ℕ) (x : X) (d : ℕ × X) (es : List (ℕ × X)) → falls low end es ≡ true → i < length es → (get_or es i d).0 ≡ key → noted key x es ≡ es
+  noted-there low end key i x d [] f inside same = absurd (omega arith)
+  noted-there low end key zero x d (e ∷ es) f inside same = grind (arith, nat_tests)
+  noted-there low end key (suc i) x d (e ∷ es) f inside same =
+      let rest : falls low e.0 es ≡ true = grind (arith, nat_tests) in
+      let later : (get_or es i d).0 < e.0 = key_below_end low e.0 es i d rest (omega arith) in
+      let first : key < e.0 = omega (arith, later, same) in
+      grind (arith, nat_tests, noted-there low e.0 key i x d es rest)
+
+  -- a new one is put in
+  pub noted-behind : (low end key i : ℕ) (x : X) (d : ℕ × X) (es : List (ℕ × X)) → falls low end es ≡ true → i < length es → key < (get_or es i d).0 → falls 0 key (drop (suc i) es) ≡ true → noted key x es ≡ insert es (suc i) (key, x)
+  noted-behind low end key i x d [] f inside less rest = absurd (omega arith)
+  noted-behind low end key zero x d (e ∷ es) f inside less rest = grind (arith, nat_tests, noted-first key x es rest)
+  noted-behind low end key (suc i) x d (e ∷ es) f inside less rest =
+      let falling : falls low e.0 es ≡ true = grind (arith, nat_tests) in
+      let later : (get_or es i d).0 < e.0 = key_below_end low e.0 es i d falling (omega arith) in
+      let first : key < e.0 = omega (arith, later, less) in
+      grind (arith, nat_tests, noted-behind low e.0 key i x d es falling (omega arith) less rest)
+
+  pub noted-in_front : (key : ℕ) (x : X) (es : List (ℕ × X)) → falls 0 key es ≡ true → noted key x es ≡ insert es 0 (key, x)
+  noted-in_front key x es f = noted-first key x es f

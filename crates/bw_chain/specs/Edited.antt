@@ -31,6 +31,15 @@ abbrev pub noted : {X : Type 0} → ℕ → X → List (ℕ × X) → List (ℕ 
 noted key x [] = (key, x) ∷ []
 noted key x (e ∷ es) = if nat_lt key e.0 then e ∷ noted key x es else (if e.0 == key then e ∷ es else (key, x) ∷ e ∷ es)
 
+-- falling entries with more of them noted, one after the other
+abbrev pub noted_all : {X : Type 0} → List (ℕ × X) → List (ℕ × X) → List (ℕ × X)
+noted_all es [] = es
+noted_all es (d ∷ ds) = noted_all (noted d.0 d.1 es) ds
+
+-- the first entry of each key, the greatest key first
+abbrev pub settled : {X : Type 0} → List (ℕ × X) → List (ℕ × X)
+settled ds = noted_all [] ds
+
 -- 1 for an edit that puts an entry
 abbrev pub puts : {X : Type 0} → Option X → ℕ
 puts (Some x) = 1

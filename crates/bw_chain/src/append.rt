@@ -4,7 +4,7 @@ ghost use Rattle.bw_delta.specs.Sound.{IsSound};
 
 use crate::edits::Edits;
 use crate::pass::pass;
-use crate::shape::{allocator, fences, most_entries};
+use crate::shape::{Extent, allocator, survey};
 use bw_delta::{Chain, Fences, NoMemory};
 use bw_keys::Key;
 use std::alloc::Allocator;
@@ -19,8 +19,9 @@ pub fn append_pairs<A: Allocator + Copy, B: Allocator>(
     requires sound { IsSound chain.now }
     ensures { OnOk result (list.new.items ≡ list.old.items ++ pairs chain.now) }
 {
-    list.reserve(most_entries::<A, u64>(chain, 0))?;
-    let Fences { high, .. } = fences(chain);
+    let Extent { fences, room, .. } = survey(chain);
+    list.reserve(room)?;
+    let Fences { high, .. } = fences;
     let mut edits: Edits<'_, u64, A> = Edits::new(allocator(chain));
     pass(chain, high, &mut edits, list)
 }

@@ -10,7 +10,7 @@ ghost use Rattle.smallvec.specs.SmallVec.{HasRoomFor};
 
 use crate::edits::Edits;
 use crate::pass::pass;
-use crate::shape::{fences, is_leaf, most_entries};
+use crate::shape::{Extent, survey};
 use crate::value::EntryValue;
 use bw_delta::{Base, Chain, Entries, Fences, NoMemory};
 use bw_keys::{Fence, Key, Pid};
@@ -23,8 +23,12 @@ pub fn consolidate<A: Allocator + Copy>(alloc: A, chain: &Chain<A>) -> Result<Ba
     requires sound { IsSound chain.now }
     ensures { IfOk result (λ base. base ≡ page_for chain.now) }
 {
-    let Fences { low, high, right } = fences(chain);
-    let entries = entries_below(alloc, chain, high)?;
+    let Extent {
+        fences: Fences { low, high, right },
+        is_leaf,
+        room,
+    } = survey(chain);
+    let entries = entries_below(alloc, chain, high, is_leaf, room)?;
     Ok(Base {
         low,
         high,
@@ -33,23 +37,26 @@ pub fn consolidate<A: Allocator + Copy>(alloc: A, chain: &Chain<A>) -> Result<Ba
     })
 }
 
-/// What the chain lists, of whichever kind.
+/// What the chain lists: pairs or routes.
 #[tactic(auto, using(crate::proofs::Bridges::both_kinds))]
 fn entries_below<A: Allocator + Copy>(
     alloc: A,
     chain: &Chain<A>,
     high: Fence,
+    of_pairs: bool,
+    room: usize,
 ) -> Result<Entries<A>, NoMemory>
     requires sound { IsSound chain.now }
     requires high { high ≡ (fences chain.now).high }
+    requires kind { of_pairs ≡ is_leaf chain.now }
     ensures { IfOk result (λ entries. listed entries ≡ listed_for (is_leaf chain.now) chain.now) }
 {
-    if is_leaf(chain) {
+    if of_pairs {
         let mut edits: Edits<'_, u64, A> = Edits::new(&alloc);
-        Ok(Entries::Pairs(list(alloc, chain, high, &mut edits)?))
+        Ok(Entries::Pairs(list(alloc, chain, high, room, &mut edits)?))
     } else {
         let mut edits: Edits<'_, Pid, A> = Edits::new(&alloc);
-        Ok(Entries::Routes(list(alloc, chain, high, &mut edits)?))
+        Ok(Entries::Routes(list(alloc, chain, high, room, &mut edits)?))
     }
 }
 
@@ -58,6 +65,7 @@ fn list<A: Allocator + Copy, X: EntryValue>(
     alloc: A,
     chain: &Chain<A>,
     high: Fence,
+    room: usize,
     edits: &mut Edits<'_, X, A>,
 ) -> Result<Vec<(Key, X), A>, NoMemory>
     requires built { IsWellBuilt chain.now }
@@ -66,7 +74,7 @@ fn list<A: Allocator + Copy, X: EntryValue>(
     requires room { HasRoomFor edits.old (depth chain.now) }
     ensures { IfOk result (λ entries. entries.items ≡ entries_by X.own_entries X.own_change chain.now) }
 {
-    let mut entries = Vec::with_capacity(alloc, most_entries::<A, X>(chain, 0))?;
+    let mut entries = Vec::with_capacity(alloc, room)?;
     pass(chain, high, edits, &mut entries)?;
     Ok(entries)
 }

@@ -1,11 +1,12 @@
-//! The newest record for each key, gathered on the way down a chain.
+//! What records say of keys: gathered on the way down a chain, and settled at a base page, where the
+//! newest record of each key is kept.
 
-ghost use Rattle.std.specs.Prelude.{◌≡◌, ◌≤◌, ◌+◌, ◌-◌, ◌<◌, true, List, ℕ, [], ◌∷◌, ◌++◌, length, take, drop, insert, MatchOption};
+ghost use Rattle.std.specs.Prelude.{◌≡◌, ◌≤◌, ◌+◌, ◌-◌, ◌<◌, true, false, List, ℕ, [], ◌∷◌, ◌++◌, length, take, drop, insert};
 ghost use Rattle.bw_keys.specs.Ranges.{end_of, key_count};
 ghost use Rattle.bw_delta.specs.Entries.{below, from};
 ghost use Rattle.bw_chain.specs.Ascends.{IsAscending};
 ghost use Rattle.bw_chain.specs.Changes.{changed};
-ghost use Rattle.bw_chain.specs.Edited.{edited_at, edited_below, falls, noted};
+ghost use Rattle.bw_chain.specs.Edited.{edited_at, edited_below, falls, noted, settled};
 ghost use Rattle.bw_chain.specs.Cuts.{IsUncut};
 ghost use Rattle.smallvec.specs.SmallVec.{HasRoomFor, small_vec_len};
 
@@ -14,8 +15,8 @@ use bw_keys::{Fence, Key};
 use smallvec::SmallVec;
 use std::alloc::Allocator;
 
-/// What the newest record for each key says, the greatest key first: the key's value, or that it
-/// has none. No path of a chain has more records than lie inline, so the allocator is never asked.
+/// What records say of keys, the newest record first: the key's value, or that it has none. No
+/// path of a chain has more records than lie inline, so the allocator is never asked.
 pub(crate) type Edits<'a, X, A> = SmallVec<(Key, Option<X>), 64, &'a A>;
 
 /// Notes what a record changes below the end.
@@ -27,11 +28,11 @@ pub(crate) fn note_change<A: Allocator + Copy, X: Copy>(
 )
     requires uncut { IsUncut (end_of end) change }
     requires among { end_of end ≤ key_count }
-    requires falling { falls 0 key_count edits.old.items ≡ true }
+    requires falling { falls 0 key_count (settled edits.old.items) ≡ true }
     requires room { HasRoomFor edits.old 1 }
-    ensures noted { (es : List (ℕ × X)) → IsAscending es → edited_below (end_of end) edits.new.items es ≡ edited_below (end_of end) edits.old.items (changed change es) }
-    ensures others { from (end_of end) edits.new.items ≡ from (end_of end) edits.old.items }
-    ensures falling { falls 0 key_count edits.new.items ≡ true }
+    ensures noted { (es : List (ℕ × X)) → IsAscending es → edited_below (end_of end) (settled edits.new.items) es ≡ edited_below (end_of end) (settled edits.old.items) (changed change es) }
+    ensures others { from (end_of end) (settled edits.new.items) ≡ from (end_of end) (settled edits.old.items) }
+    ensures falling { falls 0 key_count (settled edits.new.items) ≡ true }
     ensures one_more { small_vec_len edits.new ≤ small_vec_len edits.old + 1 }
     ensures capacity { edits.new.capacity ≡ edits.old.capacity }
 {
@@ -52,72 +53,104 @@ fn note_below<A: Allocator + Copy, X: Copy>(
     edit: Option<X>,
 )
     requires among { end_of end ≤ key_count }
-    requires falling { falls 0 key_count edits.old.items ≡ true }
+    requires falling { falls 0 key_count (settled edits.old.items) ≡ true }
     requires room { HasRoomFor edits.old 1 }
-    ensures noted { (es : List (ℕ × X)) → IsAscending es → edited_below (end_of end) edits.new.items es ≡ edited_below (end_of end) edits.old.items (edited_at key edit es) }
-    ensures others { from (end_of end) edits.new.items ≡ from (end_of end) edits.old.items }
-    ensures falling { falls 0 key_count edits.new.items ≡ true }
+    ensures noted { (es : List (ℕ × X)) → IsAscending es → edited_below (end_of end) (settled edits.new.items) es ≡ edited_below (end_of end) (settled edits.old.items) (edited_at key edit es) }
+    ensures others { from (end_of end) (settled edits.new.items) ≡ from (end_of end) (settled edits.old.items) }
+    ensures falling { falls 0 key_count (settled edits.new.items) ≡ true }
     ensures one_more { small_vec_len edits.new ≤ small_vec_len edits.old + 1 }
     ensures capacity { edits.new.capacity ≡ edits.old.capacity }
 {
     if end.is_above(key) {
-        note(edits, key, edit);
+        edits.push_reserved((key, edit));
     }
 }
 
-/// Notes an edit of the key, unless a newer one was noted.
+/// Leaves the newest edit of each key, the greatest key first.
 #[inline(always)]
-fn note<A: Allocator + Copy, X: Copy>(edits: &mut Edits<'_, X, A>, key: Key, edit: Option<X>)
-    requires falling { falls 0 key_count edits.old.items ≡ true }
-    requires room { HasRoomFor edits.old 1 }
-    ensures items { edits.new.items ≡ noted key edit edits.old.items }
+pub(crate) fn settle<A: Allocator + Copy, X: Copy>(edits: &mut Edits<'_, X, A>)
+    ensures items { edits.new.items ≡ settled edits.old.items }
     ensures capacity { edits.new.capacity ≡ edits.old.capacity }
 {
-    if let Some(place) = place_for(edits.as_slice(), key) {
-        edits.push_reserved((key, edit));
-        put_in(edits.as_mut_slice(), place, (key, edit));
-    }
+    let count = settle_front(edits.as_mut_slice());
+    edits.truncate(count);
 }
 
-/// Puts the item in at the place. The items from there on move up by one, over the last one.
+/// Moves the newest edit of each key to the front, the greatest key first, and counts them.
 #[inline(always)]
-fn put_in<T: Copy>(items: &mut [T], place: usize, item: T)
-    requires { place < length items.old }
-    ensures { items.new ≡ insert (take (length items.old - 1) items.old) place item }
+fn settle_front<X: Copy>(edits: &mut [(Key, X)]) -> usize
+    ensures within { result ≤ length edits.new }
+    ensures as_many { length edits.new ≡ length edits.old }
+    ensures front { take result edits.new ≡ settled edits.old }
 {
-    let mut i = items.len() - 1;
-    'up: while place < i {
-        items[i] = items[i - 1];
+    let mut count = 0;
+    for i in 0..edits.len() {
+        let (key, edit) = edits[i];
+        count = note(edits, count, key, edit);
+    }
+    count
+}
+
+/// Notes an edit of the key among so many in front, unless a newer one was noted. It writes over
+/// no place but the one behind them, and answers how many there are then.
+#[inline(always)]
+fn note<X: Copy>(edits: &mut [(Key, X)], count: usize, key: Key, edit: X) -> usize
+    requires inside { count < length edits.old }
+    requires falling { falls 0 key_count (take count edits.old) ≡ true }
+    ensures as_many { length edits.new ≡ length edits.old }
+    ensures one_more { result ≤ count + 1 }
+    ensures front { take result edits.new ≡ noted key edit (take count edits.old) }
+    ensures behind { drop (count + 1) edits.new ≡ drop (count + 1) edits.old }
+{
+    let (place, is_there) = raise(edits, count, key);
+    if is_there {
+        lower(edits, place, count);
+        return count;
+    }
+    edits[place] = (key, edit);
+    count + 1
+}
+
+/// Moves those of so many in front that have smaller keys up by one. It answers where they began,
+/// and whether the edit before them is one of the key.
+#[inline(always)]
+fn raise<X: Copy>(edits: &mut [(Key, X)], count: usize, key: Key) -> (usize, bool)
+    requires inside { count < length edits.old }
+    requires falling { falls 0 key_count (take count edits.old) ≡ true }
+    ensures upto { result.0 ≤ count }
+    ensures as_many { length edits.new ≡ length edits.old }
+    ensures before { take result.0 edits.new ≡ take result.0 edits.old }
+    ensures behind { drop (result.0 + 1) edits.new ≡ drop result.0 (take count edits.old) ++ drop (count + 1) edits.old }
+    ensures there { result.1 ≡ true → (x : X) → noted key x (take count edits.old) ≡ take count edits.old }
+    ensures missing { result.1 ≡ false → (x : X) → noted key x (take count edits.old) ≡ insert (take count edits.old) result.0 (key, x) }
+{
+    let mut i = count;
+    'up: while 0 < i {
+        let edit = edits[i - 1];
+        if key < edit.0 {
+            return (i, false);
+        }
+        if key == edit.0 {
+            return (i, true);
+        }
+        edits[i] = edit;
         i -= 1;
     }
-    items[place] = item;
+    (i, false)
 }
 
-/// Where to put in an edit of the key, unless one is there.
+/// Moves the items behind the place, up to the last one, down by one.
 #[inline(always)]
-fn place_for<X: Copy>(edits: &[(Key, X)], key: Key) -> Option<usize>
-    requires falling { falls 0 key_count edits.now ≡ true }
-    ensures { MatchOption result
-        ((x : X) → noted key x edits.now ≡ edits.now)
-        (λ place. (place ≤ length edits.now) × ((x : X) → noted key x edits.now ≡ insert edits.now place (key, x))) }
+fn lower<T: Copy>(items: &mut [T], place: usize, last: usize)
+    requires upto { place ≤ last }
+    requires inside { last < length items.old }
+    ensures as_many { length items.new ≡ length items.old }
+    ensures front { take last items.new ≡ take place items.old ++ take (last - place) (drop (place + 1) items.old) }
+    ensures behind { drop (last + 1) items.new ≡ drop (last + 1) items.old }
 {
-    let place = count_past(edits, key);
-    let (_, upto) = edits.split_at(place);
-    match upto.first().copied() {
-        Some(edit) => { if edit.0 == key { None } else { Some(place) } }
-        None => Some(place),
+    for i in place..last {
+        items[i] = items[i + 1];
     }
-}
-
-/// How many edits have greater keys, by halving.
-#[inline(always)]
-fn count_past<X: Copy>(edits: &[(Key, X)], key: Key) -> usize
-    requires falling { falls 0 key_count edits.now ≡ true }
-    ensures within { result ≤ length edits.now }
-    ensures before { from (key + 1) edits.now ≡ take result edits.now }
-    ensures after { below (key + 1) edits.now ≡ drop result edits.now }
-{
-    edits.partition_point(|edit| key < edit.0)
 }
 
 /// How many edits have keys from the fence on. In a chain without merges none do.
