@@ -3,7 +3,7 @@
 use bw_chain::{consolidate, halve};
 use bw_delta::{Base, Spare};
 use bw_keys::{Config, Fence, Key, Pid, Version};
-use bw_table::{Refused, Step, Table};
+use bw_table::{Kind, Receipt, Refused, Step, Table};
 use std::alloc::{Allocator, Global};
 use std::ops::Range;
 use std::test::Fail;
@@ -270,6 +270,15 @@ pub(crate) fn stair<A: Allocator + Copy>(
         child = child.saturating_add(2);
     }
     Ok(table)
+}
+
+/// The receipt of a change of the tree's shape.
+pub(crate) fn shaped(kind: Kind, page: u32, other: Option<u32>) -> Receipt {
+    Receipt::Shaped {
+        kind,
+        page: Pid(page),
+        other: other.map(Pid),
+    }
 }
 
 /// A line for each leaf: its page, its range, and how many pairs it has.

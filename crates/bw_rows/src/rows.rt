@@ -2,22 +2,14 @@
 
 use crate::builders::{
     SEVEN, SMALL, consolidate_page, consolidate_with, delete, grow, has, insert, leaves, mark,
-    merge, put, refusal, seen, split, split_with, term_add, term_delete, three_leaves, two_leaves,
+    merge, put, refusal, seen, shaped, split, split_with, term_add, term_delete, three_leaves,
+    two_leaves,
 };
 use bw_delta::Base;
 use bw_keys::{Config, Fence, Pid, Version};
 use bw_table::{Go, Kind, Place, Receipt, Refused, Stage, Summary, Table, Todo};
 use std::alloc::Global;
 use std::test::Fail;
-
-/// The receipt of a change of the tree's shape.
-fn shaped(kind: Kind, page: u32, other: Option<u32>) -> Receipt {
-    Receipt::Shaped {
-        kind,
-        page: Pid(page),
-        other: other.map(Pid),
-    }
-}
 
 #[test]
 fn a_key_is_inserted_and_deleted(rt: HostRuntime) -> Result<(), Fail> {

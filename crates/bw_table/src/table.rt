@@ -82,9 +82,11 @@ impl<A: Allocator + Copy> Table<A> {
         })
     }
 
-    /// The configuration that the table was made by.
+    /// The configuration that the table was made by. The law of the table is told with it.
     pub fn config(&self) -> Config
-        ensures { result ≡ self.now.config }
+        ensures config { result ≡ self.now.config }
+        ensures lawful { Lawful self.now }
+        ensures booked { Booked self.now }
     {
         self.config
     }

@@ -1,0 +1,7 @@
+use Rattle.bw_vectors.proofs.ways.Way.run.Given as goal
+
+abbrev pub ghosts-run_by_hand-I-Ledger : goal.ghosts-run_by_hand-I-Ledger
+ghosts-run_by_hand-I-Ledger g a = record { name = a.blanks.insertions.name; parts = a.blanks.insertions.parts }
+
+abbrev pub ghosts-run_by_hand-D-Ledger : goal.ghosts-run_by_hand-D-Ledger
+ghosts-run_by_hand-D-Ledger g a = record { name = a.blanks.removals.name; parts = a.blanks.removals.parts }

@@ -1,0 +1,110 @@
+//! The ways in which a trace is run.
+
+ghost use Rattle.bw_tree.specs.Shares.{Opens};
+
+use crate::reply::Reply;
+use crate::texts::Texts;
+use crate::vector::Vector;
+use anyhow::{Context, Result};
+use bw_step::Step;
+use bw_table::Table;
+use bw_trace::{Act, Row, read_trace};
+use bw_tree::{Blanks, Tree};
+use bw_work::{Alone, Fault, Hand, Open, Steps, delete, get, put};
+use std::alloc::Global;
+use std::fmt;
+use std::marker::Brand;
+use std::sync::Wait;
+use std::sync::ledger::Ledger;
+
+/// Who does the rows of a trace.
+#[derive(Clone, Copy, Debug, PartialEq, Eq)]
+pub(crate) enum Way {
+    /// A worker that has the table for itself.
+    Alone,
+    /// A worker with a hand on a tree.
+    Hand,
+}
+
+impl fmt::Display for Way {
+    fn fmt<W: fmt::Write>(&self, f: &mut fmt::Formatter<W>) -> fmt::Result {
+        f.write_str(match self {
+            Way::Alone => "alone",
+            Way::Hand => "by hand",
+        })
+    }
+}
+
+impl Way {
+    pub(crate) const ALL: [Way; 2] = [Way::Alone, Way::Hand];
+
+    /// Runs a trace in this way.
+    pub(crate) fn run<R: Wait + Drop>(
+        self,
+        rt: R,
+        alloc: Global,
+        vector: &Vector,
+    ) -> Result<Texts> {
+        match self {
+            Way::Alone => run_alone(alloc, vector),
+            Way::Hand => run_by_hand::<Brand, Brand, _>(rt, alloc, Blanks::new(1), vector),
+        }
+    }
+}
+
+fn answer<S: Steps<Global, Step<Global>>>(steps: &mut S, act: Act) -> Result<Reply, Fault> {
+    match act {
+        Act::Put { key, value } => Ok(Reply::from(put(steps, key, value)?)),
+        Act::Get { key } => Ok(Reply::from(get(steps, key)?)),
+        Act::Delete { key } => Ok(Reply::from(delete(steps, key)?)),
+    }
+}
+
+/// Does the rows in their order. A line for each reply.
+fn work<S: Steps<Global, Step<Global>>>(
+    alloc: Global,
+    steps: &mut S,
+    rows: &[Row],
+) -> Result<String> {
+    let mut lines = String::new(alloc);
+    for row in rows {
+        let reply = answer(steps, row.act)?;
+        writeln!(lines, "{reply}")?;
+    }
+    Ok(lines)
+}
+
+fn run_alone(alloc: Global, vector: &Vector) -> Result<Texts> {
+    let rows = read_trace(alloc, vector.trace.as_bytes(), 1)?;
+    let mut table = Table::new(alloc, alloc, vector.config()?)?;
+    let mut alone = Alone::new(alloc, alloc, &mut table);
+    let replies = work(alloc, &mut alone, &rows)?;
+    let trail = alone.finish();
+    Texts::new(alloc, replies, trail, &table)
+}
+
+fn run_by_hand<I: Ledger, D: Ledger, R: Wait + Drop>(
+    rt: R,
+    alloc: Global,
+    blanks: Blanks,
+    vector: &Vector,
+) -> Result<Texts>
+    requires insertions { Opens I.name I.parts blanks.insertions }
+    requires removals { Opens D.name D.parts blanks.removals }
+{
+    let rows = read_trace(alloc, vector.trace.as_bytes(), 1)?;
+    let (tree, mut shares) = Tree::<R, Global, I, D>::new(
+        rt,
+        alloc,
+        alloc,
+        vector.config()?,
+        blanks,
+    )?;
+    let share = shares.pop().context("there is no share")?;
+    let mut hand = Hand::new(alloc, alloc, &tree, share, 0, &Open);
+    let replies = work(alloc, &mut hand, &rows)?;
+    let (share, trail) = hand.finish();
+    shares.push(share).ok().context("no memory")?;
+    let table = tree.close(shares)?;
+    Texts::new(alloc, replies, trail, &table)
+}

@@ -1,0 +1,45 @@
+-- A worker that has the table for itself isn't lost: its next place is on the way, and its page is there.
+use Rattle.std.proofs.Common.{◌≡◌, ◌<◌, ◌≤◌, ℕ, true, Some, None, refl, subst, arith}
+use Rattle.std.specs.Prelude.{nat_le, nat_lt, ◌==◌}
+use Rattle.std.proofs.lemmas.Bool.Decides.{nat_tests}
+use Rattle.bw_keys.specs.Ranges.{end_of}
+use Rattle.bw_delta.specs.Entries.{at}
+use Rattle.bw_step.specs.declared.place.Place.{Place}
+use Rattle.bw_step.specs.declared.place.Go.{Go}
+use Rattle.bw_step.specs.declared.place.Go.TheVariants.{Gone, Right, Down, Here}
+use Rattle.bw_step.specs.declared.view.View.{View}
+use Rattle.bw_step.specs.Stages.{is_in_row}
+use Rattle.bw_law.specs.Slots.{pairs_in}
+use Rattle.bw_law.specs.Tables.{TableValue, slot_at, number_of}
+use Rattle.bw_table.specs.Views.{look_at}
+use Rattle.bw_table.specs.Visits.{IsOnTheWay, IsFound, TellsWhetherOnTheWay, StaysOnTheWay, FindsPage}
+use Rattle.bw_work.specs.Calm.{HoldsKey, IsTrueOf}
+use Rattle.bw_work.specs.Sights.{CalmNext}
+
+-- the page that a search found holds the key, and has the version of its view
+found_holds : (table : TableValue) (place : Place) (key goal : ℕ) (view : View) → IsFound table place key goal view → HoldsKey table key goal view.pid.0
+found_holds table place key goal view found =
+    rw found.its_view (record {
+      in_row = subst (λ (v : View). is_in_row v.stage ≡ true) found.its_view found.in_row;
+      on_level = subst (λ (v : View). v.level ≡ goal) found.its_view found.level;
+      from_low = subst (λ (v : View). v.low ≤ key) found.its_view found.low_upto;
+      below_high = subst (λ (v : View). key < end_of v.high) found.its_view found.below_high;
+    })
+
+pub next_is_calm : (table : TableValue) (place : Place) (key goal : ℕ) (go : Go) → TellsWhetherOnTheWay table place key goal go → StaysOnTheWay table key goal go → FindsPage table place key goal go
+    → IsOnTheWay table place key goal → CalmNext (IsTrueOf table) key goal go
+next_is_calm table place key goal Gone tells stays finds on = tells on
+next_is_calm table place key goal (Right next) tells stays finds on = stays
+next_is_calm table place key goal (Down next) tells stays finds on = stays
+next_is_calm table place key goal (Here view) tells stays finds on = (found_holds table place key goal view finds, rw finds.its_view refl)
+
+-- a look at the leaf that holds the key is answered
+look_is_answered : (table : TableValue) (key page : ℕ) → HoldsKey table key 0 page → look_at table page key ≡ Some (record { found = at key (pairs_in (slot_at table page)); at = number_of table.book })
+look_is_answered table key page has =
+    let level : ((slot_at table page).level == 0) ≡ true = rw has.on_level refl in
+    let low : nat_le (slot_at table page).low key ≡ true = grind (arith, nat_tests, has.from_low) in
+    let high : nat_lt key (end_of (slot_at table page).high) ≡ true = grind (arith, nat_tests, has.below_high) in
+    rw (has.in_row, level, low, high) refl
+
+pub not_nothing : (table : TableValue) (key page : ℕ) → look_at table page key ≡ None → HoldsKey table key 0 page → ⊥
+not_nothing table key page none has = cc (none, look_is_answered table key page has)

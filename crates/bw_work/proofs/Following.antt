@@ -1,0 +1,90 @@
+-- Each step that a table takes leads by its receipt from the map before it to the map after it, and so does each look.
+use Rattle.std.proofs.Common.{◌≡◌, ℕ, true, false, List, [], ◌∷◌, ◌++◌, Some, None, refl, sym, ◌∙◌, ap, subst, arith}
+use Rattle.std.specs.Prelude.{◌&&◌, Bool}
+use Rattle.std.proofs.lemmas.Bool.Decides.{nat_tests}
+use Rattle.bw_keys.specs.Ranges.{is_within}
+use Rattle.bw_delta.specs.Entries.{at}
+use Rattle.bw_step.specs.declared.receipt.Receipt.{Receipt}
+use Rattle.bw_step.specs.declared.receipt.Receipt.TheVariants.{Looked}
+use Rattle.bw_step.specs.declared.view.Look.{Look}
+use Rattle.bw_step.specs.Stages.{is_in_row}
+use Rattle.bw_step.specs.Proposals.{Proposal, insert, delete, consolidate, split, term_add, grow, mark, merge, term_delete}
+use Rattle.bw_law.specs.Slots.{pairs_in}
+use Rattle.bw_law.specs.Tables.{TableValue, slot_at, number_of, Lawful, Booked, is_leaf_in_row}
+use Rattle.bw_law.specs.Laws.{KeptBy}
+use Rattle.bw_law.specs.Refusals.{refusal}
+use Rattle.bw_law.specs.Effects.{after, receipt_of, TakesStep}
+use Rattle.bw_law.proofs.AllSteps.{step_law}
+use Rattle.bw_law.proofs.Accepted.{Holds}
+use Rattle.bw_law.proofs.Facts.{leaf_decides}
+use Rattle.bw_table.specs.Views.{look_at}
+use Rattle.bw_work.specs.Leading.{Tells, Leads}
+
+-- what an accepted step makes of the map is what its receipt tells
+step_tells : (table : TableValue) (step : Proposal) → KeptBy table step → Tells (receipt_of table step) table.slots (after table step).slots
+step_tells table (insert page seen key value) kept = kept.map
+step_tells table (delete page seen key) kept = kept.map
+step_tells table (consolidate page seen base) kept = kept.map
+step_tells table (split page seen separator base) kept = kept.map
+step_tells table (term_add parent parent_seen child child_seen) kept = kept.map
+step_tells table (grow child seen base) kept = kept.map
+step_tells table (mark page seen parent) kept = kept.map
+step_tells table (merge left left_seen page seen) kept = kept.map
+step_tells table (term_delete parent parent_seen child child_seen) kept = kept.map
+
+-- a receipt that tells of the two maps leads from the one to the other
+pub leads_by : (old new : TableValue) (trail : List Receipt) (receipt : Receipt) → Tells receipt old.slots new.slots → Leads old trail new (trail ++ receipt ∷ [])
+leads_by old new trail receipt tells = (receipt ∷ [], refl, (new.slots, tells, refl))
+
+pub step_leads : (old : TableValue) (step : Proposal) (receipt : Receipt) (new : TableValue) (trail : List Receipt) → Lawful old → Booked old → refusal old step ≡ None → TakesStep old step receipt new
+    → Leads old trail new (trail ++ receipt ∷ [])
+step_leads old step receipt new trail law booked accepted takes =
+    leads_by old new trail receipt
+    (subst (λ r. Tells r old.slots new.slots) (sym takes.told)
+    (subst (λ t. Tells (receipt_of old step) old.slots t.slots) (sym takes.leads) (step_tells old step (step_law old step law booked accepted))))
+
+-- a look is answered where the page is a leaf in its row whose range holds the key
+pub record IsOpen (table : TableValue) (page key : ℕ) (look : Look) : Type 0 where
+  pub in_row : is_in_row (slot_at table page).stage ≡ true
+  pub is_leaf : (slot_at table page).level ≡ 0
+  pub holds : Holds (slot_at table page) key
+  pub found : look.found ≡ at key (pairs_in (slot_at table page))
+
+look_opens : (table : TableValue) (page key : ℕ) (look : Look) → look_at table page key ≡ Some look → IsOpen table page key look
+look_opens table page key look seen = by_test (is_leaf_in_row (slot_at table page) && is_within (slot_at table page).low (slot_at table page).high key) refl
+  where
+    by_test : (test : Bool) → (is_leaf_in_row (slot_at table page) && is_within (slot_at table page).low (slot_at table page).high key) ≡ test → IsOpen table page key look
+    by_test true opened = record {
+      in_row = grind (arith, nat_tests, opened);
+      is_leaf = grind (arith, nat_tests, opened);
+      holds = (grind (arith, nat_tests, opened), grind (arith, nat_tests, opened));
+      found = let answer : look_at table page key ≡ Some (record { found = at key (pairs_in (slot_at table page)); at = number_of table.book }) = rw opened refl in cc (ap (λ o. o) seen, answer);
+    }
+    by_test false shut = let answer : look_at table page key ≡ None = rw shut refl in absurd (cc (seen, answer))
+
+-- what is found in the leaf is what the map has
+pub look_leads : (table : TableValue) (page key : ℕ) (look : Look) (trail : List Receipt) → Lawful table → look_at table page key ≡ Some look
+    → Leads table trail table (trail ++ Looked look.at key look.found ∷ [])
+look_leads table page key look trail law seen =
+    let opened = look_opens table page key look seen in
+    leads_by table table trail (Looked look.at key look.found) (
+      λ value.
+          let decides = leaf_decides table law page key value opened.in_row opened.is_leaf opened.holds in
+          ((λ found. decides.1 (sym opened.found ∙ found)), (λ maps. opened.found ∙ decides.0 maps)),
+      λ k v. ((λ maps. maps), (λ maps. maps)),
+    )
+
+-- no step changes the configuration
+config_stays : (table : TableValue) (step : Proposal) → (after table step).config ≡ table.config
+config_stays table (insert page seen key value) = refl
+config_stays table (delete page seen key) = refl
+config_stays table (consolidate page seen base) = refl
+config_stays table (split page seen separator base) = refl
+config_stays table (term_add parent parent_seen child child_seen) = refl
+config_stays table (grow child seen base) = refl
+config_stays table (mark page seen parent) = refl
+config_stays table (merge left left_seen page seen) = refl
+config_stays table (term_delete parent parent_seen child child_seen) = refl
+
+pub config_kept : (old new : TableValue) (step : Proposal) (receipt : Receipt) → TakesStep old step receipt new → new.config ≡ old.config
+config_kept old new step receipt takes = ap (λ (t : TableValue). t.config) takes.leads ∙ config_stays old step

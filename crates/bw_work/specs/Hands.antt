@@ -1,0 +1,31 @@
+-- A worker's hand on a tree: its share of the book is the sum of its trail.
+use Rattle.std.specs.Prelude.{◌≡◌, List, [], ◌∷◌, ◌++◌, fold, refl}
+use Rattle.std.proofs.Common.{◌∙◌, ap, sym, append_assoc, append-nil}
+use Rattle.bw_keys.specs.declared.config.Config.{Config}
+use Rattle.bw_step.specs.declared.receipt.Receipt.{Receipt}
+use Rattle.bw_step.specs.declared.survey.Book.{Book}
+use Rattle.bw_tree.specs.Shares.{counted}
+use Rattle.bw_work.specs.declared.counts.Counts.{Counts}
+use Rattle.bw_work.specs.Seen.{Seen}
+
+-- nothing was counted
+abbrev pub no_counts : Counts
+no_counts = record { effort = 0; full = 0; tall = 0; worn = 0 }
+
+abbrev pub seen_of : Config → List Receipt → Counts → Seen
+seen_of config trail counts = record { config = config; trail = trail; effort = counts.effort; full = counts.full; tall = counts.tall; worn = counts.worn }
+
+-- the share rose by the receipts that were added to the trail: by one insertion with each Inserted, by one removal with each Deleted, and by
+-- nothing else
+abbrev pub Sums : List Receipt → Book → List Receipt → Book → Type 0
+Sums trail share later_trail later_share = (added : List Receipt) × (later_trail ≡ trail ++ added) × (later_share ≡ fold counted share added)
+
+fold_then : (a b c : Book) (xs ys : List Receipt) → b ≡ fold counted a xs → c ≡ fold counted b ys → c ≡ fold counted a (xs ++ ys)
+fold_then a b c [] ys p q = q ∙ ap (λ (share : Book). fold counted share ys) p
+fold_then a b c (x ∷ xs) ys p q = fold_then (counted a x) b c xs ys p q
+
+pub sums_stay : (trail : List Receipt) (share : Book) → Sums trail share trail share
+sums_stay trail share = ([], sym (append-nil trail), refl)
+
+pub sums_join : (x y z : List Receipt) (a b c : Book) → Sums x a y b → Sums y b z c → Sums x a z c
+sums_join x y z a b c p q = (p.0 ++ q.0, q.1 ∙ (ap (λ (l : List Receipt). l ++ q.0) p.1 ∙ append_assoc x p.0 q.0), fold_then a b c p.0 q.0 p.2 q.2)
