@@ -1,6 +1,6 @@
 -- How a row of a trace reads among the others.
 use Rattle.std.specs.Prelude.{ℕ, List, Result}
-use Rattle.bw_trace.specs.declared.row.Row.{Row}
+use Rattle.bw_run.specs.declared.row.Row.{Row}
 use Rattle.bw_trace.specs.declared.row.Part.{Part}
 use Rattle.bw_trace.specs.Reading.{Fields}
 use Rattle.bw_trace.specs.Rows.{row_of}

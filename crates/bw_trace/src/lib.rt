@@ -11,17 +11,19 @@ mod options;
 mod output;
 mod program;
 mod record;
+mod report;
 mod row;
 mod run_options;
 mod text;
 mod trace;
 
+pub use bw_run::{Act, Row};
 pub use fault::{OutFault, TextFault};
 pub use history::{History, MOST_HISTORY_ROWS, read_history};
 pub use made::make;
 pub use program::command;
 pub use record::write_history;
-pub use row::{Act, Part, Row};
+pub use row::Part;
 pub use trace::{MOST_TRACE_ROWS, read_trace, write_trace};
 
 #[cfg(test)]

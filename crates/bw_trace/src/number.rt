@@ -1,6 +1,6 @@
 //! Numbers and words as they stand in the fields of a row.
 
-ghost use Rattle.std.specs.Prelude.{◌≡◌, [], slice_index_or};
+ghost use Rattle.std.specs.Prelude.{◌≡◌, ◌<◌, [], IfSome, slice_index_or};
 ghost use Rattle.csv.specs.Records.{fields_of};
 ghost use Rattle.bw_trace.specs.Numbers.{number_of, worker_of};
 
@@ -30,7 +30,8 @@ pub(crate) fn number(text: &[u8]) -> Option<u64>
 
 /// The number of one of so many workers.
 pub(crate) fn worker(text: &[u8], workers: u32) -> Option<u32>
-    ensures { result ≡ worker_of workers text.now }
+    ensures reading { result ≡ worker_of workers text.now }
+    ensures below { IfSome result (λ worker. worker < workers) }
 {
     match u32::try_from(number(text)?) {
         Ok(worker) if worker < workers => Some(worker),

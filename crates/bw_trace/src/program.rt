@@ -8,16 +8,22 @@ use crate::fault::{OutFault, TextFault};
 use crate::history::read_history;
 use crate::made::make;
 use crate::options::{Field, commands, ranged};
+use crate::record::write_history;
+use crate::report::write_report;
 use crate::run_options::RunOptions;
-use crate::trace::{MOST_TRACE_ROWS, write_trace};
+use crate::trace::{MOST_TRACE_ROWS, read_trace, write_trace};
 use bw_audit::{AuditFault, Verdict, audit};
 use bw_delta::NoMemory;
 use bw_keys::MAX_WORKERS;
+use bw_run::{Finished, RunFault, run};
+use bw_work::Open;
 use clap::ArgMatches;
 use clap::error::ErrorKind;
 use std::alloc::{AllocError, Global};
 use std::io;
 use std::io::{Read, Write};
+use std::sync::Wait;
+use std::thread::Threads;
 use thiserror::Error;
 
 const DONE: u8 = 0;
@@ -43,6 +49,8 @@ enum Fault {
     Bad(Field),
     #[error(transparent)]
     Text(TextFault),
+    #[error(transparent)]
+    Run(RunFault),
     #[error("write")]
     Write,
     #[error("memory")]
@@ -55,8 +63,13 @@ impl Fault {
     {
         match self {
             Fault::Text(TextFault::Row(_, _) | TextFault::Read) | Fault::Write => BAD_INPUT,
-            Fault::Usage(_) | Fault::Bad(_) => BAD_USAGE,
-            Fault::Text(TextFault::Rows | TextFault::Memory) | Fault::Memory => AT_A_LIMIT,
+            Fault::Usage(_)
+            | Fault::Bad(_)
+            | Fault::Run(RunFault::Config(_) | RunFault::Workers | RunFault::Readers) => BAD_USAGE,
+            Fault::Run(RunFault::Audit(_, _)) => AUDIT_NO,
+            Fault::Text(TextFault::Rows | TextFault::Memory) | Fault::Run(_) | Fault::Memory => {
+                AT_A_LIMIT
+            }
         }
     }
 }
@@ -88,6 +101,12 @@ impl From<OutFault> for Fault {
             OutFault::Write => Fault::Write,
             OutFault::Memory => Fault::Memory,
         }
+    }
+}
+
+impl From<RunFault> for Fault {
+    fn from(fault: RunFault) -> Fault {
+        Fault::Run(fault)
     }
 }
 
@@ -124,9 +143,10 @@ impl From<io::Error> for Fault {
 /// | 0 | it is done, or help was asked for |
 /// | 1 | the input can't be read, or the output written |
 /// | 2 | the words are none of the program's, or a value is out of its range |
-/// | 3 | a limit was met, or memory was refused |
-/// | 4 | the history isn't legal |
-pub fn command<R: Read + Drop, W: Write, E: Write>(
+/// | 3 | a limit was met, memory was refused, or a worker gave up |
+/// | 4 | the history, or that of the run, isn't legal |
+pub fn command<T: Threads + Wait + Sync + Send + Copy, R: Read + Drop, W: Write, E: Write>(
+    rt: T,
     alloc: Global,
     words: &[&str],
     input: R,
@@ -135,14 +155,15 @@ pub fn command<R: Read + Drop, W: Write, E: Write>(
 ) -> u8
     ensures { result ≤ 4 }
 {
-    match obey(alloc, words, input, output) {
+    match obey(rt, alloc, words, input, output) {
         Ok(status) => status,
         Err(Fault::Usage(error)) => tell_usage(output, faults, &error),
         Err(fault) => tell(faults, &fault),
     }
 }
 
-fn obey<R: Read + Drop, W: Write>(
+fn obey<T: Threads + Wait + Sync + Send + Copy, R: Read + Drop, W: Write>(
+    rt: T,
     alloc: Global,
     words: &[&str],
     input: R,
@@ -152,7 +173,7 @@ fn obey<R: Read + Drop, W: Write>(
 {
     let matches = parse(alloc, words)?;
     match matches.subcommand() {
-        Some(("run", options)) => do_run(alloc, RunOptions::of(options)?, input, output),
+        Some(("run", options)) => do_run(rt, alloc, RunOptions::of(options)?, input, output),
         Some(("make", options)) => do_make(alloc, options, output),
         _ => do_check(alloc, input, output),
     }
@@ -167,18 +188,42 @@ fn parse<'a>(alloc: Global, words: &'a [&'a str]) -> Result<ArgMatches<'a>, clap
     }
 }
 
-/// There are no runs yet, so the word is answered as one that the program doesn't know.
-fn do_run<R: Read + Drop, W: Write>(
+/// Runs the trace that is read, and prints nothing of it before it came to its end.
+fn do_run<T: Threads + Wait + Sync + Send + Copy, R: Read + Drop, W: Write>(
+    rt: T,
     alloc: Global,
-    _options: RunOptions,
-    _input: R,
-    _output: &mut W,
+    options: RunOptions,
+    input: R,
+    output: &mut W,
 ) -> Result<u8, Fault>
     ensures { IfOk result (λ status. status ≤ 4) }
 {
-    let text = "unrecognized subcommand 'run'";
-    let error = commands(alloc)?.error(ErrorKind::InvalidSubcommand, text)?;
-    Err(Fault::Usage(error))
+    let rows = read_trace(alloc, input, options.workers)?;
+    match run(rt, alloc, options.config, options.workers, 0, &rows, &Open) {
+        Ok(finished) => print_run(alloc, options, output, &finished),
+        Err(RunFault::Audit(worker, receipt)) => {
+            print_verdict(output, Verdict::No(worker, receipt))
+        }
+        Err(fault) => Err(Fault::Run(fault)),
+    }
+}
+
+/// Prints the history of a run alone, where it is asked for, and otherwise what the run left.
+fn print_run<W: Write>(
+    alloc: Global,
+    options: RunOptions,
+    output: &mut W,
+    finished: &Finished,
+) -> Result<u8, Fault>
+    ensures { IfOk result (λ status. status ≤ 4) }
+{
+    if options.history {
+        let pairs = finished.table.pairs(alloc)?;
+        write_history(output, &finished.trails, &pairs)?;
+        return Ok(DONE);
+    }
+    write_report(alloc, output, finished, options.replies)?;
+    print_verdict(output, Verdict::Yes)
 }
 
 fn do_make<W: Write>(alloc: Global, options: &ArgMatches, output: &mut W) -> Result<u8, Fault>
@@ -203,6 +248,12 @@ fn do_check<R: Read + Drop, W: Write>(alloc: Global, input: R, output: &mut W) -
     ensures { IfOk result (λ status. status ≤ 4) }
 {
     let verdict = check(alloc, input)?;
+    print_verdict(output, verdict)
+}
+
+fn print_verdict<W: Write>(output: &mut W, verdict: Verdict) -> Result<u8, Fault>
+    ensures { IfOk result (λ status. status ≤ 4) }
+{
     write_verdict(output, verdict)?;
     output.flush()?;
     match verdict {

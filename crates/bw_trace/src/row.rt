@@ -1,31 +1,14 @@
 //! The rows of a trace.
 
-ghost use Rattle.std.specs.Prelude.{◌≡◌};
+ghost use Rattle.std.specs.Prelude.{◌≡◌, ◌<◌, IfOk};
 ghost use Rattle.csv.specs.Records.{fields_of};
 ghost use Rattle.bw_trace.specs.Rows.{act_of, op_of, row_of, row_of_fields};
 
 use crate::number::{field, number, worker};
 use bw_keys::Key;
+use bw_run::{Act, Row};
 use csv::ByteRecord;
 use std::fmt;
-
-/// What a row of a trace asks a worker to do.
-#[derive(Clone, Copy, Debug, PartialEq, Eq, Hash)]
-pub enum Act {
-    /// Give the key the value, if it has none.
-    Put { key: Key, value: u64 },
-    /// Say what the key has.
-    Get { key: Key },
-    /// Take the key out.
-    Delete { key: Key },
-}
-
-/// A row of a trace: what one worker is to do.
-#[derive(Clone, Copy, Debug, PartialEq, Eq, Hash)]
-pub struct Row {
-    pub worker: u32,
-    pub act: Act,
-}
 
 /// The parts of a row, in the order in which they are read. The first that can't be read names the
 /// fault.
@@ -53,7 +36,8 @@ impl fmt::Display for Part {
 
 /// The row that a record of four fields writes, or its first faulty part.
 pub(crate) fn read_row(fields: &ByteRecord, workers: u32) -> Result<Row, Part>
-    ensures { result ≡ row_of workers (fields_of fields.now) }
+    ensures reading { result ≡ row_of workers (fields_of fields.now) }
+    ensures worker { IfOk result (λ row. row.worker < workers) }
 {
     if fields.len() != 4 {
         return Err(Part::Fields);
@@ -68,7 +52,8 @@ pub(crate) fn read_row(fields: &ByteRecord, workers: u32) -> Result<Row, Part>
 }
 
 fn read_fields(workers: u32, first: &[u8], op: &[u8], key: &[u8], value: &[u8]) -> Result<Row, Part>
-    ensures { result ≡ row_of_fields workers first.now op.now key.now value.now }
+    ensures reading { result ≡ row_of_fields workers first.now op.now key.now value.now }
+    ensures worker { IfOk result (λ row. row.worker < workers) }
 {
     let worker = worker(first, workers).ok_or(Part::Worker)?;
     let op = read_op(op).ok_or(Part::Op)?;

@@ -60,11 +60,9 @@ const NUMBERS: [(&str, &str, &str); 6] = [
     ("readers", "0", "Readers without the lock, none yet"),
 ];
 
-/// The command `run` with its options and defaults, which no help shows before there are runs.
+/// The command `run` with its options and defaults.
 pub(crate) fn run_command<'a>(alloc: Global) -> Result<Command<'a>, AllocError> {
-    let mut run = Command::new(alloc, "run")
-        .about("Runs the trace on standard input")
-        .hide(true);
+    let mut run = Command::new(alloc, "run").about("Runs the trace on standard input");
     for (name, default, help) in NUMBERS {
         run = run.arg(option(alloc, name, default, help))?;
     }

@@ -3,16 +3,19 @@
 mod failing;
 mod histories;
 mod lines;
+mod ran;
 mod runs;
 mod traces;
 
 use crate::command;
 use std::process::Abort;
+use std::sync::Wait;
 use std::test::Fail;
+use std::thread::Threads;
 
 /// Gives the words and the input to the program, and compares all that it answers.
-fn ends(
-    rt: &(impl Abort + AllocGlobal),
+fn ends<R: Abort + AllocGlobal + Threads + Wait + Sync + Send + Copy>(
+    rt: &R,
     words: &[&str],
     input: &str,
     wanted: (u8, &str, &str),
@@ -21,7 +24,7 @@ fn ends(
     let (status, output, faults) = wanted;
     let mut written = Vec::new(alloc);
     let mut told = Vec::new(alloc);
-    let answer = command(alloc, words, input.as_bytes(), &mut written, &mut told);
+    let answer = command(*rt, alloc, words, input.as_bytes(), &mut written, &mut told);
     assert_eq!(rt; std::str::from_utf8(told.as_slice())?, faults);
     assert_eq!(rt; std::str::from_utf8(written.as_slice())?, output);
     assert_eq!(rt; answer, status);

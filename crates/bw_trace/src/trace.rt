@@ -1,6 +1,7 @@
 //! Reading and writing of traces.
 
-ghost use Rattle.std.specs.Prelude.{◌≡◌, ◌≤◌, IfErr, IfOk, List, OnOk, Some, length, ℕ};
+ghost use Rattle.std.specs.Prelude.{◌≡◌, ◌<◌, ◌≤◌, IfErr, IfOk, List, OnOk, Some, length, ℕ};
+ghost use Rattle.std.specs.List.{AllByRecursion};
 ghost use Rattle.std.specs.Io.KnownBytes.{Appends};
 ghost use Rattle.csv.specs.Writing.{row_text, text_written};
 ghost use Rattle.bw_trace.specs.Reading.{ExplainsFault, IsReadAs};
@@ -9,8 +10,9 @@ ghost use Rattle.bw_trace.specs.Written.{IsBetween, fields_of_row, flexible_writ
 
 use crate::fault::{OutFault, TextFault};
 use crate::output::{finish, put_record, start};
-use crate::row::{Act, Row, read_row};
+use crate::row::read_row;
 use crate::text::{next_record, open};
+use bw_run::{Act, Row};
 use csv::{ByteRecord, Writer};
 use itoa::Buffer;
 use std::alloc::Global;
@@ -28,6 +30,7 @@ pub fn read_trace<R: Read + Drop>(
     workers: u32,
 ) -> Result<Vec<Row>, TextFault>
     ensures rows { IfOk result (λ rows. (bytes : List ℕ) → R.remaining input ≡ Some bytes → IsReadAs (trace_row workers) bytes rows.items) }
+    ensures workers { IfOk result (λ rows. AllByRecursion (λ row. row.worker < workers) rows.items) }
     ensures few { IfOk result (λ rows. length rows.items ≤ MOST_TRACE_ROWS) }
     ensures fault { IfErr result (λ fault. (bytes : List ℕ) → R.remaining input ≡ Some bytes → ExplainsFault (trace_row workers) MOST_TRACE_ROWS bytes fault) }
 {

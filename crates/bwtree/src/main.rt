@@ -24,6 +24,7 @@ fn main(rt: HostRuntime) -> io::Result<ExitCode> {
         .map(|word| word.as_str())
         .collect(alloc)?;
     let status = command(
+        rt,
         alloc,
         &words,
         rt.stdin(),

@@ -59,7 +59,7 @@ fn a_program_that_cannot_read_prints_nothing(rt: HostRuntime) -> Result<(), Fail
         let mut written = Vec::new(rt.alloc());
         let mut told = Vec::new(rt.alloc());
         let input = Failing { text, before };
-        let status = command(rt.alloc(), &["check"], input, &mut written, &mut told);
+        let status = command(rt, rt.alloc(), &["check"], input, &mut written, &mut told);
         let wanted = if status == 0 {
             ("audit yes\n", "")
         } else {
@@ -143,7 +143,7 @@ fn a_program_that_cannot_write_says_so(rt: HostRuntime) -> Result<(), Fail> {
         for before in 0..1000 {
             let mut full = Full::new(rt.alloc(), before);
             let mut told = Vec::new(rt.alloc());
-            last = command(rt.alloc(), words, b"".as_slice(), &mut full, &mut told);
+            last = command(rt, rt.alloc(), words, b"".as_slice(), &mut full, &mut told);
             let line = if last == 0 { "" } else { "bwtree: write\n" };
             assert!(rt; last <= 1);
             assert_eq!(rt; std::str::from_utf8(&told)?, line);

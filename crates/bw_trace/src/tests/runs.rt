@@ -1,4 +1,3 @@
-use super::ends;
 use super::failing::Failing;
 use crate::command;
 use crate::options::commands;
@@ -6,17 +5,23 @@ use crate::run_options::RunOptions;
 use bw_keys::Config;
 use std::alloc::Global;
 use std::process::Abort;
+use std::sync::Wait;
 use std::test::Fail;
+use std::thread::Threads;
 
 /// Gives the words to the program, with an input that can't be read, and compares the fault line.
-fn is_refused(rt: &(impl Abort + AllocGlobal), words: &[&str], line: &str) -> Result<(), Fail> {
+fn is_refused<R: Abort + AllocGlobal + Threads + Wait + Sync + Send + Copy>(
+    rt: &R,
+    words: &[&str],
+    line: &str,
+) -> Result<(), Fail> {
     let mut written = Vec::new(rt.alloc());
     let mut told = Vec::new(rt.alloc());
     let input = Failing {
         text: b"".as_slice(),
         before: 0,
     };
-    let status = command(rt.alloc(), words, input, &mut written, &mut told);
+    let status = command(*rt, rt.alloc(), words, input, &mut written, &mut told);
     assert_eq!(rt; std::str::from_utf8(told.as_slice())?, line);
     assert!(rt; written.is_empty());
     assert_eq!(rt; status, 2);
@@ -122,12 +127,4 @@ fn options_of_run_are_read(rt: HostRuntime) {
         "--history",
     ];
     assert_eq!(rt; asked(alloc, &words), Some(small));
-}
-
-#[test]
-fn a_run_is_no_command_yet(rt: HostRuntime) -> Result<(), Fail> {
-    let text =
-        "error: unrecognized subcommand 'run'\n\nUsage: bwtree <COMMAND>\n\nFor more information, try '--help'.\n";
-    ends(&rt, &["run"], "", (2, "", text))?;
-    ends(&rt, &[], "", (2, "", text))
 }

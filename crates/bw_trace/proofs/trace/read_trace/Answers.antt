@@ -1,6 +1,8 @@
-use Rattle.std.proofs.Common.{◌≡◌, rules, sym, arith, true}
+use Rattle.std.proofs.Common.{◌≡◌, ◌<◌, rules, sym, arith, true}
 use Rattle.std.specs.Result.{is_ok}
 use Rattle.csv.specs.Records.{fields_of}
+use Rattle.bw_audit.proofs.Adding.{all-snoc}
+use Rattle.bw_run.specs.declared.row.Row.{Row}
 use Rattle.bw_trace.specs.Traces.{trace_row}
 use Rattle.bw_trace.proofs.RowsRead.{row_read, all_read, row_faulty, row_past}
 use Rattle.bw_trace.proofs.trace.read_trace.Goals as goal
@@ -14,7 +16,7 @@ pub returns-in-Err-clause-fault : goal.returns-in-Err-clause-fault
 returns-in-Err-clause-fault g c = λ bytes known.
     let l = c.loop-done in
     row_faulty g.R.Read.remaining l.reader c.next_record.new.reader (trace_row c.args.workers) bytes l.rows.items (fields_of c.next_record.new.row) l.done c.in-Err.part
-    (l.invariant.read bytes known) (c.in_ok-next_record.ensures.more c.if-not-branch.false) c.in-Err.ensures (sym l.invariant.count)
+    (l.invariant.read bytes known) (c.in_ok-next_record.ensures.more c.if-not-branch.false) c.in-Err.ensures.reading (sym l.invariant.count)
 
 pub loop-done-preserved : goal.loop-done-preserved
 loop-done-preserved g c =
@@ -23,9 +25,10 @@ loop-done-preserved g c =
     let items = rw done at c.push.ensures.items in
     record {
       fresh = search rules;
+      workers = rw items (all-snoc (λ (row : Row). row.worker < c.args.workers) l.rows.items c.in-Ok.row l.invariant.workers c.in-Ok.ensures.worker);
       count = search rules;
       read = λ bytes known. rw items (row_read g.R.Read.remaining l.reader c.next_record.new.reader (trace_row c.args.workers) bytes l.rows.items (fields_of c.next_record.new.row) c.in-Ok.row
-          (l.invariant.read bytes known) (c.in_ok-next_record.ensures.more c.if-not-branch.false) c.in-Ok.ensures);
+          (l.invariant.read bytes known) (c.in_ok-next_record.ensures.more c.if-not-branch.false) c.in-Ok.ensures.reading);
     }
 
 pub returns-then-branch-clause-fault : goal.returns-then-branch-clause-fault

@@ -1,4 +1,5 @@
-use Rattle.std.proofs.Common.{◌≡◌, ℕ, List, Some, length}
+use Rattle.std.proofs.Common.{◌≡◌, ◌<◌, ℕ, List, Some, length}
+use Rattle.std.specs.List.{AllByRecursion}
 use Rattle.bw_trace.specs.Reading.{HasReadAs, IsOpen}
 use Rattle.bw_trace.specs.Traces.{trace_row}
 use Rattle.bw_trace.proofs.trace.read_trace.Given as goal
@@ -6,6 +7,7 @@ use Rattle.bw_trace.proofs.trace.read_trace.Given as goal
 abbrev pub invariant-loop-done : goal.invariant-loop-done
 invariant-loop-done g l = record {
   fresh : IsOpen l.reader;
+  workers : AllByRecursion (λ row. row.worker < l.workers) l.rows.items;
   count : length l.rows.items ≡ l.done;
   read : (bytes : List ℕ) → g.R.Read.remaining l.fn.input ≡ Some bytes
       → HasReadAs g.R.Read.remaining l.reader (trace_row l.fn.workers) bytes l.rows.items;

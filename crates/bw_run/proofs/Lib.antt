@@ -1,0 +1,7 @@
+pub mod Receipts
+pub mod Plans
+pub mod Merges
+pub mod Gatherings
+pub mod Verdicts
+pub mod Numbers
+pub mod Runs

@@ -1,0 +1,12 @@
+use Rattle.std.proofs.Common.{◌≡◌, ◌≤◌, Some, length, map, vec_len}
+use Rattle.std.specs.Prelude.{vec_capacity}
+use Rattle.bw_run.specs.Told.{answers, tellings}
+use Rattle.bw_run.proofs.acts.do_acts.Given as goal
+
+abbrev pub invariant-loop-act : goal.invariant-loop-act
+invariant-loop-act g l = record {
+  follows : g.S.Steps.follows l.fn.steps l.steps;
+  told : map Some (tellings (g.S.Steps.seen l.steps).trail) ≡ answers l.acts l.replies.items;
+  count : vec_len l.replies ≡ l.act-index;
+  room : length l.acts ≤ vec_capacity l.replies;
+}

@@ -1,0 +1,46 @@
+use Rattle.std.proofs.Common.{◌≡◌, ◌∷◌, ◌++◌, ◌+◌, ℕ, List, [], ◌∙◌, ap, sym, drop, take, get_or, length, map, arith, length-take-le, length-append}
+use Rattle.std.proofs.lemmas.List.{drop_more, take_more}
+use Rattle.bw_run.specs.declared.row.Act.TheVariants as acts
+use Rattle.bw_run.specs.declared.row.Row.{Row}
+use Rattle.bw_run.specs.Rows.{acts_of, told_to}
+use Rattle.bw_run.specs.Told.{answers}
+use Rattle.bw_run.proofs.Merges.{told_step, full_step, own_act}
+use Rattle.bw_run.proofs.merging.merge.Goals as goal
+
+pub take_reply-requires : goal.take_reply-requires
+take_reply-requires c =
+    let d : Row = record { worker = 0; act = acts.Put 0 0 } in
+    let place = c.loop-row.row-index in
+    let row : Row = get_or c.args.rows.now place d in
+    let split : drop place c.args.rows.now ≡ row ∷ drop (place + 1) c.args.rows.now = drop_more c.args.rows.now place d c.loop-row-test.true in
+    let own = (rw split at c.loop-row.invariant.workers).0 in
+    let full = c.loop-row.invariant.full row.worker own ∙ ap (λ (rest : List Row). length (acts_of row.worker rest)) split in
+    record { within = own; some = omega (arith, full, own_act row (drop (place + 1) c.args.rows.now)) }
+
+pub loop-row-preserved : goal.loop-row-preserved
+loop-row-preserved c =
+    let d : Row = record { worker = 0; act = acts.Put 0 0 } in
+    let rows : List Row = c.args.rows.now in
+    let place = c.loop-row.row-index in
+    let row : Row = get_or rows place d in
+    let rest : List Row = drop (place + 1) rows in
+    let split : drop place rows ≡ row ∷ rest = drop_more rows place d c.loop-row-test.true in
+    let more : take (place + 1) rows ≡ take place rows ++ row ∷ [] = take_more rows place d c.loop-row-test.true in
+    let inv = c.loop-row.invariant in
+    let own = rw split at inv.workers in
+    let count = c.take_reply.ensures.count in
+    let same : length c.loop-row.merged.items ≡ length (take place rows) = inv.count ∙ sym (length-take-le place rows (omega arith)) in
+    let here = λ (worker : ℕ). get_or (map (λ column. column.rest.items) c.loop-row.columns.items) worker [] in
+    let left = λ (worker : ℕ). get_or (map (λ column. column.rest.items) c.take_reply.new.columns.items) worker [] in
+    record {
+      count = ap length c.in_ok-push.ensures.items ∙ omega (arith, inv.count, length-append c.loop-row.merged.items (c.take_reply.result ∷ []));
+      workers = rw count own.1;
+      same = count ∙ inv.same;
+      full = λ worker inside.
+          full_step worker row rest c.take_reply.result (here worker) (left worker) (c.take_reply.ensures.taken worker)
+          (inv.full worker (omega (arith, inside, count)) ∙ ap (λ (rs : List Row). length (acts_of worker rs)) split);
+      told = λ worker inside.
+          rw (more, c.in_ok-push.ensures.items)
+          (told_step worker (take place rows) row rest c.loop-row.merged.items c.take_reply.result (here worker) (left worker) same (c.take_reply.ensures.taken worker)
+          ∙ (ap (λ (rs : List Row). told_to worker (take place rows) c.loop-row.merged.items ++ answers (acts_of worker rs) (here worker)) (sym split) ∙ inv.told worker (omega (arith, inside, count))));
+    }

@@ -1,0 +1,21 @@
+use Rattle.std.proofs.Common.{◌≡◌, ◌∷◌, ◌++◌, ◌+◌, List, [], ◌∙◌, ap, sym, drop, get_or, map}
+use Rattle.std.proofs.lemmas.List.{drop_more}
+use Rattle.bw_run.specs.declared.row.Act.TheVariants as acts
+use Rattle.bw_run.specs.declared.row.Row.{Row}
+use Rattle.bw_run.specs.Rows.{acts_of}
+use Rattle.bw_run.proofs.Plans.{plan_step}
+use Rattle.bw_run.proofs.plan.share_out.Goals as goal
+
+pub loop-row-preserved : goal.loop-row-preserved
+loop-row-preserved c =
+    let d : Row = record { worker = 0; act = acts.Put 0 0 } in
+    let row : Row = get_or c.args.rows.now c.loop-row.row-index d in
+    let split : drop c.loop-row.row-index c.args.rows.now ≡ row ∷ drop (c.loop-row.row-index + 1) c.args.rows.now = drop_more c.args.rows.now c.loop-row.row-index d c.loop-row-test.true in
+    let own = rw split at c.loop-row.invariant.own in
+    record {
+      count = c.add_act.ensures.count ∙ c.loop-row.invariant.count;
+      own = own.1;
+      planned = λ worker.
+          plan_step (map (λ acts. acts.items) c.loop-row.plan.items) (map (λ acts. acts.items) c.add_act.new.plan.items) row (drop (c.loop-row.row-index + 1) c.args.rows.now) c.in_ok-add_act.ensures.added worker
+          ∙ (ap (λ (rest : List Row). get_or (map (λ acts. acts.items) c.loop-row.plan.items) worker [] ++ acts_of worker rest) (sym split) ∙ c.loop-row.invariant.planned worker);
+    }

@@ -1,0 +1,5 @@
+pub mod Told
+pub mod Rows
+pub mod Counts
+pub mod Faults
+pub mod Runs

@@ -1,0 +1,55 @@
+//! Why a run has no end to show.
+
+ghost use Rattle.std.specs.Prelude.{◌≡◌};
+ghost use Rattle.bw_run.specs.declared.fault.RunFault.TheVariants as run_fault;
+
+use bw_delta::NoMemory;
+use bw_keys::BadConfig;
+use bw_work::Fault;
+use std::alloc::AllocFailed;
+use thiserror::Error;
+
+/// Why a run has no end to show. The first three are found before any worker starts, in this order.
+#[derive(Clone, Copy, Debug, PartialEq, Eq, Hash, Error)]
+pub enum RunFault {
+    /// A field of the configuration is out of its range.
+    #[error("{0}")]
+    Config(BadConfig),
+    /// There are no workers, or more than `MAX_WORKERS`.
+    #[error("bad workers")]
+    Workers,
+    /// There are more readers than there can be, which is none so far.
+    #[error("bad readers")]
+    Readers,
+    /// A reader found no way in.
+    #[error("reader")]
+    NoReader,
+    /// A worker's thread couldn't be started.
+    #[error("threads")]
+    Threads,
+    #[error("memory")]
+    Memory,
+    /// A worker, by its number, gave up at a row of the trace, counted from 1. Of several that gave
+    /// up it is the one with the least number.
+    #[error("worker {0} row {1}: {2}")]
+    Stopped(usize, usize, Fault),
+    /// The receipts have no order that explains them: see [`Verdict::No`](bw_audit::Verdict::No).
+    #[error("audit no {0} {1}")]
+    Audit(usize, usize),
+}
+
+impl From<NoMemory> for RunFault {
+    ghost from_gives = { λ _ fault. fault ≡ run_fault.Memory };
+
+    fn from(_: NoMemory) -> RunFault {
+        RunFault::Memory
+    }
+}
+
+impl<T: Drop> From<AllocFailed<T>> for RunFault {
+    ghost from_gives = { λ _ fault. fault ≡ run_fault.Memory };
+
+    fn from(_: AllocFailed<T>) -> RunFault {
+        RunFault::Memory
+    }
+}

@@ -1,0 +1,83 @@
+//! What the workers bring back, gathered.
+
+ghost use Rattle.std.specs.Prelude.{◌≡◌, ◌-◌, ◌<◌, ℕ, [], Some, IfOk, IfErr, length, map, sum_by, take, slice_index_or};
+ghost use Rattle.bw_tree.specs.Shares.{book_of, sum_of};
+ghost use Rattle.bw_run.specs.Counts.{insertions, removals};
+ghost use Rattle.bw_run.specs.Faults.{StopsWithin};
+ghost use Rattle.bw_run.specs.Rows.{ArePlanned, AreAnswered, IsRowOf, acts_of};
+
+use crate::fault::RunFault;
+use crate::job::Worked;
+use crate::reply::Reply;
+use crate::row::Row;
+use bw_step::Receipt;
+use bw_tree::Share;
+use std::alloc::Global;
+use std::sync::ledger::Ledger;
+
+/// The shares, replies and trails of all workers, by the workers' numbers.
+#[derive(Drop)]
+pub(crate) struct Gathered<I: Ledger, D: Ledger> {
+    pub shares: Vec<Share<I, D>>,
+    pub replies: Vec<Vec<Reply>>,
+    pub trails: Vec<Vec<Receipt>>,
+}
+
+/// Gathers what all workers did. Where some of them stopped, the fault is that of the least number.
+pub(crate) fn gather<I: Ledger, D: Ledger>(
+    machine: Global,
+    rows: &[Row],
+    all: Vec<Worked<I, D>>,
+) -> Result<Gathered<I, D>, RunFault>
+    requires { ArePlanned (map (λ worked. worked.acts.items) all.items) rows.now }
+    ensures shares { IfOk result (λ gathered. length gathered.shares.items ≡ length all.items) }
+    ensures replies { IfOk result (λ gathered. length gathered.replies.items ≡ length all.items) }
+    ensures trails { IfOk result (λ gathered. length gathered.trails.items ≡ length all.items) }
+    ensures answered { IfOk result (λ gathered. AreAnswered rows.now (map (λ column. column.items) gathered.replies.items) (map (λ trail. trail.items) gathered.trails.items)) }
+    ensures sums { IfOk result (λ gathered. sum_of gathered.shares.items ≡ book_of (sum_by insertions (map (λ trail. trail.items) gathered.trails.items)) (sum_by removals (map (λ trail. trail.items) gathered.trails.items))) }
+    ensures fault { IfErr result (StopsWithin (length all.items) rows.now) }
+{
+    let mut shares = Vec::new(machine);
+    let mut columns = Vec::new(machine);
+    let mut trails = Vec::new(machine);
+    for worked in all {
+        let Worked {
+            share,
+            replies,
+            trail,
+            stop,
+            ..
+        } = worked;
+        if let Some(fault) = stop {
+            let worker = trails.len();
+            let number = row_number(rows, worker, replies.len());
+            return Err(RunFault::Stopped(worker, number, fault));
+        }
+        shares.push(share)?;
+        columns.push(replies)?;
+        trails.push(trail)?;
+    }
+    Ok(Gathered {
+        shares,
+        replies: columns,
+        trails,
+    })
+}
+
+/// The number, counted from 1, of the worker's row that comes after so many others of its rows.
+fn row_number(rows: &[Row], worker: usize, before: usize) -> usize
+    requires { before < length (acts_of worker rows.now) }
+    ensures own { IsRowOf rows.now worker result }
+    ensures before { length (acts_of worker (take (result - 1) rows.now)) ≡ before }
+{
+    let mut left = before;
+    for place in 0..rows.len() {
+        if rows[place].worker as usize == worker {
+            if left == 0 {
+                return place + 1;
+            }
+            left -= 1;
+        }
+    }
+    unreachable!()
+}

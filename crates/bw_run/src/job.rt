@@ -1,0 +1,102 @@
+//! What a worker is given, and what it brings back.
+
+ghost use Rattle.std.specs.Prelude.{◌≡◌, ◌+◌, ◌<◌, ◌≤◌, [], Some, IfOk, All, fold, length, map, vec_len, vec_capacity};
+ghost use Rattle.std.specs.Option.{ForNone, ForSome};
+ghost use Rattle.bw_tree.specs.Shares.{no_changes, counted};
+ghost use Rattle.bw_run.specs.Told.{answers, tellings};
+
+use crate::acts::do_acts;
+use crate::reply::Reply;
+use crate::row::Act;
+use bw_delta::NoMemory;
+use bw_step::{Receipt, Step};
+use bw_tree::{Share, Shared};
+use bw_work::{Fault, Gate, Hand};
+use std::alloc::Global;
+use std::sync::ledger::Ledger;
+
+/// What a worker is to do, its share of a tree in which it has changed nothing yet, and room for its
+/// replies.
+#[derive(Drop)]
+pub(crate) struct Job<I: Ledger, D: Ledger> {
+    pub worker: u32,
+    pub share: Share<I, D>,
+    pub acts: Vec<Act>,
+    pub replies: Vec<Reply>,
+    ghost new: { share ≡ no_changes },
+    ghost empty: { replies.items ≡ [] },
+    ghost room: { vec_len acts ≤ vec_capacity replies },
+}
+
+/// What a worker did: a reply to each of its acts, or, where a fault stopped it, to those before the
+/// one that it gave up. Its trail tells of these acts alone, and its share is the sum of its trail.
+#[derive(Drop)]
+pub(crate) struct Worked<I: Ledger, D: Ledger> {
+    pub share: Share<I, D>,
+    pub acts: Vec<Act>,
+    pub replies: Vec<Reply>,
+    pub trail: Vec<Receipt>,
+    pub stop: Option<Fault>,
+    ghost counted: { share ≡ fold counted no_changes trail.items },
+    ghost told: { map Some (tellings trail.items) ≡ answers acts.items replies.items },
+    ghost all: { ForNone stop (length replies.items ≡ length acts.items) },
+    ghost stopped: { ForSome stop (λ _. length replies.items < length acts.items) },
+}
+
+/// A job for each worker, by the workers' numbers.
+pub(crate) fn jobs_of<I: Ledger, D: Ledger>(
+    machine: Global,
+    workers: u32,
+    plan: Vec<Vec<Act>>,
+    shares: Vec<Share<I, D>>,
+) -> Result<Vec<Job<I, D>>, NoMemory>
+    requires plan { length plan.items ≡ workers }
+    requires shares { length shares.items ≡ workers }
+    requires new { All (λ share. share ≡ no_changes) shares.items }
+    ensures { IfOk result (λ jobs. map (λ job. job.acts.items) jobs.items ≡ map (λ acts. acts.items) plan.items) }
+{
+    let mut shares = shares;
+    let mut jobs = Vec::with_capacity(machine, plan.len())?;
+    let mut worker = 0;
+    for acts in plan {
+        let Some(share) = shares.pop() else {
+            unreachable!()
+        };
+        let replies = Vec::with_capacity(machine, acts.len())?;
+        jobs.push(Job {
+            worker,
+            share,
+            acts,
+            replies,
+        })?;
+        worker += 1;
+    }
+    Ok(jobs)
+}
+
+/// Does a job with a hand of its own on the shared tree.
+pub(crate) fn work<S: Shared<Global, Step<Global>>, G: Gate>(
+    machine: Global,
+    tree: &S,
+    gate: &G,
+    job: Job<S::Insertions, S::Removals>,
+) -> Worked<S::Insertions, S::Removals>
+    ensures { result.acts.items ≡ job.acts.items }
+{
+    let Job {
+        worker,
+        share,
+        acts,
+        mut replies,
+    } = job;
+    let mut hand = Hand::new(machine, machine, tree, share, worker, gate);
+    let stop = do_acts(&mut hand, &acts, &mut replies).err();
+    let (share, trail) = hand.finish();
+    Worked {
+        share,
+        acts,
+        replies,
+        trail,
+        stop,
+    }
+}
