@@ -17,3 +17,4 @@ pub mod Inserts
 pub mod Fronts
 pub mod Merges
 pub mod Settles
+pub mod Reaches

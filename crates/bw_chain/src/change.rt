@@ -1,4 +1,5 @@
 ghost use Rattle.std.specs.Prelude.{◌≡◌};
+ghost use Rattle.bw_chain.specs.Deciding.{decides};
 
 use bw_keys::Key;
 
@@ -13,4 +14,18 @@ pub(crate) enum Change<X> {
     Below(Key),
     /// The record is of no concern to these entries.
     Nothing,
+}
+
+impl<X: Copy> Change<X> {
+    /// Whether it tells what stands at the key, whatever stood there.
+    pub(crate) fn decides(self, key: Key) -> bool
+        ensures { result ≡ decides key self }
+    {
+        match self {
+            Change::Put(put, _) => put == key,
+            Change::Without(gone) => gone == key,
+            Change::Below(bound) => bound <= key,
+            Change::Nothing => false,
+        }
+    }
 }

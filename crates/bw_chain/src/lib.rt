@@ -18,6 +18,7 @@ mod halving;
 mod listed;
 mod pass;
 pub mod plain;
+mod reach;
 mod search;
 mod separator;
 mod shape;
