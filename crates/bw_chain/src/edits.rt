@@ -1,12 +1,11 @@
-//! What records say of keys: gathered on the way down a chain, and settled at a base page, where the
-//! newest record of each key is kept.
+//! The newest record for each key, gathered on the way down a chain.
 
 ghost use Rattle.std.specs.Prelude.{◌≡◌, ◌≤◌, ◌+◌, ◌-◌, ◌<◌, true, false, List, ℕ, [], ◌∷◌, ◌++◌, length, take, drop, insert};
 ghost use Rattle.bw_keys.specs.Ranges.{end_of, key_count};
 ghost use Rattle.bw_delta.specs.Entries.{below, from};
 ghost use Rattle.bw_chain.specs.Ascends.{IsAscending};
 ghost use Rattle.bw_chain.specs.Changes.{changed};
-ghost use Rattle.bw_chain.specs.Edited.{edited_at, edited_below, falls, noted, settled};
+ghost use Rattle.bw_chain.specs.Edited.{edited_at, edited_below, falls, noted};
 ghost use Rattle.bw_chain.specs.Cuts.{IsUncut};
 ghost use Rattle.smallvec.specs.SmallVec.{HasRoomFor, small_vec_len};
 
@@ -15,7 +14,8 @@ use bw_keys::{Fence, Key};
 use smallvec::SmallVec;
 use std::alloc::Allocator;
 
-/// What records say of keys, the newest record first: the key's value, or that it has none. No
+/// What the newest record for each key says, the greatest key first: the key's value, or that it
+/// has none. No
 /// path of a chain has more records than lie inline, so the allocator is never asked.
 pub(crate) type Edits<'a, X, A> = SmallVec<(Key, Option<X>), 64, &'a A>;
 
@@ -28,11 +28,11 @@ pub(crate) fn note_change<A: Allocator + Copy, X: Copy>(
 )
     requires uncut { IsUncut (end_of end) change }
     requires among { end_of end ≤ key_count }
-    requires falling { falls 0 key_count (settled edits.old.items) ≡ true }
+    requires falling { falls 0 key_count edits.old.items ≡ true }
     requires room { HasRoomFor edits.old 1 }
-    ensures noted { (es : List (ℕ × X)) → IsAscending es → edited_below (end_of end) (settled edits.new.items) es ≡ edited_below (end_of end) (settled edits.old.items) (changed change es) }
-    ensures others { from (end_of end) (settled edits.new.items) ≡ from (end_of end) (settled edits.old.items) }
-    ensures falling { falls 0 key_count (settled edits.new.items) ≡ true }
+    ensures noted { (es : List (ℕ × X)) → IsAscending es → edited_below (end_of end) edits.new.items es ≡ edited_below (end_of end) edits.old.items (changed change es) }
+    ensures others { from (end_of end) edits.new.items ≡ from (end_of end) edits.old.items }
+    ensures falling { falls 0 key_count edits.new.items ≡ true }
     ensures one_more { small_vec_len edits.new ≤ small_vec_len edits.old + 1 }
     ensures capacity { edits.new.capacity ≡ edits.old.capacity }
 {
@@ -53,48 +53,37 @@ fn note_below<A: Allocator + Copy, X: Copy>(
     edit: Option<X>,
 )
     requires among { end_of end ≤ key_count }
-    requires falling { falls 0 key_count (settled edits.old.items) ≡ true }
+    requires falling { falls 0 key_count edits.old.items ≡ true }
     requires room { HasRoomFor edits.old 1 }
-    ensures noted { (es : List (ℕ × X)) → IsAscending es → edited_below (end_of end) (settled edits.new.items) es ≡ edited_below (end_of end) (settled edits.old.items) (edited_at key edit es) }
-    ensures others { from (end_of end) (settled edits.new.items) ≡ from (end_of end) (settled edits.old.items) }
-    ensures falling { falls 0 key_count (settled edits.new.items) ≡ true }
+    ensures noted { (es : List (ℕ × X)) → IsAscending es → edited_below (end_of end) edits.new.items es ≡ edited_below (end_of end) edits.old.items (edited_at key edit es) }
+    ensures others { from (end_of end) edits.new.items ≡ from (end_of end) edits.old.items }
+    ensures falling { falls 0 key_count edits.new.items ≡ true }
     ensures one_more { small_vec_len edits.new ≤ small_vec_len edits.old + 1 }
     ensures capacity { edits.new.capacity ≡ edits.old.capacity }
 {
     if end.is_above(key) {
-        edits.push_reserved((key, edit));
+        note(edits, key, edit);
     }
 }
 
-/// Leaves the newest edit of each key, the greatest key first.
+/// Notes an edit of the key, unless a newer one was noted. The greatest key stays first.
 #[inline(always)]
-pub(crate) fn settle<A: Allocator + Copy, X: Copy>(edits: &mut Edits<'_, X, A>)
-    ensures items { edits.new.items ≡ settled edits.old.items }
+fn note<A: Allocator + Copy, X: Copy>(edits: &mut Edits<'_, X, A>, key: Key, edit: Option<X>)
+    requires falling { falls 0 key_count edits.old.items ≡ true }
+    requires room { HasRoomFor edits.old 1 }
+    ensures items { edits.new.items ≡ noted key edit edits.old.items }
     ensures capacity { edits.new.capacity ≡ edits.old.capacity }
 {
-    let count = settle_front(edits.as_mut_slice());
-    edits.truncate(count);
-}
-
-/// Moves the newest edit of each key to the front, the greatest key first, and counts them.
-#[inline(always)]
-fn settle_front<X: Copy>(edits: &mut [(Key, X)]) -> usize
-    ensures within { result ≤ length edits.new }
-    ensures as_many { length edits.new ≡ length edits.old }
-    ensures front { take result edits.new ≡ settled edits.old }
-{
-    let mut count = 0;
-    for i in 0..edits.len() {
-        let (key, edit) = edits[i];
-        count = note(edits, count, key, edit);
-    }
-    count
+    let count = edits.len();
+    edits.push_reserved((key, edit));
+    let kept = note_among(edits.as_mut_slice(), count, key, edit);
+    edits.truncate(kept);
 }
 
 /// Notes an edit of the key among so many in front, unless a newer one was noted. It writes over
 /// no place but the one behind them, and answers how many there are then.
 #[inline(always)]
-fn note<X: Copy>(edits: &mut [(Key, X)], count: usize, key: Key, edit: X) -> usize
+fn note_among<X: Copy>(edits: &mut [(Key, X)], count: usize, key: Key, edit: X) -> usize
     requires inside { count < length edits.old }
     requires falling { falls 0 key_count (take count edits.old) ≡ true }
     ensures as_many { length edits.new ≡ length edits.old }
@@ -127,11 +116,8 @@ fn raise<X: Copy>(edits: &mut [(Key, X)], count: usize, key: Key) -> (usize, boo
     let mut i = count;
     'up: while 0 < i {
         let edit = edits[i - 1];
-        if key < edit.0 {
-            return (i, false);
-        }
-        if key == edit.0 {
-            return (i, true);
+        if key <= edit.0 {
+            return (i, key == edit.0);
         }
         edits[i] = edit;
         i -= 1;

@@ -1,27 +1,30 @@
-use Rattle.std.proofs.Common.{◌≤◌, ◌∙◌, length, take, refl, sym, arith}
-use Rattle.std.proofs.lemmas.List.{length-take-le}
-use Rattle.bw_chain.proofs.Inserts.{put_in-is, put-front, put-behind, restored-behind}
+use Rattle.std.proofs.Common.{◌≡◌, ◌≤◌, ◌+◌, ◌∙◌, ◌++◌, true, [], ◌∷◌, length, take, refl, ap, arith}
+use Rattle.std.proofs.Math.Seq.{take-append_seam}
+use Rattle.std.proofs.lemmas.List.{length-append}
+use Rattle.bw_keys.specs.Ranges.{key_count}
+use Rattle.bw_chain.specs.Edited.{falls, noted}
+use Rattle.bw_chain.proofs.Inserts.{refill-front}
 use Rattle.bw_chain.proofs.edits.note.Goals as goal
 
-pub returns-then-is_there-clause-behind : goal.returns-then-is_there-clause-behind
-returns-then-is_there-clause-behind g c =
-    let raised = c.raise-place in
-    restored-behind c.args.edits.now raised.new.edits c.lower.new.items raised.result.0 c.args.count raised.ensures.upto c.requires.inside raised.ensures.before raised.ensures.behind c.lower.ensures.behind
+pub note_among-kept-requires-clause-inside : goal.note_among-kept-requires-clause-inside
+note_among-kept-requires-clause-inside g c =
+    let old = c.args.edits.now.items in
+    rw (c.as_mut_slice.ensures.value, c.push_reserved.ensures.items) (omega (arith, length-append old ((c.args.key, c.args.edit) ∷ [])))
 
-pub returns-clause-front : goal.returns-clause-front
-returns-clause-front g c =
-    let old = c.args.edits.now in
-    let raised = c.raise-place in
-    let place = raised.result.0 in
-    let le : place ≤ length (take c.args.count old) = omega (arith, raised.ensures.upto, length-take-le c.args.count old (omega (arith, c.requires.inside))) in
-    let put = put_in-is old raised.new.edits place c.args.count place (c.args.key, c.args.edit) refl raised.ensures.upto c.requires.inside raised.ensures.as_many raised.ensures.before raised.ensures.behind in
-    put-front old _ place c.args.count (c.args.key, c.args.edit) le c.requires.inside put ∙ sym (raised.ensures.missing c.if-is_there.false c.args.edit)
+pub note_among-kept-requires-clause-falling : goal.note_among-kept-requires-clause-falling
+note_among-kept-requires-clause-falling g c =
+    let old = c.args.edits.now.items in
+    rw (c.as_mut_slice.ensures.value, c.push_reserved.ensures.items, c.len-count.ensures.value, take-append_seam old ((c.args.key, c.args.edit) ∷ [])) c.requires.falling
 
-pub returns-clause-behind : goal.returns-clause-behind
-returns-clause-behind g c =
-    let old = c.args.edits.now in
-    let raised = c.raise-place in
-    let place = raised.result.0 in
-    let le : place ≤ length (take c.args.count old) = omega (arith, raised.ensures.upto, length-take-le c.args.count old (omega (arith, c.requires.inside))) in
-    let put = put_in-is old raised.new.edits place c.args.count place (c.args.key, c.args.edit) refl raised.ensures.upto c.requires.inside raised.ensures.as_many raised.ensures.before raised.ensures.behind in
-    put-behind old _ place c.args.count (c.args.key, c.args.edit) le c.requires.inside put
+pub returns-clause-items : goal.returns-clause-items
+returns-clause-items g c =
+    let old = c.args.edits.now.items in
+    let grown = old ++ (c.args.key, c.args.edit) ∷ [] in
+    let front : take c.len-count.result c.as_mut_slice.result.now ≡ old = ap (take c.len-count.result) (c.as_mut_slice.ensures.value ∙ c.push_reserved.ensures.items) ∙ ap (λ n. take n grown) c.len-count.ensures.value ∙ take-append_seam old ((c.args.key, c.args.edit) ∷ []) in
+    let noted_in = c.note_among-kept in
+    let grown_by_one : length c.push_reserved.new.self.items ≡ length old + 1 = ap length c.push_reserved.ensures.items ∙ length-append old ((c.args.key, c.args.edit) ∷ []) in
+    let within : noted_in.result ≤ length c.push_reserved.new.self.items = omega (arith, noted_in.ensures.one_more, c.len-count.ensures.value, grown_by_one) in
+    c.truncate.ensures.items
+    ∙ refill-front noted_in.result (length c.push_reserved.new.self.items) c.push_reserved.new.self.items noted_in.new.edits (noted_in.ensures.as_many ∙ ap length c.as_mut_slice.ensures.value) refl within
+    ∙ c.note_among-kept.ensures.front
+    ∙ ap (noted c.args.key c.args.edit) front

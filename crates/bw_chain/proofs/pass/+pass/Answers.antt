@@ -1,13 +1,12 @@
-use Rattle.std.proofs.Common.{rules, ◌≡◌, ◌≤◌, ◌<◌, ◌∙◌, min, true, [], length, ap, arith}
+use Rattle.std.proofs.Common.{rules, ◌≡◌, ◌≤◌, ◌<◌, ◌∙◌, min, true, length, ap, arith}
 use Rattle.std.proofs.lemmas.Result.{on_ok_weaker, on_err_weaker}
 use Rattle.bw_keys.specs.Ranges.{key_count, end_of}
 use Rattle.bw_delta.specs.Entries.{from}
 use Rattle.bw_chain.specs.Changes.{entries_by}
-use Rattle.bw_chain.specs.Edited.{falls, settled}
+use Rattle.bw_chain.specs.Edited.{falls}
 use Rattle.bw_chain.proofs.Descents.{downward, sideward}
 use Rattle.bw_chain.proofs.Overlays.{falls-from, falls-lower}
 use Rattle.bw_chain.proofs.Passes.{from-both, length-from}
-use Rattle.bw_chain.proofs.Settles.{length-noted_all, settled-falling}
 use Rattle.bw_chain.proofs.pass.+pass.Goals as goal
 
 pub note_change-requires : goal.note_change-requires
@@ -58,13 +57,12 @@ pass-requires-then-is_above g t c κs within-lives =
     let laws = g.met.X.EntryValue in
     let built = rw (← c.chain.view_is, c.in-Merged.is) at c.requires.built in
     let within = rw (← c.chain.view_is, c.in-Merged.is) at c.requires.within in
-    let side = sideward entry.own_entries entry.own_change laws.rise laws.cut (end_of c.args.end) c.in-Merged.merging c.in-Merged.left.value c.in-Merged.right.value (settled c.args.edits.now.items) built within c.requires.falling in
+    let side = sideward entry.own_entries entry.own_change laws.rise laws.cut (end_of c.args.end) c.in-Merged.merging c.in-Merged.left.value c.in-Merged.right.value c.args.edits.now.items built within c.requires.falling in
     let room = rw (← c.chain.view_is, c.in-Merged.is) at c.requires.room in
     let end = min (end_of c.args.end) c.in-Merged.merging.separator in
-    let left : c.pass-in-Merged.new.edits.items ≡ from end (settled c.args.edits.now.items) = c.in_ok-pass-in-Merged.ensures.left ∙ ap (λ n. from n (settled c.args.edits.now.items)) c.at_most.ensures in
-    let falling : falls 0 key_count (from end (settled c.args.edits.now.items)) ≡ true = falls-lower 0 end key_count _ (omega arith) (falls-from 0 key_count end (settled c.args.edits.now.items) c.requires.falling) in
-    let same : settled c.pass-in-Merged.new.edits.items ≡ from end (settled c.args.edits.now.items) = ap settled left ∙ settled-falling key_count (from end (settled c.args.edits.now.items)) falling in
-    (search rules, (search rules, (search rules, (search rules, (search rules, (search rules, (rw c.deref-then-is_above.ensures side.built_right, (rw c.deref-then-is_above.ensures side.within_right, (rw same falling, rw (c.deref-then-is_above.ensures) (omega (arith, room, ap length left, length-from end (settled c.args.edits.now.items), length-noted_all [] c.args.edits.now.items, c.in_ok-pass-in-Merged.ensures.capacity)))))))))))
+    let left : c.pass-in-Merged.new.edits.items ≡ from end c.args.edits.now.items = c.in_ok-pass-in-Merged.ensures.left ∙ ap (λ n. from n c.args.edits.now.items) c.at_most.ensures in
+    let falling : falls 0 key_count (from end c.args.edits.now.items) ≡ true = falls-lower 0 end key_count _ (omega arith) (falls-from 0 key_count end c.args.edits.now.items c.requires.falling) in
+    (search rules, (search rules, (search rules, (search rules, (search rules, (search rules, (rw c.deref-then-is_above.ensures side.built_right, (rw c.deref-then-is_above.ensures side.within_right, (rw left falling, rw (c.deref-then-is_above.ensures) (omega (arith, room, ap length left, length-from end c.args.edits.now.items, c.in_ok-pass-in-Merged.ensures.capacity)))))))))))
 
 pub returns-in_err-pass-in-Merged-clause-refused : goal.returns-in_err-pass-in-Merged-clause-refused
 returns-in_err-pass-in-Merged-clause-refused g t c =
@@ -72,7 +70,7 @@ returns-in_err-pass-in-Merged-clause-refused g t c =
     let laws = g.met.X.EntryValue in
     let built = rw (← c.chain.view_is, c.in-Merged.is) at c.requires.built in
     let within = rw (← c.chain.view_is, c.in-Merged.is) at c.requires.within in
-    let side = sideward entry.own_entries entry.own_change laws.rise laws.cut (end_of c.args.end) c.in-Merged.merging c.in-Merged.left.value c.in-Merged.right.value (settled c.args.edits.now.items) built within c.requires.falling in
+    let side = sideward entry.own_entries entry.own_change laws.rise laws.cut (end_of c.args.end) c.in-Merged.merging c.in-Merged.left.value c.in-Merged.right.value c.args.edits.now.items built within c.requires.falling in
     let refused = rw (c.at_most.ensures, c.deref-in-Merged.ensures) at c.in_err-pass-in-Merged.ensures.refused in
     let all = g.met.S.Sink.refuses_more c.args.sink.now _ side.begins.0 refused in
     let same = rw (← side.begins.1) at all in
@@ -84,11 +82,9 @@ returns-then-is_above-clause-taken g t c =
     let laws = g.met.X.EntryValue in
     let built = rw (← c.chain.view_is, c.in-Merged.is) at c.requires.built in
     let within = rw (← c.chain.view_is, c.in-Merged.is) at c.requires.within in
-    let side = sideward entry.own_entries entry.own_change laws.rise laws.cut (end_of c.args.end) c.in-Merged.merging c.in-Merged.left.value c.in-Merged.right.value (settled c.args.edits.now.items) built within c.requires.falling in
+    let side = sideward entry.own_entries entry.own_change laws.rise laws.cut (end_of c.args.end) c.in-Merged.merging c.in-Merged.left.value c.in-Merged.right.value c.args.edits.now.items built within c.requires.falling in
     let taken = rw (c.at_most.ensures, c.deref-in-Merged.ensures) at c.in_ok-pass-in-Merged.ensures.taken in
-    let least = min (end_of c.args.end) c.in-Merged.merging.separator in
-    let falling : falls 0 key_count (from least (settled c.args.edits.now.items)) ≡ true = falls-lower 0 least key_count _ (omega arith) (falls-from 0 key_count least (settled c.args.edits.now.items) c.requires.falling) in
-    let left : settled c.pass-in-Merged.new.edits.items ≡ from least (settled c.args.edits.now.items) = ap settled (rw c.at_most.ensures at c.in_ok-pass-in-Merged.ensures.left) ∙ settled-falling key_count (from least (settled c.args.edits.now.items)) falling in
+    let left = rw c.at_most.ensures at c.in_ok-pass-in-Merged.ensures.left in
     let inside : c.in-Merged.merging.separator < end_of c.args.end = c.is_above.ensures.0 c.if-is_above.true in
     on_ok_weaker c.pass-then-is_above.result
     (λ more. rw (← c.chain.view_is, c.in-Merged.is, side.both inside) (g.met.S.Sink.takes_joined c.args.sink.now c.pass-in-Merged.new.sink c.pass-then-is_above.new.sink _ _ taken (rw (c.deref-then-is_above.ensures, left) at more)))
@@ -100,11 +96,9 @@ returns-then-is_above-clause-refused g t c =
     let laws = g.met.X.EntryValue in
     let built = rw (← c.chain.view_is, c.in-Merged.is) at c.requires.built in
     let within = rw (← c.chain.view_is, c.in-Merged.is) at c.requires.within in
-    let side = sideward entry.own_entries entry.own_change laws.rise laws.cut (end_of c.args.end) c.in-Merged.merging c.in-Merged.left.value c.in-Merged.right.value (settled c.args.edits.now.items) built within c.requires.falling in
+    let side = sideward entry.own_entries entry.own_change laws.rise laws.cut (end_of c.args.end) c.in-Merged.merging c.in-Merged.left.value c.in-Merged.right.value c.args.edits.now.items built within c.requires.falling in
     let taken = rw (c.at_most.ensures, c.deref-in-Merged.ensures) at c.in_ok-pass-in-Merged.ensures.taken in
-    let least = min (end_of c.args.end) c.in-Merged.merging.separator in
-    let falling : falls 0 key_count (from least (settled c.args.edits.now.items)) ≡ true = falls-lower 0 least key_count _ (omega arith) (falls-from 0 key_count least (settled c.args.edits.now.items) c.requires.falling) in
-    let left : settled c.pass-in-Merged.new.edits.items ≡ from least (settled c.args.edits.now.items) = ap settled (rw c.at_most.ensures at c.in_ok-pass-in-Merged.ensures.left) ∙ settled-falling key_count (from least (settled c.args.edits.now.items)) falling in
+    let left = rw c.at_most.ensures at c.in_ok-pass-in-Merged.ensures.left in
     let inside : c.in-Merged.merging.separator < end_of c.args.end = c.is_above.ensures.0 c.if-is_above.true in
     on_err_weaker c.pass-then-is_above.result
     (λ refused. rw (← c.chain.view_is, c.in-Merged.is, side.both inside) (g.met.S.Sink.refuses_later c.args.sink.now c.pass-in-Merged.new.sink _ _ taken (rw (c.deref-then-is_above.ensures, left) at refused)))
@@ -112,11 +106,9 @@ returns-then-is_above-clause-refused g t c =
 
 pub returns-then-is_above-clause-left : goal.returns-then-is_above-clause-left
 returns-then-is_above-clause-left g t c =
-    let least = min (end_of c.args.end) c.in-Merged.merging.separator in
-    let falling : falls 0 key_count (from least (settled c.args.edits.now.items)) ≡ true = falls-lower 0 least key_count _ (omega arith) (falls-from 0 key_count least (settled c.args.edits.now.items) c.requires.falling) in
-    let left : settled c.pass-in-Merged.new.edits.items ≡ from least (settled c.args.edits.now.items) = ap settled (rw c.at_most.ensures at c.in_ok-pass-in-Merged.ensures.left) ∙ settled-falling key_count (from least (settled c.args.edits.now.items)) falling in
+    let left = rw c.at_most.ensures at c.in_ok-pass-in-Merged.ensures.left in
     on_ok_weaker c.pass-then-is_above.result
-    (λ same. same ∙ ap (from (end_of c.args.end)) left ∙ from-both (min (end_of c.args.end) c.in-Merged.merging.separator) (end_of c.args.end) (settled c.args.edits.now.items) (omega arith))
+    (λ same. same ∙ ap (from (end_of c.args.end)) left ∙ from-both (min (end_of c.args.end) c.in-Merged.merging.separator) (end_of c.args.end) c.args.edits.now.items (omega arith))
     c.pass-then-is_above.ensures.left
 
 pub returns-else-is_above-clause-taken : goal.returns-else-is_above-clause-taken
@@ -125,7 +117,7 @@ returns-else-is_above-clause-taken g t c =
     let laws = g.met.X.EntryValue in
     let built = rw (← c.chain.view_is, c.in-Merged.is) at c.requires.built in
     let within = rw (← c.chain.view_is, c.in-Merged.is) at c.requires.within in
-    let side = sideward entry.own_entries entry.own_change laws.rise laws.cut (end_of c.args.end) c.in-Merged.merging c.in-Merged.left.value c.in-Merged.right.value (settled c.args.edits.now.items) built within c.requires.falling in
+    let side = sideward entry.own_entries entry.own_change laws.rise laws.cut (end_of c.args.end) c.in-Merged.merging c.in-Merged.left.value c.in-Merged.right.value c.args.edits.now.items built within c.requires.falling in
     let taken = rw (c.at_most.ensures, c.deref-in-Merged.ensures) at c.in_ok-pass-in-Merged.ensures.taken in
     let past : end_of c.args.end ≤ c.in-Merged.merging.separator = grind (arith, c.is_above.ensures, c.if-is_above.false) in
     rw (← c.chain.view_is, c.in-Merged.is, side.left_alone past) taken
