@@ -4,15 +4,11 @@
 
 mod auditor;
 mod change;
-#[cfg(test)]
-mod drawn;
 mod event;
 mod index;
 mod law;
 mod replayer;
 mod rules;
-#[cfg(test)]
-mod tests;
 mod verdict;
 
 pub use auditor::{audit, is_ascending};

@@ -229,3 +229,93 @@ fn a_worn_slot_takes_no_step(rt: HostRuntime) -> Result<(), Fail> {
     }
     Ok(())
 }
+
+/// Inserts and deletes a key on a page that lacks it, so many times.
+fn to_and_fro(alloc: Global, table: &mut Table<Global>, page: u32, times: u32) -> Result<(), Fail> {
+    for _ in 0..times {
+        put(alloc, table, page, 0..1)?;
+        let step = delete(alloc, table, page, 0)?;
+        table.install(step)?;
+    }
+    Ok(())
+}
+
+#[test]
+fn a_change_is_refused_for_its_first_reason(rt: HostRuntime) -> Result<(), Fail> {
+    let alloc = rt.alloc();
+    let config = Config {
+        first_version: u64::MAX - 64,
+        ..SMALL
+    };
+    let mut table = Table::new(alloc, alloc, config)?;
+    put(alloc, &mut table, 0, 0..64)?;
+    assert_eq!(rt; seen(&table, 0), Version(u64::MAX));
+    let stale = Step::Delete {
+        page: Pid(0),
+        seen: Version(7),
+        key: 64,
+        spare: Spare::new(alloc)?,
+    };
+    let deep_and_worn = [
+        (insert(alloc, &table, 0, 64, 64)?, Refused::Deep),
+        (insert(alloc, &table, 0, 63, 9)?, Refused::Present(63)),
+        (delete(alloc, &table, 0, 64)?, Refused::NoKey),
+        (stale, Refused::Stale),
+    ];
+    for (step, reason) in deep_and_worn {
+        assert_eq!(rt; refusal(alloc, &mut table, step)?, reason);
+    }
+    Ok(())
+}
+
+#[test]
+fn a_marked_page_is_refused_before_its_range(rt: HostRuntime) -> Result<(), Fail> {
+    let alloc = rt.alloc();
+    let mut table = three_leaves(alloc, alloc)?;
+    let step = mark(alloc, &table, 1, 2)?;
+    table.install(step)?;
+    let step = insert(alloc, &table, 1, 9, 9)?;
+    assert_eq!(rt; refusal(alloc, &mut table, step)?, Refused::Frozen);
+    let step = merge(alloc, &table, 0, 1)?;
+    table.install(step)?;
+    let step = Step::Insert {
+        page: Pid(1),
+        seen: Version(7),
+        key: 9,
+        value: 9,
+        spare: Spare::new(alloc)?,
+    };
+    assert_eq!(rt; refusal(alloc, &mut table, step)?, Refused::Absent);
+    Ok(())
+}
+
+#[test]
+fn a_merge_is_refused_for_its_first_reason(rt: HostRuntime) -> Result<(), Fail> {
+    let alloc = rt.alloc();
+    let mut table = three_leaves(alloc, alloc)?;
+    to_and_fro(alloc, &mut table, 0, 31)?;
+    put(alloc, &mut table, 0, 0..1)?;
+    assert_eq!(rt; table.peek(Pid(0)).ok_or("no page")?.depth, 64);
+    for page in [1, 3] {
+        let step = mark(alloc, &table, page, 2)?;
+        table.install(step)?;
+    }
+    let stale = Step::Merge {
+        left: Pid(1),
+        left_seen: seen(&table, 1),
+        page: Pid(3),
+        seen: Version(7),
+        left_spare: Spare::new(alloc)?,
+        page_spare: Spare::new(alloc)?,
+    };
+    let refused = [
+        (merge(alloc, &table, 0, 3)?, Refused::NotNeighbours),
+        (merge(alloc, &table, 0, 1)?, Refused::Deep),
+        (merge(alloc, &table, 1, 3)?, Refused::Frozen),
+        (stale, Refused::Stale),
+    ];
+    for (step, reason) in refused {
+        assert_eq!(rt; refusal(alloc, &mut table, step)?, reason);
+    }
+    Ok(())
+}

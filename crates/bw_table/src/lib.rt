@@ -12,8 +12,6 @@ mod install;
 mod slot;
 mod survey;
 mod table;
-#[cfg(test)]
-mod tests;
 mod verdict;
 mod visit;
 

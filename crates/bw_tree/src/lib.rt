@@ -3,16 +3,10 @@
 #![tactic(auto)]
 
 mod booked;
-#[cfg(test)]
-mod dice;
-#[cfg(test)]
-mod drawn;
 mod fault;
 mod proposes;
 mod share;
 mod shared;
-#[cfg(test)]
-mod tests;
 mod tree;
 
 pub use booked::Booked;

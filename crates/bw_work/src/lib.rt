@@ -4,8 +4,6 @@
 
 mod alone;
 mod alone_calls;
-#[cfg(test)]
-mod alone_steps;
 mod calls;
 mod consolidation;
 mod counts;
@@ -18,15 +16,11 @@ mod hand;
 mod helping;
 mod insertion;
 mod lookup;
-#[cfg(test)]
-mod memory;
 mod offer;
 mod reply;
 mod round;
 mod steps;
 mod tending;
-#[cfg(test)]
-mod tests;
 mod walk;
 mod writing;
 

@@ -84,7 +84,7 @@ fn is_further(level: u8, low: Key, from_level: u8, from_low: Key) -> bool
 /// The round for a marked page, which comes before the present one.
 fn merge_first(rung: Rung, view: View) -> Turn
     ensures free { IsFree result }
-    ensures next { NextBelow rung 0 result }
+    ensures next { NextBelow rung (kind_rank (Todo.DropTerm view.pid)) result }
 {
     if is_further(view.level, view.low, rung.level, rung.low) {
         Turn::Next(Task {
@@ -129,7 +129,7 @@ fn post<A: Allocator + Copy, S: Steps<A, Step<A>>>(
     ensures follows { S.follows steps.old steps.new }
     ensures works { Works 0 limit result (S.seen steps.old) (S.seen steps.new) }
     ensures cost { IfOk result (λ turn. TurnCosts turn (S.seen steps.old) (S.seen steps.new)) }
-    ensures next { IfOk result (NextBelow rung 2) }
+    ensures next { IfOk result (NextBelow rung (kind_rank (Todo.Post page))) }
 {
     let Some(view) = steps.peek(page) else {
         return Ok(Turn::Idle);
@@ -188,7 +188,7 @@ fn post_under<A: Allocator + Copy, S: Steps<A, Step<A>>>(
     ensures follows { S.follows steps.old steps.new }
     ensures works { Works 0 limit result (S.seen steps.old) (S.seen steps.new) }
     ensures cost { IfOk result (λ turn. TurnCosts turn (S.seen steps.old) (S.seen steps.new)) }
-    ensures next { IfOk result (NextBelow rung 2) }
+    ensures next { IfOk result (NextBelow rung (kind_rank (Todo.Post view.pid))) }
 {
     if parent.stage == Stage::Marked {
         return Ok(merge_first(rung, parent));
@@ -223,7 +223,7 @@ fn merge<A: Allocator + Copy, S: Steps<A, Step<A>>>(
     ensures follows { S.follows steps.old steps.new }
     ensures works { Works 0 limit result (S.seen steps.old) (S.seen steps.new) }
     ensures cost { IfOk result (λ turn. TurnCosts turn (S.seen steps.old) (S.seen steps.new)) }
-    ensures next { IfOk result (NextBelow rung 1) }
+    ensures next { IfOk result (NextBelow rung (kind_rank (Todo.Merge page))) }
 {
     let Some(view) = steps.peek(page) else {
         return Ok(Turn::Idle);
@@ -258,7 +258,7 @@ fn merge_under<A: Allocator + Copy, S: Steps<A, Step<A>>>(
     ensures follows { S.follows steps.old steps.new }
     ensures works { Works 0 limit result (S.seen steps.old) (S.seen steps.new) }
     ensures cost { IfOk result (λ turn. TurnCosts turn (S.seen steps.old) (S.seen steps.new)) }
-    ensures next { IfOk result (NextBelow rung 1) }
+    ensures next { IfOk result (NextBelow rung (kind_rank (Todo.Merge view.pid))) }
 {
     if left.stage == Stage::Marked {
         return Ok(merge_first(rung, left));
@@ -293,7 +293,7 @@ fn drop_term<A: Allocator + Copy, S: Steps<A, Step<A>>>(
     ensures follows { S.follows steps.old steps.new }
     ensures works { Works 0 limit result (S.seen steps.old) (S.seen steps.new) }
     ensures cost { IfOk result (λ turn. TurnCosts turn (S.seen steps.old) (S.seen steps.new)) }
-    ensures next { IfOk result (NextBelow rung 0) }
+    ensures next { IfOk result (NextBelow rung (kind_rank (Todo.DropTerm page))) }
 {
     let Some(view) = steps.peek(page) else {
         return Ok(Turn::Idle);
@@ -318,7 +318,7 @@ fn drop_under<A: Allocator + Copy, S: Steps<A, Step<A>>>(
     ensures follows { S.follows steps.old steps.new }
     ensures works { Works 0 limit result (S.seen steps.old) (S.seen steps.new) }
     ensures cost { IfOk result (λ turn. TurnCosts turn (S.seen steps.old) (S.seen steps.new)) }
-    ensures next { IfOk result (NextBelow rung 0) }
+    ensures next { IfOk result (NextBelow rung (kind_rank (Todo.DropTerm view.pid))) }
 {
     if parent.stage == Stage::Marked {
         return Ok(merge_first(rung, parent));
