@@ -4,16 +4,24 @@
 mod audit;
 mod chains;
 mod consolidation;
+mod request;
+mod tally;
+mod task;
 mod traces;
+mod trees;
+mod work;
 
+use crate::request::{Request, USAGE};
+use crate::task::{Task, Work};
+use crate::trees::{Structure, Timed};
 use bw_trace::{OutFault, TextFault};
-use std::alloc::AllocError;
+use std::alloc::{AllocError, Global};
 use std::process::ExitCode;
+use std::sync::Wait;
+use std::thread::Threads;
+use std::time::Clock;
 use std::{env, io};
 use thiserror::Error;
-
-const USAGE: &str =
-    "usage: bw_bench consolidation ROUNDS\n       bw_bench audit RECEIPTS\n       bw_bench traces ROWS\n";
 
 /// Why no time is told.
 #[derive(Debug, Drop, Error)]
@@ -66,24 +74,104 @@ impl From<io::Error> for Stop {
     }
 }
 
-/// What the words ask for, as the lines that the program prints.
-fn report(rt: &HostRuntime) -> Result<String, Stop> {
-    let alloc = rt.alloc();
-    let words: Vec<String> = env::args(rt)?.collect(alloc)?;
-    let text = match words.as_slice() {
-        [_, workload, count] => match (workload.as_str(), count.as_str().parse::<u32>()) {
-            ("consolidation", Ok(rounds)) => consolidation::report(rt, alloc, rounds)?,
-            ("audit", Ok(receipts)) => audit::report(rt, alloc, receipts)?,
-            ("traces", Ok(rows)) => traces::report(rt, alloc, rows)?,
-            _ => String::from_str(alloc, USAGE)?,
-        },
-        _ => String::from_str(alloc, USAGE)?,
-    };
+impl From<bw_table::NewFault> for Stop {
+    fn from(_: bw_table::NewFault) -> Stop {
+        Stop::Wrong
+    }
+}
+
+impl From<bw_tree::NewFault> for Stop {
+    fn from(_: bw_tree::NewFault) -> Stop {
+        Stop::Wrong
+    }
+}
+
+impl From<bw_work::Fault> for Stop {
+    fn from(_: bw_work::Fault) -> Stop {
+        Stop::Wrong
+    }
+}
+
+/// The structure's name, and how many million operations a second it does.
+fn rate<R: Clock + Threads + Wait + Sync + Send + Copy>(
+    rt: R,
+    alloc: Global,
+    structure: Structure,
+    task: &Task,
+) -> Result<String, Stop> {
+    let Timed { seconds, .. } = structure.run(rt, alloc, task)?;
+    let rate = f64::from(task.count()) / 1e6 / seconds;
+    Ok(format!(in alloc; "{structure} {rate:.3}\n")?)
+}
+
+/// What one worker is answered, a line for each work and structure. It tells nothing of time.
+fn tallies<R: Clock + Threads + Wait + Sync + Send + Copy>(
+    rt: R,
+    alloc: Global,
+    keys: u32,
+    operations: u32,
+) -> Result<String, Stop> {
+    let mut text = String::new(alloc);
+    for work in Work::ALL {
+        let task = Task {
+            work,
+            workers: 1,
+            keys,
+            operations,
+        };
+        for structure in Structure::ALL {
+            let Timed { tally, .. } = structure.run(rt, alloc, &task)?;
+            let line = format!(in alloc; "{structure} {work}: {tally}\n")?;
+            text.push_str(&line)?;
+        }
+    }
     Ok(text)
 }
 
+/// What is asked for, as the lines that the program prints.
+fn answer<R: Clock + Threads + Wait + Sync + Send + Copy>(
+    rt: R,
+    alloc: Global,
+    request: Request,
+) -> Result<String, Stop> {
+    match request {
+        Request::Rate(structure, task) => rate(rt, alloc, structure, &task),
+        Request::Tallies { keys, operations } => tallies(rt, alloc, keys, operations),
+        Request::Consolidation(rounds) => consolidation::report(&rt, alloc, rounds),
+        Request::Audit(receipts) => audit::report(&rt, alloc, receipts),
+        Request::Traces(rows) => traces::report(&rt, alloc, rows),
+    }
+}
+
+/// The answer to the words, or how they are given.
+fn report<R: Clock + Threads + Wait + Sync + Send + Copy>(
+    rt: R,
+    alloc: Global,
+    words: &[String],
+) -> Result<String, Stop> {
+    let words: Vec<&str> = words
+        .iter()
+        .skip(1)
+        .map(|word| word.as_str())
+        .collect(alloc)?;
+    match Request::read(words.as_slice()) {
+        Some(request) => answer(rt, alloc, request),
+        None => Ok(String::from_str(alloc, USAGE)?),
+    }
+}
+
+/// The words that the program was called with, its own name first.
+fn words(rt: &HostRuntime) -> Result<Vec<String>, Stop> {
+    Ok(env::args(rt)?.collect(rt.alloc())?)
+}
+
 fn main(rt: HostRuntime) -> ExitCode {
-    match report(&rt) {
+    let alloc = rt.alloc();
+    let text = match words(&rt) {
+        Ok(words) => report(rt, alloc, words.as_slice()),
+        Err(stop) => Err(stop),
+    };
+    match text {
         Ok(text) => match print!(rt; "{text}") {
             Ok(()) => ExitCode::SUCCESS,
             Err(_) => ExitCode::FAILURE,

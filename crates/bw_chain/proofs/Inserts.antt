@@ -3,7 +3,7 @@ use Rattle.std.proofs.Common.{◌≡◌, ℕ, zero, suc, ◌+◌, ◌<◌, ◌�
 use Rattle.std.specs.Prelude.{◌-◌}
 use Rattle.std.specs.List.{insert, refill}
 use Rattle.std.proofs.Math.ListN.{set}
-use Rattle.std.proofs.Math.Seq.{drop-append_seam, take-append_seam}
+use Rattle.std.proofs.Math.Seq.{take-append_seam}
 use Rattle.std.proofs.lemmas.Grind.{drop-set_at}
 use Rattle.std.proofs.lemmas.List.{drop-drop, drop-set-lt, get_or-drop, get_or-take, take-append-drop, take-set-le, take_more, take_more_set, set_split, drop_all, take_all, length-append, length-take-le, length-drop}
 
@@ -37,12 +37,6 @@ module _ {Y : Type 0} where
 
     pub put-front : take (count + 1) items ≡ insert (take count old) place y
     put-front = ap (take (count + 1)) put ∙ ap (λ k. take k (insert (take count old) place y ++ drop (count + 1) old)) (sym one_more) ∙ take-append_seam (insert (take count old) place y) (drop (count + 1) old)
-
-    pub put-behind : drop (count + 1) items ≡ drop (count + 1) old
-    put-behind = ap (drop (count + 1)) put ∙ ap (λ k. drop k (insert (take count old) place y ++ drop (count + 1) old)) (sym one_more) ∙ drop-append_seam (insert (take count old) place y) (drop (count + 1) old)
-
-    pub put-as_many : length items ≡ length old
-    put-as_many = omega (arith, ap length put, length-append (insert (take count old) place y) (drop (count + 1) old), one_more, length-drop (count + 1) old, inside)
 
   -- a list of which the front was written over, cut there
   pub refill-front : (end n : ℕ) (xs ws : List Y) → length ws ≡ length xs → length xs ≡ n → end ≤ n → take end (refill n xs ws) ≡ take end ws
@@ -119,9 +113,3 @@ module _ {Y : Type 0} where
         ∙ ap (λ l. l ++ take (count - place) (drop (place + 1) up)) (before ∙ sym (take-of_take place count old upto))
         ∙ ap (λ l. take place (take count old) ++ l) (ap (take (count - place)) behind ∙ seam)
         ∙ take-append-drop place (take count old)
-
-    pub restored-behind : drop (count + 1) down ≡ drop (count + 1) up → drop (count + 1) down ≡ drop (count + 1) old
-    restored-behind same =
-        let there : (place + 1) + (count - place) ≡ count + 1 = omega (arith, upto) in
-        let seam : drop (count - place) (drop place (take count old) ++ drop (count + 1) old) ≡ drop (count + 1) old = ap (λ k. drop k (drop place (take count old) ++ drop (count + 1) old)) (sym moved) ∙ drop-append_seam (drop place (take count old)) (drop (count + 1) old) in
-        same ∙ sym (rw there at (drop-drop (count - place) (place + 1) up)) ∙ ap (drop (count - place)) behind ∙ seam

@@ -2,7 +2,7 @@
 use Rattle.std.proofs.Common.{◌≡◌, ℕ, ◌+◌, ◌<◌, ◌≤◌, true, List, [], ◌∷◌, refl, arith}
 use Rattle.std.specs.Prelude.{Some}
 use Rattle.std.proofs.lemmas.Bool.Decides.{nat_tests}
-use Rattle.bw_delta.specs.Entries.{at, rises, below, last_below}
+use Rattle.bw_delta.specs.Entries.{at, rises, below, last_below, last_entry}
 use Rattle.bw_chain.proofs.Firsts.{at-before}
 
 module _ {X : Type 0} where
@@ -27,3 +27,27 @@ module _ {X : Type 0} where
   last_below-at low past key x [] h here = cc
   last_below-at low past key x (d ∷ es) h here =
       grind (arith, nat_tests, last_below-at (d.0 + 1) past key x es, at-before (d.0 + 1) past key es, below_low (d.0 + 1) past (key + 1) es)
+
+  last_upto_end : (low past : ℕ) (e : ℕ × X) (es : List (ℕ × X)) → rises low past es ≡ true → last_entry es ≡ Some e → low ≤ e.0
+  last_upto_end low past e [] h last = cc
+  last_upto_end low past e (d ∷ []) h last =
+      let same : d ≡ e = cc in
+      let from_low : low ≤ d.0 = grind (arith, nat_tests) in
+      rw (← same) from_low
+  last_upto_end low past e (d ∷ c ∷ es) h last =
+      let rest : rises (d.0 + 1) past (c ∷ es) ≡ true = grind (arith, nat_tests) in
+      let first : low ≤ d.0 = grind (arith, nat_tests) in
+      omega (arith, first, last_upto_end (d.0 + 1) past e (c ∷ es) rest last)
+
+  -- where the last key lies below a bound, each does
+  pub rises-last : (low past bound : ℕ) (e : ℕ × X) (es : List (ℕ × X)) → rises low past es ≡ true → last_entry es ≡ Some e → e.0 < bound → rises low bound es ≡ true
+  rises-last low past bound e [] h last less = refl
+  rises-last low past bound e (d ∷ []) h last less =
+      let same : d ≡ e = cc in
+      let lower : d.0 < bound = rw same less in
+      grind (arith, nat_tests)
+  rises-last low past bound e (d ∷ c ∷ es) h last less =
+      let rest : rises (d.0 + 1) past (c ∷ es) ≡ true = grind (arith, nat_tests) in
+      let more = rises-last (d.0 + 1) past bound e (c ∷ es) rest last less in
+      let later : d.0 + 1 ≤ e.0 = last_upto_end (d.0 + 1) past e (c ∷ es) rest last in
+      grind (arith, nat_tests)

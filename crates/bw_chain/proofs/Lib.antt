@@ -4,16 +4,19 @@ pub mod Partitions
 pub mod Firsts
 pub mod Lasts
 pub mod Writes
-pub mod Counts
+pub mod Changes
+mod Counts
 pub mod Descents
 pub mod GapLemmas
 pub mod HalfPages
 pub mod Tries
 pub mod Listing
+pub mod Heads
 pub mod Notes
 pub mod Overlays
 pub mod Passes
 pub mod Inserts
 pub mod Fronts
 pub mod Merges
-pub mod Settles
+pub mod Reaches
+pub mod Searches

@@ -59,7 +59,7 @@ module _ {X : Type 0} where
   falls-lower low bound end [] le f = refl
   falls-lower low bound end (e ∷ es) le f = grind (arith, nat_tests, falls-lower low bound e.0 es)
 
-  below_falling : (low end bound : ℕ) (es : List (ℕ × X)) → end ≤ bound → falls low end es ≡ true → below bound es ≡ es
+  pub below_falling : (low end bound : ℕ) (es : List (ℕ × X)) → end ≤ bound → falls low end es ≡ true → below bound es ≡ es
   below_falling low end bound [] le f = refl
   below_falling low end bound (e ∷ es) le f = grind (arith, nat_tests, below_falling low e.0 bound es)
 

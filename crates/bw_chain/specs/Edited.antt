@@ -1,6 +1,15 @@
 -- Entries under the newest record for each key. An edit says what the key has, or that it has nothing.
 use Rattle.std.specs.Prelude.{ℕ, ◌+◌, Bool, true, ◌&&◌, if◌then◌else◌, ◌==◌, nat_lt, nat_le, List, [], ◌∷◌, Option, Some, None}
 use Rattle.bw_delta.specs.Entries.{put, without, below}
+use Rattle.bw_chain.specs.declared.change.Change.{Change}
+use Rattle.bw_chain.specs.declared.change.Change.TheVariants.{Put, Without, Below, Nothing}
+
+-- what a change says of one key, if it does of no more than one
+abbrev pub edit_of : {X : Type 0} → Change X → Option (ℕ × Option X)
+edit_of (Put key x) = Some (key, Some x)
+edit_of (Without key) = Some (key, None)
+edit_of (Below bound) = None
+edit_of Nothing = None
 
 -- the entries with one edit
 abbrev pub edited_at : {X : Type 0} → ℕ → Option X → List (ℕ × X) → List (ℕ × X)
@@ -30,15 +39,6 @@ falls low end (e ∷ es) = nat_le low e.0 && nat_lt e.0 end && falls low e.0 es
 abbrev pub noted : {X : Type 0} → ℕ → X → List (ℕ × X) → List (ℕ × X)
 noted key x [] = (key, x) ∷ []
 noted key x (e ∷ es) = if nat_lt key e.0 then e ∷ noted key x es else (if e.0 == key then e ∷ es else (key, x) ∷ e ∷ es)
-
--- falling entries with more of them noted, one after the other
-abbrev pub noted_all : {X : Type 0} → List (ℕ × X) → List (ℕ × X) → List (ℕ × X)
-noted_all es [] = es
-noted_all es (d ∷ ds) = noted_all (noted d.0 d.1 es) ds
-
--- the first entry of each key, the greatest key first
-abbrev pub settled : {X : Type 0} → List (ℕ × X) → List (ℕ × X)
-settled ds = noted_all [] ds
 
 -- 1 for an edit that puts an entry
 abbrev pub puts : {X : Type 0} → Option X → ℕ

@@ -1,8 +1,8 @@
-ghost use Rattle.std.specs.Prelude.{◌≡◌, ◌++◌, [], OnOk};
+ghost use Rattle.std.specs.Prelude.{◌≡◌, ◌++◌, OnOk};
 ghost use Rattle.bw_delta.specs.Pairs.{pairs};
 ghost use Rattle.bw_delta.specs.Sound.{IsSound};
 
-use crate::edits::Edits;
+use crate::edits::{Edits, MOST_EDITS};
 use crate::pass::pass;
 use crate::shape::{Extent, allocator, survey};
 use bw_delta::{Chain, Fences, NoMemory};
@@ -22,6 +22,7 @@ pub fn append_pairs<A: Allocator + Copy, B: Allocator>(
     let Extent { fences, room, .. } = survey(chain);
     list.reserve(room)?;
     let Fences { high, .. } = fences;
-    let mut edits: Edits<'_, u64, A> = Edits::new(allocator(chain));
-    pass(chain, high, &mut edits, list)
+    let mut edits: Edits<'_, u64, A> =
+        Edits::from_buf(allocator(chain), [(0, None); MOST_EDITS]);
+    pass(chain, high, edits.as_mut_slice(), 0, list)
 }

@@ -1,4 +1,6 @@
 ghost use Rattle.std.specs.Prelude.{◌≡◌};
+ghost use Rattle.bw_chain.specs.Deciding.{decides};
+ghost use Rattle.bw_chain.specs.Edited.{edit_of};
 
 use bw_keys::Key;
 
@@ -13,4 +15,29 @@ pub(crate) enum Change<X> {
     Below(Key),
     /// The record is of no concern to these entries.
     Nothing,
+}
+
+impl<X: Copy> Change<X> {
+    /// Whether it tells what stands at the key, whatever stood there.
+    pub(crate) fn decides(self, key: Key) -> bool
+        ensures { result ≡ decides key self }
+    {
+        match self {
+            Change::Put(put, _) => put == key,
+            Change::Without(gone) => gone == key,
+            Change::Below(bound) => bound <= key,
+            Change::Nothing => false,
+        }
+    }
+
+    /// What it says of one key: the value there, or that there is none.
+    pub(crate) fn edit(self) -> Option<(Key, Option<X>)>
+        ensures { result ≡ edit_of self }
+    {
+        match self {
+            Change::Put(key, value) => Some((key, Some(value))),
+            Change::Without(key) => Some((key, None)),
+            Change::Below(_) | Change::Nothing => None,
+        }
+    }
 }

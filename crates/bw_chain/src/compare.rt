@@ -1,4 +1,4 @@
-ghost use Rattle.std.specs.Prelude.{◌≡◌, ◌↔◌, ◌<◌, ◌^◌, [], IsTrue, length};
+ghost use Rattle.std.specs.Prelude.{◌≡◌, ◌↔◌, ◌<◌, ◌≤◌, ◌^◌, IsTrue, length};
 ghost use Rattle.bw_keys.specs.Ranges.{end_of};
 ghost use Rattle.bw_delta.specs.Entries.{from};
 ghost use Rattle.bw_delta.specs.Fence.{is_leaf};
@@ -7,11 +7,10 @@ ghost use Rattle.bw_delta.specs.Records.{depth};
 ghost use Rattle.bw_delta.specs.Sound.{IsSound, IsWellBuilt, entry_count, listed_for, page_for};
 ghost use Rattle.bw_chain.specs.Ascends.{IsAscending};
 ghost use Rattle.bw_chain.specs.Changes.{entries_by};
-ghost use Rattle.smallvec.specs.SmallVec.{HasRoomFor};
 
 use crate::bounds::past;
 use crate::compared::{Compared, Differs};
-use crate::edits::Edits;
+use crate::edits::{Edits, MOST_EDITS};
 use crate::entries::first_from;
 use crate::pass::pass;
 use crate::shape::{fences, is_leaf};
@@ -88,29 +87,31 @@ fn lists_from<A: Allocator + Copy>(base: &Base<A>, chain: &Chain<A>, fence: Fenc
             if !is_leaf(chain) {
                 return false;
             }
-            let mut edits: Edits<'_, u64, A> = Edits::new(pairs.allocator());
-            are_entries(pairs, chain, fence, &mut edits)
+            let mut edits: Edits<'_, u64, A> =
+                Edits::from_buf(pairs.allocator(), [(0, None); MOST_EDITS]);
+            are_entries(pairs, chain, fence, edits.as_mut_slice())
         }
         Entries::Routes(routes) => {
             if is_leaf(chain) {
                 return false;
             }
-            let mut edits: Edits<'_, Pid, A> = Edits::new(routes.allocator());
-            are_entries(routes, chain, fence, &mut edits)
+            let mut edits: Edits<'_, Pid, A> =
+                Edits::from_buf(routes.allocator(), [(0, None); MOST_EDITS]);
+            are_entries(routes, chain, fence, edits.as_mut_slice())
         }
     }
 }
 
-/// Whether these are the chain's entries from the fence on.
+/// Whether these are the chain's entries from the fence on. There is room for as many edits as the
+/// chain is deep.
 fn are_entries<A: Allocator + Copy, X: EntryValue>(
     list: &[(Key, X)],
     chain: &Chain<A>,
     fence: Fence,
-    edits: &mut Edits<'_, X, A>,
+    edits: &mut [(Key, Option<X>)],
 ) -> bool
     requires built { IsWellBuilt chain.now }
-    requires none { edits.old.items ≡ [] }
-    requires room { HasRoomFor edits.old (depth chain.now) }
+    requires deep { depth chain.now ≤ length edits.old }
     ensures { IsTrue result ↔ (list.now ≡ from (end_of fence) (entries_by X.own_entries X.own_change chain.now)) }
 {
     let mut compared = Compared {
@@ -118,7 +119,7 @@ fn are_entries<A: Allocator + Copy, X: EntryValue>(
         from: fence,
     };
     let Fences { high, .. } = fences(chain);
-    match pass(chain, high, edits, &mut compared) {
+    match pass(chain, high, edits, 0, &mut compared) {
         Ok(()) => compared.rest.is_empty(),
         Err(Differs) => false,
     }

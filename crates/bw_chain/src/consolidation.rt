@@ -1,14 +1,13 @@
 //! Consolidation in one pass over the records and the base pages.
 
-ghost use Rattle.std.specs.Prelude.{◌≡◌, [], IfOk};
+ghost use Rattle.std.specs.Prelude.{◌≡◌, ◌≤◌, length, IfOk};
 ghost use Rattle.bw_delta.specs.Fence.{fences, is_leaf};
 ghost use Rattle.bw_delta.specs.PageView.{listed};
 ghost use Rattle.bw_delta.specs.Records.{depth};
 ghost use Rattle.bw_delta.specs.Sound.{IsSound, IsWellBuilt, listed_for, page_for};
 ghost use Rattle.bw_chain.specs.Changes.{entries_by};
-ghost use Rattle.smallvec.specs.SmallVec.{HasRoomFor};
 
-use crate::edits::Edits;
+use crate::edits::{Edits, MOST_EDITS};
 use crate::pass::pass;
 use crate::shape::{Extent, survey};
 use crate::value::EntryValue;
@@ -52,29 +51,28 @@ fn entries_below<A: Allocator + Copy>(
     ensures { IfOk result (λ entries. listed entries ≡ listed_for (is_leaf chain.now) chain.now) }
 {
     if of_pairs {
-        let mut edits: Edits<'_, u64, A> = Edits::new(&alloc);
-        Ok(Entries::Pairs(list(alloc, chain, high, room, &mut edits)?))
+        let mut edits: Edits<'_, u64, A> = Edits::from_buf(&alloc, [(0, None); MOST_EDITS]);
+        Ok(Entries::Pairs(list(alloc, chain, high, room, edits.as_mut_slice())?))
     } else {
-        let mut edits: Edits<'_, Pid, A> = Edits::new(&alloc);
-        Ok(Entries::Routes(list(alloc, chain, high, room, &mut edits)?))
+        let mut edits: Edits<'_, Pid, A> = Edits::from_buf(&alloc, [(0, None); MOST_EDITS]);
+        Ok(Entries::Routes(list(alloc, chain, high, room, edits.as_mut_slice())?))
     }
 }
 
-/// The entries of one kind, listed.
+/// The entries of one kind, listed. There is room for as many edits as the chain is deep.
 fn list<A: Allocator + Copy, X: EntryValue>(
     alloc: A,
     chain: &Chain<A>,
     high: Fence,
     room: usize,
-    edits: &mut Edits<'_, X, A>,
+    edits: &mut [(Key, Option<X>)],
 ) -> Result<Vec<(Key, X), A>, NoMemory>
     requires built { IsWellBuilt chain.now }
     requires high { high ≡ (fences chain.now).high }
-    requires none { edits.old.items ≡ [] }
-    requires room { HasRoomFor edits.old (depth chain.now) }
+    requires deep { depth chain.now ≤ length edits.old }
     ensures { IfOk result (λ entries. entries.items ≡ entries_by X.own_entries X.own_change chain.now) }
 {
     let mut entries = Vec::with_capacity(alloc, room)?;
-    pass(chain, high, edits, &mut entries)?;
+    pass(chain, high, edits, 0, &mut entries)?;
     Ok(entries)
 }

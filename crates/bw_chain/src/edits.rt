@@ -1,106 +1,84 @@
-//! What records say of keys: gathered on the way down a chain, and settled at a base page, where the
-//! newest record of each key is kept.
+//! What the newest record for each key says, gathered on the way down a chain: the key's value, or
+//! that it has none. The greatest key comes first. So many edits in front of a slice were noted, and
+//! no memory is asked for.
 
 ghost use Rattle.std.specs.Prelude.{◌≡◌, ◌≤◌, ◌+◌, ◌-◌, ◌<◌, true, false, List, ℕ, [], ◌∷◌, ◌++◌, length, take, drop, insert};
 ghost use Rattle.bw_keys.specs.Ranges.{end_of, key_count};
 ghost use Rattle.bw_delta.specs.Entries.{below, from};
 ghost use Rattle.bw_chain.specs.Ascends.{IsAscending};
 ghost use Rattle.bw_chain.specs.Changes.{changed};
-ghost use Rattle.bw_chain.specs.Edited.{edited_at, edited_below, falls, noted, settled};
+ghost use Rattle.bw_chain.specs.Edited.{edited_at, edited_below, falls, noted};
 ghost use Rattle.bw_chain.specs.Cuts.{IsUncut};
-ghost use Rattle.smallvec.specs.SmallVec.{HasRoomFor, small_vec_len};
 
 use crate::change::Change;
 use bw_keys::{Fence, Key};
 use smallvec::SmallVec;
-use std::alloc::Allocator;
 
-/// What records say of keys, the newest record first: the key's value, or that it has none. No
-/// path of a chain has more records than lie inline, so the allocator is never asked.
-pub(crate) type Edits<'a, X, A> = SmallVec<(Key, Option<X>), 64, &'a A>;
+/// As many edits as can be noted: no path of a chain has more records.
+pub(crate) const MOST_EDITS: usize = 64;
 
-/// Notes what a record changes below the end.
+/// The places of edits. All of them lie inline, so the allocator is never asked.
+pub(crate) type Edits<'a, X, A> = SmallVec<(Key, Option<X>), MOST_EDITS, &'a A>;
+
+/// Notes what a record changes below the end among so many edits in front, and answers how many
+/// there are then.
 #[inline(always)]
-pub(crate) fn note_change<A: Allocator + Copy, X: Copy>(
-    edits: &mut Edits<'_, X, A>,
+pub(crate) fn note_change<X: Copy>(
+    edits: &mut [(Key, Option<X>)],
+    count: usize,
     change: Change<X>,
     end: Fence,
-)
+) -> usize
     requires uncut { IsUncut (end_of end) change }
     requires among { end_of end ≤ key_count }
-    requires falling { falls 0 key_count (settled edits.old.items) ≡ true }
-    requires room { HasRoomFor edits.old 1 }
-    ensures noted { (es : List (ℕ × X)) → IsAscending es → edited_below (end_of end) (settled edits.new.items) es ≡ edited_below (end_of end) (settled edits.old.items) (changed change es) }
-    ensures others { from (end_of end) (settled edits.new.items) ≡ from (end_of end) (settled edits.old.items) }
-    ensures falling { falls 0 key_count (settled edits.new.items) ≡ true }
-    ensures one_more { small_vec_len edits.new ≤ small_vec_len edits.old + 1 }
-    ensures capacity { edits.new.capacity ≡ edits.old.capacity }
+    requires inside { count < length edits.old }
+    requires falling { falls 0 key_count (take count edits.old) ≡ true }
+    ensures noted { (es : List (ℕ × X)) → IsAscending es → edited_below (end_of end) (take result edits.new) es ≡ edited_below (end_of end) (take count edits.old) (changed change es) }
+    ensures others { from (end_of end) (take result edits.new) ≡ from (end_of end) (take count edits.old) }
+    ensures falling { falls 0 key_count (take result edits.new) ≡ true }
+    ensures one_more { result ≤ count + 1 }
+    ensures as_many { length edits.new ≡ length edits.old }
 {
-    match change {
-        Change::Put(key, value) => note_below(edits, end, key, Some(value)),
-        Change::Without(key) => note_below(edits, end, key, None),
-        Change::Below(_) => {}
-        Change::Nothing => {}
+    match change.edit() {
+        Some((key, edit)) => note_below(edits, count, end, key, edit),
+        None => count,
     }
 }
 
 /// Notes an edit of the key, if it lies below the end.
 #[inline(always)]
-fn note_below<A: Allocator + Copy, X: Copy>(
-    edits: &mut Edits<'_, X, A>,
+fn note_below<X: Copy>(
+    edits: &mut [(Key, Option<X>)],
+    count: usize,
     end: Fence,
     key: Key,
     edit: Option<X>,
-)
+) -> usize
     requires among { end_of end ≤ key_count }
-    requires falling { falls 0 key_count (settled edits.old.items) ≡ true }
-    requires room { HasRoomFor edits.old 1 }
-    ensures noted { (es : List (ℕ × X)) → IsAscending es → edited_below (end_of end) (settled edits.new.items) es ≡ edited_below (end_of end) (settled edits.old.items) (edited_at key edit es) }
-    ensures others { from (end_of end) (settled edits.new.items) ≡ from (end_of end) (settled edits.old.items) }
-    ensures falling { falls 0 key_count (settled edits.new.items) ≡ true }
-    ensures one_more { small_vec_len edits.new ≤ small_vec_len edits.old + 1 }
-    ensures capacity { edits.new.capacity ≡ edits.old.capacity }
+    requires inside { count < length edits.old }
+    requires falling { falls 0 key_count (take count edits.old) ≡ true }
+    ensures noted { (es : List (ℕ × X)) → IsAscending es → edited_below (end_of end) (take result edits.new) es ≡ edited_below (end_of end) (take count edits.old) (edited_at key edit es) }
+    ensures others { from (end_of end) (take result edits.new) ≡ from (end_of end) (take count edits.old) }
+    ensures falling { falls 0 key_count (take result edits.new) ≡ true }
+    ensures one_more { result ≤ count + 1 }
+    ensures as_many { length edits.new ≡ length edits.old }
 {
     if end.is_above(key) {
-        edits.push_reserved((key, edit));
+        note_among(edits, count, key, edit)
+    } else {
+        count
     }
 }
 
-/// Leaves the newest edit of each key, the greatest key first.
+/// Notes an edit of the key among so many in front, unless a newer one was noted, and answers how
+/// many there are then.
 #[inline(always)]
-pub(crate) fn settle<A: Allocator + Copy, X: Copy>(edits: &mut Edits<'_, X, A>)
-    ensures items { edits.new.items ≡ settled edits.old.items }
-    ensures capacity { edits.new.capacity ≡ edits.old.capacity }
-{
-    let count = settle_front(edits.as_mut_slice());
-    edits.truncate(count);
-}
-
-/// Moves the newest edit of each key to the front, the greatest key first, and counts them.
-#[inline(always)]
-fn settle_front<X: Copy>(edits: &mut [(Key, X)]) -> usize
-    ensures within { result ≤ length edits.new }
-    ensures as_many { length edits.new ≡ length edits.old }
-    ensures front { take result edits.new ≡ settled edits.old }
-{
-    let mut count = 0;
-    for i in 0..edits.len() {
-        let (key, edit) = edits[i];
-        count = note(edits, count, key, edit);
-    }
-    count
-}
-
-/// Notes an edit of the key among so many in front, unless a newer one was noted. It writes over
-/// no place but the one behind them, and answers how many there are then.
-#[inline(always)]
-fn note<X: Copy>(edits: &mut [(Key, X)], count: usize, key: Key, edit: X) -> usize
+fn note_among<X: Copy>(edits: &mut [(Key, X)], count: usize, key: Key, edit: X) -> usize
     requires inside { count < length edits.old }
     requires falling { falls 0 key_count (take count edits.old) ≡ true }
     ensures as_many { length edits.new ≡ length edits.old }
     ensures one_more { result ≤ count + 1 }
     ensures front { take result edits.new ≡ noted key edit (take count edits.old) }
-    ensures behind { drop (count + 1) edits.new ≡ drop (count + 1) edits.old }
 {
     let (place, is_there) = raise(edits, count, key);
     if is_there {
@@ -127,11 +105,8 @@ fn raise<X: Copy>(edits: &mut [(Key, X)], count: usize, key: Key) -> (usize, boo
     let mut i = count;
     'up: while 0 < i {
         let edit = edits[i - 1];
-        if key < edit.0 {
-            return (i, false);
-        }
-        if key == edit.0 {
-            return (i, true);
+        if key <= edit.0 {
+            return (i, key == edit.0);
         }
         edits[i] = edit;
         i -= 1;
@@ -160,5 +135,11 @@ pub(crate) fn count_from<X: Copy>(edits: &[(Key, X)], fence: Fence) -> usize
     ensures before { from (end_of fence) edits.now ≡ take result edits.now }
     ensures after { below (end_of fence) edits.now ≡ drop result edits.now }
 {
+    let Some(greatest) = edits.first() else {
+        return 0;
+    };
+    if fence.is_above(greatest.0) {
+        return 0;
+    }
     edits.partition_point(|edit| !fence.is_above(edit.0))
 }

@@ -18,6 +18,7 @@ mod halving;
 mod listed;
 mod pass;
 pub mod plain;
+mod reach;
 mod search;
 mod separator;
 mod shape;
@@ -32,12 +33,3 @@ pub use halving::{HalveFault, halve};
 pub use search::{child, find, next_at, route_at, route_before};
 pub use separator::is_later_key;
 pub use shape::{depth, fences, is_leaf};
-
-#[cfg(test)]
-mod memory;
-#[cfg(test)]
-mod one_pass;
-#[cfg(test)]
-mod random;
-#[cfg(test)]
-mod tests;

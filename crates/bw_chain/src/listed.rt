@@ -64,7 +64,8 @@ pub(crate) fn merge<'a, X: Copy>(
     (end, rest)
 }
 
-/// Writes the entries before the key from the place on, and counts them.
+/// Writes the entries before the key from the place on, and counts them: pair by pair, and then
+/// the one that is left, if one is.
 #[inline(always)]
 fn copy_before<X: Copy>(
     entries: &[(Key, X)],
@@ -80,13 +81,43 @@ fn copy_before<X: Copy>(
     ensures as_many { length list.new ≡ length list.old }
     ensures written { take (place + result) list.new ≡ take place list.old ++ take result entries.now }
 {
-    for i in 0..entries.len() {
-        if key <= entries[i].0 {
+    let count = copy_pairs(entries, key, list, place);
+    if count == entries.len() {
+        return count;
+    }
+    let entry = entries[count];
+    if key <= entry.0 {
+        return count;
+    }
+    write(list, place + count, entry);
+    count + 1
+}
+
+/// Writes the entries before the key from the place on, and counts them. Where they are odd in
+/// number the last one is left.
+#[inline(always)]
+fn copy_pairs<X: Copy>(entries: &[(Key, X)], key: Key, list: &mut [(Key, X)], place: usize) -> usize
+    requires ascending { IsAscending entries.now }
+    requires room { place + length entries.now ≤ length list.old }
+    ensures within { result ≤ length entries.now }
+    ensures before { below key entries.now ≡ take result entries.now ++ below key (drop result entries.now) }
+    ensures after { from key entries.now ≡ from key (drop result entries.now) }
+    ensures last { length (below key (drop result entries.now)) ≤ 1 }
+    ensures as_many { length list.new ≡ length list.old }
+    ensures written { take (place + result) list.new ≡ take place list.old ++ take result entries.now }
+{
+    let mut i = 0;
+    'pairs: while 2 <= entries.len() - i {
+        let second = entries[i + 1];
+        if key <= second.0 {
             return i;
         }
-        list[place + i] = entries[i];
+        let first = entries[i];
+        list[place + i] = first;
+        list[place + i + 1] = second;
+        i += 2;
     }
-    entries.len()
+    i
 }
 
 /// Writes the item over the one at the place.

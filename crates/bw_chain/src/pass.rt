@@ -1,8 +1,8 @@
-//! One pass over a chain. The records above a base page are gathered on the way down and settled
-//! there, and the page's entries are handed on in stretches between them. Under a merge the left half
+//! One pass over a chain. The records above a base page are gathered, the newest of each key,
+//! and the page's entries are handed on in stretches between them. Under a merge the left half
 //! is done so, and then the right one.
 
-ghost use Rattle.std.specs.Prelude.{◌≡◌, ◌≤◌, ◌+◌, true, OnOk, OnErr};
+ghost use Rattle.std.specs.Prelude.{◌≡◌, ◌≤◌, ◌+◌, true, length, take, OnOk, OnErr};
 ghost use Rattle.bw_keys.specs.Ranges.{end_of, key_count};
 ghost use Rattle.bw_delta.specs.Entries.{below, from};
 ghost use Rattle.bw_delta.specs.Fence.{fences};
@@ -10,11 +10,11 @@ ghost use Rattle.bw_delta.specs.Records.{depth};
 ghost use Rattle.bw_delta.specs.Sound.{IsWellBuilt};
 ghost use Rattle.bw_chain.specs.Ascends.{IsAscending};
 ghost use Rattle.bw_chain.specs.Changes.{entries_by};
-ghost use Rattle.bw_chain.specs.Edited.{edited_below, falls, settled};
-ghost use Rattle.smallvec.specs.SmallVec.{HasRoomFor, small_vec_len};
+ghost use Rattle.bw_chain.specs.Edited.{edited_below, falls};
+ghost use Rattle.bw_chain.specs.Heads.{BeginsWith};
 
 use crate::bounds::at_most;
-use crate::edits::{Edits, count_from, note_change, settle};
+use crate::edits::{count_from, note_change};
 use crate::sink::Sink;
 use crate::sorted::below_fence;
 use crate::value::EntryValue;
@@ -22,32 +22,40 @@ use bw_delta::{Chain, Node};
 use bw_keys::{Fence, Key};
 use std::alloc::Allocator;
 
-/// Hands on the chain's entries below the end, under the edits below it, which are used up.
+/// Hands on the chain's entries below the end, under so many edits. Those from the end on stay in
+/// front. It is a loop down to a base page or a merge once it is built.
 pub(crate) fn pass<A: Allocator + Copy, X: EntryValue, S: Sink<X>>(
     chain: &Chain<A>,
     end: Fence,
-    edits: &mut Edits<'_, X, A>,
+    edits: &mut [(Key, Option<X>)],
+    count: usize,
     sink: &mut S,
 ) -> Result<(), S::Stop>
     requires built { IsWellBuilt chain.now }
     requires within { end_of end ≤ end_of (fences chain.now).high }
-    requires falling { falls 0 key_count (settled edits.old.items) ≡ true }
-    requires room { HasRoomFor edits.old (depth chain.now) }
-    ensures taken { OnOk result (S.takes sink.old (edited_below (end_of end) (settled edits.old.items) (entries_by X.own_entries X.own_change chain.now)) sink.new) }
-    ensures refused { OnErr result (S.refuses sink.old (edited_below (end_of end) (settled edits.old.items) (entries_by X.own_entries X.own_change chain.now))) }
-    ensures left { OnOk result (edits.new.items ≡ from (end_of end) (settled edits.old.items)) }
-    ensures capacity { OnOk result (edits.new.capacity ≡ edits.old.capacity) }
+    requires falling { falls 0 key_count (take count edits.old) ≡ true }
+    requires room { count + depth chain.now ≤ length edits.old }
+    ensures taken { OnOk result (S.takes sink.old (edited_below (end_of end) (take count edits.old) (entries_by X.own_entries X.own_change chain.now)) sink.new) }
+    ensures refused { OnErr result (S.refuses sink.old (edited_below (end_of end) (take count edits.old) (entries_by X.own_entries X.own_change chain.now))) }
+    ensures left { OnOk result (BeginsWith edits.new (from (end_of end) (take count edits.old))) }
+    ensures as_many { length edits.new ≡ length edits.old }
 {
     match &chain.node {
-        Node::Bare(base) => pass_base(X::entries_on(base), end, edits, sink),
+        Node::Bare(base) => {
+            let (noted, _) = edits.split_at(count);
+            pass_base(X::entries_on(base), end, noted, sink)
+        }
         Node::Above(delta, below) => {
-            note_change(edits, X::change_by(*delta), end);
-            pass(below, end, edits, sink)
+            let count = note_change(edits, count, X::change_by(*delta), end);
+            pass(below, end, edits, count, sink)
         }
         Node::Merged(merging, left, right) => {
-            pass(left, at_most(end, merging.separator), edits, sink)?;
+            let left_end = at_most(end, merging.separator);
+            let (noted, _) = edits.split_at(count);
+            let kept = count_from(noted, left_end);
+            pass(left, left_end, edits, count, sink)?;
             if end.is_above(merging.separator) {
-                pass(right, end, edits, sink)
+                pass(right, end, edits, kept, sink)
             } else {
                 Ok(())
             }
@@ -57,24 +65,34 @@ pub(crate) fn pass<A: Allocator + Copy, X: EntryValue, S: Sink<X>>(
 
 /// Hands on the entries of a base page below the end, under the edits below it.
 #[inline(always)]
-fn pass_base<A: Allocator + Copy, X: EntryValue, S: Sink<X>>(
+fn pass_base<X: EntryValue, S: Sink<X>>(
     entries: &[(Key, X)],
     end: Fence,
-    edits: &mut Edits<'_, X, A>,
+    edits: &[(Key, Option<X>)],
     sink: &mut S,
 ) -> Result<(), S::Stop>
     requires ascending { IsAscending entries.now }
     requires among { end_of end ≤ key_count }
-    requires falling { falls 0 key_count (settled edits.old.items) ≡ true }
-    ensures taken { OnOk result (S.takes sink.old (edited_below (end_of end) (settled edits.old.items) entries.now) sink.new) }
-    ensures refused { OnErr result (S.refuses sink.old (edited_below (end_of end) (settled edits.old.items) entries.now)) }
-    ensures left { OnOk result (edits.new.items ≡ from (end_of end) (settled edits.old.items)) }
-    ensures capacity { OnOk result (edits.new.capacity ≡ edits.old.capacity) }
+    requires falling { falls 0 key_count edits.now ≡ true }
+    ensures taken { OnOk result (S.takes sink.old (edited_below (end_of end) edits.now entries.now) sink.new) }
+    ensures refused { OnErr result (S.refuses sink.old (edited_below (end_of end) edits.now entries.now)) }
 {
-    settle(edits);
-    let kept = count_from(edits.as_slice(), end);
-    let (_, here) = edits.as_slice().split_at(kept);
-    sink.take_edited(below_fence(entries, end), here)?;
-    edits.truncate(kept);
-    Ok(())
+    let (_, here) = edits.split_at(count_from(edits, end));
+    sink.take_edited(below_end(entries, end), here)
+}
+
+/// The entries below the end, which mostly all of them are.
+#[inline(always)]
+fn below_end<X: Copy>(entries: &[(Key, X)], end: Fence) -> &[(Key, X)]
+    requires ascending { IsAscending entries.now }
+    ensures { result.now ≡ below (end_of end) entries.now }
+{
+    let Some(greatest) = entries.last() else {
+        return entries;
+    };
+    if end.is_above(greatest.0) {
+        entries
+    } else {
+        below_fence(entries, end)
+    }
 }

@@ -3,14 +3,13 @@ ghost use Rattle.bw_delta.specs.Entries.{at, first_from, last_below, last_upto};
 ghost use Rattle.bw_delta.specs.Pairs.{pairs, routes};
 ghost use Rattle.bw_delta.specs.Sound.{IsSound};
 
-use crate::bounds::past;
-use crate::entries::{find_entry, first_from, last_below};
+use crate::entries::{find_entry, first_from, last_upto};
 use bw_delta::Chain;
 use bw_keys::{Fence, Key, Pid};
 use std::alloc::Allocator;
 
 /// The value at the key: that of the newest record which names the key, and the base page's where
-/// none does (Levandoski et al., ICDE 2013, "page search"). The base page is searched by halving.
+/// none does (Levandoski et al., ICDE 2013, "page search"). The base page is searched by quarters.
 /// An inner page has no values.
 #[tactic(auto, using(crate::proofs::Bridges::both_kinds))]
 pub fn find<A: Allocator + Copy>(chain: &Chain<A>, key: Key) -> Option<u64>
@@ -44,7 +43,7 @@ pub fn child<A: Allocator + Copy>(chain: &Chain<A>, key: Key) -> Option<(Key, Pi
     requires sound { IsSound chain.now }
     ensures { result ≡ last_upto key (routes chain.now) }
 {
-    last_below(chain, past(key))
+    last_upto(chain, key)
 }
 
 /// The route with the greatest separator strictly below the key.
@@ -53,5 +52,8 @@ pub fn route_before<A: Allocator + Copy>(chain: &Chain<A>, key: Key) -> Option<(
     requires sound { IsSound chain.now }
     ensures { result ≡ last_below key (routes chain.now) }
 {
-    last_below(chain, Fence::Key(key))
+    match key.checked_sub(1) {
+        Some(before) => last_upto(chain, before),
+        None => None,
+    }
 }

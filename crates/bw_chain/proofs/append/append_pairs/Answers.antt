@@ -1,9 +1,8 @@
-use Rattle.std.proofs.Common.{◌++◌, ap, ◌∙◌}
+use Rattle.std.proofs.Common.{◌++◌, [], refl, ap, ◌∙◌}
 use Rattle.std.proofs.lemmas.Result.{on_ok_weaker}
 use Rattle.bw_delta.specs.Pairs.{pairs_listed}
 use Rattle.bw_chain.specs.Changes.{pair_change}
 use Rattle.bw_chain.specs.Kinds.{pairs_are, pairs_rise_in_range, pairs_cut_at_high}
-use Rattle.bw_chain.specs.Edited.{settled}
 use Rattle.bw_chain.proofs.Descents.{unedited}
 use Rattle.bw_chain.proofs.append.append_pairs.Goals as goal
 
@@ -11,5 +10,5 @@ pub returns : goal.returns
 returns g c =
     let chain = c.args.chain.now in
     let high = ap (λ fence. fence.high) c.survey-room.ensures.fences in
-    let whole = unedited pairs_listed pair_change pairs_rise_in_range pairs_cut_at_high chain c.survey-room.result.fences.high (settled c.new-edits.result.items) c.requires.sound.built high (ap settled c.new-edits.ensures.items) in
+    let whole = unedited pairs_listed pair_change pairs_rise_in_range pairs_cut_at_high chain c.survey-room.result.fences.high [] c.requires.sound.built high refl in
     on_ok_weaker c.pass.result (λ taken. (rw c.in_ok-reserve.ensures.items at taken) ∙ ap (λ list. c.args.list.now.items ++ list) (whole ∙ pairs_are chain)) c.pass.ensures.taken

@@ -1,10 +1,9 @@
-use Rattle.std.proofs.Common.{◌≡◌, ◌↔◌, List, [], ◌∷◌, ◌++◌, append-nil, length, length-append, ◌+◌, IsTrue, Bool, ap, sym, ◌∙◌, arith}
+use Rattle.std.proofs.Common.{◌≡◌, ◌↔◌, List, [], ◌∷◌, ◌++◌, append-nil, length, length-append, ◌+◌, IsTrue, Bool, refl, ap, sym, ◌∙◌, arith}
 use Rattle.std.specs.Prelude.{◌==◌}
 use Rattle.std.proofs.lemmas.Bool.Decides.{nat_tests}
 use Rattle.bw_keys.specs.Ranges.{end_of}
 use Rattle.bw_delta.specs.Entries.{from}
 use Rattle.bw_chain.specs.Changes.{entries_by}
-use Rattle.bw_chain.specs.Edited.{settled}
 use Rattle.bw_chain.proofs.Descents.{unedited}
 use Rattle.bw_chain.proofs.compare.are_entries.Goals as goal
 
@@ -20,7 +19,7 @@ returns-in-Ok g c =
     let entry = g.X.EntryValue in
     let laws = g.met.X.EntryValue in
     let chain = c.args.chain.now in
-    let whole = unedited entry.own_entries entry.own_change laws.rise laws.cut chain c.fences-high.result.high (settled c.args.edits.now.items) c.requires.built (ap (λ fence. fence.high) c.fences-high.ensures) (ap settled c.requires.none) in
+    let whole = unedited entry.own_entries entry.own_change laws.rise laws.cut chain c.fences-high.result.high [] c.requires.built (ap (λ fence. fence.high) c.fences-high.ensures) refl in
     none_left c.args.list.now (from (end_of c.args.fence) (entries_by entry.own_entries entry.own_change chain)) c.pass.new.sink.rest.now c.is_empty.result (rw whole at c.in-Ok.ensures.taken.0) c.is_empty.ensures
 
 pub returns-in-Err : goal.returns-in-Err
@@ -28,6 +27,6 @@ returns-in-Err g c =
     let entry = g.X.EntryValue in
     let laws = g.met.X.EntryValue in
     let chain = c.args.chain.now in
-    let whole = unedited entry.own_entries entry.own_change laws.rise laws.cut chain c.fences-high.result.high (settled c.args.edits.now.items) c.requires.built (ap (λ fence. fence.high) c.fences-high.ensures) (ap settled c.requires.none) in
+    let whole = unedited entry.own_entries entry.own_change laws.rise laws.cut chain c.fences-high.result.high [] c.requires.built (ap (λ fence. fence.high) c.fences-high.ensures) refl in
     let other = rw whole at c.in-Err.ensures.refused in
     ((λ h. absurd (cc)), λ same. absurd (other [] (same ∙ sym (append-nil _))))

@@ -14,17 +14,18 @@ returns-then-key-edit-clause-missing g c is_missing x =
     let same = raised c.args.edits.now c.up.edits c.args.count i y c.up.invariant.upto c.up-test.true c.requires.inside c.up.invariant.as_many c.up.invariant.before c.index-edits-i.is in
     let inside : i - 1 < length front = omega (arith, length-take-le c.args.count c.args.edits.now (omega (arith, c.requires.inside)), c.up.invariant.upto, c.up-test.true) in
     let next : suc (i - 1) ≡ i = omega (arith, c.up-test.true) in
-    let less : c.args.key < y.0 = c.if-key-edit.true in
+    let less : c.args.key < y.0 = grind (arith, nat_tests, c.if-key-edit.true, is_missing) in
     rw next at (noted-behind 0 key_count c.args.key (i - 1) x y front c.requires.falling inside (rw same at less) (rw next c.up.invariant.smaller))
 
-pub returns-then-key-edit-2-clause-there : goal.returns-then-key-edit-2-clause-there
-returns-then-key-edit-2-clause-there g c is_there x =
+pub returns-then-key-edit-clause-there : goal.returns-then-key-edit-clause-there
+returns-then-key-edit-clause-there g c is_there x =
     let front = take c.args.count c.args.edits.now in
     let i = c.up.i in
     let y = c.index-edits-i.result in
     let same = raised c.args.edits.now c.up.edits c.args.count i y c.up.invariant.upto c.up-test.true c.requires.inside c.up.invariant.as_many c.up.invariant.before c.index-edits-i.is in
     let inside : i - 1 < length front = omega (arith, length-take-le c.args.count c.args.edits.now (omega (arith, c.requires.inside)), c.up.invariant.upto, c.up-test.true) in
-    noted-there 0 key_count c.args.key (i - 1) x y front c.requires.falling inside (sym (ap (λ e. e.0) same) ∙ sym c.if-key-edit-2.true)
+    let equal : c.args.key ≡ y.0 = grind (arith, nat_tests, is_there) in
+    noted-there 0 key_count c.args.key (i - 1) x y front c.requires.falling inside (sym (ap (λ e. e.0) same) ∙ sym equal)
 
 pub up-preserved : goal.up-preserved
 up-preserved g c =
@@ -35,7 +36,7 @@ up-preserved g c =
     let before = c.up.invariant in
     let inside = c.requires.inside in
     let same = raised old now c.args.count i y before.upto c.up-test.true inside before.as_many before.before c.index-edits-i.is in
-    let less : y.0 < c.args.key = grind (arith, nat_tests, c.if-key-edit.false, c.if-key-edit-2.false) in
+    let less : y.0 < c.args.key = omega (arith, c.if-key-edit.false) in
     record {
       upto = omega (arith, before.upto);
       as_many = length-set now i y ∙ before.as_many;

@@ -1,20 +1,16 @@
 use Rattle.std.proofs.Common.{◌≡◌, true}
 use Rattle.bw_keys.specs.Ranges.{key_count, end_of}
 use Rattle.bw_delta.specs.Entries.{below}
-use Rattle.bw_chain.specs.Edited.{falls, settled}
+use Rattle.bw_chain.specs.Edited.{falls}
 use Rattle.bw_chain.proofs.Overlays.{falls-below, falls-higher}
 use Rattle.bw_chain.proofs.Passes.{ascending-below}
 use Rattle.bw_chain.proofs.pass.pass_base.Goals as goal
 
 pub take_edited-requires-clause-ascending : goal.take_edited-requires-clause-ascending
-take_edited-requires-clause-ascending g c = rw c.below_fence.ensures (ascending-below (end_of c.args.end) c.args.entries.now c.requires.among c.requires.ascending)
+take_edited-requires-clause-ascending g c = rw c.below_end.ensures (ascending-below (end_of c.args.end) c.args.entries.now c.requires.among c.requires.ascending)
 
 pub take_edited-requires-clause-falling : goal.take_edited-requires-clause-falling
 take_edited-requires-clause-falling g c =
     let end = end_of c.args.end in
-    let edits = settled c.args.edits.now.items in
-    let settled_kept : falls 0 key_count (below end edits) ≡ true = falls-higher 0 end key_count (below end edits) c.requires.among (falls-below 0 key_count end edits c.requires.falling) in
-    let kept : falls 0 key_count (below end c.settle.new.edits.items) ≡ true = rw c.settle.ensures.items settled_kept in
-    let after = rw c.as_slice.ensures at c.count_from-kept.ensures.after in
-    let back = rw c.as_slice-2.ensures at c.split_at.ensures.back in
-    rw (back, ← after) kept
+    let kept : falls 0 key_count (below end c.args.edits.now) ≡ true = falls-higher 0 end key_count (below end c.args.edits.now) c.requires.among (falls-below 0 key_count end c.args.edits.now c.requires.falling) in
+    rw (c.split_at.ensures.back, ← c.count_from.ensures.after) kept

@@ -1,21 +1,20 @@
-use Rattle.std.proofs.Common.{rules, arith}
-use Rattle.std.specs.Prelude.{nat_lt, nat_le}
-use Rattle.std.proofs.lemmas.Bool.Decides.{nat_tests}
-use Rattle.std.proofs.lemmas.List.Sorted.{IsPartitionPoint-from_clause}
-use Rattle.bw_keys.specs.Ranges.{key_count, end_of}
-use Rattle.bw_chain.proofs.Partitions.{rises-IsPartitionedBy, filter_before, filter_after}
+use Rattle.std.proofs.Common.{sym, ◌∙◌, arith}
+use Rattle.std.proofs.Math.Seq.{take-length, drop-length}
+use Rattle.bw_keys.specs.Ranges.{key_count}
+use Rattle.bw_chain.proofs.Searches.{below-front, from-behind, below-few, below_end, from_end}
 use Rattle.bw_chain.proofs.sorted.count_below.Goals as goal
 
-pub returns-clause-before : goal.returns-clause-before
-returns-clause-before g c =
-    let bound = end_of c.args.fence in
-    let parted = rises-IsPartitionedBy 0 key_count bound c.args.entries.now c.requires.ascending in
-    let point = IsPartitionPoint-from_clause (λ e. nat_lt e.0 bound) _ _ c.partition_point.ensures.partitioned parted (λ a r q k. search rules) in
-    filter_before (λ e. nat_lt e.0 bound) (λ e. nat_le bound e.0) (λ e. grind (arith, nat_tests)) _ _ point
+pub returns-in-Key-clause-within : goal.returns-in-Key-clause-within
+returns-in-Key-clause-within g c = rw c.count_under.ensures (below-few c.in-Key.key c.args.entries.now)
 
-pub returns-clause-after : goal.returns-clause-after
-returns-clause-after g c =
-    let bound = end_of c.args.fence in
-    let parted = rises-IsPartitionedBy 0 key_count bound c.args.entries.now c.requires.ascending in
-    let point = IsPartitionPoint-from_clause (λ e. nat_lt e.0 bound) _ _ c.partition_point.ensures.partitioned parted (λ a r q k. search rules) in
-    filter_after (λ e. nat_lt e.0 bound) (λ e. nat_le bound e.0) (λ e. grind (arith, nat_tests)) _ _ point
+pub returns-in-Key-clause-before : goal.returns-in-Key-clause-before
+returns-in-Key-clause-before g c = rw (c.in-Key.is, c.count_under.ensures) (below-front 0 key_count c.in-Key.key c.args.entries.now c.requires.ascending)
+
+pub returns-in-Key-clause-after : goal.returns-in-Key-clause-after
+returns-in-Key-clause-after g c = rw (c.in-Key.is, c.count_under.ensures) (from-behind 0 key_count c.in-Key.key c.args.entries.now c.requires.ascending)
+
+pub returns-in-Top-clause-before : goal.returns-in-Top-clause-before
+returns-in-Top-clause-before g c = rw c.in-Top.is (below_end 0 key_count key_count c.args.entries.now c.requires.ascending (omega arith) ∙ sym (take-length c.args.entries.now))
+
+pub returns-in-Top-clause-after : goal.returns-in-Top-clause-after
+returns-in-Top-clause-after g c = rw c.in-Top.is (from_end 0 key_count key_count c.args.entries.now c.requires.ascending (omega arith) ∙ sym (drop-length c.args.entries.now))

@@ -1,0 +1,130 @@
+//! The operations of `bw_bench` on the ordered maps of Rust's standard library.
+
+mod dice;
+mod index;
+mod tally;
+mod task;
+
+use index::Worker;
+use std::process::ExitCode;
+use std::sync::{Mutex, RwLock};
+use std::time::{Duration, Instant};
+use std::{env, thread};
+use tally::Tally;
+use task::{Task, Work};
+
+const USAGE: &str = "usage: peers STRUCTURE WORK THREADS KEYS OPERATIONS
+       peers tallies KEYS OPERATIONS
+STRUCTURE is btree (one thread), mutex or rwlock;
+WORK is load, scan, or the percent of gets beside puts and deletes.";
+
+#[derive(Clone, Copy, PartialEq, Eq)]
+enum Structure {
+    Btree,
+    Mutex,
+    Rwlock,
+}
+
+impl Structure {
+    const ALL: [(&'static str, Structure); 3] = [
+        ("btree", Structure::Btree),
+        ("mutex", Structure::Mutex),
+        ("rwlock", Structure::Rwlock),
+    ];
+
+    fn read(word: &str) -> Option<Structure> {
+        Structure::ALL
+            .into_iter()
+            .find_map(|(name, structure)| (name == word).then_some(structure))
+    }
+
+    fn is_for(self, threads: u32) -> bool {
+        self != Structure::Btree || threads == 1
+    }
+
+    /// Does the task on a new map, and tells what was answered, and how long that took.
+    fn run(self, task: &Task) -> (Tally, Duration) {
+        let order = task.order();
+        let mut map = task.map(&order);
+        match self {
+            Structure::Btree => {
+                let start = Instant::now();
+                let tally = task.work(0, &order, &mut map);
+                (tally, start.elapsed())
+            }
+            Structure::Mutex => {
+                let shared = Mutex::new(map);
+                run_together(task, &order, || &shared)
+            }
+            Structure::Rwlock => {
+                let shared = RwLock::new(map);
+                run_together(task, &order, || &shared)
+            }
+        }
+    }
+}
+
+/// The workers side by side, each with what it is handed of the map.
+fn run_together<W: Worker + Send>(
+    task: &Task,
+    order: &[u32],
+    handed: impl Fn() -> W,
+) -> (Tally, Duration) {
+    let start = Instant::now();
+    let tally = thread::scope(|scope| {
+        let workers: Vec<_> = (0..task.threads)
+            .map(|worker| {
+                let index = handed();
+                scope.spawn(move || task.work(worker, order, index))
+            })
+            .collect();
+        workers
+            .into_iter()
+            .map(|worker| worker.join().unwrap())
+            .sum()
+    });
+    (tally, start.elapsed())
+}
+
+fn rate(words: &[String]) -> Option<String> {
+    let (name, rest) = words.split_first()?;
+    let structure = Structure::read(name)?;
+    let task = Task::read(rest).filter(|task| structure.is_for(task.threads))?;
+    let (_, time) = structure.run(&task);
+    let rate = f64::from(task.count()) / 1e6 / time.as_secs_f64();
+    Some(format!("{name} {rate:.3}\n"))
+}
+
+/// What one worker is answered, a line for each work and structure.
+fn tallies(words: &[String]) -> Option<String> {
+    let [keys, operations] = words else {
+        return None;
+    };
+    let mut text = String::new();
+    for work in Work::ALL {
+        let task = Task::new(work, "1", keys, operations)?;
+        for (name, structure) in Structure::ALL {
+            let (tally, _) = structure.run(&task);
+            text += &format!("{name} {work}: {tally}\n");
+        }
+    }
+    Some(text)
+}
+
+fn main() -> ExitCode {
+    let words: Vec<String> = env::args().skip(1).collect();
+    let text = match words.split_first() {
+        Some((first, rest)) if first == "tallies" => tallies(rest),
+        _ => rate(&words),
+    };
+    match text {
+        Some(text) => {
+            print!("{text}");
+            ExitCode::SUCCESS
+        }
+        None => {
+            eprintln!("{USAGE}");
+            ExitCode::from(2)
+        }
+    }
+}

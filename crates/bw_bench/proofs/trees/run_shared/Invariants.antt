@@ -1,0 +1,7 @@
+use Rattle.bw_bench.proofs.trees.run_shared.Given as goal
+
+abbrev pub ghosts-shared-I-Ledger : goal.ghosts-shared-I-Ledger
+ghosts-shared-I-Ledger g a = record { name = a.blanks.insertions.name; parts = a.blanks.insertions.parts }
+
+abbrev pub ghosts-shared-D-Ledger : goal.ghosts-shared-D-Ledger
+ghosts-shared-D-Ledger g a = record { name = a.blanks.removals.name; parts = a.blanks.removals.parts }

@@ -1,0 +1,44 @@
+//! What workers were answered.
+
+use std::fmt;
+
+/// How many calls found or changed something. It tells nothing of time, so two programs that do the
+/// same operations with one worker have the same tally.
+#[derive(Clone, Copy, Debug, Default, PartialEq, Eq)]
+pub(crate) struct Tally {
+    /// Gets that found a value.
+    pub found: u64,
+    /// Puts that gave a key a value.
+    pub inserted: u64,
+    /// Deletes that took a key out.
+    pub removed: u64,
+    /// The pairs that scans gave, all together.
+    pub scanned: u64,
+}
+
+impl Tally {
+    /// The sum of both.
+    pub(crate) fn plus(self, other: Tally) -> Tally {
+        Tally {
+            found: self.found.saturating_add(other.found),
+            inserted: self.inserted.saturating_add(other.inserted),
+            removed: self.removed.saturating_add(other.removed),
+            scanned: self.scanned.saturating_add(other.scanned),
+        }
+    }
+}
+
+impl fmt::Display for Tally {
+    fn fmt<W: fmt::Write>(&self, f: &mut fmt::Formatter<W>) -> fmt::Result {
+        let Tally {
+            found,
+            inserted,
+            removed,
+            scanned,
+        } = self;
+        write!(
+            f,
+            "found {found} inserted {inserted} removed {removed} scanned {scanned}"
+        )
+    }
+}

@@ -1,0 +1,179 @@
+//! The tree under a task's operations, by a worker that has it for itself, or by workers that share it.
+
+ghost use Rattle.bw_tree.specs.Shares.{Opens};
+
+use crate::Stop;
+use crate::tally::Tally;
+use crate::task::Task;
+use crate::work::{fill, work};
+use bw_keys::Config;
+use bw_step::Step;
+use bw_table::Table;
+use bw_tree::{Blanks, Share, Shared, Tree};
+use bw_work::{Alone, Hand, Open};
+use std::alloc::Global;
+use std::marker::Brand;
+use std::sync::Wait;
+use std::sync::ledger::Ledger;
+use std::thread::Threads;
+use std::time::{Clock, Instant};
+use std::{fmt, thread};
+
+/// How the tree is held.
+#[derive(Clone, Copy, Debug, PartialEq, Eq)]
+pub(crate) enum Structure {
+    /// By one worker, without a lock.
+    Alone,
+    /// By workers that share it, each in a thread of its own.
+    Hand,
+}
+
+impl Structure {
+    pub(crate) const ALL: [Structure; 2] = [Structure::Alone, Structure::Hand];
+
+    pub(crate) fn read(word: &str) -> Option<Structure> {
+        match word {
+            "alone" => Some(Structure::Alone),
+            "hand" => Some(Structure::Hand),
+            _ => None,
+        }
+    }
+
+    /// Whether so many workers can have it.
+    pub(crate) fn is_for(self, workers: u32) -> bool {
+        match self {
+            Structure::Alone => workers == 1,
+            Structure::Hand => true,
+        }
+    }
+
+    /// Does the task on a new tree.
+    pub(crate) fn run<R: Clock + Threads + Wait + Sync + Send + Copy>(
+        self,
+        rt: R,
+        alloc: Global,
+        task: &Task,
+    ) -> Result<Timed, Stop> {
+        match self {
+            Structure::Alone => run_alone(&rt, alloc, task),
+            Structure::Hand => run_shared(rt, alloc, task),
+        }
+    }
+}
+
+impl fmt::Display for Structure {
+    fn fmt<W: fmt::Write>(&self, f: &mut fmt::Formatter<W>) -> fmt::Result {
+        f.write_str(match self {
+            Structure::Alone => "alone",
+            Structure::Hand => "hand",
+        })
+    }
+}
+
+/// What all workers were answered, and how long they took.
+#[derive(Clone, Copy, Debug)]
+pub(crate) struct Timed {
+    pub tally: Tally,
+    pub seconds: f64,
+}
+
+/// The configuration for the greatest number of keys that there is room for.
+fn config() -> Config {
+    Config {
+        fanout: 64,
+        chain: 8,
+        pages: 65_536,
+        tries: 1000,
+        first_version: 0,
+    }
+}
+
+fn run_alone(rt: &impl Clock, alloc: Global, task: &Task) -> Result<Timed, Stop> {
+    let order = task.order(alloc)?;
+    let mut table = Table::new(alloc, alloc, config())?;
+    let mut filling = Alone::new(alloc, alloc, &mut table);
+    fill(&mut filling, task, order.as_slice())?;
+    drop(filling);
+    let mut steps = Alone::new(alloc, alloc, &mut table);
+    let start = Instant::now(rt)?;
+    let tally = work(&mut steps, alloc, task, 0, order.as_slice())?;
+    let seconds = start.elapsed(rt)?.as_secs_f64();
+    Ok(Timed { tally, seconds })
+}
+
+fn run_shared<R: Clock + Threads + Wait + Sync + Send + Copy>(
+    rt: R,
+    alloc: Global,
+    task: &Task,
+) -> Result<Timed, Stop> {
+    let blanks = Blanks::new(task.workers);
+    shared::<Brand, Brand, R>(rt, alloc, task, blanks)
+}
+
+fn shared<
+    I: Ledger + Send + Sync,
+    D: Ledger + Send + Sync,
+    R: Clock + Threads + Wait + Sync + Send + Copy,
+>(rt: R, alloc: Global, task: &Task, blanks: Blanks) -> Result<Timed, Stop>
+    requires insertions { Opens I.name I.parts blanks.insertions }
+    requires removals { Opens D.name D.parts blanks.removals }
+{
+    let order = task.order(alloc)?;
+    let (tree, mut shares) = Tree::<R, Global, I, D>::new(rt, alloc, alloc, config(), blanks)?;
+    let first = shares.pop().ok_or(Stop::Wrong)?;
+    let mut filling = Hand::new(alloc, alloc, &tree, first, 0, &Open);
+    fill(&mut filling, task, order.as_slice())?;
+    let (first, _trail) = filling.finish();
+    if shares.push(first).is_err() {
+        return Err(Stop::Memory);
+    }
+    let start = Instant::now(&rt)?;
+    let tally = work_together(&rt, alloc, &tree, task, order.as_slice(), shares)?;
+    let seconds = start.elapsed(&rt)?.as_secs_f64();
+    Ok(Timed { tally, seconds })
+}
+
+/// Each worker in a thread of its own.
+fn work_together<
+    I: Ledger + Send + Sync,
+    D: Ledger + Send + Sync,
+    R: Threads + Wait + Sync + Send + Copy,
+>(
+    rt: &R,
+    alloc: Global,
+    tree: &Tree<R, Global, I, D>,
+    task: &Task,
+    order: &[u32],
+    shares: Vec<Share<I, D>>,
+) -> Result<Tally, Stop> {
+    thread::scope(thread::scope_env(), rt, |scope| -> Result<Tally, Stop> {
+        let mut handles = Vec::new(alloc);
+        for (share, worker) in shares.into_iter().zip(0u32..) {
+            let Ok(handle) = scope.spawn(move || work_at(tree, alloc, task, worker, order, share))
+            else {
+                return Err(Stop::Wrong);
+            };
+            if handles.push(handle).is_err() {
+                return Err(Stop::Memory);
+            }
+        }
+        let mut tally = Tally::default();
+        for handle in handles {
+            tally = tally.plus(handle.join(rt)?);
+        }
+        Ok(tally)
+    })
+}
+
+/// One worker's thread.
+fn work_at<S: Shared<Global, Step<Global>>>(
+    tree: &S,
+    alloc: Global,
+    task: &Task,
+    worker: u32,
+    order: &[u32],
+    share: Share<S::Insertions, S::Removals>,
+) -> Result<Tally, Stop> {
+    let mut hand = Hand::new(alloc, alloc, tree, share, worker, &Open);
+    work(&mut hand, alloc, task, worker, order)
+}

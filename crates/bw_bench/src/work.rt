@@ -1,0 +1,156 @@
+//! A task's operations, by one worker, over any form of atomic steps.
+
+use crate::Stop;
+use crate::tally::Tally;
+use crate::task::{Task, Work};
+use bw_keys::Key;
+use bw_step::Step;
+use bw_work::{Del, Put, Steps, delete, get, page_from, put};
+use rand_core::Rng;
+use rand_pcg::Pcg32;
+use std::alloc::Global;
+
+/// How many pairs a scan asks for.
+const SCANNED: usize = 100;
+
+/// Puts every second key of those that are drawn later, where the task begins with a map.
+pub(crate) fn fill<S: Steps<Global, Step<Global>>>(
+    steps: &mut S,
+    task: &Task,
+    order: &[u32],
+) -> Result<(), Stop> {
+    if task.work == Work::Load {
+        return Ok(());
+    }
+    for key in order {
+        put(steps, 2 * u64::from(*key), u64::from(*key))?;
+    }
+    Ok(())
+}
+
+/// Does one worker's part of the task.
+pub(crate) fn work<S: Steps<Global, Step<Global>>>(
+    steps: &mut S,
+    alloc: Global,
+    task: &Task,
+    worker: u32,
+    order: &[u32],
+) -> Result<Tally, Stop> {
+    match task.work {
+        Work::Load => load(steps, task, worker, order),
+        Work::Mix { gets } => mix(steps, task, worker, gets),
+        Work::Scan => scan_often(steps, alloc, task, worker),
+    }
+}
+
+/// Puts each key whose turn it is.
+fn load<S: Steps<Global, Step<Global>>>(
+    steps: &mut S,
+    task: &Task,
+    worker: u32,
+    order: &[u32],
+) -> Result<Tally, Stop> {
+    let mut tally = Tally::default();
+    for (place, key) in order.iter().enumerate() {
+        let turn = (place as u64).checked_rem(u64::from(task.workers));
+        if turn == Some(u64::from(worker)) {
+            tally = tally.plus(put_one(steps, u64::from(*key))?);
+        }
+    }
+    Ok(tally)
+}
+
+/// Gets, puts and deletes.
+fn mix<S: Steps<Global, Step<Global>>>(
+    steps: &mut S,
+    task: &Task,
+    worker: u32,
+    gets: u32,
+) -> Result<Tally, Stop> {
+    let mut tally = Tally::default();
+    let mut rng = Pcg32::new(u64::from(worker), 1);
+    for _ in 0..task.turns() {
+        let key = drawn_key(&mut rng, task);
+        let draw = rng.next_u32() % 200;
+        let answered = if draw / 2 < gets {
+            get_one(steps, key)?
+        } else if draw % 2 == 0 {
+            put_one(steps, key)?
+        } else {
+            delete_one(steps, key)?
+        };
+        tally = tally.plus(answered);
+    }
+    Ok(tally)
+}
+
+fn get_one<S: Steps<Global, Step<Global>>>(steps: &mut S, key: Key) -> Result<Tally, Stop> {
+    let found = get(steps, key)?;
+    Ok(Tally {
+        found: u64::from(found.is_some()),
+        ..Tally::default()
+    })
+}
+
+/// Gives the key itself as its value.
+fn put_one<S: Steps<Global, Step<Global>>>(steps: &mut S, key: Key) -> Result<Tally, Stop> {
+    let done = put(steps, key, key)?;
+    Ok(Tally {
+        inserted: u64::from(matches!(done.reply, Put::Inserted)),
+        ..Tally::default()
+    })
+}
+
+fn delete_one<S: Steps<Global, Step<Global>>>(steps: &mut S, key: Key) -> Result<Tally, Stop> {
+    let done = delete(steps, key)?;
+    Ok(Tally {
+        removed: u64::from(matches!(done.reply, Del::Removed(_))),
+        ..Tally::default()
+    })
+}
+
+/// A key below twice their number.
+fn drawn_key(rng: &mut Pcg32, task: &Task) -> Key {
+    let end = task.keys.saturating_mul(2).max(1);
+    u64::from(rng.next_u32() % end)
+}
+
+/// Scans from drawn keys on.
+fn scan_often<S: Steps<Global, Step<Global>>>(
+    steps: &mut S,
+    alloc: Global,
+    task: &Task,
+    worker: u32,
+) -> Result<Tally, Stop> {
+    let mut tally = Tally::default();
+    let mut rng = Pcg32::new(u64::from(worker), 1);
+    for _ in 0..task.turns() {
+        let low = drawn_key(&mut rng, task);
+        let pairs = scan(steps, alloc, low)?;
+        tally = tally.plus(Tally {
+            scanned: pairs.len() as u64,
+            ..Tally::default()
+        });
+    }
+    Ok(tally)
+}
+
+/// The first pairs from a key on, gathered leaf by leaf.
+fn scan<S: Steps<Global, Step<Global>>>(
+    steps: &mut S,
+    alloc: Global,
+    low: Key,
+) -> Result<Vec<(Key, u64)>, Stop> {
+    let mut pairs = Vec::with_capacity(alloc, 2 * SCANNED)?;
+    let mut key = low;
+    'leaves: while pairs.len() < SCANNED {
+        let slice = page_from(steps, alloc, key)?;
+        pairs.extend_from_slice(slice.pairs.as_slice())?;
+        match slice.next {
+            Some(next) => key = next,
+            None => break,
+        }
+    }
+    pairs.truncate(SCANNED);
+    Ok(pairs)
+}
