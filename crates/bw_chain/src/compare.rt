@@ -87,16 +87,20 @@ fn lists_from<A: Allocator + Copy>(base: &Base<A>, chain: &Chain<A>, fence: Fenc
             if !is_leaf(chain) {
                 return false;
             }
-            let mut edits: Edits<'_, u64, A> =
-                Edits::from_buf(pairs.allocator(), [(0, None); MOST_EDITS]);
+            let mut edits: Edits<'_, u64, A> = Edits::from_buf(
+                pairs.allocator(),
+                [(0, None); MOST_EDITS],
+            );
             are_entries(pairs, chain, fence, edits.as_mut_slice())
         }
         Entries::Routes(routes) => {
             if is_leaf(chain) {
                 return false;
             }
-            let mut edits: Edits<'_, Pid, A> =
-                Edits::from_buf(routes.allocator(), [(0, None); MOST_EDITS]);
+            let mut edits: Edits<'_, Pid, A> = Edits::from_buf(
+                routes.allocator(),
+                [(0, None); MOST_EDITS],
+            );
             are_entries(routes, chain, fence, edits.as_mut_slice())
         }
     }

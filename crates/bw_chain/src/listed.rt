@@ -85,11 +85,10 @@ fn copy_before<X: Copy>(
     if count == entries.len() {
         return count;
     }
-    let entry = entries[count];
-    if key <= entry.0 {
+    if key <= entries[count].0 {
         return count;
     }
-    write(list, place + count, entry);
+    list[place + count] = entries[count];
     count + 1
 }
 
@@ -108,13 +107,11 @@ fn copy_pairs<X: Copy>(entries: &[(Key, X)], key: Key, list: &mut [(Key, X)], pl
 {
     let mut i = 0;
     'pairs: while 2 <= entries.len() - i {
-        let second = entries[i + 1];
-        if key <= second.0 {
+        if key <= entries[i + 1].0 {
             return i;
         }
-        let first = entries[i];
-        list[place + i] = first;
-        list[place + i + 1] = second;
+        list[place + i] = entries[i];
+        list[place + i + 1] = entries[i + 1];
         i += 2;
     }
     i

@@ -1,4 +1,4 @@
-use Rattle.std.proofs.Common.{◌<◌, rules, ap, sym, ◌∙◌, arith}
+use Rattle.std.proofs.Common.{◌<◌, rules, sym, arith}
 use Rattle.std.specs.Prelude.{nat_lt, nat_le}
 use Rattle.std.proofs.lemmas.Bool.Decides.{nat_tests}
 use Rattle.std.proofs.lemmas.List.Sorted.{IsPartitionPoint-from_clause}

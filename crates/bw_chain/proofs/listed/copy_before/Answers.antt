@@ -3,31 +3,29 @@ use Rattle.bw_keys.specs.Ranges.{key_count}
 use Rattle.bw_chain.proofs.Counts.{below-drop, from-drop, last-below, last-after}
 use Rattle.bw_chain.proofs.listed.copy_before.Goals as goal
 
-pub returns-then-key-entry-clause-before : goal.returns-then-key-entry-clause-before
-returns-then-key-entry-clause-before g c =
+pub returns-then-key-entries-clause-before : goal.returns-then-key-entries-clause-before
+returns-then-key-entries-clause-before g c =
     let pairs = c.copy_pairs-count in
     let inside : pairs.result < length c.args.entries.now = omega (arith, pairs.ensures.within, c.if-count-entries.false) in
-    let none = below-drop 0 key_count c.args.key pairs.result c.index-entries-count.result c.args.entries.now c.requires.ascending inside (rw c.index-entries-count.is at c.if-key-entry.true) in
+    let none = below-drop 0 key_count c.args.key pairs.result c.index-entries-count.result c.args.entries.now c.requires.ascending inside c.if-key-entries.true in
     pairs.ensures.before ∙ ap (λ l. take pairs.result c.args.entries.now ++ l) none ∙ append-nil _
 
-pub returns-then-key-entry-clause-after : goal.returns-then-key-entry-clause-after
-returns-then-key-entry-clause-after g c =
+pub returns-then-key-entries-clause-after : goal.returns-then-key-entries-clause-after
+returns-then-key-entries-clause-after g c =
     let pairs = c.copy_pairs-count in
     let inside : pairs.result < length c.args.entries.now = omega (arith, pairs.ensures.within, c.if-count-entries.false) in
-    pairs.ensures.after ∙ from-drop 0 key_count c.args.key pairs.result c.index-entries-count.result c.args.entries.now c.requires.ascending inside (rw c.index-entries-count.is at c.if-key-entry.true)
+    pairs.ensures.after ∙ from-drop 0 key_count c.args.key pairs.result c.index-entries-count.result c.args.entries.now c.requires.ascending inside c.if-key-entries.true
 
 pub returns-clause-before : goal.returns-clause-before
 returns-clause-before g c =
     let pairs = c.copy_pairs-count in
     let inside : pairs.result < length c.args.entries.now = omega (arith, pairs.ensures.within, c.if-count-entries.false) in
-    let less : c.index-entries-count.result.0 < c.args.key = omega (arith, c.if-key-entry.false) in
     let next : suc pairs.result ≡ pairs.result + 1 = omega arith in
-    rw next at (last-below c.args.key pairs.result c.index-entries-count.result c.args.entries.now c.requires.ascending inside (rw c.index-entries-count.is at less) pairs.ensures.last)
+    rw next at (last-below c.args.key pairs.result c.index-entries-count.result c.args.entries.now c.requires.ascending inside (omega (arith, c.if-key-entries.false)) pairs.ensures.last)
 
 pub returns-clause-after : goal.returns-clause-after
 returns-clause-after g c =
     let pairs = c.copy_pairs-count in
     let inside : pairs.result < length c.args.entries.now = omega (arith, pairs.ensures.within, c.if-count-entries.false) in
-    let less : c.index-entries-count.result.0 < c.args.key = omega (arith, c.if-key-entry.false) in
     let next : suc pairs.result ≡ pairs.result + 1 = omega arith in
-    rw next at (last-after c.args.key pairs.result c.index-entries-count.result c.args.entries.now c.requires.ascending inside (rw c.index-entries-count.is at less) pairs.ensures.last)
+    rw next at (last-after c.args.key pairs.result c.index-entries-count.result c.args.entries.now c.requires.ascending inside (omega (arith, c.if-key-entries.false)) pairs.ensures.last)

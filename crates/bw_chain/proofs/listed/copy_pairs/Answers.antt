@@ -6,30 +6,30 @@ use Rattle.bw_chain.proofs.Counts.{below-upto, from-upto, last-before, length-be
 use Rattle.bw_chain.proofs.Writes.{pair-written}
 use Rattle.bw_chain.proofs.listed.copy_pairs.Goals as goal
 
-pub returns-then-key-second-clause-last : goal.returns-then-key-second-clause-last
-returns-then-key-second-clause-last g c =
+pub returns-then-key-entries-clause-last : goal.returns-then-key-entries-clause-last
+returns-then-key-entries-clause-last g c =
     let second = c.index-entries-i in
     let inside : c.pairs.i + 1 < length c.args.entries.now = omega (arith, c.pairs-test.true, c.pairs.invariant.within) in
     let next : suc c.pairs.i ≡ c.pairs.i + 1 = omega arith in
-    last-before 0 key_count c.args.key c.pairs.i second.result c.args.entries.now c.requires.ascending (omega (arith, inside)) (rw next (rw second.is at c.if-key-second.true))
+    last-before 0 key_count c.args.key c.pairs.i second.result c.args.entries.now c.requires.ascending (omega (arith, inside)) (rw next c.if-key-entries.true)
 
 pub pairs-preserved : goal.pairs-preserved
 pairs-preserved g c =
     let entries = c.args.entries.now in
     let i = c.pairs.i in
-    let second = c.index-entries-i in
+    let next_key = c.index-entries-i in
+    let second = c.index-entries-i-in-pairs-2 in
     let first = c.index-entries-i-in-pairs in
     let now = c.pairs.list in
     let place = c.args.place + i in
     let before = c.pairs.invariant in
     let inside : i + 1 < length entries = omega (arith, c.pairs-test.true, before.within) in
     let room : place + 1 < length now = omega (arith, inside, c.requires.room, before.as_many) in
-    let less : second.result.0 < c.args.key = omega (arith, c.if-key-second.false) in
     let next : suc (i + 1) ≡ i + 2 = omega arith in
     record {
       within = omega (arith, inside);
-      before = rw next at (below-upto 0 key_count c.args.key (i + 1) second.result entries c.requires.ascending inside (rw second.is at less));
-      after = rw next at (from-upto 0 key_count c.args.key (i + 1) second.result entries c.requires.ascending inside (rw second.is at less));
+      before = rw next at (below-upto 0 key_count c.args.key (i + 1) next_key.result entries c.requires.ascending inside (omega (arith, c.if-key-entries.false)));
+      after = rw next at (from-upto 0 key_count c.args.key (i + 1) next_key.result entries c.requires.ascending inside (omega (arith, c.if-key-entries.false)));
       as_many = length-set (set now place first.result) (place + 1) second.result ∙ length-set now place first.result ∙ before.as_many;
       written = pair-written c.args.list.now now entries c.args.place i first.result second.result inside room first.is second.is before.written;
     }
