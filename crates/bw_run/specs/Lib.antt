@@ -3,3 +3,4 @@ pub mod Rows
 pub mod Counts
 pub mod Faults
 pub mod Runs
+pub mod Texts

@@ -1,6 +1,7 @@
 //! A worker's acts, one after the other.
 
-ghost use Rattle.std.specs.Prelude.{◌≡◌, ◌≤◌, ◌<◌, ◌++◌, [], ◌∷◌, Some, IfOk, OnOk, OnErr, length, map, vec_capacity};
+ghost use Rattle.std.specs.Prelude.{◌≡◌, ◌≤◌, ◌<◌, ◌++◌, [], ◌∷◌, Some, IfOk, IfErr, OnOk, OnErr, length, map, vec_capacity};
+ghost use Rattle.bw_work.specs.Calls.{IsFair, limit_of};
 ghost use Rattle.bw_run.specs.Told.{answers, tellings, told_of};
 
 use crate::reply::Reply;
@@ -9,12 +10,13 @@ use bw_step::Step;
 use bw_work::{Fault, Steps, delete, get, put};
 use std::alloc::Global;
 
-/// Does the act, and answers what the worker was told.
+/// Does the act by the worker's steps, and answers what the worker was told.
 #[tactic(auto, using(crate::proofs::Receipts::put_tells, crate::proofs::Receipts::delete_tells, crate::proofs::Receipts::get_tells, crate::proofs::Receipts::none_told))]
-fn do_act<S: Steps<Global, Step<Global>>>(steps: &mut S, act: Act) -> Result<Reply, Fault>
+pub fn do_act<S: Steps<Global, Step<Global>>>(steps: &mut S, act: Act) -> Result<Reply, Fault>
     ensures follows { S.follows steps.old steps.new }
     ensures told { IfOk result (λ reply. map Some (tellings (S.seen steps.new).trail) ≡ map Some (tellings (S.seen steps.old).trail) ++ told_of act reply ∷ []) }
     ensures nothing { OnErr result (tellings (S.seen steps.new).trail ≡ tellings (S.seen steps.old).trail) }
+    ensures fault { IfErr result (IsFair (limit_of (S.seen steps.old)) (S.seen steps.old) (S.seen steps.new)) }
 {
     match act {
         Act::Put { key, value } => match put(steps, key, value) {

@@ -16,6 +16,7 @@ mod runner;
 #[cfg(test)]
 mod tests;
 
+pub use acts::do_act;
 pub use fault::RunFault;
 pub use reply::Reply;
 pub use row::{Act, Row, is_trace_for};

@@ -3,6 +3,8 @@
 ghost use Rattle.std.specs.Prelude.{◌≡◌};
 ghost use Rattle.bw_tree.specs.Shares.{Opens};
 
+mod altering;
+
 use crate::crew::work_all;
 use crate::job::jobs_of;
 use crate::plan::share_out;

@@ -8,3 +8,4 @@ pub mod Made
 pub mod Histories
 pub mod WrittenHistories
 pub mod Verdicts
+pub mod Options

@@ -5,7 +5,9 @@ ghost use Rattle.bw_trace.specs.declared.fault.OutFault.TheVariants as out_fault
 ghost use Rattle.bw_trace.specs.declared.fault.TextFault.TheVariants as text_fault;
 
 use crate::row::Part;
+use bw_delta::NoMemory;
 use std::alloc::AllocFailed;
+use std::io;
 use thiserror::Error;
 
 /// Why a trace or a history isn't read.
@@ -47,5 +49,17 @@ impl<T: Drop> From<AllocFailed<T>> for OutFault {
 
     fn from(_: AllocFailed<T>) -> OutFault {
         OutFault::Memory
+    }
+}
+
+impl From<NoMemory> for OutFault {
+    fn from(_: NoMemory) -> OutFault {
+        OutFault::Memory
+    }
+}
+
+impl From<io::Error> for OutFault {
+    fn from(_: io::Error) -> OutFault {
+        OutFault::Write
     }
 }

@@ -1,6 +1,8 @@
 //! The words that the program takes.
 
 ghost use Rattle.std.specs.Prelude.{◌≤◌, IfOk};
+ghost use Rattle.clap.specs.Words.{found_of};
+ghost use Rattle.bw_trace.specs.Options.{IsNumberFor};
 
 use crate::run_options::run_command;
 use clap::{Arg, ArgMatches, Command};
@@ -75,6 +77,7 @@ pub(crate) fn ranged(
     field: Field,
 ) -> Result<u64, Field>
     ensures inside { IfOk result (λ value. (low ≤ value) × (value ≤ high)) }
+    ensures named { IfOk result (IsNumberFor (found_of matches.now) name.now) }
 {
     match matches.get_one::<u64>(name) {
         Some(value) if low <= value && value <= high => Ok(value),

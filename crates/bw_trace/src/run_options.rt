@@ -1,7 +1,9 @@
 //! The words of `run`, and what they ask for.
 
 ghost use Rattle.std.specs.Prelude.{◌≡◌, ◌≤◌, IfOk, None};
+ghost use Rattle.clap.specs.Words.{found_of};
 ghost use Rattle.bw_keys.specs.Limits.{first_bad_field};
+ghost use Rattle.bw_trace.specs.Options.{IsAskedFor};
 
 use crate::options::{Field, option, ranged};
 use bw_keys::{Config, MAX_WORKERS};
@@ -23,6 +25,7 @@ pub(crate) struct RunOptions {
 impl RunOptions {
     /// What the words of `run` ask for, or the first option that is out of its range.
     pub(crate) fn of(matches: &ArgMatches) -> Result<RunOptions, Field>
+        ensures asked { IfOk result (IsAskedFor (found_of matches.now)) }
         ensures config { IfOk result (λ options. first_bad_field options.config ≡ None) }
         ensures version { IfOk result (λ options. options.config.first_version ≡ 0) }
         ensures workers { IfOk result (λ options. (1 ≤ options.workers) × (options.workers ≤ MAX_WORKERS)) }

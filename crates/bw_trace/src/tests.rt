@@ -5,6 +5,7 @@ mod histories;
 mod lines;
 mod ran;
 mod runs;
+mod several;
 mod traces;
 
 use crate::command;

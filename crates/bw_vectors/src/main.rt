@@ -2,7 +2,6 @@
 //! independent model of the map foretold.
 #![tactic(auto)]
 
-mod reply;
 mod texts;
 mod vector;
 mod ways;

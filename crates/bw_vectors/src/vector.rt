@@ -10,7 +10,7 @@ use std::rt::Files;
 #[derive(Drop)]
 pub(crate) struct Vector {
     /// The words of the options, one a line: a name, and then its number.
-    options: String,
+    pub(crate) options: String,
     pub(crate) trace: String,
     pub(crate) foretold: Texts,
 }

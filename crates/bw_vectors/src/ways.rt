@@ -2,20 +2,21 @@
 
 ghost use Rattle.bw_tree.specs.Shares.{Opens};
 
-use crate::reply::Reply;
 use crate::texts::Texts;
 use crate::vector::Vector;
-use anyhow::{Context, Result};
+use anyhow::{Context, Result, ensure};
+use bw_run::{Row, do_act};
 use bw_step::Step;
 use bw_table::Table;
-use bw_trace::{Act, Row, read_trace};
+use bw_trace::{command, read_trace};
 use bw_tree::{Blanks, Tree};
-use bw_work::{Alone, Fault, Hand, Open, Steps, delete, get, put};
+use bw_work::{Alone, Hand, Open, Steps};
 use std::alloc::Global;
 use std::fmt;
 use std::marker::Brand;
 use std::sync::Wait;
 use std::sync::ledger::Ledger;
+use std::thread::Threads;
 
 /// Who does the rows of a trace.
 #[derive(Clone, Copy, Debug, PartialEq, Eq)]
@@ -24,6 +25,8 @@ pub(crate) enum Way {
     Alone,
     /// A worker with a hand on a tree.
     Hand,
+    /// The program's command.
+    Program,
 }
 
 impl fmt::Display for Way {
@@ -31,15 +34,16 @@ impl fmt::Display for Way {
         f.write_str(match self {
             Way::Alone => "alone",
             Way::Hand => "by hand",
+            Way::Program => "by the program",
         })
     }
 }
 
 impl Way {
-    pub(crate) const ALL: [Way; 2] = [Way::Alone, Way::Hand];
+    pub(crate) const ALL: [Way; 3] = [Way::Alone, Way::Hand, Way::Program];
 
     /// Runs a trace in this way.
-    pub(crate) fn run<R: Wait + Drop>(
+    pub(crate) fn run<R: Threads + Wait + Sync + Send + Copy>(
         self,
         rt: R,
         alloc: Global,
@@ -48,15 +52,8 @@ impl Way {
         match self {
             Way::Alone => run_alone(alloc, vector),
             Way::Hand => run_by_hand::<Brand, Brand, _>(rt, alloc, Blanks::new(1), vector),
+            Way::Program => run_by_program(rt, alloc, vector),
         }
-    }
-}
-
-fn answer<S: Steps<Global, Step<Global>>>(steps: &mut S, act: Act) -> Result<Reply, Fault> {
-    match act {
-        Act::Put { key, value } => Ok(Reply::from(put(steps, key, value)?)),
-        Act::Get { key } => Ok(Reply::from(get(steps, key)?)),
-        Act::Delete { key } => Ok(Reply::from(delete(steps, key)?)),
     }
 }
 
@@ -68,7 +65,7 @@ fn work<S: Steps<Global, Step<Global>>>(
 ) -> Result<String> {
     let mut lines = String::new(alloc);
     for row in rows {
-        let reply = answer(steps, row.act)?;
+        let reply = do_act(steps, row.act)?;
         writeln!(lines, "{reply}")?;
     }
     Ok(lines)
@@ -107,4 +104,45 @@ fn run_by_hand<I: Ledger, D: Ledger, R: Wait + Drop>(
     shares.push(share).ok().context("no memory")?;
     let table = tree.close(shares)?;
     Texts::new(alloc, replies, trail, &table)
+}
+
+/// What the program prints of the trace, under its options and one more word.
+fn printed<R: Threads + Wait + Sync + Send + Copy>(
+    rt: R,
+    alloc: Global,
+    vector: &Vector,
+    word: &str,
+) -> Result<String> {
+    let mut words = Vec::new(alloc);
+    words.push("run")?;
+    for option in vector.options.split_whitespace() {
+        words.push(option)?;
+    }
+    words.push(word)?;
+    let mut output = Vec::new(alloc);
+    let mut faults = Vec::new(alloc);
+    let status = command(
+        rt,
+        alloc,
+        &words,
+        vector.trace.as_bytes(),
+        &mut output,
+        &mut faults,
+    );
+    ensure!(
+        status == 0 && faults.is_empty(),
+        "the program refused the trace"
+    );
+    Ok(String::from_utf8(output)?)
+}
+
+fn run_by_program<R: Threads + Wait + Sync + Send + Copy>(
+    rt: R,
+    alloc: Global,
+    vector: &Vector,
+) -> Result<Texts> {
+    Ok(Texts {
+        replies: printed(rt, alloc, vector, "--replies")?,
+        history: printed(rt, alloc, vector, "--history")?,
+    })
 }

@@ -135,6 +135,7 @@ fn a_failed_write_is_told(rt: HostRuntime) -> Result<(), Fail> {
 #[test]
 fn a_program_that_cannot_write_says_so(rt: HostRuntime) -> Result<(), Fail> {
     for words in [
+        ["run"].as_slice(),
         ["check"].as_slice(),
         ["make"].as_slice(),
         ["--help"].as_slice(),

@@ -1,0 +1,59 @@
+//! Runs of several workers, whose replies depend on who comes first.
+
+use crate::command;
+use std::process::Abort;
+use std::sync::Wait;
+use std::test::Fail;
+use std::thread::Threads;
+
+/// What the program prints on the input, where it ends well.
+fn printed<R: Abort + AllocGlobal + Threads + Wait + Sync + Send + Copy>(
+    rt: &R,
+    words: &[&str],
+    input: &str,
+) -> Result<String, Fail> {
+    let alloc = rt.alloc();
+    let mut written = Vec::new(alloc);
+    let mut told = Vec::new(alloc);
+    let status = command(*rt, alloc, words, input.as_bytes(), &mut written, &mut told);
+    assert_eq!(rt; std::str::from_utf8(told.as_slice())?, "");
+    assert_eq!(rt; status, 0);
+    Ok(String::from_utf8(written)?)
+}
+
+#[test]
+fn each_of_a_hundred_drawn_traces_ends_with_a_legal_history(rt: HostRuntime) -> Result<(), Fail> {
+    let alloc = rt.alloc();
+    for seed in 0..100u32 {
+        let seed = format!(in alloc; "--seed={seed}")?;
+        let trace = printed(
+            &rt,
+            &["make", seed.as_str(), "--rows=1000", "--workers=4"],
+            "",
+        )?;
+        let words = ["run", "--workers=4", "--fanout=4", "--chain=2"];
+        let output = printed(&rt, &words, trace.as_str())?;
+        assert!(rt; output.as_str().ends_with("audit yes\n"));
+    }
+    Ok(())
+}
+
+#[test]
+fn two_workers_put_a_hundred_keys_each(rt: HostRuntime) -> Result<(), Fail> {
+    let alloc = rt.alloc();
+    let mut trace = String::new(alloc);
+    for key in 1..=100u32 {
+        writeln!(trace, "0,put,{key},{key}")?;
+        writeln!(trace, "1,put,{},{}", 100 + key, 100 + key)?;
+    }
+    let words = ["run", "--workers=2", "--fanout=4", "--chain=4"];
+    let output = printed(&rt, &words, trace.as_str())?;
+    let end = "inserted 200 removed 0 pairs 200\naudit yes\n";
+    assert!(rt; output.as_str().ends_with(end));
+    let history = printed(&rt, &["run", "--workers=2", "--history"], trace.as_str())?;
+    assert_eq!(rt;
+        printed(&rt, &["check"], history.as_str())?.as_str(),
+        "audit yes\n"
+    );
+    Ok(())
+}
