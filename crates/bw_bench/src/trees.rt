@@ -77,11 +77,12 @@ pub(crate) struct Timed {
     pub seconds: f64,
 }
 
-/// The configuration for the greatest number of keys that there is room for.
+/// The configuration for the greatest number of keys that there is room for. Short chains suit it, as
+/// each record is a piece of memory of its own, which gets have to pass.
 fn config() -> Config {
     Config {
         fanout: 64,
-        chain: 8,
+        chain: 2,
         pages: 65_536,
         tries: 1000,
         first_version: 0,

@@ -1,7 +1,7 @@
 -- Where rising entries split at a bound.
 use Rattle.std.proofs.Common.{◌≡◌, ℕ, zero, suc, ◌+◌, ◌<◌, ◌≤◌, Bool, true, false, not, List, [], ◌∷◌, length, take, drop, get_or, refl, ap, arith}
-use Rattle.std.specs.Prelude.{◌-◌, filter, slice_get}
-use Rattle.std.specs.List.Sorted.{IsPartitionPoint}
+use Rattle.std.specs.Prelude.{◌-◌, nat_lt, filter, slice_get}
+use Rattle.std.specs.List.Sorted.{IsPartitionedBy, IsPartitionPoint}
 use Rattle.std.proofs.lemmas.Bool.Decides.{nat_tests}
 use Rattle.bw_delta.specs.Entries.{rises, last_entry}
 
@@ -14,6 +14,18 @@ module _ {X : Type 0} where
       let rest : rises (e.0 + 1) end es ≡ true = grind (arith, nat_tests) in
       let first : low ≤ e.0 = grind (arith, nat_tests) in
       omega (arith, key_from_low (e.0 + 1) end es i d rest (omega arith))
+
+  pub rises-IsPartitionedBy : (low end bound : ℕ) (es : List (ℕ × X)) → rises low end es ≡ true → IsPartitionedBy (λ e. nat_lt e.0 bound) es
+  rises-IsPartitionedBy low end bound [] h i j d le inside passes = absurd (omega arith)
+  rises-IsPartitionedBy low end bound (e ∷ es) h zero zero d le inside passes = passes
+  rises-IsPartitionedBy low end bound (e ∷ es) h zero (suc j) d le inside passes =
+      let rest : rises (e.0 + 1) end es ≡ true = grind (arith, nat_tests) in
+      let later : e.0 + 1 ≤ (get_or es j d).0 = key_from_low (e.0 + 1) end es j d rest (omega arith) in
+      grind (arith, nat_tests)
+  rises-IsPartitionedBy low end bound (e ∷ es) h (suc i) zero d le inside passes = absurd (omega arith)
+  rises-IsPartitionedBy low end bound (e ∷ es) h (suc i) (suc j) d le inside passes =
+      let rest : rises (e.0 + 1) end es ≡ true = grind (arith, nat_tests) in
+      rises-IsPartitionedBy (e.0 + 1) end bound es rest i j d (omega arith) (omega arith) passes
 
 module _ {Y : Type 0} (p q : Y → Bool) (other : (y : Y) → q y ≡ not (p y)) where
   abbrev SplitsAt : List Y → ℕ → Type 0
