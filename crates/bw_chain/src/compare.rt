@@ -87,7 +87,7 @@ fn lists_from<A: Allocator + Copy>(base: &Base<A>, chain: &Chain<A>, fence: Fenc
             if !is_leaf(chain) {
                 return false;
             }
-            let mut edits: Edits<'_, u64, A> = Edits::from_buf(
+            let mut edits: Edits<'_, u64, A, MOST_EDITS> = Edits::from_buf(
                 pairs.allocator(),
                 [(0, None); MOST_EDITS],
             );
@@ -97,7 +97,7 @@ fn lists_from<A: Allocator + Copy>(base: &Base<A>, chain: &Chain<A>, fence: Fenc
             if is_leaf(chain) {
                 return false;
             }
-            let mut edits: Edits<'_, Pid, A> = Edits::from_buf(
+            let mut edits: Edits<'_, Pid, A, MOST_EDITS> = Edits::from_buf(
                 routes.allocator(),
                 [(0, None); MOST_EDITS],
             );
