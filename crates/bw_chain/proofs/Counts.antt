@@ -1,6 +1,8 @@
 -- Rising entries before a key, and those behind it.
 use Rattle.std.proofs.Common.{◌≡◌, ◌≢◌, ℕ, zero, suc, ◌+◌, ◌<◌, ◌≤◌, true, List, [], ◌∷◌, ◌++◌, length, take, drop, get_or, drop-cons, append-nil, refl, ap, ◌∙◌, arith}
+use Rattle.std.specs.Prelude.{Some, slice_get}
 use Rattle.std.proofs.lemmas.Bool.Decides.{nat_tests}
+use Rattle.std.proofs.lemmas.Option.{same_Some}
 use Rattle.bw_delta.specs.Entries.{rises, below, from}
 use Rattle.bw_delta.proofs.Rises.{from_all}
 use Rattle.bw_keys.specs.Ranges.{key_count}
@@ -50,6 +52,15 @@ module _ {X : Type 0} where
   pub length-below : (bound : ℕ) (es : List (ℕ × X)) → length (below bound es) ≤ length es
   length-below bound [] = omega arith
   length-below bound (e ∷ es) = grind (arith, nat_tests, length-below bound es)
+
+  -- no entry lies below a bound that the first one doesn't
+  pub from-least : (bound : ℕ) (e : ℕ × X) (es : List (ℕ × X)) → IsAscending es → slice_get es 0 ≡ Some e → bound ≤ e.0 → from bound es ≡ es
+  from-least bound e [] h first le = refl
+  from-least bound e (f ∷ es) h first le =
+      let same : f ≡ e = same_Some f e first in
+      let here : bound ≤ f.0 = omega (arith, le, ap (λ x. x.0) same) in
+      let rest : rises (f.0 + 1) key_count es ≡ true = grind (arith, nat_tests) in
+      grind (arith, nat_tests, from_all key_count (f.0 + 1) bound es)
 
   -- one more at most, where the key of the next but one isn't less
   pub last-before : (low end key i : ℕ) (d : ℕ × X) (es : List (ℕ × X)) → rises low end es ≡ true → suc i < length es → key ≤ (get_or es (suc i) d).0 → length (below key (drop i es)) ≤ 1

@@ -1,19 +1,20 @@
-ghost use Rattle.std.specs.Prelude.{◌≡◌, ◌↔◌, ◌<◌, ◌≤◌, ◌^◌, IsTrue, length};
+ghost use Rattle.std.specs.Prelude.{◌≡◌, ◌↔◌, ◌<◌, ◌≤◌, ◌-◌, ◌^◌, min, IsTrue, length};
 ghost use Rattle.bw_keys.specs.Ranges.{end_of};
 ghost use Rattle.bw_delta.specs.Entries.{from};
-ghost use Rattle.bw_delta.specs.Fence.{is_leaf};
+ghost use Rattle.bw_delta.specs.Fence.{fences, is_leaf};
 ghost use Rattle.bw_delta.specs.Pages.{listed_from, upper_part};
 ghost use Rattle.bw_delta.specs.Records.{depth};
 ghost use Rattle.bw_delta.specs.Sound.{IsSound, IsWellBuilt, entry_count, listed_for, page_for};
 ghost use Rattle.bw_chain.specs.Ascends.{IsAscending};
 ghost use Rattle.bw_chain.specs.Changes.{entries_by};
+ghost use Rattle.bw_chain.specs.declared.edits.TheConstants.{MOST_EDITS};
 
 use crate::bounds::past;
 use crate::compared::{Compared, Differs};
-use crate::edits::{Edits, MOST_EDITS};
+use crate::edits::{Edits, FEW_EDITS, MOST_EDITS};
 use crate::entries::first_from;
 use crate::pass::pass;
-use crate::shape::{fences, is_leaf};
+use crate::shape::{Extent, is_leaf, survey};
 use crate::value::EntryValue;
 use bw_delta::{Base, Chain, Entries, Fences};
 use bw_keys::{Fence, Key, Pid};
@@ -56,11 +57,12 @@ pub fn same<A: Allocator + Copy>(base: &Base<A>, chain: &Chain<A>) -> bool
     requires sound { IsSound chain.now }
     ensures { IsTrue result ↔ (base.now ≡ page_for chain.now) }
 {
-    let Fences { low, high, right } = fences(chain);
+    let extent = survey(chain);
+    let Fences { low, high, right } = extent.fences;
     base.low == low
         && base.high == high
         && base.right == right
-        && lists_from(base, chain, Fence::Key(0))
+        && lists_from(base, chain, Fence::Key(0), extent)
 }
 
 /// Whether the base page is the part from the separator on of the page that the chain stands for.
@@ -69,39 +71,76 @@ pub fn is_upper_part<A: Allocator + Copy>(base: &Base<A>, chain: &Chain<A>, sepa
     requires sound { IsSound chain.now }
     ensures { IsTrue result ↔ (base.now ≡ upper_part separator (page_for chain.now)) }
 {
-    let whole = fences(chain);
+    let extent = survey(chain);
+    let Fences { high, right, .. } = extent.fences;
     base.low == separator
-        && base.high == whole.high
-        && base.right == whole.right
-        && lists_from(base, chain, Fence::Key(separator))
+        && base.high == high
+        && base.right == right
+        && lists_from(base, chain, Fence::Key(separator), extent)
 }
 
 /// Whether the base page lists what the chain does from the fence on.
-#[tactic(auto, using(crate::proofs::Bridges::both_kinds))]
-fn lists_from<A: Allocator + Copy>(base: &Base<A>, chain: &Chain<A>, fence: Fence) -> bool
+fn lists_from<A: Allocator + Copy>(
+    base: &Base<A>,
+    chain: &Chain<A>,
+    fence: Fence,
+    extent: Extent,
+) -> bool
     requires sound { IsSound chain.now }
+    requires fences { extent.fences ≡ fences chain.now }
+    requires kind { extent.is_leaf ≡ is_leaf chain.now }
+    requires records { min (depth chain.now) (2 ^ 64 - 1) ≤ extent.records }
+    ensures { IsTrue result ↔ (base.now.listed ≡ listed_from (end_of fence) (listed_for (is_leaf chain.now) chain.now)) }
+{
+    let Extent {
+        fences: Fences { high, .. },
+        is_leaf,
+        records,
+        ..
+    } = extent;
+    if records <= FEW_EDITS {
+        lists_among::<A, FEW_EDITS>(base, chain, fence, high, is_leaf)
+    } else {
+        lists_among::<A, MOST_EDITS>(base, chain, fence, high, is_leaf)
+    }
+}
+
+/// Whether the base page lists what the chain does from the fence on, with places for so many edits.
+#[tactic(auto, using(crate::proofs::Bridges::both_kinds))]
+fn lists_among<A: Allocator + Copy, const N: usize>(
+    base: &Base<A>,
+    chain: &Chain<A>,
+    fence: Fence,
+    high: Fence,
+    of_pairs: bool,
+) -> bool
+    requires sound { IsSound chain.now }
+    requires high { high ≡ (fences chain.now).high }
+    requires kind { of_pairs ≡ is_leaf chain.now }
+    requires deep { depth chain.now ≤ N }
+    requires most { N ≤ MOST_EDITS }
     ensures { IsTrue result ↔ (base.now.listed ≡ listed_from (end_of fence) (listed_for (is_leaf chain.now) chain.now)) }
 {
     match &base.entries {
         Entries::Pairs(pairs) => {
-            if !is_leaf(chain) {
+            if !of_pairs {
                 return false;
             }
-            let mut edits: Edits<'_, u64, A, MOST_EDITS> = Edits::from_buf(
+            let mut edits: Edits<'_, u64, A, N> = Edits::from_buf(
                 pairs.allocator(),
-                [(0, None); MOST_EDITS],
+                [(0, None); N],
             );
-            are_entries(pairs, chain, fence, edits.as_mut_slice())
+            are_entries(pairs, chain, fence, high, edits.as_mut_slice())
         }
         Entries::Routes(routes) => {
-            if is_leaf(chain) {
+            if of_pairs {
                 return false;
             }
-            let mut edits: Edits<'_, Pid, A, MOST_EDITS> = Edits::from_buf(
+            let mut edits: Edits<'_, Pid, A, N> = Edits::from_buf(
                 routes.allocator(),
-                [(0, None); MOST_EDITS],
+                [(0, None); N],
             );
-            are_entries(routes, chain, fence, edits.as_mut_slice())
+            are_entries(routes, chain, fence, high, edits.as_mut_slice())
         }
     }
 }
@@ -112,9 +151,11 @@ fn are_entries<A: Allocator + Copy, X: EntryValue>(
     list: &[(Key, X)],
     chain: &Chain<A>,
     fence: Fence,
+    high: Fence,
     edits: &mut [(Key, Option<X>)],
 ) -> bool
     requires built { IsWellBuilt chain.now }
+    requires high { high ≡ (fences chain.now).high }
     requires deep { depth chain.now ≤ length edits.old }
     ensures { IsTrue result ↔ (list.now ≡ from (end_of fence) (entries_by X.own_entries X.own_change chain.now)) }
 {
@@ -122,7 +163,6 @@ fn are_entries<A: Allocator + Copy, X: EntryValue>(
         rest: list,
         from: fence,
     };
-    let Fences { high, .. } = fences(chain);
     match pass(chain, high, edits, 0, &mut compared) {
         Ok(()) => compared.rest.is_empty(),
         Err(Differs) => false,

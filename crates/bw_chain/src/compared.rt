@@ -1,7 +1,8 @@
 //! A list that is compared with the entries that a pass hands on.
 
 ghost use Rattle.std.specs.Prelude.{◌≡◌, ◌≢◌, ◌↔◌, ◌++◌, List, ℕ, length, true, IsTrue, MatchOption};
-ghost use Rattle.bw_keys.specs.Ranges.{key_count};
+ghost use Rattle.bw_keys.specs.Ranges.{end_of, key_count};
+ghost use Rattle.bw_delta.specs.Entries.{from};
 ghost use Rattle.bw_chain.specs.Ascends.{IsAscending};
 ghost use Rattle.bw_chain.specs.Edited.{edited, entry_of, falls};
 ghost use Rattle.bw_chain.specs.Rests.{Begins, BeginsOtherwise};
@@ -68,7 +69,7 @@ fn without_edited<'a, X: EntryValue>(
     'edits: while let Some((edit, greater)) = left.split_last() {
         let (key, value) = *edit;
         let (before, after) = part_at(rest, key);
-        let Some(behind) = without_front(list, from_fence(before, fence)) else {
+        let Some(behind) = without_front(list, on_from(before, fence)) else {
             return None;
         };
         let Some(behind) = without_edit(behind, fence, key, value) else {
@@ -78,9 +79,25 @@ fn without_edited<'a, X: EntryValue>(
         rest = after;
         left = greater;
     }
-    match without_front(list, from_fence(rest, fence)) {
+    match without_front(list, on_from(rest, fence)) {
         Some(behind) => Some(behind),
         None => None,
+    }
+}
+
+/// The entries from the fence on, which mostly all of them are.
+#[inline(always)]
+fn on_from<X: Copy>(entries: &[(Key, X)], fence: Fence) -> &[(Key, X)]
+    requires ascending { IsAscending entries.now }
+    ensures { result.now ≡ from (end_of fence) entries.now }
+{
+    let Some(least) = entries.first() else {
+        return entries;
+    };
+    if fence.is_above(least.0) {
+        from_fence(entries, fence)
+    } else {
+        entries
     }
 }
 

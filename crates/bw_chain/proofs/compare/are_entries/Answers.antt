@@ -19,7 +19,7 @@ returns-in-Ok g c =
     let entry = g.X.EntryValue in
     let laws = g.met.X.EntryValue in
     let chain = c.args.chain.now in
-    let whole = unedited entry.own_entries entry.own_change laws.rise laws.cut chain c.fences-high.result.high [] c.requires.built (ap (λ fence. fence.high) c.fences-high.ensures) refl in
+    let whole = unedited entry.own_entries entry.own_change laws.rise laws.cut chain c.args.high [] c.requires.built c.requires.high refl in
     none_left c.args.list.now (from (end_of c.args.fence) (entries_by entry.own_entries entry.own_change chain)) c.pass.new.sink.rest.now c.is_empty.result (rw whole at c.in-Ok.ensures.taken.0) c.is_empty.ensures
 
 pub returns-in-Err : goal.returns-in-Err
@@ -27,6 +27,6 @@ returns-in-Err g c =
     let entry = g.X.EntryValue in
     let laws = g.met.X.EntryValue in
     let chain = c.args.chain.now in
-    let whole = unedited entry.own_entries entry.own_change laws.rise laws.cut chain c.fences-high.result.high [] c.requires.built (ap (λ fence. fence.high) c.fences-high.ensures) refl in
+    let whole = unedited entry.own_entries entry.own_change laws.rise laws.cut chain c.args.high [] c.requires.built c.requires.high refl in
     let other = rw whole at c.in-Err.ensures.refused in
     ((λ h. absurd (cc)), λ same. absurd (other [] (same ∙ sym (append-nil _))))

@@ -12,8 +12,8 @@ use Rattle.bw_chain.proofs.compared.without_edited.Goals as goal
 pub edits-init : goal.edits-init
 edits-init g c = record { front = front_none c.args.fence c.args.list.now _; ascending = c.requires.ascending; falling = c.requires.falling }
 
-pub from_fence-requires : goal.from_fence-requires
-from_fence-requires g c = record { ascending = rw c.part_at.ensures.before (rises-kept 0 key_count c.in-Some.edit.now.0 c.edits.rest.now c.edits.invariant.ascending) }
+pub on_from-requires : goal.on_from-requires
+on_from-requires g c = record { ascending = rw c.part_at.ensures.before (rises-kept 0 key_count c.in-Some.edit.now.0 c.edits.rest.now c.edits.invariant.ascending) }
 
 pub returns-in_default-without_front : goal.returns-in_default-without_front
 returns-in_default-without_front g c =
@@ -22,7 +22,7 @@ returns-in_default-without_front g c =
     let edit = c.in-Some.edit.now in
     let rest = c.edits.rest.now in
     let parts = edited-last c.edits.left.now c.in-Some.greater.now edit rest c.in-Some.ensures.cases.0 c.edits.invariant.falling c.edits.invariant.ascending in
-    let other = rw (c.from_fence.ensures, c.part_at.ensures.before) at c.in_default-without_front.ensures in
+    let other = rw (c.on_from.ensures, c.part_at.ensures.before) at c.in_default-without_front.ensures in
     front_otherwise fence list _ _ c.edits.list.now c.edits.invariant.front (below edit.0 rest ++ entry_of edit.0 edit.1) _ (otherwise_more fence c.edits.list.now (below edit.0 rest) (entry_of edit.0 edit.1) other) parts
 
 pub returns-in_default-without_edit : goal.returns-in_default-without_edit
@@ -32,7 +32,7 @@ returns-in_default-without_edit g c =
     let edit = c.in-Some.edit.now in
     let rest = c.edits.rest.now in
     let parts = edited-last c.edits.left.now c.in-Some.greater.now edit rest c.in-Some.ensures.cases.0 c.edits.invariant.falling c.edits.invariant.ascending in
-    let first = rw (c.from_fence.ensures, c.part_at.ensures.before) at c.in-Some-without_front.ensures in
+    let first = rw (c.on_from.ensures, c.part_at.ensures.before) at c.in-Some-without_front.ensures in
     let other = otherwise_later fence fence c.edits.list.now c.in-Some-without_front.behind.now (below edit.0 rest) (entry_of edit.0 edit.1) refl first c.in_default-without_edit.ensures in
     front_otherwise fence list _ _ c.edits.list.now c.edits.invariant.front (below edit.0 rest ++ entry_of edit.0 edit.1) _ other parts
 
@@ -43,7 +43,7 @@ edits-preserved g c =
     let edit = c.in-Some.edit.now in
     let rest = c.edits.rest.now in
     let parts = edited-last c.edits.left.now c.in-Some.greater.now edit rest c.in-Some.ensures.cases.0 c.edits.invariant.falling c.edits.invariant.ascending in
-    let first = rw (c.from_fence.ensures, c.part_at.ensures.before) at c.in-Some-without_front.ensures in
+    let first = rw (c.on_from.ensures, c.part_at.ensures.before) at c.in-Some-without_front.ensures in
     let both = begins_joined fence fence c.edits.list.now c.in-Some-without_front.behind.now c.in-Some-without_edit.behind.now (below edit.0 rest) (entry_of edit.0 edit.1) refl first c.in-Some-without_edit.ensures in
     rw c.part_at.ensures.after (record {
       front = front_more fence list _ _ c.edits.list.now c.edits.invariant.front (below edit.0 rest ++ entry_of edit.0 edit.1) (edited c.in-Some.greater.now (from (edit.0 + 1) rest)) c.in-Some-without_edit.behind.now both parts;
@@ -56,5 +56,5 @@ returns-in-None g c =
     let rest = c.edits.rest.now in
     let none = no_items c.edits.left.now c.in_default.ensures.cases in
     let all : edited c.edits.left.now rest ≡ rest = ap (λ edits. edited edits rest) none in
-    let other = rw c.from_fence-2.ensures at c.in-None.ensures in
+    let other = rw c.on_from-2.ensures at c.in-None.ensures in
     front_otherwise c.args.fence c.args.list.now _ _ c.edits.list.now c.edits.invariant.front rest [] other (all ∙ sym (append-nil rest))
