@@ -25,6 +25,3 @@ pub use program::command;
 pub use record::write_history;
 pub use row::Part;
 pub use trace::{MOST_TRACE_ROWS, read_trace, write_trace};
-
-#[cfg(test)]
-mod tests;

@@ -1,6 +1,8 @@
 //! Readers and writers that fail once, at each of their calls in turn.
 
-use crate::{OutFault, TextFault, command, read_history, read_trace, write_history, write_trace};
+use bw_trace::{
+    OutFault, TextFault, command, read_history, read_trace, write_history, write_trace,
+};
 use std::alloc::Global;
 use std::io;
 use std::io::{Read, Write};
@@ -8,7 +10,7 @@ use std::test::Fail;
 
 /// Gives three bytes a read, and fails at one read.
 #[derive(Drop)]
-pub(super) struct Failing<'a> {
+pub(crate) struct Failing<'a> {
     pub text: &'a [u8],
     pub before: u64,
 }

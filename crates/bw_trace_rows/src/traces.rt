@@ -1,5 +1,5 @@
-use super::ends;
-use crate::{Act, MOST_TRACE_ROWS, Part, Row, TextFault, make, read_trace, write_trace};
+use crate::answers::ends;
+use bw_trace::{Act, MOST_TRACE_ROWS, Part, Row, TextFault, make, read_trace, write_trace};
 use std::alloc::Global;
 use std::io;
 use std::io::Read;
@@ -83,14 +83,14 @@ fn a_text_may_end_anywhere(rt: HostRuntime) -> Result<(), Fail> {
 
 /// A line that is given so many times, line by line.
 #[derive(Drop)]
-pub(super) struct Lines {
+pub(crate) struct Lines {
     line: &'static [u8],
     rest: &'static [u8],
     left: u64,
 }
 
 impl Lines {
-    pub(super) fn new(line: &'static str, left: u64) -> Lines {
+    pub(crate) fn new(line: &'static str, left: u64) -> Lines {
         Lines {
             line: line.as_bytes(),
             rest: b"".as_slice(),

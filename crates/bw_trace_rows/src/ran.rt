@@ -1,6 +1,6 @@
 //! Runs through the command, on traces whose leaves, replies and histories were worked out by hand.
 
-use super::ends;
+use crate::answers::ends;
 use std::test::Fail;
 
 const FIVE: &str = "0,put,1,1\n0,put,2,2\n0,put,3,3\n0,put,4,4\n0,put,5,5\n";

@@ -1,8 +1,8 @@
-use super::ends;
-use super::traces::Lines;
-use crate::{History, MOST_HISTORY_ROWS, Part, TextFault, read_history, write_history};
+use crate::answers::ends;
+use crate::traces::Lines;
 use bw_keys::Pid;
 use bw_step::{Kind, Receipt};
+use bw_trace::{History, MOST_HISTORY_ROWS, Part, TextFault, read_history, write_history};
 use std::alloc::Global;
 use std::test::Fail;
 

@@ -1,4 +1,4 @@
-use super::ends;
+use crate::answers::ends;
 use std::test::Fail;
 
 #[test]
