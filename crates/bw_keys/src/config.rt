@@ -8,7 +8,7 @@ use thiserror::Error;
 #[derive(Clone, Copy, Debug, PartialEq, Eq, Hash)]
 pub struct Config {
     /// How many entries a page may have before it is split, 4 to 64. A page with fewer than a
-    /// quarter of it is merged into its left neighbour.
+    /// quarter of it, rounded down, is merged into its left neighbour.
     pub fanout: u32,
     /// The depth at which a page is consolidated, in records, 1 to 32.
     pub chain: u32,
