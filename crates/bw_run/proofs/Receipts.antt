@@ -2,14 +2,14 @@
 use Rattle.std.proofs.Common.{◌≡◌, ℕ, zero, suc, ◌<◌, List, [], ◌∷◌, ◌++◌, length, get_or, Option, Some, Ok, Err, refl, ap, sym, ◌∙◌, map, arith}
 use Rattle.bw_step.specs.declared.receipt.Receipt.{Receipt}
 use Rattle.bw_step.specs.declared.receipt.Receipt.TheVariants.{Inserted, Deleted, Looked, Shaped}
-use Rattle.bw_work.specs.declared.fault.Fault.{Fault}
-use Rattle.bw_work.specs.declared.reply.Del.{Del}
-use Rattle.bw_work.specs.declared.reply.Del.TheVariants as dels
-use Rattle.bw_work.specs.declared.reply.Put.{Put}
-use Rattle.bw_work.specs.declared.reply.Put.TheVariants as puts
-use Rattle.bw_work.specs.Calls.{AddsLook, plain}
-use Rattle.bw_work.specs.Seen.{Seen}
-use Rattle.bw_work.specs.Writing.{AddsReceipt, IsReceiptOfPut, IsReceiptOfDelete}
+use Rattle.bw_procedures.specs.declared.fault.Fault.{Fault}
+use Rattle.bw_procedures.specs.declared.reply.Del.{Del}
+use Rattle.bw_procedures.specs.declared.reply.Del.TheVariants as dels
+use Rattle.bw_procedures.specs.declared.reply.Put.{Put}
+use Rattle.bw_procedures.specs.declared.reply.Put.TheVariants as puts
+use Rattle.bw_procedures.specs.Calls.{AddsLook, plain}
+use Rattle.bw_procedures.specs.Seen.{Seen}
+use Rattle.bw_procedures.specs.Writing.{AddsReceipt, IsReceiptOfPut, IsReceiptOfDelete}
 use Rattle.bw_run.specs.declared.reply.Reply.{Reply}
 use Rattle.bw_run.specs.declared.row.Act.{Act}
 use Rattle.bw_run.specs.Told.{Told, inserted, removed, looked, tellings, told_of, told_of_put, told_of_delete, answers}

@@ -1,10 +1,10 @@
 -- What a reply reads as.
 use Rattle.std.specs.Prelude.{ℕ, ◌++◌, List, Option, Some, None, codes, decimal}
-use Rattle.bw_work.specs.declared.fault.Fault.{Fault}
-use Rattle.bw_work.specs.declared.reply.Del.{Del}
-use Rattle.bw_work.specs.declared.reply.Del.TheVariants as dels
-use Rattle.bw_work.specs.declared.reply.Put.{Put}
-use Rattle.bw_work.specs.declared.reply.Put.TheVariants as puts
+use Rattle.bw_procedures.specs.declared.fault.Fault.{Fault}
+use Rattle.bw_procedures.specs.declared.reply.Del.{Del}
+use Rattle.bw_procedures.specs.declared.reply.Del.TheVariants as dels
+use Rattle.bw_procedures.specs.declared.reply.Put.{Put}
+use Rattle.bw_procedures.specs.declared.reply.Put.TheVariants as puts
 use Rattle.bw_run.specs.declared.reply.Reply.{Reply}
 use Rattle.bw_run.specs.declared.reply.Reply.TheVariants as replies
 

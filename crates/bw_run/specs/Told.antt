@@ -2,10 +2,10 @@
 use Rattle.std.specs.Prelude.{ℕ, List, [], ◌∷◌, Option, Some, None}
 use Rattle.bw_step.specs.declared.receipt.Receipt.{Receipt}
 use Rattle.bw_step.specs.declared.receipt.Receipt.TheVariants.{Inserted, Deleted, Looked, Shaped}
-use Rattle.bw_work.specs.declared.reply.Del.{Del}
-use Rattle.bw_work.specs.declared.reply.Del.TheVariants as dels
-use Rattle.bw_work.specs.declared.reply.Put.{Put}
-use Rattle.bw_work.specs.declared.reply.Put.TheVariants as puts
+use Rattle.bw_procedures.specs.declared.reply.Del.{Del}
+use Rattle.bw_procedures.specs.declared.reply.Del.TheVariants as dels
+use Rattle.bw_procedures.specs.declared.reply.Put.{Put}
+use Rattle.bw_procedures.specs.declared.reply.Put.TheVariants as puts
 use Rattle.bw_run.specs.declared.reply.Reply.{Reply}
 use Rattle.bw_run.specs.declared.reply.Reply.TheVariants as replies
 use Rattle.bw_run.specs.declared.row.Act.{Act}

@@ -1,7 +1,7 @@
 //! A worker's acts, one after the other.
 
 ghost use Rattle.std.specs.Prelude.{◌≡◌, ◌≤◌, ◌<◌, ◌++◌, [], ◌∷◌, Some, IfOk, IfErr, OnOk, OnErr, length, map, vec_capacity};
-ghost use Rattle.bw_work.specs.Calls.{IsFair, limit_of};
+ghost use Rattle.bw_procedures.specs.Calls.{IsFair, limit_of};
 ghost use Rattle.bw_run.specs.Told.{answers, tellings, told_of};
 
 use crate::reply::Reply;

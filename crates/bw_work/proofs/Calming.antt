@@ -13,8 +13,8 @@ use Rattle.bw_law.specs.Slots.{pairs_in}
 use Rattle.bw_law.specs.Tables.{TableValue, slot_at, number_of}
 use Rattle.bw_table.specs.Views.{look_at}
 use Rattle.bw_table.specs.Visits.{IsOnTheWay, IsFound, TellsWhetherOnTheWay, StaysOnTheWay, FindsPage}
+use Rattle.bw_procedures.specs.Sights.{CalmNext}
 use Rattle.bw_work.specs.Calm.{HoldsKey, IsTrueOf}
-use Rattle.bw_work.specs.Sights.{CalmNext}
 
 -- the page that a search found holds the key, and has the version of its view
 found_holds : (table : TableValue) (place : Place) (key goal : ℕ) (view : View) → IsFound table place key goal view → HoldsKey table key goal view.pid.0

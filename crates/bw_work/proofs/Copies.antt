@@ -12,9 +12,9 @@ use Rattle.bw_law.specs.Tables.{TableValue, slot_at, Lawful, IsPageOf}
 use Rattle.bw_law.proofs.Accepted.{Holds}
 use Rattle.bw_law.proofs.Chains.{low_is, high_is, pairs_are, leaf_chain}
 use Rattle.bw_law.proofs.Facts.{leaf_decides}
+use Rattle.bw_procedures.specs.Sights.{IsLeafAround}
 use Rattle.bw_work.specs.Calm.{HoldsKey}
 use Rattle.bw_work.specs.Showing.{Shows}
-use Rattle.bw_work.specs.Sights.{IsLeafAround}
 
 module _ (table : TableValue) (law : Lawful table) (page : ℕ) (chain : Records) (in_row : is_in_row (slot_at table page).stage ≡ true) (its_chain : (slot_at table page).chain ≡ Some chain) where
   -- the copy is the chain that the law speaks of

@@ -4,7 +4,7 @@ use Rattle.bw_keys.specs.Ranges.{end_of}
 use Rattle.bw_step.specs.Stages.{is_in_row}
 use Rattle.bw_law.specs.Tables.{TableValue, slot_at}
 use Rattle.bw_table.specs.Visits.{IsOnTheWay}
-use Rattle.bw_work.specs.Sights.{Sight, quiet, on_the_way, holds, fresh}
+use Rattle.bw_procedures.specs.Sights.{Sight, quiet, on_the_way, holds, fresh}
 
 -- the page is in the row of the level, with a range that holds the key
 pub record HoldsKey (table : TableValue) (key level page : ℕ) : Type 0 where

@@ -5,8 +5,8 @@ use Rattle.bw_keys.specs.declared.config.Config.{Config}
 use Rattle.bw_step.specs.declared.receipt.Receipt.{Receipt}
 use Rattle.bw_step.specs.declared.survey.Book.{Book}
 use Rattle.bw_tree.specs.Shares.{counted}
+use Rattle.bw_procedures.specs.Seen.{Seen}
 use Rattle.bw_work.specs.declared.counts.Counts.{Counts}
-use Rattle.bw_work.specs.Seen.{Seen}
 
 -- nothing was counted
 abbrev pub no_counts : Counts

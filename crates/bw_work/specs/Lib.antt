@@ -1,10 +1,3 @@
-pub mod Seen
-pub mod Sights
-pub mod Calls
-pub mod Slices
-pub mod Rounds
-pub mod Tending
-pub mod Writing
 pub mod Hands
 pub mod Calm
 pub mod Leading

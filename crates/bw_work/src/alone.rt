@@ -2,9 +2,9 @@ ghost use Rattle.std.specs.Prelude.{◌≡◌, []};
 ghost use Rattle.bw_work.specs.Hands.{no_counts};
 
 use crate::counts::Counts;
-use crate::steps::{Ends, Keep, Steps};
 use bw_delta::{Chain, NoMemory};
 use bw_keys::{Config, Key, Pid, Version};
+use bw_procedures::{Ends, Keep, Steps};
 use bw_step::{Go, Look, Next, Place, Receipt, Step, View};
 use bw_table::{CopyFault, Table};
 use bw_tree::Denied;
@@ -49,10 +49,10 @@ impl<'t, A: Allocator + Copy> Steps<A, Step<A>> for Alone<'t, A> {
     ghost use Rattle.std.specs.Prelude.{◌≡◌, refl};
     ghost use Rattle.std.proofs.Common.{◌∙◌};
     ghost use Rattle.bw_step.specs.ProposalView.{proposal_of};
+    ghost use Rattle.bw_procedures.specs.Seen.{Installed};
     ghost use Rattle.bw_work.specs.Calm.{IsTrueOf};
     ghost use Rattle.bw_work.specs.Hands.{seen_of};
     ghost use Rattle.bw_work.specs.Leading.{Leads, leads_stay, leads_join};
-    ghost use Rattle.bw_work.specs.Seen.{Installed};
     ghost use Rattle.bw_work.specs.Showing.{Shows, shows_narrow};
 
     ghost seen = { λ s. seen_of s.table.now.config s.trail.items s.counts };

@@ -1,24 +1,17 @@
 //! The calls of a worker that is alone.
 
 ghost use Rattle.std.specs.Prelude.{◌≡◌, IfOk, IfErr, IfSome, OnOk, OnErr};
-ghost use Rattle.bw_work.specs.Seen.{Grows};
-ghost use Rattle.bw_work.specs.Calls.{limit_of, IsFair, OnlyReshapes, RoseBy, AddsLook, plain};
+ghost use Rattle.bw_procedures.specs.Seen.{Grows};
+ghost use Rattle.bw_procedures.specs.Calls.{limit_of, IsFair, OnlyReshapes, RoseBy, AddsLook, plain};
+ghost use Rattle.bw_procedures.specs.Slices.{end_of_slice, IsSliceFrom};
+ghost use Rattle.bw_procedures.specs.Writing.{AddsReceipt, IsReceiptOfPut, IsReceiptOfDelete};
 ghost use Rattle.bw_work.specs.Hands.{seen_of};
 ghost use Rattle.bw_work.specs.Leading.{Leads};
 ghost use Rattle.bw_work.specs.Showing.{Shows};
-ghost use Rattle.bw_work.specs.Slices.{end_of_slice, IsSliceFrom};
-ghost use Rattle.bw_work.specs.Writing.{AddsReceipt, IsReceiptOfPut, IsReceiptOfDelete};
 
 use crate::alone::Alone;
-use crate::cursor::page_from;
-use crate::deletion::delete;
-use crate::fault::Fault;
-use crate::helping::help;
-use crate::insertion::put;
-use crate::lookup::get;
-use crate::reply::{Del, Done, Put, Slice};
-use crate::tending::tend;
 use bw_keys::{Key, Pid};
+use bw_procedures::{Del, Done, Fault, Put, Slice, delete, get, help, page_from, put, tend};
 use bw_step::Todo;
 use std::alloc::{Allocator, Global};
 

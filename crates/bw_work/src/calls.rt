@@ -1,23 +1,16 @@
 //! The calls of a worker that shares its tree.
 
 ghost use Rattle.std.specs.Prelude.{◌≡◌, ◌≤◌, IfOk, IfErr, IfSome, OnOk, OnErr};
-ghost use Rattle.bw_work.specs.Seen.{Grows};
-ghost use Rattle.bw_work.specs.Calls.{limit_of, IsFair, Waits, OnlyReshapes, RoseBy, AddsLook, plain};
+ghost use Rattle.bw_procedures.specs.Seen.{Grows};
+ghost use Rattle.bw_procedures.specs.Calls.{limit_of, IsFair, Waits, OnlyReshapes, RoseBy, AddsLook, plain};
+ghost use Rattle.bw_procedures.specs.Slices.{IsSliceFrom};
+ghost use Rattle.bw_procedures.specs.Writing.{AddsReceipt, IsReceiptOfPut, IsReceiptOfDelete};
 ghost use Rattle.bw_work.specs.Hands.{Sums, seen_of};
-ghost use Rattle.bw_work.specs.Slices.{IsSliceFrom};
-ghost use Rattle.bw_work.specs.Writing.{AddsReceipt, IsReceiptOfPut, IsReceiptOfDelete};
 
-use crate::cursor::page_from;
-use crate::deletion::delete;
-use crate::fault::Fault;
 use crate::gate::Gate;
 use crate::hand::Hand;
-use crate::helping::help;
-use crate::insertion::put;
-use crate::lookup::get;
-use crate::reply::{Del, Done, Put, Slice};
-use crate::tending::tend;
 use bw_keys::{Key, Pid};
+use bw_procedures::{Del, Done, Fault, Put, Slice, delete, get, help, page_from, put, tend};
 use bw_step::{Step, Todo};
 use bw_tree::Shared;
 use std::alloc::{Allocator, Global};

@@ -1,13 +1,13 @@
 ghost use Rattle.std.specs.Prelude.{◌≡◌};
-ghost use Rattle.bw_work.specs.Seen.{one_more, full_after, tall_after, worn_after, receipt_effort};
+ghost use Rattle.bw_procedures.specs.Seen.{one_more, full_after, tall_after, worn_after, receipt_effort};
 
-use crate::steps::Ends;
+use bw_procedures::Ends;
 use bw_step::{Receipt, Refused};
 
 /// What a worker counts: its effort, and the refusals that end a call. Each count stays at 2^64 - 1
 /// once there.
 #[derive(Clone, Copy, Debug, Default, PartialEq, Eq, Hash)]
-pub struct Counts {
+pub(crate) struct Counts {
     pub effort: u64,
     /// How often no slot was free.
     pub full: u64,

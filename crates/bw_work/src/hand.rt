@@ -2,14 +2,14 @@
 
 ghost use Rattle.std.specs.Prelude.{◌≡◌, []};
 ghost use Rattle.bw_step.specs.ProposalView.{proposal_of};
-ghost use Rattle.bw_work.specs.Seen.{Installed};
+ghost use Rattle.bw_procedures.specs.Seen.{Installed};
 ghost use Rattle.bw_work.specs.Hands.{no_counts, seen_of, Sums};
 
 use crate::counts::Counts;
 use crate::gate::Gate;
-use crate::steps::{Ends, Keep, Steps};
 use bw_delta::{Chain, NoMemory};
 use bw_keys::{Config, Key, Pid, Version};
+use bw_procedures::{Ends, Keep, Steps};
 use bw_step::{Go, Look, Next, Place, Receipt, Step, View};
 use bw_table::CopyFault;
 use bw_tree::{Denied, Share, Shared};

@@ -1,39 +1,17 @@
-//! The workers of a tree: what a worker does for a put, a delete, a get and a cursor, in atomic steps
-//! that others may come between (Levandoski et al., ICDE 2013, "structure modifications").
+//! The workers of a tree: one that has its table for itself, and one that shares its tree with others.
+//! Each of them takes the atomic steps of which the procedures below are made.
 #![tactic(auto)]
 
 mod alone;
 mod alone_calls;
 mod calls;
-mod consolidation;
 mod counts;
-mod cursor;
-mod deletion;
-mod effort;
-mod fault;
 mod gate;
 mod hand;
-mod helping;
-mod insertion;
-mod lookup;
-mod offer;
-mod reply;
-mod round;
-mod steps;
-mod tending;
-mod walk;
-mod writing;
 
 pub use alone::Alone;
-pub use counts::Counts;
-pub use cursor::page_from;
-pub use deletion::delete;
-pub use fault::Fault;
+pub use bw_procedures::{
+    Del, Done, Ends, Fault, Keep, Put, Slice, Steps, delete, get, help, page_from, put, tend,
+};
 pub use gate::{Gate, Open};
 pub use hand::Hand;
-pub use helping::help;
-pub use insertion::put;
-pub use lookup::get;
-pub use reply::{Del, Done, Put, Slice};
-pub use steps::{Ends, Keep, Steps};
-pub use tending::tend;

@@ -1,0 +1,14 @@
+use Rattle.std.proofs.Common.{◌-◌}
+use Rattle.bw_procedures.specs.Sights.{quiet}
+use Rattle.bw_procedures.specs.Calls.{Waits}
+use Rattle.bw_procedures.proofs.cursor.page_from.Given as goal
+
+abbrev pub invariant-again : goal.invariant-again
+invariant-again g l = record {
+  follows : g.S.Steps.follows l.fn.steps l.steps;
+  seen : Waits (g.S.Steps.seen l.fn.steps) (g.S.Steps.seen l.steps);
+  calm : g.S.Steps.calm l.fn.steps quiet → g.S.Steps.calm l.steps quiet;
+}
+
+abbrev pub decreases-again : goal.decreases-again
+decreases-again g l = l.limit - (g.S.Steps.seen l.steps).effort

@@ -1,0 +1,128 @@
+-- What a call, or a part of one, leaves of the worker.
+use Rattle.std.specs.Prelude.{◌≡◌, ℕ, ◌+◌, ◌-◌, ◌≤◌, ◌^◌, min, List, [], ◌∷◌, ◌++◌, Option, Some, None, Result, Ok, Err}
+use Rattle.bw_delta.specs.declared.fault.NoMemory.{NoMemory}
+use Rattle.bw_step.specs.Proposals.{Proposal, insert, delete, consolidate, split, term_add, grow, mark, merge, term_delete}
+use Rattle.bw_step.specs.declared.receipt.Receipt.{Receipt}
+use Rattle.bw_step.specs.declared.receipt.Receipt.TheVariants as receipts
+use Rattle.bw_step.specs.declared.refused.Refused.{Refused}
+use Rattle.bw_step.specs.declared.refused.Refused.TheVariants as reasons
+use Rattle.bw_step.specs.declared.view.Look.{Look}
+use Rattle.bw_step.specs.declared.view.View.{View}
+use Rattle.bw_tree.specs.Steps.{IsReceiptOf}
+use Rattle.bw_procedures.specs.declared.fault.Fault.{Fault}
+use Rattle.bw_procedures.specs.declared.fault.Fault.TheVariants.{Contended, NoMemory as NoRoom, TableFull, TooTall, Worn}
+use Rattle.bw_procedures.specs.declared.offer.Answer.{Answer}
+use Rattle.bw_procedures.specs.declared.offer.Answer.TheVariants as answers
+use Rattle.bw_procedures.specs.Seen.{Seen, SameButEffort, SameCounts, Grows}
+use Rattle.bw_procedures.specs.Sights.{Sight, holds, fresh}
+
+-- the receipts that aren't Shaped, in their order
+abbrev pub plain : List Receipt → List Receipt
+plain [] = []
+plain (receipts.Inserted number key value ∷ rs) = receipts.Inserted number key value ∷ plain rs
+plain (receipts.Deleted number key value ∷ rs) = receipts.Deleted number key value ∷ plain rs
+plain (receipts.Looked at key found ∷ rs) = receipts.Looked at key found ∷ plain rs
+plain (receipts.Shaped kind page other ∷ rs) = plain rs
+
+-- a count rose by so much, or is at its end
+abbrev pub RoseBy : ℕ → ℕ → ℕ → Type 0
+RoseBy n old new = min (old + n) (2 ^ 64 - 1) ≤ new
+
+-- the effort at which a call gives up: `tries` more than it begins with, but not past the end
+abbrev pub limit_of : Seen → ℕ
+limit_of seen = min (seen.effort + seen.config.tries) (2 ^ 64 - 1)
+
+-- a call that gives up at this effort may answer this fault
+abbrev pub IsFair : ℕ → Seen → Seen → Fault → Type 0
+IsFair limit old new Contended = limit ≤ new.effort
+IsFair limit old new NoRoom = Unit {0}
+IsFair limit old new TableFull = RoseBy 1 old.full new.full
+IsFair limit old new TooTall = RoseBy 1 old.tall new.tall
+IsFair limit old new Worn = RoseBy 1 old.worn new.worn
+
+-- no receipt and no count: only the effort may have risen
+pub record Waits (old new : Seen) : Type 0 where
+  pub same : SameButEffort old new
+  pub effort : old.effort ≤ new.effort
+
+-- only Shaped receipts were added, and nothing fell
+pub record OnlyReshapes (old new : Seen) : Type 0 where
+  pub plain : plain new.trail ≡ plain old.trail
+  pub grows : Grows old new
+
+-- a part of a call that changes nothing but the tree's shape: answered, it cost so much, and otherwise the fault is fair
+abbrev pub Works : {T : Type 0} → ℕ → ℕ → Result T Fault → Seen → Seen → Type 0
+Works cost limit (Ok it) old new = OnlyReshapes old new × RoseBy cost old.effort new.effort
+Works cost limit (Err fault) old new = OnlyReshapes old new × IsFair limit old new fault
+
+-- an attempt that came to nothing cost effort
+abbrev pub CostsIfNone : {T : Type 0} → Option T → Seen → Seen → Type 0
+CostsIfNone None old new = RoseBy 1 old.effort new.effort
+CostsIfNone (Some it) old new = Unit {0}
+
+abbrev pub IsAtLevel : ℕ → Option View → Type 0
+IsAtLevel goal None = Unit {0}
+IsAtLevel goal (Some view) = view.level ≡ goal
+
+-- a page is found that holds the key, and is fresh
+abbrev pub IsCalm : (Sight → Type 0) → ℕ → ℕ → Option View → Type 0
+IsCalm calm key goal None = ⊥
+IsCalm calm key goal (Some view) = calm (holds key goal view.pid) × calm (fresh view.pid view.version)
+
+-- one attempt to look a key up, which is kept if it is answered
+abbrev pub Sought : ℕ → Result (Option Look) NoMemory → Seen → Seen → Type 0
+Sought key (Ok None) old new = Waits old new × RoseBy 1 old.effort new.effort
+Sought key (Ok (Some look)) old new = SameCounts old new × (new.trail ≡ old.trail ++ receipts.Looked look.at key look.found ∷ []) × (old.effort ≤ new.effort)
+Sought key (Err no_memory) old new = Waits old new
+
+-- the look that was answered is the one receipt that was added; without an answer none was
+abbrev pub AddsLook : ℕ → Result (Option ℕ) Fault → List Receipt → List Receipt → Type 0
+AddsLook key (Ok found) old new = (at : ℕ) × (new ≡ old ++ receipts.Looked at key found ∷ [])
+AddsLook key (Err fault) old new = new ≡ old
+
+-- one attempt that adds no receipt, and costs effort if it comes to nothing
+abbrev pub Reads : {T : Type 0} → Result (Option T) NoMemory → Seen → Seen → Type 0
+Reads (Ok it) old new = Waits old new × CostsIfNone it old new
+Reads (Err no_memory) old new = Waits old new
+
+-- memory apart, the attempt came to something
+abbrev pub IsAnswered : {T : Type 0} → Result (Option T) NoMemory → Type 0
+IsAnswered (Ok None) = ⊥
+IsAnswered (Ok (Some it)) = Unit {0}
+IsAnswered (Err no_memory) = Unit {0}
+
+-- the step changes the tree's shape, and no pair
+abbrev pub ChangesShape : Proposal → Type 0
+ChangesShape (insert page seen key value) = ⊥
+ChangesShape (delete page seen key) = ⊥
+ChangesShape (consolidate page seen base) = Unit {0}
+ChangesShape (split page seen separator base) = Unit {0}
+ChangesShape (term_add parent parent_seen child child_seen) = Unit {0}
+ChangesShape (grow child seen base) = Unit {0}
+ChangesShape (mark page seen parent) = Unit {0}
+ChangesShape (merge left left_seen page seen) = Unit {0}
+ChangesShape (term_delete parent parent_seen child child_seen) = Unit {0}
+
+-- the count of a refusal that ends a call rose
+abbrev pub CountRose : Refused → Seen → Seen → Type 0
+CountRose reasons.TableFull old new = RoseBy 1 old.full new.full
+CountRose reasons.TooTall old new = RoseBy 1 old.tall new.tall
+CountRose reasons.Worn old new = RoseBy 1 old.worn new.worn
+CountRose _ old new = Unit {0}
+
+abbrev pub AnswerCounts : Answer → Seen → Seen → Type 0
+AnswerCounts (answers.Accepted receipt) old new = Unit {0}
+AnswerCounts (answers.Refused reason) old new = CountRose reason old new
+
+-- the fault that a refusal is, if it is one
+abbrev pub fault_in : Refused → Option Fault
+fault_in reasons.TableFull = Some TableFull
+fault_in reasons.TooTall = Some TooTall
+fault_in reasons.Worn = Some Worn
+fault_in _ = None
+
+-- a proposal of a step that changes the map: accepted, it adds its one receipt
+abbrev pub Offered : Proposal → ℕ → Result Answer Fault → Seen → Seen → Type 0
+Offered step limit (Ok (answers.Accepted receipt)) old new = IsReceiptOf step receipt × (plain new.trail ≡ plain old.trail ++ receipt ∷ []) × Grows old new
+Offered step limit (Ok (answers.Refused reason)) old new = OnlyReshapes old new × RoseBy 1 old.effort new.effort × CountRose reason old new
+Offered step limit (Err fault) old new = OnlyReshapes old new × IsFair limit old new fault

@@ -1,0 +1,7 @@
+pub mod Seen
+pub mod Sights
+pub mod Calls
+pub mod Slices
+pub mod Rounds
+pub mod Tending
+pub mod Writing

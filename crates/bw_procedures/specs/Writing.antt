@@ -1,0 +1,83 @@
+-- What put and delete leave of the worker: one receipt for each reply.
+use Rattle.std.specs.Prelude.{◌≡◌, ◌⊎◌, ℕ, Bool, true, false, [], ◌∷◌, ◌++◌, Option, Some, None, Result, Ok, Err}
+use Rattle.bw_step.specs.declared.receipt.Receipt.{Receipt}
+use Rattle.bw_step.specs.declared.receipt.Receipt.TheVariants as receipts
+use Rattle.bw_procedures.specs.declared.fault.Fault.{Fault}
+use Rattle.bw_procedures.specs.declared.fault.Fault.TheVariants as faults
+use Rattle.bw_procedures.specs.declared.reply.Del.{Del}
+use Rattle.bw_procedures.specs.declared.reply.Del.TheVariants.{Removed, NoKey}
+use Rattle.bw_procedures.specs.declared.reply.Put.{Put}
+use Rattle.bw_procedures.specs.declared.reply.Put.TheVariants.{Inserted, Present}
+use Rattle.bw_procedures.specs.declared.steps.Keep.{Keep}
+use Rattle.bw_procedures.specs.declared.writing.Arrival.{Arrival}
+use Rattle.bw_procedures.specs.declared.writing.Arrival.TheVariants.{Gone, Here, Help}
+use Rattle.bw_procedures.specs.declared.writing.Found.{Found}
+use Rattle.bw_procedures.specs.declared.writing.Found.TheVariants.{Unknown, NoValue, Value}
+use Rattle.bw_procedures.specs.declared.writing.Tried.{Tried}
+use Rattle.bw_procedures.specs.declared.writing.Tried.TheVariants.{Reply, Tend, Again, Kept}
+use Rattle.bw_procedures.specs.Seen.{Seen, Grows, is_kept}
+use Rattle.bw_procedures.specs.Calls.{OnlyReshapes, IsFair, RoseBy, plain}
+
+-- the receipt that goes with a put's reply: the insertion of the pair, or the look that found the key's value
+abbrev pub IsReceiptOfPut : ℕ → ℕ → Put → Receipt → Type 0
+IsReceiptOfPut key value Inserted (receipts.Inserted number k v) = (k ≡ key) × (v ≡ value)
+IsReceiptOfPut key value (Present there) (receipts.Looked at k found) = (k ≡ key) × (found ≡ Some there)
+IsReceiptOfPut key value reply receipt = ⊥
+
+-- the receipt that goes with a delete's reply: the deletion of the key, with the value that was there, or the look that found none
+abbrev pub IsReceiptOfDelete : ℕ → Del → Receipt → Type 0
+IsReceiptOfDelete key (Removed value) (receipts.Deleted number k v) = (k ≡ key) × (v ≡ value)
+IsReceiptOfDelete key NoKey (receipts.Looked at k found) = (k ≡ key) × (found ≡ None)
+IsReceiptOfDelete key reply receipt = ⊥
+
+-- one receipt that isn't Shaped was added, and it is this reply's
+abbrev pub AddsReceipt : {T : Type 0} → (T → Receipt → Type 0) → T → Seen → Seen → Type 0
+AddsReceipt is_of reply old new = (receipt : Receipt) × (plain new.trail ≡ plain old.trail ++ receipt ∷ []) × is_of reply receipt
+
+-- a fault that is kept beside a reply is fair
+abbrev pub IsFairKept : ℕ → Seen → Seen → Option Fault → Type 0
+IsFairKept limit old new None = Unit {0}
+IsFairKept limit old new (Some fault) = IsFair limit old new fault
+
+-- one attempt of a call; a fault is kept no more than once
+abbrev pub Attempts : {T : Type 0} → (T → Receipt → Type 0) → Bool → ℕ → Result (Tried T) Fault → Seen → Seen → Type 0
+Attempts is_of passes_posts limit (Ok (Reply reply)) old new = AddsReceipt is_of reply old new × Grows old new
+Attempts is_of passes_posts limit (Ok (Tend reply page)) old new = AddsReceipt is_of reply old new × Grows old new
+Attempts is_of passes_posts limit (Ok Again) old new = OnlyReshapes old new × RoseBy 1 old.effort new.effort
+Attempts is_of passes_posts limit (Ok (Kept fault)) old new = OnlyReshapes old new × IsFair limit old new fault × (passes_posts ≡ false)
+Attempts is_of passes_posts limit (Err fault) old new = OnlyReshapes old new × IsFair limit old new fault
+
+-- help on a writer's walk
+abbrev pub Helped : {T : Type 0} → Bool → ℕ → Result (Tried T) Fault → Seen → Seen → Type 0
+Helped passes_posts limit (Ok (Reply reply)) old new = ⊥
+Helped passes_posts limit (Ok (Tend reply page)) old new = ⊥
+Helped passes_posts limit (Ok Again) old new = OnlyReshapes old new × RoseBy 1 old.effort new.effort
+Helped passes_posts limit (Ok (Kept fault)) old new = OnlyReshapes old new × IsFair limit old new fault × (passes_posts ≡ false)
+Helped passes_posts limit (Err fault) old new = OnlyReshapes old new × IsFair limit old new fault
+
+-- a place that was gone cost effort
+abbrev pub ArrivalCosts : Arrival → Seen → Seen → Type 0
+ArrivalCosts Gone old new = RoseBy 1 old.effort new.effort
+ArrivalCosts (Here view) old new = Unit {0}
+ArrivalCosts (Help todo) old new = Unit {0}
+
+-- the fault in the end is the one kept, or it is fair
+abbrev pub EndsFairly : ℕ → Option Fault → Option Fault → Seen → Seen → Type 0
+EndsFairly limit kept None old new = kept ≡ None
+EndsFairly limit kept (Some fault) old new = (kept ≡ Some fault) ⊎ IsFair limit old new fault
+
+abbrev pub found_of : Option ℕ → Found
+found_of None = NoValue
+found_of (Some value) = Value value
+
+-- a look that is kept adds its receipt, and one that isn't adds none
+abbrev pub LookAdds : Bool → ℕ → Option ℕ → Seen → Seen → Type 0
+LookAdds true key found old new = ((at : ℕ) × (plain new.trail ≡ plain old.trail ++ receipts.Looked at key found ∷ [])) × Grows old new
+LookAdds false key found old new = OnlyReshapes old new
+
+-- one look at a page
+abbrev pub FoundBy : Keep → ℕ → Result Found Fault → Seen → Seen → Type 0
+FoundBy keep key (Ok Unknown) old new = OnlyReshapes old new × RoseBy 1 old.effort new.effort
+FoundBy keep key (Ok NoValue) old new = LookAdds (is_kept keep None) key None old new
+FoundBy keep key (Ok (Value value)) old new = LookAdds (is_kept keep (Some value)) key (Some value) old new
+FoundBy keep key (Err fault) old new = OnlyReshapes old new × (fault ≡ faults.NoMemory)

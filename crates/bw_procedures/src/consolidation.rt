@@ -1,0 +1,57 @@
+//! A page made anew, without records above its base.
+
+ghost use Rattle.std.specs.Prelude.{IfOk, IfSome};
+ghost use Rattle.bw_step.specs.ProposalView.{proposal_of};
+ghost use Rattle.bw_procedures.specs.Calls.{Works, Reads, ChangesShape};
+
+use crate::fault::Fault;
+use crate::offer::{Answer, offer};
+use crate::steps::Steps;
+use bw_delta::NoMemory;
+use bw_step::{Step, View};
+use bw_table::CopyFault;
+use std::alloc::Allocator;
+
+/// The step that consolidates the page as it was seen. None where the page has changed since, or is
+/// gone.
+pub(crate) fn consolidation<A: Allocator + Copy, S: Steps<A, Step<A>>>(
+    steps: &mut S,
+    view: View,
+) -> Result<Option<Step<A>>, NoMemory>
+    ensures follows { S.follows steps.old steps.new }
+    ensures reads { Reads result (S.seen steps.old) (S.seen steps.new) }
+    ensures shape { IfOk result (λ step. IfSome step (λ it. ChangesShape (proposal_of it))) }
+{
+    let chain = match steps.copy_page(view.pid, view.version) {
+        Ok(chain) => chain,
+        Err(CopyFault::NoMemory) => return Err(NoMemory),
+        Err(CopyFault::Absent | CopyFault::Stale) => return Ok(None),
+    };
+    let base = bw_chain::consolidate(steps.alloc(), &chain)?;
+    Ok(Some(Step::Consolidate {
+        page: view.pid,
+        seen: view.version,
+        base,
+    }))
+}
+
+/// Consolidates the page as it was seen, and tells whether that was accepted. Where it wasn't, the new
+/// page is given up.
+pub(crate) fn consolidate<A: Allocator + Copy, S: Steps<A, Step<A>>>(
+    steps: &mut S,
+    limit: u64,
+    view: View,
+) -> Result<bool, Fault>
+    ensures follows { S.follows steps.old steps.new }
+    ensures works { Works 1 limit result (S.seen steps.old) (S.seen steps.new) }
+{
+    let step = match consolidation(steps, view) {
+        Ok(Some(step)) => step,
+        Ok(None) => return Ok(false),
+        Err(NoMemory) => return Err(Fault::NoMemory),
+    };
+    match offer(steps, limit, step)? {
+        Answer::Accepted(_) => Ok(true),
+        Answer::Refused(_) => Ok(false),
+    }
+}

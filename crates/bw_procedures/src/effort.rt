@@ -1,0 +1,24 @@
+//! When a call gives up.
+
+ghost use Rattle.std.specs.Prelude.{◌≡◌, ◌≤◌, ◌↔◌, IsTrue};
+ghost use Rattle.bw_procedures.specs.Calls.{limit_of};
+
+use crate::steps::Steps;
+use bw_step::Step;
+use std::alloc::Allocator;
+
+/// The effort at which a call that begins now gives up.
+pub(crate) fn limit<A: Allocator + Copy, S: Steps<A, Step<A>>>(steps: &S) -> u64
+    ensures { result ≡ limit_of (S.seen steps.now) }
+{
+    steps
+        .effort()
+        .saturating_add(u64::from(steps.config().tries))
+}
+
+/// Whether the worker has come to the limit.
+pub(crate) fn is_spent<A: Allocator + Copy, S: Steps<A, Step<A>>>(steps: &S, limit: u64) -> bool
+    ensures { IsTrue result ↔ (limit ≤ (S.seen steps.now).effort) }
+{
+    steps.effort() >= limit
+}

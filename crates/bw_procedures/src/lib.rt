@@ -1,0 +1,30 @@
+//! What a worker of a tree does for a put, a delete, a get and a cursor, written once over the atomic
+//! steps that it takes and that others may come between (Levandoski et al., ICDE 2013, "structure
+//! modifications").
+#![tactic(auto)]
+
+mod consolidation;
+mod cursor;
+mod deletion;
+mod effort;
+mod fault;
+mod helping;
+mod insertion;
+mod lookup;
+mod offer;
+mod reply;
+mod round;
+mod steps;
+mod tending;
+mod walk;
+mod writing;
+
+pub use cursor::page_from;
+pub use deletion::delete;
+pub use fault::Fault;
+pub use helping::help;
+pub use insertion::put;
+pub use lookup::get;
+pub use reply::{Del, Done, Put, Slice};
+pub use steps::{Ends, Keep, Steps};
+pub use tending::tend;

@@ -1,0 +1,145 @@
+//! The atomic steps that a worker takes, and what each of them leaves of the worker.
+
+ghost use Rattle.std.specs.Prelude.{◌≡◌};
+ghost use Rattle.bw_procedures.specs.Seen.{is_kept};
+
+use bw_delta::{Chain, NoMemory};
+use bw_keys::{Config, Key, Pid, Version};
+use bw_step::{Look, Next, Place, Receipt, View};
+use bw_table::CopyFault;
+use bw_tree::{Denied, Proposes};
+use std::alloc::Allocator;
+
+/// When a look is added to the trail.
+#[derive(Clone, Copy, Debug, PartialEq, Eq, Hash)]
+pub enum Keep {
+    /// Whatever it found.
+    Always,
+    /// Where it found a value.
+    IfFound,
+    /// Where it found none.
+    IfNone,
+}
+
+impl Keep {
+    /// Whether a look that found this is added.
+    pub fn keeps(self, found: Option<u64>) -> bool
+        ensures { result ≡ is_kept self found }
+    {
+        match self {
+            Keep::Always => true,
+            Keep::IfFound => found.is_some(),
+            Keep::IfNone => found.is_none(),
+        }
+    }
+}
+
+/// How often a worker's step was refused for a reason that ends a call. Each count stays at 2^64 - 1
+/// once there.
+#[derive(Clone, Copy, Debug, PartialEq, Eq, Hash)]
+pub struct Ends {
+    /// Because no slot was free.
+    pub full: u64,
+    /// Because the tree had its greatest height.
+    pub tall: u64,
+    /// Because a version or the book's number was used up.
+    pub worn: u64,
+}
+
+/// A worker's atomic steps on a table that others may change between any two of them, and what the
+/// worker keeps of them: the receipts on its trail, its effort, and how often a refusal ended a call.
+///
+/// `P` is the step over `A`.
+pub trait Steps<A: Allocator + Copy, P: Proposes> {
+    ghost use Rattle.std.specs.Prelude.{◌≡◌, ◌≤◌, ℕ, List, IfOk, IfSome};
+    ghost use Rattle.bw_delta.specs.Entries.{from};
+    ghost use Rattle.bw_delta.specs.Sound.{IsSound};
+    ghost use Rattle.bw_tree.specs.Steps.{IsNext};
+    ghost use Rattle.bw_procedures.specs.Seen.{Seen, ends_of, Visited, Looked, Copied, Installed, Idled};
+    ghost use Rattle.bw_procedures.specs.Sights.{Sight, quiet, on_the_way, CalmNext, CalmPeek, CalmLook, CalmCopy, ShowsCopy};
+
+    // the worker's configuration, its trail, its effort and its counts
+    ghost seen: { Self → Seen };
+
+    // the receipts by which the second's trail is longer lead from one state to another
+    ghost follows: { Self → Self → Type 0 };
+
+    // these are the map's pairs from a key on and below an end
+    ghost shows: { Self → ℕ → ℕ → List (ℕ × ℕ) → Type 0 };
+
+    // nobody else takes steps, and a place, or a page, is as it was seen
+    ghost calm: { Self → Sight → Type 0 };
+
+    /// The configuration that the table was made by.
+    fn config(&self) -> Config
+        ensures { result ≡ (seen self.now).config };
+
+    /// Where the worker's steps take memory.
+    fn alloc(&self) -> A;
+
+    /// Where every search begins.
+    fn root(&self) -> Place
+        ensures from { result.from ≡ 0 }
+        ensures calm { calm self.now quiet → (key goal : ℕ) → goal ≤ result.level → calm self.now (on_the_way key goal result) };
+
+    /// Where a search for the key, down to the goal's level, goes from a place. A place that is gone
+    /// costs effort.
+    fn visit(&mut self, place: Place, key: Key, goal: u8) -> Next
+        ensures follows { follows self.old self.new }
+        ensures seen { Visited result.go (seen self.old) (seen self.new) }
+        ensures next { IsNext place key goal result.go }
+        ensures calm { calm self.old (on_the_way key goal place) → CalmNext (calm self.new) key goal result.go };
+
+    /// The page with the id, if there is one.
+    fn peek(&mut self, pid: Pid) -> Option<View>
+        ensures follows { follows self.old self.new }
+        ensures seen { seen self.new ≡ seen self.old }
+        ensures page { IfSome result (λ view. view.pid ≡ pid) }
+        ensures calm { CalmPeek (calm self.new) pid result };
+
+    /// What the map has at the key, if the page is a leaf in its row whose range holds the key; if it
+    /// isn't, that costs effort. `keep` says when the look is added to the trail.
+    fn look(&mut self, pid: Pid, key: Key, keep: Keep) -> Result<Option<Look>, NoMemory>
+        ensures follows { follows self.old self.new }
+        ensures seen { Looked keep key result (seen self.old) (seen self.new) }
+        ensures calm { CalmLook (calm self.old) key pid result };
+
+    /// A copy of the page's chain, if the page is in a row and still has the version that was seen; if
+    /// it isn't or hasn't, that costs effort.
+    fn copy_page(&mut self, pid: Pid, version: Version) -> Result<Chain<A>, CopyFault>
+        ensures follows { follows self.old self.new }
+        ensures seen { Copied result (seen self.old) (seen self.new) }
+        ensures sound { IfOk result IsSound }
+        ensures shows { IfOk result (ShowsCopy (shows self.new)) }
+        ensures calm { CalmCopy (calm self.old) pid version result };
+
+    /// Takes the step, or tells why not. The receipt of an accepted step is added to the trail. A
+    /// refusal costs effort, and so does an accepted step that changes the tree's shape.
+    fn install(&mut self, step: P) -> Result<Receipt, Denied>
+        ensures follows { follows self.old self.new }
+        ensures seen { Installed (P.proposal step) result (seen self.old) (seen self.new) };
+
+    /// Takes no step, at the cost of one effort.
+    fn idle(&mut self)
+        ensures follows { follows self.old self.new }
+        ensures seen { Idled (seen self.old) (seen self.new) };
+
+    /// How much effort the worker has spent. It stays at 2^64 - 1 once there.
+    fn effort(&self) -> u64
+        ensures { result ≡ (seen self.now).effort };
+
+    /// How often a refusal ended a call.
+    fn ends(&self) -> Ends
+        ensures { result ≡ ends_of (seen self.now) };
+
+    /// The receipts of the steps that were taken, in their order.
+    fn trail(&self) -> &[Receipt]
+        ensures { result.now ≡ (seen self.now).trail };
+
+    // laws
+    ghost stays: { (s : Self) → follows s s };
+
+    ghost joins: { (a b c : Self) → follows a b → follows b c → follows a c };
+
+    ghost narrows: { (s : Self) (low key end : ℕ) (pairs : List (ℕ × ℕ)) → low ≤ key → shows s low end pairs → shows s key end (from key pairs) };
+}

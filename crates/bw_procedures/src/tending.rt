@@ -1,0 +1,301 @@
+//! Tending a page after a change: its chain is kept short, its entries few and not too few, and what
+//! that changes on the level above is tended in turn.
+
+ghost use Rattle.std.specs.Prelude.{◌≡◌, ◌<◌, IfOk, IfErr};
+ghost use Rattle.bw_procedures.specs.Calls.{Works, OnlyReshapes, IsFair, limit_of};
+ghost use Rattle.bw_procedures.specs.Tending.{GoesOnWithin};
+
+use crate::consolidation::consolidate;
+use crate::effort::{is_spent, limit};
+use crate::fault::Fault;
+use crate::helping::help_within;
+use crate::offer::{Answer, reshape};
+use crate::round::parent_of;
+use crate::steps::Steps;
+use crate::walk::walk;
+use bw_chain::{HalveFault, halve};
+use bw_delta::{Base, Chain, Node, Spare};
+use bw_keys::{Key, Pid};
+use bw_step::{Receipt, Stage, Step, Todo, View};
+use bw_table::CopyFault;
+use std::alloc::Allocator;
+
+/// Consolidates, splits or removes the page where its chain is long, its entries many or few, and then
+/// tends the page above that this changed. Only receipts of the tree's shape are added.
+///
+/// It ends with `Contended` where the call's effort is spent, with `TableFull`, `TooTall` or `Worn`
+/// where a step was refused so, and with `NoMemory`. What was done by then stands.
+#[tactic(auto, using(crate::proofs::Reshaping::works_reshapes, crate::proofs::Reshaping::works_fair))]
+pub fn tend<A: Allocator + Copy, S: Steps<A, Step<A>>>(
+    steps: &mut S,
+    page: Pid,
+) -> Result<(), Fault>
+    ensures follows { S.follows steps.old steps.new }
+    ensures reshapes { OnlyReshapes (S.seen steps.old) (S.seen steps.new) }
+    ensures fault { IfErr result (IsFair (limit_of (S.seen steps.old)) (S.seen steps.old) (S.seen steps.new)) }
+{
+    let limit = limit(steps);
+    tend_within(steps, limit, page)
+}
+
+/// Tends a page within the effort of a call.
+pub(crate) fn tend_within<A: Allocator + Copy, S: Steps<A, Step<A>>>(
+    steps: &mut S,
+    limit: u64,
+    page: Pid,
+) -> Result<(), Fault>
+    ensures follows { S.follows steps.old steps.new }
+    ensures works { Works 0 limit result (S.seen steps.old) (S.seen steps.new) }
+{
+    let mut page = page;
+    'up: loop {
+        match tend_once(steps, limit, page)? {
+            Some(next) => page = next,
+            None => return Ok(()),
+        }
+    }
+}
+
+/// Tends one page, and answers the page to tend next.
+fn tend_once<A: Allocator + Copy, S: Steps<A, Step<A>>>(
+    steps: &mut S,
+    limit: u64,
+    page: Pid,
+) -> Result<Option<Pid>, Fault>
+    ensures follows { S.follows steps.old steps.new }
+    ensures works { Works 0 limit result (S.seen steps.old) (S.seen steps.new) }
+    ensures on { IfOk result (GoesOnWithin limit (S.seen steps.old) (S.seen steps.new)) }
+{
+    let Some(view) = shorten(steps, limit, page)? else {
+        return Ok(None);
+    };
+    let fanout = u64::from(steps.config().fanout);
+    if view.count > fanout && view.depth == 0 {
+        return split_page(steps, limit, view);
+    }
+    let is_small = view.count < fanout / 4 && view.stage == Stage::Posted;
+    if is_small && view.level < steps.root().level {
+        return mark_page(steps, limit, view);
+    }
+    Ok(None)
+}
+
+/// The page, unless it is leaving or gone.
+fn present<A: Allocator + Copy, S: Steps<A, Step<A>>>(steps: &mut S, page: Pid) -> Option<View>
+    ensures follows { S.follows steps.old steps.new }
+    ensures seen { S.seen steps.new ≡ S.seen steps.old }
+{
+    let view = steps.peek(page)?;
+    match view.stage {
+        Stage::Marked | Stage::Merged | Stage::Free => None,
+        Stage::Unposted | Stage::Posted => Some(view),
+    }
+}
+
+/// Consolidates the page where its chain is long, and answers the page as it is then. None where there
+/// is nothing more to tend.
+fn shorten<A: Allocator + Copy, S: Steps<A, Step<A>>>(
+    steps: &mut S,
+    limit: u64,
+    page: Pid,
+) -> Result<Option<View>, Fault>
+    ensures follows { S.follows steps.old steps.new }
+    ensures works { Works 0 limit result (S.seen steps.old) (S.seen steps.new) }
+{
+    let Some(view) = present(steps, page) else {
+        return Ok(None);
+    };
+    let config = steps.config();
+    let is_long = u32::from(view.depth) >= config.chain;
+    let is_big = view.count > u64::from(config.fanout) && view.depth > 0;
+    if !is_long && !is_big {
+        return Ok(Some(view));
+    }
+    if consolidate(steps, limit, view)? {
+        Ok(present(steps, page))
+    } else {
+        Ok(None)
+    }
+}
+
+/// Splits a page that has too many entries.
+fn split_page<A: Allocator + Copy, S: Steps<A, Step<A>>>(
+    steps: &mut S,
+    limit: u64,
+    view: View,
+) -> Result<Option<Pid>, Fault>
+    ensures follows { S.follows steps.old steps.new }
+    ensures works { Works 0 limit result (S.seen steps.old) (S.seen steps.new) }
+    ensures on { IfOk result (GoesOnWithin limit (S.seen steps.old) (S.seen steps.new)) }
+{
+    let chain = match steps.copy_page(view.pid, view.version) {
+        Ok(chain) => chain,
+        Err(CopyFault::NoMemory) => return Err(Fault::NoMemory),
+        Err(CopyFault::Absent | CopyFault::Stale) => return Ok(None),
+    };
+    let (separator, base) = match upper_half(steps.alloc(), &chain) {
+        Ok(half) => half,
+        Err(HalveFault::TooSmall) => return Ok(None),
+        Err(HalveFault::NoMemory) => return Err(Fault::NoMemory),
+    };
+    let Ok(spare) = Spare::new(steps.alloc()) else {
+        return Err(Fault::NoMemory);
+    };
+    let step = Step::Split {
+        page: view.pid,
+        seen: view.version,
+        separator,
+        base,
+        spare,
+    };
+    match reshape(steps, limit, step)? {
+        Answer::Accepted(receipt) => Ok(after_split(steps, limit, view.level, separator, receipt)?),
+        Answer::Refused(_) => Ok(None),
+    }
+}
+
+/// Where a bare page is to be split, and its entries from there on.
+fn upper_half<A: Allocator + Copy>(
+    alloc: A,
+    chain: &Chain<A>,
+) -> Result<(Key, Base<A>), HalveFault> {
+    match &chain.node {
+        Node::Bare(base) => halve(alloc, base),
+        Node::Above(..) | Node::Merged(..) => Err(HalveFault::TooSmall),
+    }
+}
+
+/// Posts the page that a split made.
+fn after_split<A: Allocator + Copy, S: Steps<A, Step<A>>>(
+    steps: &mut S,
+    limit: u64,
+    level: u8,
+    separator: Key,
+    receipt: Receipt,
+) -> Result<Option<Pid>, Fault>
+    ensures follows { S.follows steps.old steps.new }
+    ensures works { Works 0 limit result (S.seen steps.old) (S.seen steps.new) }
+{
+    let Receipt::Shaped {
+        other: Some(page),
+        ..
+    } = receipt
+    else {
+        return Ok(None);
+    };
+    settle(steps, limit, Pending::Post(page))?;
+    page_above(steps, limit, level, separator)
+}
+
+/// The page one level higher whose range holds the key.
+fn page_above<A: Allocator + Copy, S: Steps<A, Step<A>>>(
+    steps: &mut S,
+    limit: u64,
+    level: u8,
+    key: Key,
+) -> Result<Option<Pid>, Fault>
+    ensures follows { S.follows steps.old steps.new }
+    ensures works { Works 0 limit result (S.seen steps.old) (S.seen steps.new) }
+{
+    let Some(goal) = level.checked_add(1) else {
+        return Ok(None);
+    };
+    match walk(steps, limit, key, goal)? {
+        Some(parent) => Ok(Some(parent.pid)),
+        None => Ok(None),
+    }
+}
+
+/// Begins the removal of a page that has too few entries, unless it is its parent's leftmost child.
+fn mark_page<A: Allocator + Copy, S: Steps<A, Step<A>>>(
+    steps: &mut S,
+    limit: u64,
+    view: View,
+) -> Result<Option<Pid>, Fault>
+    ensures follows { S.follows steps.old steps.new }
+    ensures works { Works 0 limit result (S.seen steps.old) (S.seen steps.new) }
+    ensures on { IfOk result (GoesOnWithin limit (S.seen steps.old) (S.seen steps.new)) }
+{
+    let Some(parent) = parent_of(steps, limit, view)? else {
+        return Ok(None);
+    };
+    if parent.low == view.low {
+        return Ok(None);
+    }
+    let Ok(spare) = Spare::new(steps.alloc()) else {
+        return Err(Fault::NoMemory);
+    };
+    let step = Step::Mark {
+        page: view.pid,
+        seen: view.version,
+        parent: parent.pid,
+        spare,
+    };
+    match reshape(steps, limit, step)? {
+        Answer::Accepted(_) => Ok(after_mark(steps, limit, view)?),
+        Answer::Refused(_) => Ok(None),
+    }
+}
+
+/// Merges the page whose removal has begun into its left neighbour.
+fn after_mark<A: Allocator + Copy, S: Steps<A, Step<A>>>(
+    steps: &mut S,
+    limit: u64,
+    view: View,
+) -> Result<Option<Pid>, Fault>
+    ensures follows { S.follows steps.old steps.new }
+    ensures works { Works 0 limit result (S.seen steps.old) (S.seen steps.new) }
+{
+    settle(steps, limit, Pending::Merge(view))?;
+    page_above(steps, limit, view.level, view.low)
+}
+
+/// What tending has begun.
+#[derive(Clone, Copy, Debug, PartialEq, Eq)]
+enum Pending {
+    /// The page was split off, and isn't named by its parent yet.
+    Post(Pid),
+    /// The page was marked, and isn't taken in or its term is still there.
+    Merge(View),
+}
+
+/// Helps in rounds until what was begun is finished, by whomever.
+fn settle<A: Allocator + Copy, S: Steps<A, Step<A>>>(
+    steps: &mut S,
+    limit: u64,
+    pending: Pending,
+) -> Result<(), Fault>
+    ensures follows { S.follows steps.old steps.new }
+    ensures works { Works 0 limit result (S.seen steps.old) (S.seen steps.new) }
+{
+    'rounds: loop {
+        let Some(todo) = unfinished(steps, pending) else {
+            return Ok(());
+        };
+        help_within(steps, limit, todo)?;
+        if is_spent(steps, limit) {
+            return Err(Fault::Contended);
+        }
+    }
+}
+
+/// What is still to be done for it.
+fn unfinished<A: Allocator + Copy, S: Steps<A, Step<A>>>(
+    steps: &mut S,
+    pending: Pending,
+) -> Option<Todo>
+    ensures follows { S.follows steps.old steps.new }
+    ensures seen { S.seen steps.new ≡ S.seen steps.old }
+{
+    match pending {
+        Pending::Post(page) => {
+            let now = steps.peek(page)?;
+            (now.stage == Stage::Unposted).then_some(Todo::Post(page))
+        }
+        Pending::Merge(view) => {
+            let now = steps.peek(view.pid)?;
+            let is_same = now.low == view.low && now.level == view.level;
+            (is_same && now.stage.is_leaving()).then_some(Todo::Merge(view.pid))
+        }
+    }
+}

@@ -1,0 +1,65 @@
+//! The walk to a page: right by the side links, down by the routes, and again from the root where a
+//! place is gone.
+
+ghost use Rattle.std.specs.Prelude.{◌≡◌, ◌≤◌, IfSome, IfOk, IfErr};
+ghost use Rattle.bw_procedures.specs.Sights.{on_the_way};
+ghost use Rattle.bw_procedures.specs.Calls.{Waits, CostsIfNone, IsAtLevel, IsCalm, IsFair};
+
+use crate::effort::is_spent;
+use crate::fault::Fault;
+use crate::steps::Steps;
+use bw_keys::Key;
+use bw_step::{Go, Place, Step, View};
+use std::alloc::Allocator;
+
+/// Goes on from a place to the page on the goal's level whose range holds the key. None where a place
+/// was gone.
+#[tactic(auto, using(crate::proofs::Waiting::waits_visited))]
+pub(crate) fn descend<A: Allocator + Copy, S: Steps<A, Step<A>>>(
+    steps: &mut S,
+    start: Place,
+    key: Key,
+    goal: u8,
+) -> Option<View>
+    ensures follows { S.follows steps.old steps.new }
+    ensures seen { Waits (S.seen steps.old) (S.seen steps.new) }
+    ensures gone { CostsIfNone result (S.seen steps.old) (S.seen steps.new) }
+    ensures level { IsAtLevel goal result }
+    ensures calm { S.calm steps.old (on_the_way key goal start) → IsCalm (S.calm steps.new) key goal result }
+{
+    let mut place = start;
+    'down: loop {
+        match steps.visit(place, key, goal).go {
+            Go::Gone => return None,
+            Go::Here(view) => return Some(view),
+            Go::Right(next) => place = next,
+            Go::Down(next) => place = next,
+        }
+    }
+}
+
+/// The page on the goal's level whose range holds the key. None where the tree isn't so high.
+pub(crate) fn walk<A: Allocator + Copy, S: Steps<A, Step<A>>>(
+    steps: &mut S,
+    limit: u64,
+    key: Key,
+    goal: u8,
+) -> Result<Option<View>, Fault>
+    ensures follows { S.follows steps.old steps.new }
+    ensures seen { Waits (S.seen steps.old) (S.seen steps.new) }
+    ensures level { IfOk result (IsAtLevel goal) }
+    ensures fault { IfErr result (IsFair limit (S.seen steps.old) (S.seen steps.new)) }
+{
+    'again: loop {
+        let root = steps.root();
+        if goal > root.level {
+            return Ok(None);
+        }
+        if is_spent(steps, limit) {
+            return Err(Fault::Contended);
+        }
+        if let Some(view) = descend(steps, root, key, goal) {
+            return Ok(Some(view));
+        }
+    }
+}

@@ -1,7 +1,0 @@
-use Rattle.bw_step.specs.ProposalView.{proposal_of}
-use Rattle.bw_work.proofs.Reshaping.{shape_accepted}
-use Rattle.bw_work.proofs.offer.offer.Goals as goal
-
-pub returns-in-Ok-clause-works : goal.returns-in-Ok-clause-works
-returns-in-Ok-clause-works g c =
-    shape_accepted (proposal_of c.args.step) c.in-Ok.receipt (g.S.Steps.seen c.args.steps.now) (g.S.Steps.seen c.install.new.self) c.requires c.in-Ok.ensures.seen
