@@ -1,0 +1,82 @@
+//! A script as a whole, and what was foretold of it.
+
+use crate::line::Unread;
+use crate::player::Player;
+use anyhow::{Result, bail};
+use std::alloc::{AllocError, Global};
+use std::fmt;
+
+/// The answers to a script.
+#[derive(Drop)]
+pub(crate) struct Played {
+    /// A line for each line of the script that asks for something.
+    pub(crate) answers: String,
+    /// Whether each line could be read.
+    pub(crate) is_whole: bool,
+}
+
+/// Plays a script from its first line on. A line that can't be read is told by its number, and ends
+/// the script. Empty lines, and those that begin with `#`, ask for nothing.
+pub(crate) fn play(alloc: Global, script: &str) -> Result<Played> {
+    let mut player = Player::new(alloc);
+    let mut answers = String::new(alloc);
+    for (before, line) in script.lines().enumerate() {
+        if line.is_empty() || line.starts_with('#') {
+            continue;
+        }
+        match player.answer(line) {
+            Ok(answer) => writeln!(answers, "{answer}")?,
+            Err(Unread::NoMemory) => bail!("there is no memory left"),
+            Err(unread) => {
+                writeln!(answers, "line {}: {unread}", before.saturating_add(1))?;
+                return Ok(Played {
+                    answers,
+                    is_whole: false,
+                });
+            }
+        }
+    }
+    Ok(Played {
+        answers,
+        is_whole: true,
+    })
+}
+
+/// Where the answers first aren't those that were foretold.
+#[derive(Debug, Drop)]
+pub(crate) struct Difference {
+    /// Counted from 1 in the answers.
+    line: usize,
+    answered: String,
+    foretold: String,
+}
+
+impl fmt::Display for Difference {
+    fn fmt<W: fmt::Write>(&self, f: &mut fmt::Formatter<W>) -> fmt::Result {
+        let (line, answered, foretold) = (self.line, &self.answered, &self.foretold);
+        write!(f, "answer {line} is '{answered}', and not '{foretold}'")
+    }
+}
+
+/// The first line that differs, an empty text standing for one that isn't there.
+pub(crate) fn first_difference(
+    alloc: Global,
+    answers: &str,
+    foretold: &str,
+) -> Result<Option<Difference>, AllocError> {
+    if answers == foretold {
+        return Ok(None);
+    }
+    let equal = answers
+        .split('\n')
+        .zip(foretold.split('\n'))
+        .take_while(|(line, other)| line == other)
+        .count();
+    let answered = answers.split('\n').nth(equal).unwrap_or("");
+    let foretold = foretold.split('\n').nth(equal).unwrap_or("");
+    Ok(Some(Difference {
+        line: equal.saturating_add(1),
+        answered: answered.to_string(alloc)?,
+        foretold: foretold.to_string(alloc)?,
+    }))
+}
