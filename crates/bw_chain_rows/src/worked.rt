@@ -1,5 +1,5 @@
-ghost use Rattle.std.specs.Prelude.{IfOk, ◌<◌, ◌^◌};
-ghost use Rattle.bw_delta.specs.Sound.{IsSound, entry_count};
+ghost use Rattle.std.specs.Prelude.{IfOk};
+ghost use Rattle.bw_delta.specs.Sound.{IsSound};
 
 use bw_chain::{
     HalveFault, child, consolidate, count, depth, fences, find, halve, is_leaf, next_at,
@@ -12,8 +12,7 @@ use std::test::Fail;
 
 /// The leaf for all keys with (1, 10), (3, 30) and (5, 50): 3 deleted, 4 inserted, 1 deleted.
 fn small_leaf(alloc: Global) -> Result<Chain<Global>, Fail>
-    ensures sound { IfOk result IsSound }
-    ensures countable { IfOk result (λ chain. entry_count chain < 2 ^ 64) }
+    ensures { IfOk result IsSound }
 {
     let base = Base::leaf(alloc, 0, Fence::Top, None, &[(1, 10), (3, 30), (5, 50)])?;
     let mut chain = Chain::bare(base);
@@ -26,8 +25,7 @@ fn small_leaf(alloc: Global) -> Result<Chain<Global>, Fail>
 /// A leaf that was split at 50 and has taken its right half back: 10 deleted and 30 inserted on
 /// the left, 60 deleted and 70 inserted on the right, 50 inserted since.
 fn merged_leaf(alloc: Global) -> Result<Chain<Global>, Fail>
-    ensures sound { IfOk result IsSound }
-    ensures countable { IfOk result (λ chain. entry_count chain < 2 ^ 64) }
+    ensures { IfOk result IsSound }
 {
     let whole = [(0, 1), (10, 100), (20, 200), (60, 600)];
     let mut left = Chain::bare(Base::leaf(alloc, 0, Fence::Top, None, &whole)?);
@@ -54,8 +52,7 @@ fn merged_leaf(alloc: Global) -> Result<Chain<Global>, Fail>
 /// An inner page that was split at 250 and has taken its right half back, with routes put in and
 /// taken out on either side, and one at 50 since.
 fn merged_inner(alloc: Global) -> Result<Chain<Global>, Fail>
-    ensures sound { IfOk result IsSound }
-    ensures countable { IfOk result (λ chain. entry_count chain < 2 ^ 64) }
+    ensures { IfOk result IsSound }
 {
     let whole = [(0, Pid(1)), (100, Pid(2)), (300, Pid(4))];
     let mut left = Chain::bare(Base::inner(alloc, 0, Fence::Top, None, &whole)?);
