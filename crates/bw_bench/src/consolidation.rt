@@ -4,7 +4,7 @@ ghost use Rattle.bw_delta.specs.Sound.{IsSound};
 
 use crate::Stop;
 use crate::chains::{leaf, merged_leaves};
-use bw_chain::{consolidate, plain, same};
+use bw_chain::{consolidate, same};
 use bw_delta::{Base, Chain, Fences, NoMemory};
 use bw_keys::Fence;
 use std::alloc::Global;
@@ -87,7 +87,7 @@ fn consolidate_by(
     requires sound { IsSound chain.now }
 {
     match program {
-        Program::Plain => plain::consolidate(alloc, chain),
+        Program::Plain => bw_plain::consolidate(alloc, chain),
         Program::OnePass => consolidate(alloc, chain),
     }
 }
@@ -106,7 +106,7 @@ fn comparison_time(
     let start = Instant::now(rt)?;
     for _ in 0..rounds {
         equal &= match program {
-            Program::Plain => plain::same(page, chain),
+            Program::Plain => bw_plain::same(page, chain),
             Program::OnePass => same(page, chain),
         };
     }

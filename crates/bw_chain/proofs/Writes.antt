@@ -1,14 +1,7 @@
--- What a write in place makes of a list of entries.
-use Rattle.std.proofs.Common.{◌≡◌, ℕ, suc, ◌+◌, ◌<◌, List, [], ◌∷◌, ◌++◌, length, take, drop, append_assoc, ap, sym, ◌∙◌, arith, drop-cons}
+-- What two writes in place make of a list.
+use Rattle.std.proofs.Common.{◌≡◌, ℕ, ◌+◌, ◌<◌, List, [], ◌∷◌, ◌++◌, length, take, append_assoc, ap, sym, ◌∙◌, arith}
 use Rattle.std.proofs.Math.ListN.{set, get_or}
-use Rattle.std.proofs.lemmas.List.{length-set, set_split, take_more, take_more_set}
-use Rattle.std.proofs.lemmas.Bool.Decides.{nat_tests}
-use Rattle.bw_delta.specs.Entries.{put}
-
-pub put_at : {X : Type 0} → (key : ℕ) (x : X) (es : List (ℕ × X)) (i : ℕ) (e : ℕ × X) → i < length es → e ≡ get_or es i e → e.0 ≡ key → put key x es ≡ take i es ++ put key x (drop i es) → set es i (key, x) ≡ put key x es
-put_at key x es i e inside is same parts =
-    let here : put key x (get_or es i e ∷ drop (suc i) es) ≡ (key, x) ∷ drop (suc i) es = rw (← is) (grind (arith, nat_tests)) in
-    grind (arith, set_split es i (key, x) inside, drop-cons es i e inside, parts, here)
+use Rattle.std.proofs.lemmas.List.{length-set, take_more, take_more_set}
 
 -- two items of a list, written behind those before them
 pub pair-written : {Y : Type 0} → (old list items : List Y) (place i : ℕ) (y z : Y) → i + 1 < length items → place + i + 1 < length list → y ≡ get_or items i y → z ≡ get_or items (i + 1) z → take (place + i) list ≡ take place old ++ take i items

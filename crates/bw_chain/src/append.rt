@@ -22,9 +22,6 @@ pub fn append_pairs<A: Allocator + Copy, B: Allocator>(
     let Extent { fences, room, .. } = survey(chain);
     list.reserve(room)?;
     let Fences { high, .. } = fences;
-    let mut edits: Edits<'_, u64, A, MOST_EDITS> = Edits::from_buf(
-        allocator(chain),
-        [(0, None); MOST_EDITS],
-    );
+    let mut edits: Edits<'_, u64, A> = Edits::from_buf(allocator(chain), [(0, None); MOST_EDITS]);
     pass(chain, high, edits.as_mut_slice(), 0, list)
 }

@@ -4,7 +4,7 @@ ghost use Rattle.bw_keys.specs.Ranges.{end_of};
 use bw_keys::{Fence, Key};
 
 /// The fence right above the key.
-pub(crate) fn past(key: Key) -> Fence
+pub fn past(key: Key) -> Fence
     ensures { end_of result ≡ key + 1 }
 {
     match key.checked_add(1) {

@@ -6,7 +6,7 @@ use bw_keys::Key;
 
 /// What one record changes of the entries below it, for entries of one kind.
 #[derive(Clone, Copy)]
-pub(crate) enum Change<X> {
+pub enum Change<X> {
     /// The key has this value.
     Put(Key, X),
     /// The key has no value.

@@ -1,4 +1,4 @@
-ghost use Rattle.std.specs.Prelude.{◌≡◌, ◌↔◌, ◌<◌, ◌≤◌, ◌-◌, ◌^◌, min, IsTrue, length};
+ghost use Rattle.std.specs.Prelude.{◌≡◌, ◌↔◌, ◌≤◌, ◌-◌, ◌^◌, min, IsTrue, length};
 ghost use Rattle.bw_keys.specs.Ranges.{end_of};
 ghost use Rattle.bw_delta.specs.Entries.{from};
 ghost use Rattle.bw_delta.specs.Fence.{fences, is_leaf};
@@ -7,11 +7,10 @@ ghost use Rattle.bw_delta.specs.Records.{depth};
 ghost use Rattle.bw_delta.specs.Sound.{IsSound, IsWellBuilt, entry_count, listed_for, page_for};
 ghost use Rattle.bw_chain.specs.Ascends.{IsAscending};
 ghost use Rattle.bw_chain.specs.Changes.{entries_by};
-ghost use Rattle.bw_chain.specs.declared.edits.TheConstants.{MOST_EDITS};
 
 use crate::bounds::past;
 use crate::compared::{Compared, Differs};
-use crate::edits::{Edits, FEW_EDITS, MOST_EDITS};
+use crate::edits::{Edits, MOST_EDITS};
 use crate::entries::first_from;
 use crate::pass::pass;
 use crate::shape::{Extent, is_leaf, survey};
@@ -20,13 +19,12 @@ use bw_delta::{Base, Chain, Entries, Fences};
 use bw_keys::{Fence, Key, Pid};
 use std::alloc::Allocator;
 
-/// How many pairs a leaf chain has, or how many routes an inner one. A leaf for all keys could
-/// have one pair more than the answer can say.
+/// How many pairs a leaf chain has, or how many routes an inner one. A leaf could have a pair at
+/// each key, one more than the answer can say: then it is the greatest number.
 #[tactic(auto, using(crate::proofs::Bridges::both_kinds))]
 pub fn count<A: Allocator + Copy>(chain: &Chain<A>) -> u64
     requires sound { IsSound chain.now }
-    requires countable { entry_count chain.now < 2 ^ 64 }
-    ensures { result ≡ entry_count chain.now }
+    ensures { result ≡ min (entry_count chain.now) (2 ^ 64 - 1) }
 {
     if is_leaf(chain) {
         count_entries::<A, u64>(chain)
@@ -37,13 +35,12 @@ pub fn count<A: Allocator + Copy>(chain: &Chain<A>) -> u64
 
 fn count_entries<A: Allocator + Copy, X: EntryValue>(chain: &Chain<A>) -> u64
     requires ascending { IsAscending (entries_by X.own_entries X.own_change chain.now) }
-    requires countable { length (entries_by X.own_entries X.own_change chain.now) < 2 ^ 64 }
-    ensures { result ≡ length (entries_by X.own_entries X.own_change chain.now) }
+    ensures { result ≡ min (length (entries_by X.own_entries X.own_change chain.now)) (2 ^ 64 - 1) }
 {
-    let mut count = 0;
+    let mut count = 0u64;
     let mut from = Fence::Key(0);
     'entries: while let Some(entry) = first_from::<A, X>(chain, from) {
-        count += 1;
+        count = count.saturating_add(1);
         from = past(entry.0);
     }
     count
@@ -80,6 +77,7 @@ pub fn is_upper_part<A: Allocator + Copy>(base: &Base<A>, chain: &Chain<A>, sepa
 }
 
 /// Whether the base page lists what the chain does from the fence on.
+#[tactic(auto, using(crate::proofs::Bridges::both_kinds))]
 fn lists_from<A: Allocator + Copy>(
     base: &Base<A>,
     chain: &Chain<A>,
@@ -89,56 +87,27 @@ fn lists_from<A: Allocator + Copy>(
     requires sound { IsSound chain.now }
     requires fences { extent.fences ≡ fences chain.now }
     requires kind { extent.is_leaf ≡ is_leaf chain.now }
-    requires records { min (depth chain.now) (2 ^ 64 - 1) ≤ extent.records }
     ensures { IsTrue result ↔ (base.now.listed ≡ listed_from (end_of fence) (listed_for (is_leaf chain.now) chain.now)) }
 {
-    let Extent {
-        fences: Fences { high, .. },
-        is_leaf,
-        records,
-        ..
-    } = extent;
-    if records <= FEW_EDITS {
-        lists_among::<A, FEW_EDITS>(base, chain, fence, high, is_leaf)
-    } else {
-        lists_among::<A, MOST_EDITS>(base, chain, fence, high, is_leaf)
-    }
-}
-
-/// Whether the base page lists what the chain does from the fence on, with places for so many edits.
-#[tactic(auto, using(crate::proofs::Bridges::both_kinds))]
-fn lists_among<A: Allocator + Copy, const N: usize>(
-    base: &Base<A>,
-    chain: &Chain<A>,
-    fence: Fence,
-    high: Fence,
-    of_pairs: bool,
-) -> bool
-    requires sound { IsSound chain.now }
-    requires high { high ≡ (fences chain.now).high }
-    requires kind { of_pairs ≡ is_leaf chain.now }
-    requires deep { depth chain.now ≤ N }
-    requires most { N ≤ MOST_EDITS }
-    ensures { IsTrue result ↔ (base.now.listed ≡ listed_from (end_of fence) (listed_for (is_leaf chain.now) chain.now)) }
-{
+    let high = extent.fences.high;
     match &base.entries {
         Entries::Pairs(pairs) => {
-            if !of_pairs {
+            if !extent.is_leaf {
                 return false;
             }
-            let mut edits: Edits<'_, u64, A, N> = Edits::from_buf(
+            let mut edits: Edits<'_, u64, A> = Edits::from_buf(
                 pairs.allocator(),
-                [(0, None); N],
+                [(0, None); MOST_EDITS],
             );
             are_entries(pairs, chain, fence, high, edits.as_mut_slice())
         }
         Entries::Routes(routes) => {
-            if of_pairs {
+            if extent.is_leaf {
                 return false;
             }
-            let mut edits: Edits<'_, Pid, A, N> = Edits::from_buf(
+            let mut edits: Edits<'_, Pid, A> = Edits::from_buf(
                 routes.allocator(),
-                [(0, None); N],
+                [(0, None); MOST_EDITS],
             );
             are_entries(routes, chain, fence, high, edits.as_mut_slice())
         }

@@ -6,9 +6,8 @@ ghost use Rattle.bw_delta.specs.PageView.{listed};
 ghost use Rattle.bw_delta.specs.Records.{depth};
 ghost use Rattle.bw_delta.specs.Sound.{IsSound, IsWellBuilt, listed_for, page_for};
 ghost use Rattle.bw_chain.specs.Changes.{entries_by};
-ghost use Rattle.bw_chain.specs.declared.edits.TheConstants.{MOST_EDITS};
 
-use crate::edits::{Edits, FEW_EDITS, MOST_EDITS};
+use crate::edits::{Edits, MOST_EDITS};
 use crate::pass::pass;
 use crate::shape::{Extent, survey};
 use crate::value::EntryValue;
@@ -27,13 +26,8 @@ pub fn consolidate<A: Allocator + Copy>(alloc: A, chain: &Chain<A>) -> Result<Ba
         fences: Fences { low, high, right },
         is_leaf,
         room,
-        records,
     } = survey(chain);
-    let entries = if records <= FEW_EDITS {
-        entries_below::<A, FEW_EDITS>(alloc, chain, high, is_leaf, room)?
-    } else {
-        entries_below::<A, MOST_EDITS>(alloc, chain, high, is_leaf, room)?
-    };
+    let entries = entries_below(alloc, chain, high, is_leaf, room)?;
     Ok(Base {
         low,
         high,
@@ -42,9 +36,9 @@ pub fn consolidate<A: Allocator + Copy>(alloc: A, chain: &Chain<A>) -> Result<Ba
     })
 }
 
-/// What the chain lists, pairs or routes, with places for so many edits.
+/// What the chain lists: pairs or routes.
 #[tactic(auto, using(crate::proofs::Bridges::both_kinds))]
-fn entries_below<A: Allocator + Copy, const N: usize>(
+fn entries_below<A: Allocator + Copy>(
     alloc: A,
     chain: &Chain<A>,
     high: Fence,
@@ -54,15 +48,13 @@ fn entries_below<A: Allocator + Copy, const N: usize>(
     requires sound { IsSound chain.now }
     requires high { high ≡ (fences chain.now).high }
     requires kind { of_pairs ≡ is_leaf chain.now }
-    requires deep { depth chain.now ≤ N }
-    requires most { N ≤ MOST_EDITS }
     ensures { IfOk result (λ entries. listed entries ≡ listed_for (is_leaf chain.now) chain.now) }
 {
     if of_pairs {
-        let mut edits: Edits<'_, u64, A, N> = Edits::from_buf(&alloc, [(0, None); N]);
+        let mut edits: Edits<'_, u64, A> = Edits::from_buf(&alloc, [(0, None); MOST_EDITS]);
         Ok(Entries::Pairs(list(alloc, chain, high, room, edits.as_mut_slice())?))
     } else {
-        let mut edits: Edits<'_, Pid, A, N> = Edits::from_buf(&alloc, [(0, None); N]);
+        let mut edits: Edits<'_, Pid, A> = Edits::from_buf(&alloc, [(0, None); MOST_EDITS]);
         Ok(Entries::Routes(list(alloc, chain, high, room, edits.as_mut_slice())?))
     }
 }

@@ -17,12 +17,8 @@ use smallvec::SmallVec;
 /// As many edits as can be noted: no path of a chain has more records.
 pub(crate) const MOST_EDITS: usize = 64;
 
-/// As many edits as most chains have, which are consolidated before they are deeper. Each place
-/// of a `SmallVec` is written when it is made, so a chain of few records isn't given the most.
-pub(crate) const FEW_EDITS: usize = 16;
-
 /// The places of edits. All of them lie inline, so the allocator is never asked.
-pub(crate) type Edits<'a, X, A, const N: usize> = SmallVec<(Key, Option<X>), N, &'a A>;
+pub(crate) type Edits<'a, X, A> = SmallVec<(Key, Option<X>), MOST_EDITS, &'a A>;
 
 /// Notes what a record changes below the end among so many edits in front, and answers how many
 /// there are then.

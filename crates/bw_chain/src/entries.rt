@@ -63,7 +63,7 @@ fn deciding<'a, A: Allocator + Copy, X: EntryValue>(chain: &'a Chain<A>, key: Ke
 
 /// The least entry from the fence on: candidates are tried in turn until one holds. Each that
 /// doesn't is a deleted key.
-pub(crate) fn first_from<A: Allocator + Copy, X: EntryValue>(
+pub fn first_from<A: Allocator + Copy, X: EntryValue>(
     chain: &Chain<A>,
     fence: Fence,
 ) -> Option<(Key, X)>

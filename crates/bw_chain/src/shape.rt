@@ -1,4 +1,4 @@
-ghost use Rattle.std.specs.Prelude.{◌≡◌, ◌≤◌, ◌+◌, ◌-◌, ◌^◌, min, true};
+ghost use Rattle.std.specs.Prelude.{◌≡◌, true};
 ghost use Rattle.bw_delta.specs.Fence.{fences, is_leaf};
 ghost use Rattle.bw_delta.specs.Pages.{lists_pairs};
 ghost use Rattle.bw_delta.specs.Records.{depth};
@@ -16,57 +16,17 @@ pub(crate) struct Extent {
     /// No fewer than the chain has entries: those of its base pages, and one for each record that
     /// puts one.
     pub(crate) room: usize,
-    /// No fewer than the chain is deep: its records, those of all halves counted.
-    pub(crate) records: usize,
 }
 
-/// What a walk has counted.
-#[derive(Clone, Copy)]
-struct Counted {
-    room: usize,
-    records: usize,
-}
-
-impl Counted {
-    fn new() -> Counted
-        ensures records { result.records ≡ 0 }
-    {
-        Counted {
-            room: 0,
-            records: 0,
-        }
-    }
-
-    /// Counts a record that puts so many entries.
-    #[inline(always)]
-    fn add_record(&mut self, puts: usize)
-        ensures records { self.new.records ≡ min (self.old.records + 1) (2 ^ 64 - 1) }
-    {
-        self.room = self.room.saturating_add(puts);
-        self.records = self.records.saturating_add(1);
-    }
-
-    /// Counts the entries of a base page.
-    #[inline(always)]
-    fn add_page(&mut self, entries: usize)
-        ensures records { self.new.records ≡ self.old.records }
-    {
-        self.room = self.room.saturating_add(entries);
-    }
-}
-
-/// The fence keys and the kind of the page that the chain stands for, with the room that it needs
-/// and the records that are in it.
+/// The fence keys, the kind and the room of the page that the chain stands for.
 pub(crate) fn survey<A: Allocator + Copy>(chain: &Chain<A>) -> Extent
     ensures fences { result.fences ≡ fences chain.now }
     ensures kind { result.is_leaf ≡ is_leaf chain.now }
-    ensures records { min (depth chain.now) (2 ^ 64 - 1) ≤ result.records }
 {
-    let mut counted = Counted::new();
-    let end = newest_end(chain, &mut counted);
-    let base = first_base(end, &mut counted);
+    let mut room = 0;
+    let end = newest_end(chain, &mut room);
+    let base = first_base(end, &mut room);
     let (high, right) = range_end(end);
-    let Counted { room, records } = counted;
     Extent {
         fences: Fences {
             low: base.low,
@@ -75,7 +35,6 @@ pub(crate) fn survey<A: Allocator + Copy>(chain: &Chain<A>) -> Extent
         },
         is_leaf: base.is_leaf(),
         room,
-        records,
     }
 }
 
@@ -103,58 +62,51 @@ fn range_end<A: Allocator + Copy>(end: &Chain<A>) -> (Fence, Option<Pid>)
     }
 }
 
-/// The part of the chain from the newest record on that says where the range ends. The records
-/// above it are counted. Both walks are loops once they are built, as they call themselves last and
-/// answer a reference.
-fn newest_end<'a, A: Allocator + Copy>(chain: &'a Chain<A>, counted: &mut Counted) -> &'a Chain<A>
+/// The part of the chain from the newest record on that says where the range ends. What the records
+/// above it put makes the room greater. Both walks are loops once they are built, as they call
+/// themselves last and answer a reference.
+fn newest_end<'a, A: Allocator + Copy>(chain: &'a Chain<A>, room: &mut usize) -> &'a Chain<A>
     ensures low { (fences result.now).low ≡ (fences chain.now).low }
     ensures high { (fences result.now).high ≡ (fences chain.now).high }
     ensures right { (fences result.now).right ≡ (fences chain.now).right }
     ensures kind { is_leaf result.now ≡ is_leaf chain.now }
     ensures ends { ends_range result.now ≡ true }
-    ensures records { min (counted.old.records + depth chain.now) (2 ^ 64 - 1) ≤ counted.new.records + depth result.now }
 {
     match &chain.node {
         Node::Bare(_) | Node::Merged(_, _, _) => chain,
         Node::Above(delta, below) => match *delta {
             Delta::Split(_, _) => chain,
             Delta::Insert(_, _) | Delta::TermAdd(_, _) => {
-                counted.add_record(1);
-                newest_end(below, counted)
+                *room = room.saturating_add(1);
+                newest_end(below, room)
             }
-            Delta::Delete(_) | Delta::Remove | Delta::TermDelete(_) => {
-                counted.add_record(0);
-                newest_end(below, counted)
-            }
+            Delta::Delete(_) | Delta::Remove | Delta::TermDelete(_) => newest_end(below, room),
         },
     }
 }
 
-/// The base page at the low end of the chain's range. All that the chain has is counted.
-fn first_base<'a, A: Allocator + Copy>(chain: &'a Chain<A>, counted: &mut Counted) -> &'a Base<A>
+/// The base page at the low end of the chain's range. The chain's entries make the room greater.
+fn first_base<'a, A: Allocator + Copy>(chain: &'a Chain<A>, room: &mut usize) -> &'a Base<A>
     ensures low { result.now.low ≡ (fences chain.now).low }
     ensures kind { lists_pairs result.now.listed ≡ is_leaf chain.now }
-    ensures records { min (counted.old.records + depth chain.now) (2 ^ 64 - 1) ≤ counted.new.records }
 {
     match &chain.node {
         Node::Bare(base) => {
-            counted.add_page(base.len());
+            *room = room.saturating_add(base.len());
             base
         }
         Node::Above(delta, below) => match *delta {
             Delta::Insert(_, _) | Delta::TermAdd(_, _) => {
-                counted.add_record(1);
-                first_base(below, counted)
+                *room = room.saturating_add(1);
+                first_base(below, room)
             }
             Delta::Split(_, _) | Delta::Delete(_) | Delta::Remove | Delta::TermDelete(_) => {
-                counted.add_record(0);
-                first_base(below, counted)
+                first_base(below, room)
             }
         },
         Node::Merged(_, left, right) => {
-            counted.add_record(0);
-            first_base(right, counted);
-            first_base(left, counted)
+            first_base(right, room);
+            first_base(left, room)
         }
     }
 }
@@ -163,7 +115,7 @@ fn first_base<'a, A: Allocator + Copy>(chain: &'a Chain<A>, counted: &mut Counte
 pub fn is_leaf<A: Allocator + Copy>(chain: &Chain<A>) -> bool
     ensures { result ≡ is_leaf chain.now }
 {
-    first_base(chain, &mut Counted::new()).is_leaf()
+    first_base(chain, &mut 0).is_leaf()
 }
 
 /// How many records stand above a base page, along the deepest path: 0 to 64.

@@ -8,7 +8,7 @@ use std::alloc::Allocator;
 
 /// What an entry has beside its key: the number of a pair, or the page of a route. What a chain
 /// says is worked out once for both.
-pub(crate) trait EntryValue: Copy {
+pub trait EntryValue: Copy {
     ghost use Rattle.std.specs.Prelude.{ℕ, List};
     ghost use Rattle.bw_delta.specs.Pages.{Listed};
     ghost use Rattle.bw_delta.specs.declared.chain.Delta.{Delta};

@@ -12,7 +12,7 @@ use Rattle.bw_law.specs.Tables.{TableValue, slot_at, outline, IsPageOf, Lawful, 
 use Rattle.bw_law.specs.Effects.{consolidated, after}
 use Rattle.bw_law.specs.Laws.{KeptBy}
 use Rattle.bw_law.proofs.Accepted.{MayConsolidate}
-use Rattle.bw_law.proofs.Slots.{in_bounds, rows_kept, HasPage, good_slots, good-set, lawful_with}
+use Rattle.bw_law.proofs.Slots.{in_bounds, rows_kept, HasPage, in_row_emptied, good_slots, good-set, lawful_with}
 use Rattle.bw_law.proofs.FreeIds.{free-set, in_row_not_free}
 use Rattle.bw_law.proofs.Shares.{KeepsPairs, same_share, booked_with}
 use Rattle.bw_law.proofs.Chains.{chain_is, pairs_are, routes_are, listed_count, bare_page, route_at}
@@ -60,7 +60,7 @@ module _ (table : TableValue) (page seen : ℕ) (base : Page) (law : Lawful tabl
   consolidate_keeps booked = record {
     lawful = lawful_with table (after table (consolidate page seen base)) law refl refl
         (rows_kept table.slots table.root page new inside same_outline law.rows)
-        (good-set table.slots table.config.pages page new inside new_page (omega (arith, may.open_page.rises, law.bounds.versions page)) (good_slots table law))
+        (good-set table.slots table.config.pages page new inside new_page (in_row_emptied new may.open_page.in_row) (omega (arith, may.open_page.rises, law.bounds.versions page)) (good_slots table law))
         (free-set table.slots table.free page new (in_row_not_free table.slots table.free page law.free_list may.open_page.in_row) law.free_list);
     booked = booked_with table (after table (consolidate page seen base)) refl keeps_pairs booked;
     map = keeps_pairs.map;

@@ -22,7 +22,7 @@ use Rattle.bw_law.proofs.Outlines as outlined
 use Rattle.bw_law.proofs.Outlines.{write}
 use Rattle.bw_law.proofs.RowsOfTerms.{grow_keeps_rows, grown_child_is_not_first}
 use Rattle.bw_law.proofs.Accepted.{MayGrow}
-use Rattle.bw_law.proofs.Slots.{in_bounds, slot_kept, HasPage, good_slots, outlines_of_two, good_two, lawful_with}
+use Rattle.bw_law.proofs.Slots.{in_bounds, slot_kept, HasPage, in_row_emptied, good_slots, outlines_of_two, good_two, lawful_with}
 use Rattle.bw_law.proofs.FreeIds.{last_is_among, free-set, in_row_not_free, free_taken}
 use Rattle.bw_law.proofs.Shares.{no_pairs_outside, KeepsPairs, keeps_pairs_then, same_share, booked_with}
 use Rattle.bw_law.proofs.Chains.{restaged, bare_page, route_at}
@@ -108,7 +108,7 @@ module _ (table : TableValue) (child seen : ℕ) (base : Page) (law : Lawful tab
   grow_keeps booked = record {
     lawful = lawful_with table (after table (grow child seen base)) law refl refl
         (subst (λ at. Rows key_count at new) (sym rows_now) (grow_keeps_rows key_count (outlines table.slots) table.root child new law.rows may.unposted may.beside new_free.1))
-        (good_two table.slots table.config.pages child new new_under new_root child_inside new_free.0 under_page root_page_is
+        (good_two table.slots table.config.pages child new new_under new_root child_inside new_free.0 under_page root_page_is (in_row_emptied new_under refl) (in_row_emptied new_root refl)
         (omega (arith, may.rises, law.bounds.versions child)) (omega (arith, may.new_rises, law.bounds.versions new)) (good_slots table law))
         (free_taken (set table.slots child new_under) table.free new new_root may.room
         (free-set table.slots table.free child new_under (in_row_not_free table.slots table.free child law.free_list under_in) law.free_list));

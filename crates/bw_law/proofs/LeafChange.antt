@@ -12,7 +12,7 @@ use Rattle.bw_law.specs.Slots.{SlotValue, pairs_in, routes_in}
 use Rattle.bw_law.specs.Tables.{TableValue, slot_at, number_of, outline, IsPageOf, Lawful, leaf_pairs, Maps}
 use Rattle.bw_law.specs.Effects.{with_record}
 use Rattle.bw_law.proofs.Accepted.{MayChange}
-use Rattle.bw_law.proofs.Slots.{in_bounds, rows_kept, HasPage, good_slots, good-set}
+use Rattle.bw_law.proofs.Slots.{in_bounds, rows_kept, HasPage, in_row_emptied, good_slots, good-set}
 use Rattle.bw_law.proofs.FreeIds.{free-set, in_row_not_free}
 use Rattle.bw_law.proofs.Shares.{leaf_pairs_in_row, Elsewhere, maps-set, maps_cases, only_here}
 use Rattle.bw_law.proofs.Chains.{above_page, pairs_above, routes_above, route_at}
@@ -58,10 +58,11 @@ module _ (table : TableValue) (page seen key : ℕ) (law : Lawful table) (may : 
 
   change_keeps_law : (book : Book) → number_of book < 2 ^ 64 → Lawful (record table { slots = set table.slots page new; book = book })
   change_keeps_law book number =
-      let good = good-set table.slots table.config.pages page new inside new_page (omega (arith, may.open_page.rises, law.bounds.versions page)) (good_slots table law) in
+      let good = good-set table.slots table.config.pages page new inside new_page (in_row_emptied new may.open_page.in_row) (omega (arith, may.open_page.rises, law.bounds.versions page)) (good_slots table law) in
       record {
         rows = rows_kept table.slots table.root page new inside same_outline law.rows;
         pages = good.pages;
+        merged = good.merged;
         free_list = free-set table.slots table.free page new (in_row_not_free table.slots table.free page law.free_list may.open_page.in_row) law.free_list;
         bounds = record { versions = good.versions; number = number; slots = good.all_there; config = law.bounds.config };
       }

@@ -15,7 +15,7 @@ use Rattle.bw_law.proofs.Outlines as outlined
 use Rattle.bw_law.proofs.Outlines.{write}
 use Rattle.bw_law.proofs.RowsOfTerms.{mark_keeps_rows}
 use Rattle.bw_law.proofs.Accepted.{MayMark}
-use Rattle.bw_law.proofs.Slots.{in_bounds, outlines-set, HasPage, good_slots, good-set, lawful_with}
+use Rattle.bw_law.proofs.Slots.{in_bounds, outlines-set, HasPage, in_row_emptied, good_slots, good-set, lawful_with}
 use Rattle.bw_law.proofs.FreeIds.{free-set, in_row_not_free}
 use Rattle.bw_law.proofs.Shares.{KeepsPairs, same_share, booked_with}
 use Rattle.bw_law.proofs.Chains.{above_page, pairs_above, routes_above, route_at}
@@ -58,7 +58,7 @@ module _ (table : TableValue) (page seen parent : ℕ) (law : Lawful table) (may
   mark_keeps booked = record {
     lawful = lawful_with table (after table (mark page seen parent)) law refl refl
         (subst (λ at. Rows key_count at table.root) (sym rows_now) (mark_keeps_rows key_count (outlines table.slots) table.root page parent law.rows may.posted may.parent_in may.above may.range may.not_first))
-        (good-set table.slots table.config.pages page new inside new_page (omega (arith, may.rises, law.bounds.versions page)) (good_slots table law))
+        (good-set table.slots table.config.pages page new inside new_page (in_row_emptied new refl) (omega (arith, may.rises, law.bounds.versions page)) (good_slots table law))
         (free-set table.slots table.free page new (in_row_not_free table.slots table.free page law.free_list in_row) law.free_list);
     booked = booked_with table (after table (mark page seen parent)) refl keeps_pairs booked;
     map = keeps_pairs.map;

@@ -24,7 +24,7 @@ use Rattle.bw_law.proofs.Outlines.{write}
 use Rattle.bw_law.proofs.RowsOfMerge.{merge_keeps_rows}
 use Rattle.bw_law.proofs.Lists.{or_else, option_cases, at-halves, at-append, found-append}
 use Rattle.bw_law.proofs.Accepted.{MayMerge}
-use Rattle.bw_law.proofs.Slots.{in_bounds, HasPage, good_slots, outlines_of_two, good_two, lawful_with}
+use Rattle.bw_law.proofs.Slots.{in_bounds, HasPage, in_row_emptied, good_slots, outlines_of_two, good_two, lawful_with}
 use Rattle.bw_law.proofs.FreeIds.{free-set, in_row_not_free}
 use Rattle.bw_law.proofs.Shares.{pair_is_spanned, KeepsPairs, shares_moved, booked_with}
 use Rattle.bw_law.proofs.Chains.{low_is, high_is, right_is, pairs_are, routes_are, route_at, chosen_routes}
@@ -201,7 +201,7 @@ module _ (table : TableValue) (left left_seen page seen : ℕ) (law : Lawful tab
   merge_keeps booked = record {
     lawful = lawful_with table (after table (merge left left_seen page seen)) law refl refl
         (subst (λ at. Rows key_count at table.root) (sym rows_now) (merge_keeps_rows key_count (outlines table.slots) table.root left page law.rows left_in may.marked link))
-        (good_two table.slots table.config.pages left page wide taken left_inside page_inside wide_page taken_page
+        (good_two table.slots table.config.pages left page wide taken left_inside page_inside wide_page taken_page (in_row_emptied wide may.open_left.in_row) (λ merged. record { open_end = refl; no_link = refl; no_entries = refl; no_records = refl })
         (omega (arith, may.open_left.rises, law.bounds.versions left)) (omega (arith, may.rises, law.bounds.versions page)) (good_slots table law))
         (free-set (set table.slots left wide) table.free page taken (in_row_not_free table.slots table.free page law.free_list page_in)
         (free-set table.slots table.free left wide (in_row_not_free table.slots table.free left law.free_list left_in) law.free_list));

@@ -16,7 +16,7 @@ use Rattle.bw_step.specs.Stages.{is_in_row, is_leaving}
 use Rattle.bw_law.specs.Slots.{SlotValue, free_slot, slot_in, empty_page, routes_in}
 use Rattle.bw_law.specs.Rows.{Rows}
 use Rattle.bw_law.specs.Walks.{IsAmong, RepeatsNone}
-use Rattle.bw_law.specs.Tables.{id_of, outlines, first_slot, ids_down, new_table, Pages as AllPages, leaf_pairs}
+use Rattle.bw_law.specs.Tables.{id_of, outlines, first_slot, ids_down, new_table, Pages as AllPages, MergedPages, leaf_pairs}
 use Rattle.bw_law.specs.Laws.{IsEmptyTable, NewLaw}
 use Rattle.bw_law.proofs.Accepted.{all_none}
 
@@ -112,6 +112,10 @@ module _ (config : Config) (good : first_bad_field config ≡ None) (version : c
   )
   pages (suc x) in_row = absurd (cc (ap is_in_row (each_free spare config.first_version x), in_row))
 
+  merged : MergedPages slots
+  merged zero is = cc
+  merged (suc x) is = cc (each_free spare config.first_version x, is)
+
   versions : (x : ℕ) → (slot_in slots x).version < 2 ^ 64
   versions zero = version
   versions (suc x) = each_version spare config.first_version x version
@@ -126,6 +130,7 @@ module _ (config : Config) (good : first_bad_field config ≡ None) (version : c
     lawful = record {
       rows = rows;
       pages = pages;
+      merged = merged;
       free_list = record {
         once = down_repeats_none config.pages;
         are_free = λ x among.

@@ -12,7 +12,7 @@ use Rattle.bw_step.specs.declared.survey.Book.{Book}
 use Rattle.bw_step.specs.Stages.{is_in_row}
 use Rattle.bw_law.specs.Slots.{SlotValue, free_slot, slot_in}
 use Rattle.bw_law.specs.Rows.{Outline, Rows}
-use Rattle.bw_law.specs.Tables.{TableValue, number_of, outline, outlines, IsPageOf, Pages, FreeList, Lawful}
+use Rattle.bw_law.specs.Tables.{TableValue, number_of, outline, outlines, IsPageOf, Pages, IsEmptied, MergedPages, FreeList, Lawful}
 use Rattle.bw_law.proofs.Outlines.{write}
 
 -- a page that isn't free is in the table
@@ -63,20 +63,26 @@ rows_kept slots root page new inside same rows =
 abbrev pub HasPage : SlotValue → Type 0
 HasPage slot = is_in_row slot.stage ≡ true → (chain : Records) × IsPageOf slot chain
 
+-- a slot in a row isn't merged
+pub in_row_emptied : (slot : SlotValue) → is_in_row slot.stage ≡ true → IsEmptied slot
+in_row_emptied slot in_row merged = cc (ap is_in_row merged, in_row)
+
 -- what each slot is by itself
 pub record GoodSlots (slots : List SlotValue) (count : ℕ) : Type 0 where
   pub pages : Pages slots
+  pub merged : MergedPages slots
   pub versions : (page : ℕ) → (slot_in slots page).version < 2 ^ 64
   pub all_there : length slots ≡ count
 
 -- the slots of a lawful table are good
 pub good_slots : (table : TableValue) → Lawful table → GoodSlots table.slots table.config.pages
-good_slots table law = record { pages = law.pages; versions = law.bounds.versions; all_there = law.bounds.slots }
+good_slots table law = record { pages = law.pages; merged = law.merged; versions = law.bounds.versions; all_there = law.bounds.slots }
 
 -- and are still, after a good one is written
-pub good-set : (slots : List SlotValue) (count page : ℕ) (new : SlotValue) → page < length slots → HasPage new → new.version < 2 ^ 64 → GoodSlots slots count → GoodSlots (set slots page new) count
-good-set slots count page new inside has_page version good = record {
+pub good-set : (slots : List SlotValue) (count page : ℕ) (new : SlotValue) → page < length slots → HasPage new → IsEmptied new → new.version < 2 ^ 64 → GoodSlots slots count → GoodSlots (set slots page new) count
+good-set slots count page new inside has_page emptied version good = record {
   pages = each_slot HasPage slots page new inside has_page good.pages;
+  merged = each_slot IsEmptied slots page new inside emptied good.merged;
   versions = each_slot (λ slot. slot.version < 2 ^ 64) slots page new inside version good.versions;
   all_there = length-set slots page new ∙ good.all_there;
 }
@@ -87,15 +93,16 @@ pub outlines_of_two : (slots : List SlotValue) (p q : ℕ) (a b : SlotValue) →
 outlines_of_two slots p q a b p_inside q_inside =
     outlines-set (set slots p a) q b (omega (arith, q_inside, length-set slots p a)) ∙ ap (λ at. write at q (outline b)) (outlines-set slots p a p_inside)
 
-pub good_two : (slots : List SlotValue) (count p q : ℕ) (a b : SlotValue) → p < length slots → q < length slots → HasPage a → HasPage b → a.version < 2 ^ 64 → b.version < 2 ^ 64 → GoodSlots slots count → GoodSlots (set (set slots p a) q b) count
-good_two slots count p q a b p_inside q_inside a_page b_page a_version b_version good =
-    good-set (set slots p a) count q b (omega (arith, q_inside, length-set slots p a)) b_page b_version (good-set slots count p a p_inside a_page a_version good)
+pub good_two : (slots : List SlotValue) (count p q : ℕ) (a b : SlotValue) → p < length slots → q < length slots → HasPage a → HasPage b → IsEmptied a → IsEmptied b → a.version < 2 ^ 64 → b.version < 2 ^ 64 → GoodSlots slots count → GoodSlots (set (set slots p a) q b) count
+good_two slots count p q a b p_inside q_inside a_page b_page a_emptied b_emptied a_version b_version good =
+    good-set (set slots p a) count q b (omega (arith, q_inside, length-set slots p a)) b_page b_emptied b_version (good-set slots count p a p_inside a_page a_emptied a_version good)
 
 -- the table with other slots, free list and root is lawful where these are
 pub lawful_with : (table new : TableValue) → Lawful table → new.book ≡ table.book → new.config ≡ table.config → Rows key_count (outlines new.slots) new.root → GoodSlots new.slots table.config.pages → FreeList new.slots new.free → Lawful new
 lawful_with table new law book config rows good free_list = record {
   rows = rows;
   pages = good.pages;
+  merged = good.merged;
   free_list = free_list;
   bounds = record {
     versions = good.versions;

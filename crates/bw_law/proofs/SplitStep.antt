@@ -29,7 +29,7 @@ use Rattle.bw_law.proofs.Outlines.{write}
 use Rattle.bw_law.proofs.RowsOfSplit.{split_keeps_rows}
 use Rattle.bw_law.proofs.Lists.{option_cases, at-below, at-from, found_within, length-parts}
 use Rattle.bw_law.proofs.Accepted.{MaySplit}
-use Rattle.bw_law.proofs.Slots.{in_bounds, HasPage, good_slots, outlines_of_two, good_two, lawful_with}
+use Rattle.bw_law.proofs.Slots.{in_bounds, HasPage, in_row_emptied, good_slots, outlines_of_two, good_two, lawful_with}
 use Rattle.bw_law.proofs.FreeIds.{last_is_among, free-set, in_row_not_free, free_taken}
 use Rattle.bw_law.proofs.Shares.{no_pairs_outside, KeepsPairs, shares_moved, booked_with}
 use Rattle.bw_law.proofs.Chains.{low_is, high_is, right_is, chain_is, pairs_are, routes_are, lies_in, inner_pairs_none, above_page, pairs_above, routes_above, listed_count, bare_page, route_at, chosen_routes}
@@ -238,7 +238,7 @@ module _ (table : TableValue) (page seen separator : ℕ) (base : Page) (law : L
     lawful = lawful_with table (after table (split page seen separator base)) law refl refl
         (subst (λ at. Rows key_count at table.root) (sym rows_now)
         (split_keeps_rows key_count (outlines table.slots) table.root page new separator law.rows in_row new_free.1 above_low may.range.1 entry))
-        (good_two table.slots table.config.pages page new low_slot high_slot inside new_free.0 low_page high_page
+        (good_two table.slots table.config.pages page new low_slot high_slot inside new_free.0 low_page high_page (in_row_emptied low_slot may.open_page.in_row) (in_row_emptied high_slot refl)
         (omega (arith, may.open_page.rises, law.bounds.versions page)) (omega (arith, may.new_rises, law.bounds.versions new)) (good_slots table law))
         (free_taken (set table.slots page low_slot) table.free new high_slot may.room
         (free-set table.slots table.free page low_slot (in_row_not_free table.slots table.free page law.free_list in_row) law.free_list));

@@ -20,7 +20,7 @@ use Rattle.bw_law.proofs.Outlines.{write}
 use Rattle.bw_law.proofs.RowsOfTerms.{term_add_keeps_rows}
 use Rattle.bw_law.proofs.Lists.{at-put, length-put}
 use Rattle.bw_law.proofs.Accepted.{MayTermAdd}
-use Rattle.bw_law.proofs.Slots.{in_bounds, slot_kept, HasPage, good_slots, outlines_of_two, good_two, lawful_with}
+use Rattle.bw_law.proofs.Slots.{in_bounds, slot_kept, HasPage, in_row_emptied, good_slots, outlines_of_two, good_two, lawful_with}
 use Rattle.bw_law.proofs.FreeIds.{free-set, in_row_not_free}
 use Rattle.bw_law.proofs.Shares.{KeepsPairs, keeps_pairs_then, same_share, booked_with}
 use Rattle.bw_law.proofs.Chains.{routes_are, lies_in, inner_chain, restaged, above_page, pairs_above, routes_above, route_at, chosen_routes}
@@ -96,7 +96,7 @@ module _ (table : TableValue) (parent parent_seen child child_seen : ℕ) (law :
     lawful = lawful_with table (after table (term_add parent parent_seen child child_seen)) law refl refl
         (subst (λ at. Rows key_count at table.root) (sym rows_now)
         (term_add_keeps_rows key_count (outlines table.slots) table.root parent child law.rows over_in may.unposted may.change.above may.change.range (ap (option_map id_of) may.no_term)))
-        (good_two table.slots table.config.pages parent child new_over new_under inside child_inside over_page under_page
+        (good_two table.slots table.config.pages parent child new_over new_under inside child_inside over_page under_page (in_row_emptied new_over may.change.open_parent.in_row) (in_row_emptied new_under refl)
         (omega (arith, may.change.open_parent.rises, law.bounds.versions parent)) (omega (arith, may.change.child_rises, law.bounds.versions child)) (good_slots table law))
         (free-set (set table.slots parent new_over) table.free child new_under (in_row_not_free table.slots table.free child law.free_list under_in)
         (free-set table.slots table.free parent new_over (in_row_not_free table.slots table.free parent law.free_list over_in) law.free_list));

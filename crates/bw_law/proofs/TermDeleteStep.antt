@@ -23,7 +23,7 @@ use Rattle.bw_law.proofs.Outlines.{write}
 use Rattle.bw_law.proofs.RowsOfTerms.{term_delete_keeps_rows}
 use Rattle.bw_law.proofs.Lists.{at-without, length-without}
 use Rattle.bw_law.proofs.Accepted.{MayTermDelete}
-use Rattle.bw_law.proofs.Slots.{used_in_bounds, in_bounds, slot_kept, HasPage, good_slots, outlines_of_two, good_two, lawful_with}
+use Rattle.bw_law.proofs.Slots.{used_in_bounds, in_bounds, slot_kept, HasPage, in_row_emptied, good_slots, outlines_of_two, good_two, lawful_with}
 use Rattle.bw_law.proofs.FreeIds.{free-set, in_row_not_free, free_returned}
 use Rattle.bw_law.proofs.Shares.{no_pairs_outside, KeepsPairs, keeps_pairs_then, same_share, booked_with}
 use Rattle.bw_law.proofs.Chains.{routes_are, lies_in, inner_chain, inner_pairs_none, above_page, pairs_above, routes_above, some_route, route_at, chosen_routes}
@@ -116,7 +116,7 @@ module _ (table : TableValue) (parent parent_seen child child_seen : ℕ) (law :
     lawful = lawful_with table (after table (term_delete parent parent_seen child child_seen)) law refl refl
         (subst (λ at. Rows key_count at table.root) (sym rows_now)
         (term_delete_keeps_rows key_count (outlines table.slots) table.root parent child law.rows over_in may.merged may.change.above may.change.range))
-        (good_two table.slots table.config.pages parent child new_over new_under inside child_inside over_page under_page
+        (good_two table.slots table.config.pages parent child new_over new_under inside child_inside over_page under_page (in_row_emptied new_over may.change.open_parent.in_row) (λ merged. cc)
         (omega (arith, may.change.open_parent.rises, law.bounds.versions parent)) (omega (arith, may.change.child_rises, law.bounds.versions child)) (good_slots table law))
         free_now;
     booked = booked_with table (after table (term_delete parent parent_seen child child_seen)) refl keeps_pairs booked;

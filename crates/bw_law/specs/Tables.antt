@@ -1,7 +1,9 @@
 -- A mapping table as contracts see it, its law, its map and its book.
-use Rattle.std.specs.Prelude.{◌≡◌, ◌↔◌, ℕ, zero, suc, ◌+◌, ◌-◌, ◌<◌, ◌≤◌, ◌^◌, Bool, true, ◌&&◌, ◌==◌, if◌then◌else◌, List, [], ◌∷◌, ◌++◌, length, Some, None, option_map, sum_by, replicate}
+use Rattle.std.specs.Prelude.{◌≡◌, ◌↔◌, ℕ, zero, suc, ◌+◌, ◌-◌, ◌<◌, ◌≤◌, ◌^◌, Bool, true, ◌&&◌, ◌==◌, if◌then◌else◌, List, [], ◌∷◌, ◌++◌, length, Option, Some, None, option_map, sum_by, replicate}
 use Rattle.bw_keys.specs.declared.config.Config.{Config}
 use Rattle.bw_keys.specs.declared.page.Pid.{Pid}
+use Rattle.bw_keys.specs.declared.range.Fence.{Fence}
+use Rattle.bw_keys.specs.declared.range.Fence.TheVariants.{Top}
 use Rattle.bw_keys.specs.declared.page.TheConstants.{MAX_LEVEL}
 use Rattle.bw_keys.specs.Limits.{first_bad_field}
 use Rattle.bw_keys.specs.Ranges.{key_count, end_of}
@@ -11,7 +13,7 @@ use Rattle.bw_delta.specs.Records.{Records, bare, depth}
 use Rattle.bw_delta.specs.Fence.{fences, is_leaf}
 use Rattle.bw_delta.specs.Sound.{IsSound, entry_count}
 use Rattle.bw_step.specs.declared.survey.Book.{Book}
-use Rattle.bw_step.specs.declared.view.Stage.TheVariants.{Free, Posted}
+use Rattle.bw_step.specs.declared.view.Stage.TheVariants.{Free, Posted, Merged}
 use Rattle.bw_step.specs.Stages.{is_in_row}
 use Rattle.bw_law.specs.Slots.{SlotValue, slot_in, free_slot, empty_page, pairs_in, routes_in}
 use Rattle.bw_law.specs.Rows.{Outline, Rows}
@@ -64,6 +66,20 @@ pub record IsPageOf (slot : SlotValue) (chain : Records) : Type 0 where
 abbrev pub Pages : List SlotValue → Type 0
 Pages slots = (page : ℕ) → is_in_row (slot_in slots page).stage ≡ true → (chain : Records) × IsPageOf (slot_in slots page) chain
 
+-- what is kept of a page with nothing left: its range is open to the top, and it has no right link, no entries and no records
+pub record HasNothing (high : Fence) (right : Option Pid) (count depth : ℕ) : Type 0 where
+  pub open_end : high ≡ Top
+  pub no_link : right ≡ None
+  pub no_entries : count ≡ 0
+  pub no_records : depth ≡ 0
+
+abbrev pub IsEmptied : SlotValue → Type 0
+IsEmptied slot = slot.stage ≡ Merged → HasNothing slot.high slot.right slot.count slot.depth
+
+-- a merged page keeps its low and its level, and nothing else
+abbrev pub MergedPages : List SlotValue → Type 0
+MergedPages slots = (page : ℕ) → IsEmptied (slot_in slots page)
+
 -- the free list names only free slots, none twice
 pub record FreeList (slots : List SlotValue) (free : List ℕ) : Type 0 where
   pub once : RepeatsNone free
@@ -80,6 +96,7 @@ pub record Bounds (table : TableValue) : Type 0 where
 pub record Lawful (table : TableValue) : Type 0 where
   pub rows : Rows key_count (outlines table.slots) table.root
   pub pages : Pages table.slots
+  pub merged : MergedPages table.slots
   pub free_list : FreeList table.slots table.free
   pub bounds : Bounds table
 

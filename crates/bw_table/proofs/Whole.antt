@@ -1,20 +1,31 @@
 -- What is true of each table gives the code what it asks for.
-use Rattle.std.proofs.Common.{◌≡◌, ℕ, ◌<◌, ◌≤◌, ◌^◌, List, length, Option, Some, None, unwrap_or, refl, ◌∙◌, ap, arith}
+use Rattle.std.proofs.Common.{◌≡◌, ℕ, ◌<◌, ◌≤◌, ◌^◌, true, List, length, Option, Some, None, unwrap_or, refl, ◌∙◌, ap, arith}
+use Rattle.std.proofs.lemmas.Bool.Decides.{nat_tests}
 use Rattle.bw_keys.specs.declared.config.Config.{Config}
 use Rattle.bw_keys.specs.Limits.{first_bad_field}
+use Rattle.bw_keys.specs.Ranges.{is_within}
+use Rattle.bw_delta.specs.Entries.{at}
 use Rattle.bw_step.specs.Proposals.{Proposal, insert, delete, consolidate, split, term_add, grow, mark, merge, term_delete}
-use Rattle.bw_law.specs.Tables.{TableValue, slot_at, Lawful, new_table}
+use Rattle.bw_law.specs.Tables.{TableValue, slot_at, is_leaf_in_row, Lawful, new_table}
+use Rattle.bw_law.specs.Slots.{pairs_in}
 use Rattle.bw_law.specs.Refusals.{refusal, new_id, last_id}
 use Rattle.bw_law.specs.Effects.{after}
 use Rattle.bw_law.proofs.AllSteps.{step_law}
-use Rattle.bw_law.proofs.Facts.{root_is_here, here_is_inside, last_id_is_free}
+use Rattle.bw_law.proofs.Facts.{root_is_here, here_is_inside, last_id_is_free, leaf_decides}
 use Rattle.bw_law.proofs.NewTable.{new_law}
 use Rattle.bw_table.specs.SlotFacts.{HasSoundChain}
+use Rattle.bw_table.specs.Views.{IsValueAt}
 use Rattle.bw_table.specs.Whole.{IsWhole}
 
 -- a page in a row has a sound chain
 pub has_sound_chain : (table : TableValue) (page : ℕ) → Lawful table → HasSoundChain (slot_at table page)
 has_sound_chain table page law here = let own = law.pages page here in (own.0, own.1.its_chain, own.1.sound)
+
+-- a leaf in its row whose range holds the key has what the map has there
+pub found_is_mapped : (table : TableValue) (page key : ℕ) → Lawful table → is_leaf_in_row (slot_at table page) ≡ true → is_within (slot_at table page).low (slot_at table page).high key ≡ true
+    → IsValueAt table key (at key (pairs_in (slot_at table page)))
+found_is_mapped table page key law leaf within value =
+    leaf_decides table law page key value (grind (arith, nat_tests)) (grind (arith, nat_tests)) (grind (arith, nat_tests), grind (arith, nat_tests))
 
 -- the root's slot is there, and that of a new page
 pub root_inside : (table : TableValue) → Lawful table → table.root < length table.slots

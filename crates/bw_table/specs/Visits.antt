@@ -128,3 +128,10 @@ FindsPage table place key goal (Here view) = IsFound table place key goal view
 -- each walk of a search for the key from the root ends at the page
 abbrev pub EachWalkEndsAt : TableValue → ℕ → ℕ → Type 0
 EachWalkEndsAt table key page = (rest : List ℕ) → IsWalkFrom (outlines table.slots) table.root key (table.root ∷ rest) → last_of table.root rest ≡ page
+
+-- there is just one walk of a search for the key from the root, and it ends at the page
+pub record OneWalkEndsAt (table : TableValue) (key page : ℕ) : Type 0 where
+  pub rest : List ℕ
+  pub is_walk : IsWalkFrom (outlines table.slots) table.root key (table.root ∷ rest)
+  pub only : (other : List ℕ) → IsWalkFrom (outlines table.slots) table.root key other → other ≡ table.root ∷ rest
+  pub ends : last_of table.root rest ≡ page

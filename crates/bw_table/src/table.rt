@@ -2,13 +2,14 @@ ghost use Rattle.std.specs.Prelude.{◌≡◌, ◌+◌, ◌<◌, ◌≤◌, ◌^
 ghost use Rattle.std.specs.Option.{option_copied};
 ghost use Rattle.bw_keys.specs.Limits.{first_bad_field};
 ghost use Rattle.bw_step.specs.ProposalView.{proposal_of};
+ghost use Rattle.bw_step.specs.declared.view.Stage.TheVariants.{Merged};
 ghost use Rattle.bw_law.specs.Slots.{free_slot};
-ghost use Rattle.bw_law.specs.Tables.{Lawful, Booked, slot_at, number_of, new_table};
+ghost use Rattle.bw_law.specs.Tables.{Lawful, Booked, HasNothing, slot_at, number_of, new_table};
 ghost use Rattle.bw_law.specs.Refusals.{refusal, new_id, last_id};
 ghost use Rattle.bw_law.specs.Effects.{TakesStep};
 ghost use Rattle.bw_table.specs.Answers.{verdict, IsNewFault};
 ghost use Rattle.bw_table.specs.SlotFacts.{HasSoundChain};
-ghost use Rattle.bw_table.specs.Views.{view_at, summary_at, look_at, root_place};
+ghost use Rattle.bw_table.specs.Views.{view_at, summary_at, look_at, root_place, IsValueAt};
 ghost use Rattle.bw_table.specs.Visits.{IsOnTheWay};
 
 use crate::fault::NewFault;
@@ -105,7 +106,8 @@ impl<A: Allocator + Copy> Table<A> {
 
     /// The page with the id, if the id isn't past the end and its slot isn't free.
     pub fn peek(&self, pid: Pid) -> Option<View>
-        ensures { result ≡ view_at self.now pid }
+        ensures view { result ≡ view_at self.now pid }
+        ensures merged { IfSome result (λ view. view.stage ≡ Merged → HasNothing view.high view.right view.count view.depth) }
     {
         let slot = self.slot(pid)?;
         if slot.stage == Stage::Free {
@@ -116,7 +118,8 @@ impl<A: Allocator + Copy> Table<A> {
 
     /// What is kept of the page beside its chain, where `peek` sees it.
     pub fn summary(&self, pid: Pid) -> Option<&Summary>
-        ensures { option_copied result ≡ summary_at self.now pid }
+        ensures summary { option_copied result ≡ summary_at self.now pid }
+        ensures merged { (slot_at self.now pid.0).stage ≡ Merged → IfSome (option_copied result) (λ summary. HasNothing summary.high summary.right summary.count summary.depth) }
     {
         let slot = self.slot(pid)?;
         if slot.stage == Stage::Free {
@@ -127,7 +130,8 @@ impl<A: Allocator + Copy> Table<A> {
 
     /// What the map has at the key, if the page is a leaf in its row whose range holds the key.
     pub fn look(&self, pid: Pid, key: Key) -> Option<Look>
-        ensures { result ≡ look_at self.now pid.0 key }
+        ensures look { result ≡ look_at self.now pid.0 key }
+        ensures map { IfSome result (λ look. IsValueAt self.now key look.found) }
     {
         let slot = self.slot(pid)?;
         if !slot.is_leaf_in_row() || !slot.holds(key) {
@@ -152,6 +156,7 @@ impl<A: Allocator + Copy> Table<A> {
         ensures there { IfSome result (λ slot. slot.now ≡ slot_at self.now pid.0) }
         ensures nowhere { IfNone result (slot_at self.now pid.0 ≡ free_slot 0) }
         ensures sound { HasSoundChain (slot_at self.now pid.0) }
+        ensures lawful { Lawful self.now }
     {
         self.slots.get(pid.0 as usize)
     }

@@ -8,7 +8,7 @@ ghost use Rattle.bw_law.specs.Laws.{IsLeafOf};
 ghost use Rattle.bw_law.specs.Slots.{is_merged};
 ghost use Rattle.bw_law.specs.Tables.{slot_at};
 ghost use Rattle.bw_table.specs.SlotFacts.{HasSoundChain};
-ghost use Rattle.bw_table.specs.Visits.{visit_at, next_by, way_on, down_by, live_routes, TellsWhetherOnTheWay, StaysOnTheWay, ComesNearer, FindsPage, EachWalkEndsAt};
+ghost use Rattle.bw_table.specs.Visits.{visit_at, next_by, way_on, down_by, live_routes, TellsWhetherOnTheWay, StaysOnTheWay, ComesNearer, FindsPage, EachWalkEndsAt, OneWalkEndsAt};
 
 use crate::slot::Slot;
 use crate::table::Table;
@@ -129,6 +129,7 @@ impl<A: Allocator + Copy> Table<A> {
     pub fn locate(&self, key: Key) -> Pid
         ensures leaf { IsLeafOf self.now key result.0 }
         ensures walk { EachWalkEndsAt self.now key result.0 }
+        ensures one_walk { OneWalkEndsAt self.now key result.0 }
     {
         // The law of the table is known where one of its fields is read.
         let _ = &self.slots;

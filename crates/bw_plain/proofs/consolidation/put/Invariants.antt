@@ -1,0 +1,7 @@
+use Rattle.std.proofs.Common.{◌≡◌, ◌++◌, take, drop}
+use Rattle.bw_delta.specs.Entries.{put}
+use Rattle.bw_plain.proofs.consolidation.put.Given as goal
+
+abbrev pub invariant-loop-i : goal.invariant-loop-i
+invariant-loop-i g l =
+    (l.entries.items ≡ l.initial.entries.items) × (put l.key l.value l.entries.items ≡ take l.i l.entries.items ++ put l.key l.value (drop l.i l.entries.items))
