@@ -8,7 +8,7 @@ use Rattle.bw_step.specs.declared.refused.Refused.{Refused}
 use Rattle.bw_step.specs.declared.refused.Refused.TheVariants as reasons
 use Rattle.bw_step.specs.declared.view.Look.{Look}
 use Rattle.bw_step.specs.declared.view.View.{View}
-use Rattle.bw_tree.specs.Steps.{IsReceiptOf}
+use Rattle.bw_step.specs.Steps.{IsReceiptOf}
 use Rattle.bw_procedures.specs.declared.fault.Fault.{Fault}
 use Rattle.bw_procedures.specs.declared.fault.Fault.TheVariants.{Contended, NoMemory as NoRoom, TableFull, TooTall, Worn}
 use Rattle.bw_procedures.specs.declared.offer.Answer.{Answer}

@@ -10,11 +10,11 @@ use Rattle.bw_step.specs.declared.receipt.Receipt.TheVariants as receipts
 use Rattle.bw_step.specs.declared.refused.Refused.{Refused}
 use Rattle.bw_step.specs.declared.refused.Refused.TheVariants as reasons
 use Rattle.bw_step.specs.declared.view.Look.{Look}
-use Rattle.bw_table.specs.declared.fault.CopyFault.{CopyFault}
-use Rattle.bw_table.specs.declared.fault.CopyFault.TheVariants as copy_faults
-use Rattle.bw_tree.specs.declared.fault.Denied.{Denied}
-use Rattle.bw_tree.specs.declared.fault.Denied.TheVariants as denied
-use Rattle.bw_tree.specs.Steps.{IsReceiptOf}
+use Rattle.bw_step.specs.declared.fault.CopyFault.{CopyFault}
+use Rattle.bw_step.specs.declared.fault.CopyFault.TheVariants as copy_faults
+use Rattle.bw_step.specs.declared.fault.Denied.{Denied}
+use Rattle.bw_step.specs.declared.fault.Denied.TheVariants as denied
+use Rattle.bw_step.specs.Steps.{IsReceiptOf}
 use Rattle.bw_procedures.specs.declared.steps.Keep.{Keep}
 use Rattle.bw_procedures.specs.declared.steps.Keep.TheVariants.{Always, IfFound, IfNone}
 use Rattle.bw_procedures.specs.declared.steps.Ends.{Ends}

@@ -12,8 +12,8 @@ use Rattle.bw_step.specs.declared.place.Go.TheVariants.{Gone, Right, Down, Here}
 use Rattle.bw_step.specs.declared.place.Place.{Place}
 use Rattle.bw_step.specs.declared.view.Look.{Look}
 use Rattle.bw_step.specs.declared.view.View.{View}
-use Rattle.bw_table.specs.declared.fault.CopyFault.{CopyFault}
-use Rattle.bw_table.specs.declared.fault.CopyFault.TheVariants as copy_faults
+use Rattle.bw_step.specs.declared.fault.CopyFault.{CopyFault}
+use Rattle.bw_step.specs.declared.fault.CopyFault.TheVariants as copy_faults
 
 -- nobody else takes steps; the place is on the way to the key, down to the goal's level; the page is in the row of the level, with a range that
 -- holds the key; the page still has the version

@@ -8,8 +8,7 @@ use crate::fault::Fault;
 use crate::offer::{Answer, offer};
 use crate::steps::Steps;
 use bw_delta::NoMemory;
-use bw_step::{Step, View};
-use bw_table::CopyFault;
+use bw_step::{CopyFault, Step, View};
 use std::alloc::Allocator;
 
 /// The step that consolidates the page as it was seen. None where the page has changed since, or is

@@ -17,8 +17,7 @@ use crate::walk::descend;
 use bw_chain::{append_pairs, fences, is_leaf};
 use bw_delta::{Chain, Fences, NoMemory};
 use bw_keys::{Fence, Key};
-use bw_step::Step;
-use bw_table::CopyFault;
+use bw_step::{CopyFault, Step};
 use std::alloc::{Allocator, Global};
 
 /// The pairs of the leaf whose range holds the key, from the key on. The slice lies in the machine's

@@ -7,8 +7,7 @@ ghost use Rattle.bw_procedures.specs.Calls.{Works, AnswerCounts, fault_in, Chang
 use crate::effort::is_spent;
 use crate::fault::Fault;
 use crate::steps::Steps;
-use bw_step::{Receipt, Refused, Step};
-use bw_tree::Denied;
+use bw_step::{Denied, Receipt, Refused, Step};
 use std::alloc::Allocator;
 
 /// What a proposal came to.

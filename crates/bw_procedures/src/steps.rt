@@ -5,9 +5,7 @@ ghost use Rattle.bw_procedures.specs.Seen.{is_kept};
 
 use bw_delta::{Chain, NoMemory};
 use bw_keys::{Config, Key, Pid, Version};
-use bw_step::{Look, Next, Place, Receipt, View};
-use bw_table::CopyFault;
-use bw_tree::{Denied, Proposes};
+use bw_step::{CopyFault, Denied, Look, Next, Place, Proposes, Receipt, View};
 use std::alloc::Allocator;
 
 /// When a look is added to the trail.
@@ -54,7 +52,7 @@ pub trait Steps<A: Allocator + Copy, P: Proposes> {
     ghost use Rattle.std.specs.Prelude.{◌≡◌, ◌≤◌, ℕ, List, IfOk, IfSome};
     ghost use Rattle.bw_delta.specs.Entries.{from};
     ghost use Rattle.bw_delta.specs.Sound.{IsSound};
-    ghost use Rattle.bw_tree.specs.Steps.{IsNext};
+    ghost use Rattle.bw_step.specs.Steps.{IsNext};
     ghost use Rattle.bw_procedures.specs.Seen.{Seen, ends_of, Visited, Looked, Copied, Installed, Idled};
     ghost use Rattle.bw_procedures.specs.Sights.{Sight, quiet, on_the_way, CalmNext, CalmPeek, CalmLook, CalmCopy, ShowsCopy};
 

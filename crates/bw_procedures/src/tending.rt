@@ -16,8 +16,7 @@ use crate::walk::walk;
 use bw_chain::{HalveFault, halve};
 use bw_delta::{Base, Chain, Node, Spare};
 use bw_keys::{Key, Pid};
-use bw_step::{Receipt, Stage, Step, Todo, View};
-use bw_table::CopyFault;
+use bw_step::{CopyFault, Receipt, Stage, Step, Todo, View};
 use std::alloc::Allocator;
 
 /// Consolidates, splits or removes the page where its chain is long, its entries many or few, and then

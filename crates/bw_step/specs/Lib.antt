@@ -1,3 +1,4 @@
 pub mod Stages
 pub mod Proposals
 pub mod ProposalView
+pub mod Steps

@@ -1,15 +1,19 @@
 //! The plain types that a mapping table is asked and answers with: places and views of pages,
-//! proposed steps, receipts of accepted ones, and the reasons why a step is refused.
+//! proposed steps, receipts of accepted ones, and the reasons why a step is not taken.
 #![tactic(auto)]
 
+mod fault;
 mod place;
+mod proposes;
 mod receipt;
 mod refused;
 mod step;
 mod survey;
 mod view;
 
+pub use fault::{CopyFault, Denied};
 pub use place::{Go, Next, Place, Todo};
+pub use proposes::Proposes;
 pub use receipt::{Kind, Receipt};
 pub use refused::Refused;
 pub use step::Step;

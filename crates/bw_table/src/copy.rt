@@ -6,11 +6,11 @@ ghost use Rattle.bw_step.specs.Stages.{is_in_row};
 ghost use Rattle.bw_law.specs.Tables.{slot_at};
 ghost use Rattle.bw_table.specs.SlotFacts.{HasSoundChain};
 
-use crate::fault::CopyFault;
 use crate::slot::Slot;
 use crate::table::Table;
 use bw_delta::{Chain, NoMemory};
 use bw_keys::{Pid, Version};
+use bw_step::CopyFault;
 use std::alloc::Allocator;
 
 impl<A: Allocator + Copy> Table<A> {

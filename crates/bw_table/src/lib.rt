@@ -16,8 +16,8 @@ mod verdict;
 mod visit;
 
 pub use bw_step::{
-    Book, Go, Kind, Leaf, Look, Next, Place, Receipt, Refused, Stage, Step, Summary, Survey, Todo,
-    View,
+    Book, CopyFault, Go, Kind, Leaf, Look, Next, Place, Receipt, Refused, Stage, Step, Summary,
+    Survey, Todo, View,
 };
-pub use fault::{CopyFault, NewFault};
+pub use fault::NewFault;
 pub use table::Table;

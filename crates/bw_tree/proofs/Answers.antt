@@ -5,7 +5,7 @@ use Rattle.bw_step.specs.Proposals.{Proposal, insert, delete, consolidate, split
 use Rattle.bw_law.specs.Effects.{TakesStep, receipt_of, pid}
 use Rattle.bw_law.specs.Refusals.{new_id}
 use Rattle.bw_law.specs.Tables.{TableValue}
-use Rattle.bw_tree.specs.Steps.{IsReceiptOf}
+use Rattle.bw_step.specs.Steps.{IsReceiptOf}
 
 pub is_receipt : (table : TableValue) (step : Proposal) → IsReceiptOf step (receipt_of table step)
 is_receipt table (insert page seen key value) = (refl, refl)

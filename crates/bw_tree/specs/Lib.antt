@@ -1,3 +1,2 @@
 pub mod Shares
-pub mod Steps
 pub mod Trees

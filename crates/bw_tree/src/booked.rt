@@ -7,7 +7,7 @@ ghost use Rattle.bw_law.specs.Laws.{MapAfter};
 ghost use Rattle.bw_law.specs.Refusals.{refusal};
 ghost use Rattle.bw_law.specs.Effects.{TakesStep};
 ghost use Rattle.bw_tree.specs.Shares.{no_changes, counted, sum_of, Opens};
-ghost use Rattle.bw_tree.specs.Steps.{IsReceiptOf};
+ghost use Rattle.bw_step.specs.Steps.{IsReceiptOf};
 ghost use Rattle.bw_tree.specs.Trees.{IsTree, IsBookOf, CountsPairs, IsNewFault, MayBeMade, is_bad_number};
 
 use crate::fault::{MissingShare, NewFault};
@@ -32,7 +32,7 @@ impl<A: Allocator + Copy, I: Ledger, D: Ledger> Model for Booked<A, I, D> {
     ghost use Rattle.std.specs.Prelude.{◌≡◌, ◌<◌};
     ghost use Rattle.bw_law.specs.Tables.{TableValue};
     ghost use Rattle.bw_table.specs.Codes.{table_code};
-    ghost use Rattle.bw_tree.specs.Steps.{IsReceiptOf};
+    ghost use Rattle.bw_step.specs.Steps.{IsReceiptOf};
     ghost use Rattle.bw_tree.specs.Trees.{IsBookOf};
 
     ghost Value = { TableValue };

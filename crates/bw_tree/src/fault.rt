@@ -1,5 +1,4 @@
 use bw_keys::BadConfig;
-use bw_step::Refused;
 use thiserror::Error;
 
 /// Why there is no new tree: the first fault that applies, in the order in which they stand here.
@@ -19,13 +18,3 @@ pub enum NewFault {
 #[derive(Clone, Copy, Debug, PartialEq, Eq, Error)]
 #[error("a share is missing")]
 pub struct MissingShare;
-
-/// Why a proposed step wasn't taken.
-#[derive(Clone, Copy, Debug, PartialEq, Eq, Hash, Error)]
-pub enum Denied {
-    /// The table refused it.
-    #[error("{0}")]
-    Refused(Refused),
-    #[error("out of memory")]
-    NoMemory,
-}

@@ -4,14 +4,13 @@
 
 mod booked;
 mod fault;
-mod proposes;
 mod share;
 mod shared;
 mod tree;
 
 pub use booked::Booked;
-pub use fault::{Denied, MissingShare, NewFault};
-pub use proposes::Proposes;
+pub use bw_step::{Denied, Proposes};
+pub use fault::{MissingShare, NewFault};
 pub use share::{Blanks, Share};
 pub use shared::Shared;
 pub use tree::Tree;

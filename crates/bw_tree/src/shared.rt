@@ -1,10 +1,7 @@
-use crate::fault::Denied;
-use crate::proposes::Proposes;
 use crate::share::Share;
 use bw_delta::Chain;
 use bw_keys::{Config, Key, Pid, Version};
-use bw_step::{Look, Next, Place, Receipt, View};
-use bw_table::CopyFault;
+use bw_step::{CopyFault, Denied, Look, Next, Place, Proposes, Receipt, View};
 use std::alloc::Allocator;
 use std::sync::ledger::Ledger;
 
@@ -17,7 +14,7 @@ pub trait Shared<A: Allocator + Copy, P: Proposes> {
     ghost use Rattle.bw_keys.specs.declared.config.Config.{Config};
     ghost use Rattle.bw_delta.specs.Sound.{IsSound};
     ghost use Rattle.bw_tree.specs.Shares.{counted};
-    ghost use Rattle.bw_tree.specs.Steps.{IsNext, IsReceiptOf};
+    ghost use Rattle.bw_step.specs.Steps.{IsNext, IsReceiptOf};
 
     /// The ledger of the tree's insertions.
     type Insertions: Ledger;

@@ -3,17 +3,17 @@
 ghost use Rattle.std.specs.Prelude.{◌≡◌, ◌<◌, ◌↔◌, IsOk, IfOk, IfErr, OnErr, MatchResult, All, length};
 ghost use Rattle.bw_step.specs.ProposalView.{proposal_of};
 ghost use Rattle.bw_tree.specs.Shares.{no_changes, counted, sum_of, Opens};
-ghost use Rattle.bw_tree.specs.Steps.{IsReceiptOf, IsRefusal};
+ghost use Rattle.bw_step.specs.Steps.{IsReceiptOf, IsRefusal};
 ghost use Rattle.bw_tree.specs.Trees.{IsTree, CountsPairs, IsNewFault, MayBeMade};
 
 use crate::booked::Booked;
-use crate::fault::{Denied, MissingShare, NewFault};
+use crate::fault::{MissingShare, NewFault};
 use crate::share::{Blanks, Share};
 use crate::shared::Shared;
 use bw_delta::Chain;
 use bw_keys::{Config, Key, Pid, Version};
-use bw_step::{Look, Next, Place, Receipt, Step, View};
-use bw_table::{CopyFault, Table};
+use bw_step::{CopyFault, Denied, Look, Next, Place, Receipt, Step, View};
+use bw_table::Table;
 use std::alloc::{Allocator, Global};
 use std::sync::ledger::Ledger;
 use std::sync::{Mutex, Wait};

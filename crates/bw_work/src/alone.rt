@@ -5,9 +5,8 @@ use crate::counts::Counts;
 use bw_delta::{Chain, NoMemory};
 use bw_keys::{Config, Key, Pid, Version};
 use bw_procedures::{Ends, Keep, Steps};
-use bw_step::{Go, Look, Next, Place, Receipt, Step, View};
-use bw_table::{CopyFault, Table};
-use bw_tree::Denied;
+use bw_step::{CopyFault, Denied, Go, Look, Next, Place, Receipt, Step, View};
+use bw_table::Table;
 use std::alloc::{Allocator, Global};
 
 /// A worker that has the table for itself: its steps take no lock, and nobody else takes any.

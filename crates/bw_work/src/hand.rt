@@ -10,9 +10,8 @@ use crate::gate::Gate;
 use bw_delta::{Chain, NoMemory};
 use bw_keys::{Config, Key, Pid, Version};
 use bw_procedures::{Ends, Keep, Steps};
-use bw_step::{Go, Look, Next, Place, Receipt, Step, View};
-use bw_table::CopyFault;
-use bw_tree::{Denied, Share, Shared};
+use bw_step::{CopyFault, Denied, Go, Look, Next, Place, Receipt, Step, View};
+use bw_tree::{Share, Shared};
 use std::alloc::{Allocator, Global};
 
 /// A worker: a tree that it shares with others, its share of the tree's book, its gate, and the trail

@@ -1,4 +1,4 @@
-use bw_step::Step;
+use crate::step::Step;
 use std::alloc::Allocator;
 
 /// What a step means, so that a trait's method can take a step by value, whatever its allocator.

@@ -11,9 +11,8 @@ use Rattle.bw_step.specs.declared.receipt.Receipt.TheVariants.{Inserted, Deleted
 use Rattle.bw_step.specs.declared.view.View.{View}
 use Rattle.bw_step.specs.Proposals.{Proposal, insert, delete, consolidate, split, term_add, grow, mark, merge, term_delete}
 use Rattle.bw_step.specs.Stages.{is_in_row}
-use Rattle.bw_law.specs.Effects.{pid}
-use Rattle.bw_tree.specs.declared.fault.Denied.{Denied}
-use Rattle.bw_tree.specs.declared.fault.Denied.TheVariants.{Refused, NoMemory}
+use Rattle.bw_step.specs.declared.fault.Denied.{Denied}
+use Rattle.bw_step.specs.declared.fault.Denied.TheVariants.{Refused, NoMemory}
 
 -- the page of the place, which was in its row on the goal's level, with a range that holds the key
 pub record IsViewAt (place : Place) (key goal : ℕ) (view : View) : Type 0 where
@@ -35,13 +34,13 @@ IsNext place key goal (Here view) = IsViewAt place key goal view
 abbrev pub IsReceiptOf : Proposal → Receipt → Type 0
 IsReceiptOf (insert page seen key value) (Inserted number k v) = (k ≡ key) × (v ≡ value)
 IsReceiptOf (delete page seen key) (Deleted number k v) = k ≡ key
-IsReceiptOf (consolidate page seen base) (Shaped kind at other) = (kind ≡ kinds.Consolidate) × (at ≡ pid page) × (other ≡ None)
-IsReceiptOf (split page seen separator base) (Shaped kind at other) = (kind ≡ kinds.Split) × (at ≡ pid page) × (new : Pid) × (other ≡ Some new)
-IsReceiptOf (term_add parent parent_seen child child_seen) (Shaped kind at other) = (kind ≡ kinds.TermAdd) × (at ≡ pid parent) × (other ≡ Some (pid child))
-IsReceiptOf (grow child seen base) (Shaped kind at other) = (kind ≡ kinds.Grow) × (other ≡ Some (pid child))
-IsReceiptOf (mark page seen parent) (Shaped kind at other) = (kind ≡ kinds.Mark) × (at ≡ pid page) × (other ≡ None)
-IsReceiptOf (merge left left_seen page seen) (Shaped kind at other) = (kind ≡ kinds.Merge) × (at ≡ pid left) × (other ≡ Some (pid page))
-IsReceiptOf (term_delete parent parent_seen child child_seen) (Shaped kind at other) = (kind ≡ kinds.TermDelete) × (at ≡ pid parent) × (other ≡ Some (pid child))
+IsReceiptOf (consolidate page seen base) (Shaped kind at other) = (kind ≡ kinds.Consolidate) × (at.0 ≡ page) × (other ≡ None)
+IsReceiptOf (split page seen separator base) (Shaped kind at other) = (kind ≡ kinds.Split) × (at.0 ≡ page) × (new : Pid) × (other ≡ Some new)
+IsReceiptOf (term_add parent parent_seen child child_seen) (Shaped kind at other) = (kind ≡ kinds.TermAdd) × (at.0 ≡ parent) × (other ≡ Some (record { 0 = child }))
+IsReceiptOf (grow child seen base) (Shaped kind at other) = (kind ≡ kinds.Grow) × (other ≡ Some (record { 0 = child }))
+IsReceiptOf (mark page seen parent) (Shaped kind at other) = (kind ≡ kinds.Mark) × (at.0 ≡ page) × (other ≡ None)
+IsReceiptOf (merge left left_seen page seen) (Shaped kind at other) = (kind ≡ kinds.Merge) × (at.0 ≡ left) × (other ≡ Some (record { 0 = page }))
+IsReceiptOf (term_delete parent parent_seen child child_seen) (Shaped kind at other) = (kind ≡ kinds.TermDelete) × (at.0 ≡ parent) × (other ≡ Some (record { 0 = child }))
 IsReceiptOf _ _ = ⊥
 
 -- the table refused, and nothing else was wanting
