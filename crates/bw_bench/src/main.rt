@@ -14,7 +14,7 @@ mod work;
 use crate::request::{Request, USAGE};
 use crate::task::{Task, Work};
 use crate::trees::{Structure, Timed};
-use bw_trace::{OutFault, TextFault};
+use bw_texts::{OutFault, TextFault};
 use std::alloc::{AllocError, Global};
 use std::process::ExitCode;
 use std::sync::Wait;

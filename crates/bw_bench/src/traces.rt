@@ -1,7 +1,7 @@
 //! The reading of a long trace.
 
 use crate::Stop;
-use bw_trace::{make, read_trace, write_trace};
+use bw_texts::{make, read_trace, write_trace};
 use std::alloc::Global;
 use std::time::{Clock, Instant};
 

@@ -3,8 +3,8 @@ use Rattle.std.proofs.Common.{◌≡◌, ℕ, ◌<◌, ◌==◌, Bool, true, fal
 use Rattle.std.specs.Prelude.{if◌then◌else◌}
 use Rattle.std.proofs.lemmas.Bool.Decides.{nat_tests}
 use Rattle.bw_run.specs.declared.reply.Reply.{Reply}
-use Rattle.bw_run.specs.declared.row.Act.{Act}
-use Rattle.bw_run.specs.declared.row.Row.{Row}
+use Rattle.bw_texts.specs.declared.row.Act.{Act}
+use Rattle.bw_texts.specs.declared.row.Row.{Row}
 use Rattle.bw_run.specs.Rows.{acts_of, told_to}
 use Rattle.bw_run.specs.Told.{Told, told_of, answers}
 

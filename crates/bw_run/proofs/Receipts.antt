@@ -11,7 +11,7 @@ use Rattle.bw_procedures.specs.Calls.{AddsLook, plain}
 use Rattle.bw_procedures.specs.Seen.{Seen}
 use Rattle.bw_procedures.specs.Writing.{AddsReceipt, IsReceiptOfPut, IsReceiptOfDelete}
 use Rattle.bw_run.specs.declared.reply.Reply.{Reply}
-use Rattle.bw_run.specs.declared.row.Act.{Act}
+use Rattle.bw_texts.specs.declared.row.Act.{Act}
 use Rattle.bw_run.specs.Told.{Told, inserted, removed, looked, tellings, told_of, told_of_put, told_of_delete, answers}
 
 tellings-append : (xs ys : List Receipt) → tellings (xs ++ ys) ≡ tellings xs ++ tellings ys

@@ -2,8 +2,8 @@
 use Rattle.std.specs.Prelude.{◌≡◌, ℕ, ◌-◌, ◌<◌, ◌≤◌, ◌==◌, if◌then◌else◌, List, [], ◌∷◌, ◌++◌, Option, Some, length, map, slice_index_or}
 use Rattle.bw_step.specs.declared.receipt.Receipt.{Receipt}
 use Rattle.bw_run.specs.declared.reply.Reply.{Reply}
-use Rattle.bw_run.specs.declared.row.Act.{Act}
-use Rattle.bw_run.specs.declared.row.Row.{Row}
+use Rattle.bw_texts.specs.declared.row.Act.{Act}
+use Rattle.bw_texts.specs.declared.row.Row.{Row}
 use Rattle.bw_run.specs.Told.{Told, told_of, tellings, answers}
 
 -- the acts of a worker's rows, in their order

@@ -5,8 +5,8 @@ ghost use Rattle.bw_procedures.specs.Calls.{IsFair, limit_of};
 ghost use Rattle.bw_run.specs.Told.{answers, tellings, told_of};
 
 use crate::reply::Reply;
-use crate::row::Act;
 use bw_step::Step;
+use bw_texts::Act;
 use bw_work::{Fault, Steps, delete, get, put};
 use std::alloc::Global;
 

@@ -5,7 +5,7 @@ ghost use Rattle.bw_run.specs.declared.fault.RunFault.TheVariants as fault;
 
 use crate::fault::RunFault;
 use crate::job::{Job, Worked, work};
-use crate::row::Act;
+use bw_texts::Act;
 use bw_tree::Tree;
 use bw_work::Gate;
 use std::alloc::Global;

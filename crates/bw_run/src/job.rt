@@ -7,9 +7,9 @@ ghost use Rattle.bw_run.specs.Told.{answers, tellings};
 
 use crate::acts::do_acts;
 use crate::reply::Reply;
-use crate::row::Act;
 use bw_delta::NoMemory;
 use bw_step::{Receipt, Step};
+use bw_texts::Act;
 use bw_tree::{Share, Shared};
 use bw_work::{Fault, Gate, Hand};
 use std::alloc::Global;

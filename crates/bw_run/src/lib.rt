@@ -11,13 +11,12 @@ mod judgement;
 mod merging;
 mod plan;
 mod reply;
-mod row;
 mod runner;
 #[cfg(test)]
 mod tests;
 
 pub use acts::do_act;
+pub use bw_texts::{Act, Row, is_trace_for};
 pub use fault::RunFault;
 pub use reply::Reply;
-pub use row::{Act, Row, is_trace_for};
 pub use runner::{Finished, run};

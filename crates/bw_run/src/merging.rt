@@ -5,8 +5,8 @@ ghost use Rattle.std.specs.List.{AllByRecursion};
 ghost use Rattle.bw_run.specs.Rows.{AreFull, IsMerged, TakesReply};
 
 use crate::reply::Reply;
-use crate::row::Row;
 use bw_delta::NoMemory;
+use bw_texts::Row;
 use std::alloc::Global;
 use std::vec::IntoIter;
 

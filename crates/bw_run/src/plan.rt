@@ -4,8 +4,8 @@ ghost use Rattle.std.specs.Prelude.{◌≡◌, ◌<◌, [], IfOk, OnOk, length, 
 ghost use Rattle.std.specs.List.{AllByRecursion};
 ghost use Rattle.bw_run.specs.Rows.{AddsAct, ArePlanned};
 
-use crate::row::{Act, Row};
 use bw_delta::NoMemory;
+use bw_texts::{Act, Row};
 use std::alloc::Global;
 
 /// Each worker's acts, in the order of its rows.

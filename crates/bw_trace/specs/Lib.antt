@@ -1,11 +1,3 @@
-pub mod Numbers
-pub mod Rows
-pub mod Lines
-pub mod Reading
-pub mod Traces
-pub mod Written
-pub mod Made
-pub mod Histories
-pub mod WrittenHistories
+pub mod Statuses
 pub mod Verdicts
 pub mod Options

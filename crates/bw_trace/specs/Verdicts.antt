@@ -5,7 +5,7 @@ use Rattle.bw_audit.specs.declared.verdict.Verdict.{Verdict}
 use Rattle.bw_audit.specs.declared.verdict.Verdict.TheVariants.{Yes, No}
 use Rattle.bw_audit.specs.Legal.{IsLegal}
 use Rattle.bw_audit.specs.Verdicts.{verdict_of}
-use Rattle.bw_trace.specs.Histories.{IsHistory}
+use Rattle.bw_texts.specs.Histories.{IsHistory}
 
 -- the verdict on the history that a text has: Yes exactly where it is legal
 abbrev pub IsVerdictOn : List ℕ → Verdict → Type 0

@@ -2,20 +2,20 @@
 
 ghost use Rattle.std.specs.Prelude.{◌≡◌, ◌≤◌, IfOk, List, OnOk, Some, ℕ};
 ghost use Rattle.std.specs.Io.KnownBytes.{Appends};
+ghost use Rattle.bw_trace.specs.Statuses.{status_of, verdict_status};
 ghost use Rattle.bw_trace.specs.Verdicts.{IsVerdictOn, verdict_line};
 
-use crate::fault::{OutFault, TextFault};
-use crate::history::read_history;
-use crate::made::make;
 use crate::options::{Field, commands, ranged};
-use crate::record::write_history;
 use crate::report::write_report;
 use crate::run_options::RunOptions;
-use crate::trace::{MOST_TRACE_ROWS, read_trace, write_trace};
 use bw_audit::{AuditFault, Verdict, audit};
 use bw_delta::NoMemory;
 use bw_keys::MAX_WORKERS;
 use bw_run::{Finished, RunFault, run};
+use bw_texts::{
+    MOST_TRACE_ROWS, OutFault, TextFault, make, read_history, read_trace, write_history,
+    write_trace,
+};
 use bw_work::Open;
 use clap::ArgMatches;
 use clap::error::ErrorKind;
@@ -59,7 +59,7 @@ enum Fault {
 
 impl Fault {
     fn status(&self) -> u8
-        ensures { result ≤ 4 }
+        ensures { result ≡ status_of self.now }
     {
         match self {
             Fault::Text(TextFault::Row(_, _) | TextFault::Read) | Fault::Write => BAD_INPUT,
@@ -252,7 +252,7 @@ fn do_check<R: Read + Drop, W: Write>(alloc: Global, input: R, output: &mut W) -
 }
 
 fn print_verdict<W: Write>(output: &mut W, verdict: Verdict) -> Result<u8, Fault>
-    ensures { IfOk result (λ status. status ≤ 4) }
+    ensures { IfOk result (λ status. status ≡ verdict_status verdict) }
 {
     write_verdict(output, verdict)?;
     output.flush()?;
@@ -298,7 +298,7 @@ fn write_help<W: Write>(output: &mut W, help: &clap::Error) -> io::Result<()> {
 }
 
 fn tell<E: Write>(faults: &mut E, fault: &Fault) -> u8
-    ensures { result ≤ 4 }
+    ensures { result ≡ status_of fault.now }
 {
     let _ = writeln!(faults, "bwtree: {fault}");
     fault.status()

@@ -1,8 +1,8 @@
 //! What the program prints of a run that came to its end.
 
-use crate::fault::OutFault;
 use bw_run::{Finished, Reply};
 use bw_step::Survey;
+use bw_texts::OutFault;
 use std::alloc::Global;
 use std::io;
 use std::io::{BufWriter, Write};

@@ -3,7 +3,7 @@ use Rattle.std.specs.List.{AllByRecursion}
 use Rattle.std.proofs.lemmas.List.{length-map}
 use Rattle.bw_tree.specs.Shares.{sum_of}
 use Rattle.bw_audit.specs.Legal.{IsLegal}
-use Rattle.bw_run.specs.declared.row.Row.{Row}
+use Rattle.bw_texts.specs.declared.row.Row.{Row}
 use Rattle.bw_run.specs.Faults.{IsRunFault}
 use Rattle.bw_run.proofs.Runs.{same_length, stops_run, verdict_run}
 use Rattle.bw_run.proofs.Verdicts.{changes_counted}

@@ -1,0 +1,9 @@
+pub mod Numbers
+pub mod Rows
+pub mod Lines
+pub mod Reading
+pub mod Traces
+pub mod Written
+pub mod Made
+pub mod Histories
+pub mod WrittenHistories

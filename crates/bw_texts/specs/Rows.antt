@@ -1,0 +1,44 @@
+-- How a record of a trace reads.
+use Rattle.std.specs.Prelude.{ℕ, ◌==◌, cond, List, [], length, codes, Option, Some, None, Result, Ok, Err, ok_or, option_map, slice_index_or}
+use Rattle.bw_texts.specs.declared.row.Row.{Row}
+use Rattle.bw_texts.specs.declared.row.Act.{Act}
+use Rattle.bw_texts.specs.declared.row.Act.TheVariants.{Put, Get, Delete}
+use Rattle.bw_texts.specs.declared.trace_row.Op.{Op}
+use Rattle.bw_texts.specs.declared.trace_row.Op.TheVariants as ops
+use Rattle.bw_texts.specs.declared.part.Part.{Part}
+use Rattle.bw_texts.specs.declared.part.Part.TheVariants as part
+use Rattle.bw_texts.specs.Numbers.{number_of, worker_of, is_text}
+
+-- what can be read is read on, and the first part that can't is the answer
+infixl 10 ◌>>=◌
+abbrev pub ◌>>=◌ : {A B : Type 0} → Result A Part → (A → Result B Part) → Result B Part
+Ok a >>= next = next a
+Err faulty >>= next = Err faulty
+
+abbrev pub op_of : List ℕ → Option Op
+op_of text = cond (is_text text (codes "put")) (Some ops.Put) (cond (is_text text (codes "get")) (Some ops.Get) (cond (is_text text (codes "del")) (Some ops.Delete) None))
+
+abbrev pub put_of : ℕ → Option ℕ → Option Act
+put_of key value = option_map (λ v. Put key v) value
+
+-- a put has a value, which is a number, and a get or a delete none
+abbrev pub act_of : Op → ℕ → List ℕ → Option Act
+act_of ops.Put key value = put_of key (number_of value)
+act_of ops.Get key value = cond (length value == 0) (Some (Get key)) None
+act_of ops.Delete key value = cond (length value == 0) (Some (Delete key)) None
+
+-- four fields, tried in their order
+abbrev pub row_of_fields : ℕ → List ℕ → List ℕ → List ℕ → List ℕ → Result Row Part
+row_of_fields workers first op key value = do
+  worker ← ok_or (worker_of workers first) part.Worker
+  op ← ok_or (op_of op) part.Op
+  key ← ok_or (number_of key) part.Key
+  act ← ok_or (act_of op key value) part.Value
+  Ok (record { worker = worker; act = act })
+
+-- the row of a record, or its first faulty part
+abbrev pub row_of : ℕ → List (List ℕ) → Result Row Part
+row_of workers fields =
+    cond (length fields == 4)
+    (row_of_fields workers (slice_index_or fields 0 []) (slice_index_or fields 1 []) (slice_index_or fields 2 []) (slice_index_or fields 3 []))
+    (Err part.Fields)

@@ -1,0 +1,31 @@
+-- What is written of a trace.
+use Rattle.std.specs.Prelude.{ℕ, ◌≡◌, ◌∷◌, [], List, codes, decimal, flat_map, true, false}
+use Rattle.csv.specs.Writing.{default_writer, fields_written, has_written, row_text, with_flexible, writer_setup}
+use Rattle.csv.specs.declared.writer.Writer.{Writer}
+use Rattle.csv.specs.declared.writer.WriterBuilder.{WriterBuilder}
+use Rattle.bw_texts.specs.declared.row.Row.{Row}
+use Rattle.bw_texts.specs.declared.row.Act.{Act}
+use Rattle.bw_texts.specs.declared.row.Act.TheVariants.{Put, Get, Delete}
+
+-- how records are written: by the defaults, but of any length
+abbrev pub flexible_writer : WriterBuilder
+flexible_writer = with_flexible default_writer true
+
+-- a writer stands between two records
+pub record IsBetween {W : Type 0} (writer : Writer W) : Type 0 where
+  pub begun : fields_written writer ≡ 0
+  pub shown : has_written writer ≡ false
+  pub flexible : writer_setup writer ≡ flexible_writer
+
+abbrev pub fields_of_act : Act → List (List ℕ)
+fields_of_act (Put key value) = codes "put" ∷ decimal key ∷ decimal value ∷ []
+fields_of_act (Get key) = codes "get" ∷ decimal key ∷ [] ∷ []
+fields_of_act (Delete key) = codes "del" ∷ decimal key ∷ [] ∷ []
+
+-- the fields of a row, with its numbers in decimal digits
+abbrev pub fields_of_row : Row → List (List ℕ)
+fields_of_row row = decimal row.worker ∷ fields_of_act row.act
+
+-- the text of a trace, row by row
+abbrev pub trace_text : List Row → List ℕ
+trace_text rows = flat_map (λ row. row_text flexible_writer (fields_of_row row)) rows

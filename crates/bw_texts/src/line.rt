@@ -1,0 +1,155 @@
+//! The rows of a history.
+
+ghost use Rattle.std.specs.Prelude.{◌≡◌, IfOk};
+ghost use Rattle.csv.specs.Records.{fields_of};
+ghost use Rattle.bw_texts.specs.Histories.{IsAfter};
+ghost use Rattle.bw_texts.specs.Lines.{form_of, line_of, line_of_fields, pair_line, receipt_read, reply_line};
+
+use crate::number::{field, number, worker};
+use crate::part::Part;
+use bw_keys::{Key, MAX_WORKERS};
+use bw_step::Receipt;
+use csv::ByteRecord;
+
+/// A row of a history.
+#[derive(Clone, Copy, Debug, PartialEq, Eq)]
+pub(crate) enum Line {
+    /// What a worker was answered.
+    Reply { worker: u32, receipt: Receipt },
+    /// A pair of the final map.
+    Pair { key: Key, value: u64 },
+}
+
+/// The row that a record of five fields writes, where `last` is the key of the last `end` row before
+/// it, or its first faulty part.
+pub(crate) fn read_line(fields: &ByteRecord, last: Option<Key>) -> Result<Line, Part>
+    ensures line { result ≡ line_of last (fields_of fields.now) }
+    ensures above { IfOk result (λ line. IsAfter last line) }
+{
+    if fields.len() != 5 {
+        return Err(Part::Fields);
+    }
+    read_fields(
+        last,
+        field(fields, 0),
+        field(fields, 1),
+        field(fields, 2),
+        field(fields, 3),
+        field(fields, 4),
+    )
+}
+
+fn read_fields(
+    last: Option<Key>,
+    first: &[u8],
+    op: &[u8],
+    at: &[u8],
+    key: &[u8],
+    value: &[u8],
+) -> Result<Line, Part>
+    ensures line { result ≡ line_of_fields last first.now op.now at.now key.now value.now }
+    ensures above { IfOk result (λ line. IsAfter last line) }
+{
+    match first {
+        b"end" => read_pair(last, op, at, key, value),
+        _ => read_reply(last, first, op, at, key, value),
+    }
+}
+
+/// No worker's row stands after an `end` row.
+fn read_reply(
+    last: Option<Key>,
+    first: &[u8],
+    op: &[u8],
+    at: &[u8],
+    key: &[u8],
+    value: &[u8],
+) -> Result<Line, Part>
+    ensures line { result ≡ reply_line last first.now op.now at.now key.now value.now }
+    ensures above { IfOk result (λ line. IsAfter last line) }
+{
+    if last.is_some() {
+        return Err(Part::Worker);
+    }
+    let worker = worker(first, MAX_WORKERS).ok_or(Part::Worker)?;
+    let form = read_form(op).ok_or(Part::Op)?;
+    let at = number(at).ok_or(Part::Key)?;
+    let key = number(key).ok_or(Part::Key)?;
+    let receipt = read_receipt(form, at, key, value).ok_or(Part::Value)?;
+    Ok(Line::Reply { worker, receipt })
+}
+
+/// The keys of `end` rows rise.
+fn read_pair(
+    last: Option<Key>,
+    op: &[u8],
+    zero: &[u8],
+    key: &[u8],
+    value: &[u8],
+) -> Result<Line, Part>
+    ensures line { result ≡ pair_line last op.now zero.now key.now value.now }
+    ensures above { IfOk result (λ line. IsAfter last line) }
+{
+    if !matches!(op, b"pair") {
+        return Err(Part::Op);
+    }
+    if number(zero) != Some(0) {
+        return Err(Part::Key);
+    }
+    let key = number(key).ok_or(Part::Key)?;
+    if last.is_some_and(|last| key <= last) {
+        return Err(Part::Key);
+    }
+    let value = number(value).ok_or(Part::Value)?;
+    Ok(Line::Pair { key, value })
+}
+
+#[derive(Clone, Copy, Debug, PartialEq, Eq)]
+enum Form {
+    Inserted,
+    Deleted,
+    Found,
+    Missing,
+}
+
+fn read_form(text: &[u8]) -> Option<Form>
+    ensures { result ≡ form_of text.now }
+{
+    match text {
+        b"ins" => Some(Form::Inserted),
+        b"del" => Some(Form::Deleted),
+        b"hit" => Some(Form::Found),
+        b"none" => Some(Form::Missing),
+        _ => None,
+    }
+}
+
+fn read_receipt(form: Form, at: u64, key: Key, value: &[u8]) -> Option<Receipt>
+    ensures { result ≡ receipt_read form at key value.now }
+{
+    if form == Form::Missing {
+        return value.is_empty().then_some(Receipt::Looked {
+            at,
+            key,
+            found: None,
+        });
+    }
+    let value = number(value)?;
+    Some(match form {
+        Form::Inserted => Receipt::Inserted {
+            number: at,
+            key,
+            value,
+        },
+        Form::Deleted => Receipt::Deleted {
+            number: at,
+            key,
+            value,
+        },
+        Form::Found | Form::Missing => Receipt::Looked {
+            at,
+            key,
+            found: Some(value),
+        },
+    })
+}

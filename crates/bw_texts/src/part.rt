@@ -1,0 +1,27 @@
+//! The parts of a row.
+
+use std::fmt;
+
+/// The parts of a row, in the order in which they are read. The first that can't be read names the
+/// fault.
+#[derive(Clone, Copy, Debug, PartialEq, Eq, Hash)]
+pub enum Part {
+    /// The number of fields.
+    Fields,
+    Worker,
+    Op,
+    Key,
+    Value,
+}
+
+impl fmt::Display for Part {
+    fn fmt<W: fmt::Write>(&self, f: &mut fmt::Formatter<W>) -> fmt::Result {
+        f.write_str(match self {
+            Part::Fields => "fields",
+            Part::Worker => "worker",
+            Part::Op => "op",
+            Part::Key => "key",
+            Part::Value => "value",
+        })
+    }
+}

@@ -1,6 +1,0 @@
-pub mod Fields
-pub mod Digits
-pub mod RowsRead
-pub mod Drawn
-pub mod Trails
-pub mod TrailsWritten
