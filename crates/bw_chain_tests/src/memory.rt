@@ -3,33 +3,24 @@
 ghost use Rattle.std.specs.Prelude.{IfOk};
 ghost use Rattle.bw_delta.specs.Sound.{IsSound};
 
+use crate::builders::{joined, with_records};
 use crate::worked::lists_pairs;
 use bw_chain::{HalveFault, append_pairs, consolidate, halve};
-use bw_delta::{Base, Chain, Delta, NoMemory, Spare};
+use bw_delta::{Base, BaseFault, Chain, Delta};
 use bw_keys::{Fence, Key, Pid};
 use linked_list_allocator::LocalHeap;
 use std::alloc::Allocator;
 use std::test::Fail;
 
 /// A leaf that was split at 5 and has taken its right half back: 1 deleted, and 6 inserted.
-fn merged_leaf<A: Allocator + Copy>(alloc: A) -> Result<Chain<A>, NoMemory>
+fn merged_leaf<A: Allocator + Copy>(alloc: A) -> Result<Chain<A>, BaseFault>
     ensures { IfOk result IsSound }
 {
-    let Ok(base) = Base::leaf(alloc, 0, Fence::Top, None, &[(1, 10), (3, 30), (5, 50)]) else {
-        return Err(NoMemory);
-    };
-    let mut left = Chain::bare(base);
-    left.prepend(Delta::Split(5, Pid(7)), Spare::new(alloc)?);
-    left.prepend(Delta::Delete(1), Spare::new(alloc)?);
-    let Ok(base) = Base::leaf(alloc, 5, Fence::Top, None, &[(5, 50)]) else {
-        return Err(NoMemory);
-    };
-    let mut right = Chain::bare(base);
-    right.prepend(Delta::Insert(6, 60), Spare::new(alloc)?);
-    let left_spare = Spare::new(alloc)?;
-    let right_spare = Spare::new(alloc)?;
-    left.merge(right, 5, Fence::Top, None, left_spare, right_spare);
-    Ok(left)
+    let base = Base::leaf(alloc, 0, Fence::Top, None, &[(1, 10), (3, 30), (5, 50)])?;
+    let left = with_records(alloc, base, &[Delta::Split(5, Pid(7)), Delta::Delete(1)])?;
+    let base = Base::leaf(alloc, 5, Fence::Top, None, &[(5, 50)])?;
+    let right = with_records(alloc, base, &[Delta::Insert(6, 60)])?;
+    joined(alloc, left, right)
 }
 
 /// What is made of the leaf.

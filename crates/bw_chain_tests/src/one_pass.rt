@@ -3,10 +3,11 @@
 ghost use Rattle.std.specs.Prelude.{IfOk};
 ghost use Rattle.bw_delta.specs.Sound.{IsSound};
 
+use crate::builders::{add_record, with_records};
 use crate::random::drawn_chain;
 use crate::worked::lists_pairs;
 use bw_chain::{append_pairs, consolidate, depth, same};
-use bw_delta::{Base, Chain, Delta, Entries, NoMemory, Spare};
+use bw_delta::{Base, BaseFault, Chain, Delta, Entries, NoMemory, Spare};
 use bw_keys::{Fence, Key, MAX_DEPTH};
 use linked_list_allocator::LocalHeap;
 use rand_core::Rng;
@@ -80,25 +81,21 @@ fn both_programs_agree_on_drawn_chains(rt: HostRuntime) -> Result<(), Fail> {
 
 /// A leaf with 100 to 199 under as many records as a chain may have: each third key deleted, and
 /// smaller ones inserted.
-fn deepest_leaf<A: Allocator + Copy>(alloc: A) -> Result<Chain<A>, NoMemory>
+fn deepest_leaf<A: Allocator + Copy>(alloc: A) -> Result<Chain<A>, BaseFault>
     ensures { IfOk result IsSound }
 {
     let mut pairs = [(0, 0); 100];
     for i in 0..100u64 {
         pairs[i as usize] = (100 + i, i);
     }
-    let Ok(base) = Base::leaf(alloc, 0, Fence::Top, None, &pairs) else {
-        return Err(NoMemory);
-    };
-    let mut chain = Chain::bare(base);
+    let base = Base::leaf(alloc, 0, Fence::Top, None, &pairs)?;
+    let mut chain = with_records(alloc, base, &[])?;
     for i in 0..u64::from(MAX_DEPTH) {
-        if depth(&chain) < MAX_DEPTH {
-            let delta = match i % 3 {
-                0 => Delta::Delete(100 + i),
-                _ => Delta::Insert(i, 7),
-            };
-            chain.prepend(delta, Spare::new(alloc)?);
-        }
+        let delta = match i % 3 {
+            0 => Delta::Delete(100 + i),
+            _ => Delta::Insert(i, 7),
+        };
+        add_record(alloc, &mut chain, delta)?;
     }
     Ok(chain)
 }

@@ -176,6 +176,16 @@ fn searches_agree(leaf: &Leaf) -> bool
     true
 }
 
+/// Whether the consolidated page, and the list of the chain's pairs, has just the pairs.
+fn lists_agree(alloc: Global, chain: &Chain<Global>, pairs: &[(Key, u64)]) -> Result<bool, Fail>
+    requires { IsSound chain.now }
+{
+    let whole = consolidate(alloc, chain)?;
+    let mut appended = Vec::new(alloc);
+    append_pairs(chain, &mut appended)?;
+    Ok(lists_pairs(&whole, pairs) && appended.as_slice() == pairs && whole.len() == pairs.len())
+}
+
 /// Whether the chain stands for the page that the map makes, and for no page with another value
 /// or one pair more.
 fn page_agrees(alloc: Global, leaf: &Leaf) -> Result<bool, Fail>
@@ -186,15 +196,9 @@ fn page_agrees(alloc: Global, leaf: &Leaf) -> Result<bool, Fail>
     let Fences { low, high, right } = leaf.ends;
     let mut pairs = listed(alloc, &leaf.pairs)?;
     let page = Base::leaf(alloc, low, high, right, &pairs)?;
-    let whole = consolidate(alloc, chain)?;
-    let length = whole.len();
-    let mut appended = Vec::new(alloc);
-    append_pairs(chain, &mut appended)?;
     if !same(&page, chain)
-        || !lists_pairs(&whole, &pairs)
-        || appended.as_slice() != pairs.as_slice()
+        || !lists_agree(alloc, chain, &pairs)?
         || fences(chain) != leaf.ends
-        || length != pairs.len()
         || count(chain) != pairs.len() as u64
     {
         return Ok(false);

@@ -1,11 +1,12 @@
 ghost use Rattle.std.specs.Prelude.{IfOk};
 ghost use Rattle.bw_delta.specs.Sound.{IsSound};
 
+use crate::builders::{add_record, joined, with_records};
 use bw_chain::{
     HalveFault, child, consolidate, count, depth, fences, find, halve, is_leaf, next_at,
     route_before, same,
 };
-use bw_delta::{Base, Chain, Delta, Entries, Fences, Spare};
+use bw_delta::{Base, Chain, Delta, Entries, Fences};
 use bw_keys::{Fence, Key, Pid};
 use std::alloc::{Allocator, Global};
 use std::test::Fail;
@@ -15,11 +16,8 @@ fn small_leaf(alloc: Global) -> Result<Chain<Global>, Fail>
     ensures { IfOk result IsSound }
 {
     let base = Base::leaf(alloc, 0, Fence::Top, None, &[(1, 10), (3, 30), (5, 50)])?;
-    let mut chain = Chain::bare(base);
-    chain.prepend(Delta::Delete(3), Spare::new(alloc)?);
-    chain.prepend(Delta::Insert(4, 40), Spare::new(alloc)?);
-    chain.prepend(Delta::Delete(1), Spare::new(alloc)?);
-    Ok(chain)
+    let records = [Delta::Delete(3), Delta::Insert(4, 40), Delta::Delete(1)];
+    Ok(with_records(alloc, base, &records)?)
 }
 
 /// A leaf that was split at 50 and has taken its right half back: 10 deleted and 30 inserted on
@@ -28,25 +26,19 @@ fn merged_leaf(alloc: Global) -> Result<Chain<Global>, Fail>
     ensures { IfOk result IsSound }
 {
     let whole = [(0, 1), (10, 100), (20, 200), (60, 600)];
-    let mut left = Chain::bare(Base::leaf(alloc, 0, Fence::Top, None, &whole)?);
-    left.prepend(Delta::Split(50, Pid(7)), Spare::new(alloc)?);
-    left.prepend(Delta::Insert(30, 300), Spare::new(alloc)?);
-    left.prepend(Delta::Delete(10), Spare::new(alloc)?);
-    let upper = [(60, 600), (u64::MAX, 5)];
-    let mut right = Chain::bare(Base::leaf(alloc, 50, Fence::Top, None, &upper)?);
-    right.prepend(Delta::Delete(60), Spare::new(alloc)?);
-    right.prepend(Delta::Insert(70, 700), Spare::new(alloc)?);
-    right.prepend(Delta::Remove, Spare::new(alloc)?);
-    left.merge(
-        right,
-        50,
-        Fence::Top,
-        None,
-        Spare::new(alloc)?,
-        Spare::new(alloc)?,
-    );
-    left.prepend(Delta::Insert(50, 500), Spare::new(alloc)?);
-    Ok(left)
+    let base = Base::leaf(alloc, 0, Fence::Top, None, &whole)?;
+    let records = [
+        Delta::Split(50, Pid(7)),
+        Delta::Insert(30, 300),
+        Delta::Delete(10),
+    ];
+    let left = with_records(alloc, base, &records)?;
+    let base = Base::leaf(alloc, 50, Fence::Top, None, &[(60, 600), (u64::MAX, 5)])?;
+    let records = [Delta::Delete(60), Delta::Insert(70, 700), Delta::Remove];
+    let right = with_records(alloc, base, &records)?;
+    let mut chain = joined(alloc, left, right)?;
+    add_record(alloc, &mut chain, Delta::Insert(50, 500))?;
+    Ok(chain)
 }
 
 /// An inner page that was split at 250 and has taken its right half back, with routes put in and
@@ -55,25 +47,29 @@ fn merged_inner(alloc: Global) -> Result<Chain<Global>, Fail>
     ensures { IfOk result IsSound }
 {
     let whole = [(0, Pid(1)), (100, Pid(2)), (300, Pid(4))];
-    let mut left = Chain::bare(Base::inner(alloc, 0, Fence::Top, None, &whole)?);
-    left.prepend(Delta::TermAdd(200, Pid(3)), Spare::new(alloc)?);
-    left.prepend(Delta::Split(250, Pid(9)), Spare::new(alloc)?);
-    left.prepend(Delta::TermDelete(100), Spare::new(alloc)?);
-    let upper = [(250, Pid(4)), (400, Pid(6))];
-    let mut right = Chain::bare(Base::inner(alloc, 250, Fence::Top, None, &upper)?);
-    right.prepend(Delta::TermAdd(300, Pid(5)), Spare::new(alloc)?);
-    right.prepend(Delta::TermDelete(400), Spare::new(alloc)?);
-    right.prepend(Delta::Remove, Spare::new(alloc)?);
-    left.merge(
-        right,
+    let base = Base::inner(alloc, 0, Fence::Top, None, &whole)?;
+    let records = [
+        Delta::TermAdd(200, Pid(3)),
+        Delta::Split(250, Pid(9)),
+        Delta::TermDelete(100),
+    ];
+    let left = with_records(alloc, base, &records)?;
+    let base = Base::inner(
+        alloc,
         250,
         Fence::Top,
         None,
-        Spare::new(alloc)?,
-        Spare::new(alloc)?,
-    );
-    left.prepend(Delta::TermAdd(50, Pid(8)), Spare::new(alloc)?);
-    Ok(left)
+        &[(250, Pid(4)), (400, Pid(6))],
+    )?;
+    let records = [
+        Delta::TermAdd(300, Pid(5)),
+        Delta::TermDelete(400),
+        Delta::Remove,
+    ];
+    let right = with_records(alloc, base, &records)?;
+    let mut chain = joined(alloc, left, right)?;
+    add_record(alloc, &mut chain, Delta::TermAdd(50, Pid(8)))?;
+    Ok(chain)
 }
 
 pub(crate) fn lists_pairs<A: Allocator>(base: &Base<A>, pairs: &[(Key, u64)]) -> bool {
@@ -192,7 +188,7 @@ fn a_merge_joins_two_inner_pages(rt: HostRuntime) -> Result<(), Fail> {
 #[test]
 fn an_empty_leaf_has_nothing(rt: HostRuntime) -> Result<(), Fail> {
     let alloc = rt.alloc();
-    let chain = Chain::bare(Base::empty(alloc));
+    let chain = with_records(alloc, Base::empty(alloc), &[])?;
     for key in [0, u64::MAX] {
         assert_eq!(rt; find(&chain, key), None, "at {key}");
         assert_eq!(rt; next_at(&chain, key), None, "from {key}");
@@ -208,8 +204,7 @@ fn an_empty_leaf_has_nothing(rt: HostRuntime) -> Result<(), Fail> {
 fn a_split_moves_the_fence_and_same_sees_it(rt: HostRuntime) -> Result<(), Fail> {
     let alloc = rt.alloc();
     let base = Base::leaf(alloc, 0, Fence::Top, None, &[(0, 1), (5, 50), (9, 90)])?;
-    let mut chain = Chain::bare(base);
-    chain.prepend(Delta::Split(9, Pid(2)), Spare::new(alloc)?);
+    let chain = with_records(alloc, base, &[Delta::Split(9, Pid(2))])?;
     let (high, right) = (Fence::Key(9), Some(Pid(2)));
     assert_eq!(rt;
         fences(&chain),
@@ -219,17 +214,19 @@ fn a_split_moves_the_fence_and_same_sees_it(rt: HostRuntime) -> Result<(), Fail>
             right
         }
     );
-    let pairs = [(0, 1), (5, 50)];
-    assert!(rt; same(&Base::leaf(alloc, 0, high, right, &pairs)?, &chain));
-    for other in [
-        Base::leaf(alloc, 0, high, Some(Pid(3)), &pairs)?,
-        Base::leaf(alloc, 0, Fence::Key(8), right, &pairs)?,
-        Base::leaf(alloc, 0, high, right, &[(0, 1), (5, 51)])?,
-        Base::leaf(alloc, 0, high, right, &[(0, 1)])?,
-        Base::leaf(alloc, 0, high, right, &[(0, 1), (5, 50), (7, 70)])?,
-        Base::inner(alloc, 0, high, right, &[])?,
-    ] {
-        assert!(rt; !same(&other, &chain));
+    let pairs: &[(Key, u64)] = &[(0, 1), (5, 50)];
+    let pages: [(Fence, Option<Pid>, &[(Key, u64)], bool); 6] = [
+        (high, right, pairs, true),
+        (high, Some(Pid(3)), pairs, false),
+        (Fence::Key(8), right, pairs, false),
+        (high, right, &[(0, 1), (5, 51)], false),
+        (high, right, &[(0, 1)], false),
+        (high, right, &[(0, 1), (5, 50), (7, 70)], false),
+    ];
+    for (high, right, pairs, is_same) in pages {
+        let page = Base::leaf(alloc, 0, high, right, pairs)?;
+        assert_eq!(rt; same(&page, &chain), is_same);
     }
+    assert!(rt; !same(&Base::inner(alloc, 0, high, right, &[])?, &chain));
     Ok(())
 }
