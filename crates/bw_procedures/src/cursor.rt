@@ -36,6 +36,7 @@ pub fn page_from<A: Allocator + Copy, S: Steps<A, Step<A>>>(
     ensures slice { IfOk result (IsSliceFrom key) }
     ensures fault { IfErr result (IsFair (limit_of (S.seen steps.old)) (S.seen steps.old) (S.seen steps.new)) }
     ensures calm { S.calm steps.old quiet → IfErr result (λ fault. fault ≡ faults.NoMemory) }
+    ensures no_effort { S.calm steps.old quiet → (S.seen steps.new).effort ≡ (S.seen steps.old).effort }
 {
     let limit = limit(steps);
     'again: loop {
@@ -61,6 +62,7 @@ fn read_page<A: Allocator + Copy, S: Steps<A, Step<A>>>(
     ensures shows { ShowsRead (S.shows steps.new) key result }
     ensures slice { IsReadFrom key result }
     ensures calm { S.calm steps.old quiet → IsAnswered result }
+    ensures no_effort { S.calm steps.old quiet → (S.seen steps.new).effort ≡ (S.seen steps.old).effort }
 {
     let root = steps.root();
     let Some(view) = descend(steps, root, key, 0) else {
@@ -89,6 +91,7 @@ fn cut<A: Allocator + Copy, S: Steps<A, Step<A>>>(
     ensures shows { ShowsRead (S.shows steps.new) key result }
     ensures slice { IsReadFrom key result }
     ensures calm { IsLeafAround key chain.now → IsAnswered result }
+    ensures no_effort { IsLeafAround key chain.now → (S.seen steps.new).effort ≡ (S.seen steps.old).effort }
 {
     let Fences { low, high, .. } = fences(chain);
     if !is_leaf(chain) || key < low || !high.is_above(key) {

@@ -29,6 +29,7 @@ pub fn get<A: Allocator + Copy, S: Steps<A, Step<A>>>(
     ensures receipt { AddsLook key result (S.seen steps.old).trail (S.seen steps.new).trail }
     ensures fault { IfErr result (IsFair (limit_of (S.seen steps.old)) (S.seen steps.old) (S.seen steps.new)) }
     ensures calm { S.calm steps.old quiet → IfErr result (λ fault. fault ≡ faults.NoMemory) }
+    ensures no_effort { S.calm steps.old quiet → (S.seen steps.new).effort ≡ (S.seen steps.old).effort }
 {
     let limit = limit(steps);
     'again: loop {
@@ -52,6 +53,7 @@ fn seek<A: Allocator + Copy, S: Steps<A, Step<A>>>(
     ensures follows { S.follows steps.old steps.new }
     ensures seen { Sought key result (S.seen steps.old) (S.seen steps.new) }
     ensures calm { S.calm steps.old quiet → IsLooked result }
+    ensures no_effort { S.calm steps.old quiet → (S.seen steps.new).effort ≡ (S.seen steps.old).effort }
 {
     let root = steps.root();
     match descend(steps, root, key, 0) {

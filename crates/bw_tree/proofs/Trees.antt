@@ -58,7 +58,8 @@ new_book config table is fine fits =
     let empty = new_law config fine fits in
     rw is (record { lawful = empty.lawful; booked = empty.booked; totals = refl })
 
-book_after : (table : TableValue) (step : Proposal) → (after table step).book ≡ counted table.book (receipt_of table step)
+-- the book after an accepted step
+pub book_after : (table : TableValue) (step : Proposal) → (after table step).book ≡ counted table.book (receipt_of table step)
 book_after table (insert page seen key value) = let more : suc table.book.inserted ≡ table.book.inserted + 1 = omega arith in ap (λ (n : ℕ). book_of n table.book.removed) more
 book_after table (delete page seen key) = let more : suc table.book.removed ≡ table.book.removed + 1 = omega arith in ap (λ (n : ℕ). book_of table.book.inserted n) more
 book_after table (consolidate page seen base) = refl

@@ -18,30 +18,31 @@ use Rattle.bw_law.proofs.AllSteps.{step_law}
 use Rattle.bw_law.proofs.Accepted.{Holds}
 use Rattle.bw_law.proofs.Facts.{leaf_decides}
 use Rattle.bw_table.specs.Views.{look_at}
+use Rattle.bw_tree.proofs.Trees.{book_after}
 use Rattle.bw_work.specs.Leading.{Tells, Leads}
 
--- what an accepted step makes of the map is what its receipt tells
-step_tells : (table : TableValue) (step : Proposal) → KeptBy table step → Tells (receipt_of table step) table.slots (after table step).slots
-step_tells table (insert page seen key value) kept = kept.map
-step_tells table (delete page seen key) kept = kept.map
-step_tells table (consolidate page seen base) kept = kept.map
-step_tells table (split page seen separator base) kept = kept.map
-step_tells table (term_add parent parent_seen child child_seen) kept = kept.map
-step_tells table (grow child seen base) kept = kept.map
-step_tells table (mark page seen parent) kept = kept.map
-step_tells table (merge left left_seen page seen) kept = kept.map
-step_tells table (term_delete parent parent_seen child child_seen) kept = kept.map
+-- what an accepted step makes of the table is what its receipt tells
+step_tells : (table : TableValue) (step : Proposal) → KeptBy table step → Tells (receipt_of table step) table (after table step)
+step_tells table (insert page seen key value) kept = record { map = kept.map; book = book_after table (insert page seen key value); number = omega arith }
+step_tells table (delete page seen key) kept = record { map = kept.map; book = book_after table (delete page seen key); number = omega arith }
+step_tells table (consolidate page seen base) kept = record { map = kept.map; book = book_after table (consolidate page seen base); number = tt }
+step_tells table (split page seen separator base) kept = record { map = kept.map; book = book_after table (split page seen separator base); number = tt }
+step_tells table (term_add parent parent_seen child child_seen) kept = record { map = kept.map; book = book_after table (term_add parent parent_seen child child_seen); number = tt }
+step_tells table (grow child seen base) kept = record { map = kept.map; book = book_after table (grow child seen base); number = tt }
+step_tells table (mark page seen parent) kept = record { map = kept.map; book = book_after table (mark page seen parent); number = tt }
+step_tells table (merge left left_seen page seen) kept = record { map = kept.map; book = book_after table (merge left left_seen page seen); number = tt }
+step_tells table (term_delete parent parent_seen child child_seen) kept = record { map = kept.map; book = book_after table (term_delete parent parent_seen child child_seen); number = tt }
 
--- a receipt that tells of the two maps leads from the one to the other
-pub leads_by : (old new : TableValue) (trail : List Receipt) (receipt : Receipt) → Tells receipt old.slots new.slots → Leads old trail new (trail ++ receipt ∷ [])
-leads_by old new trail receipt tells = (receipt ∷ [], refl, (new.slots, tells, refl))
+-- a receipt that tells of the two tables leads from the one to the other
+pub leads_by : (old new : TableValue) (trail : List Receipt) (receipt : Receipt) → Tells receipt old new → Leads old trail new (trail ++ receipt ∷ [])
+leads_by old new trail receipt tells = (receipt ∷ [], refl, (new, tells, refl))
 
 pub step_leads : (old : TableValue) (step : Proposal) (receipt : Receipt) (new : TableValue) (trail : List Receipt) → Lawful old → Booked old → refusal old step ≡ None → TakesStep old step receipt new
     → Leads old trail new (trail ++ receipt ∷ [])
 step_leads old step receipt new trail law booked accepted takes =
     leads_by old new trail receipt
-    (subst (λ r. Tells r old.slots new.slots) (sym takes.told)
-    (subst (λ t. Tells (receipt_of old step) old.slots t.slots) (sym takes.leads) (step_tells old step (step_law old step law booked accepted))))
+    (subst (λ r. Tells r old new) (sym takes.told)
+    (subst (λ t. Tells (receipt_of old step) old t) (sym takes.leads) (step_tells old step (step_law old step law booked accepted))))
 
 -- a look is answered where the page is a leaf in its row whose range holds the key
 pub record IsOpen (table : TableValue) (page key : ℕ) (look : Look) : Type 0 where
@@ -49,6 +50,7 @@ pub record IsOpen (table : TableValue) (page key : ℕ) (look : Look) : Type 0 w
   pub is_leaf : (slot_at table page).level ≡ 0
   pub holds : Holds (slot_at table page) key
   pub found : look.found ≡ at key (pairs_in (slot_at table page))
+  pub number : look.at ≡ number_of table.book
 
 look_opens : (table : TableValue) (page key : ℕ) (look : Look) → look_at table page key ≡ Some look → IsOpen table page key look
 look_opens table page key look seen = by_test (is_leaf_in_row (slot_at table page) && is_within (slot_at table page).low (slot_at table page).high key) refl
@@ -58,8 +60,18 @@ look_opens table page key look seen = by_test (is_leaf_in_row (slot_at table pag
       in_row = grind (arith, nat_tests, opened);
       is_leaf = grind (arith, nat_tests, opened);
       holds = (grind (arith, nat_tests, opened), grind (arith, nat_tests, opened));
-      found = let answer : look_at table page key ≡ Some (record { found = at key (pairs_in (slot_at table page)); at = number_of table.book }) = rw opened refl in cc (ap (λ o. o) seen, answer);
+      found = ap (λ (l : Look). l.found) answer;
+      number = ap (λ (l : Look). l.at) answer;
     }
+      where
+        told : Look
+        told = record { found = at key (pairs_in (slot_at table page)); at = number_of table.book }
+
+        opens : look_at table page key ≡ Some told
+        opens = rw opened refl
+
+        answer : look ≡ told
+        answer = cc (seen, opens)
     by_test false shut = let answer : look_at table page key ≡ None = rw shut refl in absurd (cc (seen, answer))
 
 -- what is found in the leaf is what the map has
@@ -67,12 +79,16 @@ pub look_leads : (table : TableValue) (page key : ℕ) (look : Look) (trail : Li
     → Leads table trail table (trail ++ Looked look.at key look.found ∷ [])
 look_leads table page key look trail law seen =
     let opened = look_opens table page key look seen in
-    leads_by table table trail (Looked look.at key look.found) (
-      λ value.
-          let decides = leaf_decides table law page key value opened.in_row opened.is_leaf opened.holds in
-          ((λ found. decides.1 (sym opened.found ∙ found)), (λ maps. opened.found ∙ decides.0 maps)),
-      λ k v. ((λ maps. maps), (λ maps. maps)),
-    )
+    leads_by table table trail (Looked look.at key look.found) (record {
+      map = (
+        λ value.
+            let decides = leaf_decides table law page key value opened.in_row opened.is_leaf opened.holds in
+            ((λ found. decides.1 (sym opened.found ∙ found)), (λ maps. opened.found ∙ decides.0 maps)),
+        λ k v. ((λ maps. maps), (λ maps. maps)),
+      );
+      book = refl;
+      number = opened.number;
+    })
 
 -- no step changes the configuration
 config_stays : (table : TableValue) (step : Proposal) → (after table step).config ≡ table.config

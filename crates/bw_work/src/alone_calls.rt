@@ -2,7 +2,7 @@
 
 ghost use Rattle.std.specs.Prelude.{◌≡◌, IfOk, IfErr, IfSome, OnOk, OnErr};
 ghost use Rattle.bw_procedures.specs.Seen.{Grows};
-ghost use Rattle.bw_procedures.specs.Calls.{limit_of, IsFair, OnlyReshapes, RoseBy, AddsLook, plain};
+ghost use Rattle.bw_procedures.specs.Calls.{limit_of, IsFair, Waits, OnlyReshapes, RoseBy, AddsLook, plain};
 ghost use Rattle.bw_procedures.specs.Slices.{end_of_slice, IsSliceFrom};
 ghost use Rattle.bw_procedures.specs.Writing.{AddsReceipt, IsReceiptOfPut, IsReceiptOfDelete};
 ghost use Rattle.bw_work.specs.Hands.{seen_of};
@@ -44,10 +44,13 @@ impl<'t, A: Allocator + Copy> Alone<'t, A> {
         delete(self, key)
     }
 
-    /// Looks the key up: see `get`. What is found is the map's value; memory apart there is an answer.
+    /// Looks the key up: see `get`. What is found is the map's value; memory apart there is an answer,
+    /// and it costs no effort.
     pub fn get(&mut self, key: Key) -> Result<Option<u64>, Fault>
         ensures same_reference { self.new.table.ghost_name ≡ self.old.table.ghost_name }
         ensures follows { Leads self.old.table.now self.old.trail.items self.new.table.now self.new.trail.items }
+        ensures grows { Grows (seen_of self.old.table.now.config self.old.trail.items self.old.counts) (seen_of self.new.table.now.config self.new.trail.items self.new.counts) }
+        ensures no_effort { self.new.counts.effort ≡ self.old.counts.effort }
         ensures receipt { AddsLook key result self.old.trail.items self.new.trail.items }
         ensures answered { IfErr result (λ fault. fault ≡ Fault.NoMemory) }
     {
@@ -55,11 +58,12 @@ impl<'t, A: Allocator + Copy> Alone<'t, A> {
     }
 
     /// Reads the pairs of one leaf from the key on: see `page_from`. They are all that the map has from
-    /// the key on and below the slice's end; memory apart there is an answer.
+    /// the key on and below the slice's end; memory apart there is an answer, and it costs no effort.
     pub fn page_from(&mut self, machine: Global, key: Key) -> Result<Slice, Fault>
         ensures same_reference { self.new.table.ghost_name ≡ self.old.table.ghost_name }
         ensures follows { Leads self.old.table.now self.old.trail.items self.new.table.now self.new.trail.items }
-        ensures trail { self.new.trail.items ≡ self.old.trail.items }
+        ensures seen { Waits (seen_of self.old.table.now.config self.old.trail.items self.old.counts) (seen_of self.new.table.now.config self.new.trail.items self.new.counts) }
+        ensures no_effort { self.new.counts.effort ≡ self.old.counts.effort }
         ensures slice { IfOk result (IsSliceFrom key) }
         ensures shows { IfOk result (λ slice. Shows self.new.table.now key (end_of_slice slice.next) slice.pairs.items) }
         ensures answered { IfErr result (λ fault. fault ≡ Fault.NoMemory) }
