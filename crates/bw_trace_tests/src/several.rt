@@ -1,6 +1,6 @@
 //! Runs of several workers, whose replies depend on who comes first.
 
-use crate::answers::printed;
+use crate::printed::printed;
 use std::test::Fail;
 
 #[test]
@@ -8,11 +8,8 @@ fn each_of_a_hundred_drawn_traces_ends_with_a_legal_history(rt: HostRuntime) -> 
     let alloc = rt.alloc();
     for seed in 0..100u32 {
         let seed = format!(in alloc; "--seed={seed}")?;
-        let trace = printed(
-            &rt,
-            &["make", seed.as_str(), "--rows=1000", "--workers=4"],
-            "",
-        )?;
+        let words = ["make", seed.as_str(), "--rows=1000", "--workers=4"];
+        let trace = printed(&rt, &words, "")?;
         let words = ["run", "--workers=4", "--fanout=4", "--chain=2"];
         let output = printed(&rt, &words, trace.as_str())?;
         assert!(rt; output.as_str().ends_with("audit yes\n"));
@@ -22,20 +19,19 @@ fn each_of_a_hundred_drawn_traces_ends_with_a_legal_history(rt: HostRuntime) -> 
 
 #[test]
 fn two_workers_put_a_hundred_keys_each(rt: HostRuntime) -> Result<(), Fail> {
-    let alloc = rt.alloc();
-    let mut trace = String::new(alloc);
+    let mut trace = String::new(rt.alloc());
     for key in 1..=100u32 {
         writeln!(trace, "0,put,{key},{key}")?;
         writeln!(trace, "1,put,{},{}", 100 + key, 100 + key)?;
     }
-    let words = ["run", "--workers=2", "--fanout=4", "--chain=4"];
-    let output = printed(&rt, &words, trace.as_str())?;
-    let end = "inserted 200 removed 0 pairs 200\naudit yes\n";
-    assert!(rt; output.as_str().ends_with(end));
-    let history = printed(&rt, &["run", "--workers=2", "--history"], trace.as_str())?;
-    assert_eq!(rt;
-        printed(&rt, &["check"], history.as_str())?.as_str(),
-        "audit yes\n"
-    );
+    for _ in 0..20u32 {
+        let words = ["run", "--workers=2", "--fanout=4", "--chain=4"];
+        let output = printed(&rt, &words, trace.as_str())?;
+        let end = "inserted 200 removed 0 pairs 200\naudit yes\n";
+        assert!(rt; output.as_str().ends_with(end));
+        let history = printed(&rt, &["run", "--workers=2", "--history"], trace.as_str())?;
+        let verdict = printed(&rt, &["check"], history.as_str())?;
+        assert_eq!(rt; verdict.as_str(), "audit yes\n");
+    }
     Ok(())
 }

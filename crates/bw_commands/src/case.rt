@@ -1,0 +1,77 @@
+//! Cases: what is given to the program, and what it is to answer.
+
+use crate::answer::{Answer, Difference};
+use crate::input::Input;
+use anyhow::{Result, bail};
+use bw_trace::command;
+use std::alloc::Global;
+use std::sync::Wait;
+use std::thread::Threads;
+
+/// What is given to the program, and what it is to answer.
+#[derive(Debug, Drop)]
+pub(crate) struct Case<'a> {
+    /// The line in which it begins, counted from 1.
+    pub(crate) line: usize,
+    words: &'a str,
+    input: String,
+    has_failure: bool,
+    wanted: Answer,
+}
+
+impl<'a> Case<'a> {
+    /// A case with these words, in which the program reads nothing and says nothing.
+    pub(crate) fn new(alloc: Global, line: usize, words: &'a str) -> Case<'a> {
+        Case {
+            line,
+            words,
+            input: String::new(alloc),
+            has_failure: false,
+            wanted: Answer::silent(alloc),
+        }
+    }
+
+    /// Adds what a line of this mark says.
+    pub(crate) fn add(&mut self, mark: &str, text: &str) -> Result<()> {
+        match mark {
+            "<!" => self.has_failure = true,
+            "=" => self.wanted.status = text.parse::<u8>()?,
+            "<" | "<-" => add_line(&mut self.input, mark, text)?,
+            ">" | ">-" => add_line(&mut self.wanted.output, mark, text)?,
+            "!" | "!-" => add_line(&mut self.wanted.faults, mark, text)?,
+            _ => bail!("{mark} is no mark of a line"),
+        }
+        Ok(())
+    }
+
+    /// Where the program first doesn't answer as it is to.
+    pub(crate) fn difference<R: Threads + Wait + Sync + Send + Copy>(
+        &self,
+        rt: R,
+        alloc: Global,
+    ) -> Result<Option<Difference>> {
+        let words: Vec<&str> = self.words.split_whitespace().collect(alloc)?;
+        let mut output = Vec::new(alloc);
+        let mut faults = Vec::new(alloc);
+        let input = Input {
+            text: self.input.as_bytes(),
+            has_failure: self.has_failure,
+        };
+        let status = command(rt, alloc, &words, input, &mut output, &mut faults);
+        let answer = Answer {
+            status,
+            output: String::from_utf8(output)?,
+            faults: String::from_utf8(faults)?,
+        };
+        Ok(answer.difference(&self.wanted))
+    }
+}
+
+/// Adds a line to a text. Where its mark has a dash, it has no line feed.
+fn add_line(text: &mut String, mark: &str, line: &str) -> Result<()> {
+    text.push_str(line)?;
+    if !mark.ends_with('-') {
+        text.push('\n')?;
+    }
+    Ok(())
+}

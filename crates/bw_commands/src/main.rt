@@ -1,0 +1,68 @@
+//! Gives the cases in its folder to the program's command, over memory, and compares what it answers.
+//!
+//! A file has one case after the other. Each line begins with a mark, and has its text behind a blank:
+//!
+//! | Mark | The line says |
+//! |---|---|
+//! | `$` | a case begins, and these are its words |
+//! | `<` | a line of the input |
+//! | `<-` | a line of the input, without its line feed |
+//! | `<!` | from here on the input can't be read |
+//! | `>`, `>-` | a line of the output, with its line feed or without |
+//! | `!`, `!-` | a line of the faults, with its line feed or without |
+//! | `=` | the status, where it isn't 0 |
+//! | `#` | a comment |
+//!
+//! An empty line says nothing.
+#![tactic(auto)]
+
+mod answer;
+mod case;
+mod input;
+
+use crate::case::Case;
+use anyhow::{Context, Result};
+use std::alloc::Global;
+use std::fs;
+use std::process::ExitCode;
+
+/// The files of cases.
+const NAMES: [&str; 6] = ["cuts", "histories", "options", "runs", "seeds", "traces"];
+
+fn main(rt: HostRuntime) -> Result<ExitCode> {
+    let mut status = ExitCode::SUCCESS;
+    for name in NAMES {
+        let text = fs::read_to_string(&rt, name)?;
+        let cases = read_cases(rt.alloc(), &text).context(name)?;
+        let mut agreed = 0usize;
+        for case in &cases {
+            match case.difference(rt, rt.alloc())? {
+                None => agreed = agreed.saturating_add(1),
+                Some(difference) => {
+                    println!(rt; "{name}, line {}: {difference}", case.line)?;
+                    status = ExitCode::FAILURE;
+                    break;
+                }
+            }
+        }
+        println!(rt; "{name}: {agreed} of {} cases agree", cases.len())?;
+    }
+    Ok(status)
+}
+
+/// The cases of a file.
+fn read_cases<'a>(alloc: Global, text: &'a str) -> Result<Vec<Case<'a>>> {
+    let mut cases = Vec::new(alloc);
+    for (place, line) in text.lines().enumerate() {
+        let (mark, rest) = line.split_once(' ').unwrap_or((line, ""));
+        match mark {
+            "" | "#" => {}
+            "$" => cases.push(Case::new(alloc, place.saturating_add(1), rest))?,
+            _ => cases
+                .last_mut()
+                .context("a line stands before the first case")?
+                .add(mark, rest)?,
+        }
+    }
+    Ok(cases)
+}
