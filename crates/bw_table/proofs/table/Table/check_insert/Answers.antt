@@ -1,0 +1,5 @@
+use Rattle.std.proofs.Common.{refl}
+use Rattle.bw_table.proofs.table.Table.check_insert.Goals as goal
+
+pub returns : goal.returns
+returns g c = rw (c.check_insert.ensures, c.number.ensures, c.in-Some.ensures.there) refl
