@@ -40,6 +40,7 @@ impl<'t, A: Allocator + Copy, S: Shared<A, Step<A>>, G: Gate> Hand<'t, A, S, G> 
         gate: &'t G,
     ) -> Hand<'t, A, S, G>
         ensures share { result.share ≡ share }
+        ensures worker { result.worker ≡ worker }
         ensures config { result.config ≡ S.made_by tree.now }
         ensures trail { result.trail.items ≡ [] }
         ensures counts { result.counts ≡ no_counts }
