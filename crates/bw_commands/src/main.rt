@@ -20,11 +20,14 @@ mod answer;
 mod case;
 mod input;
 
+use crate::answer::Difference;
 use crate::case::Case;
 use anyhow::{Context, Result};
 use std::alloc::Global;
 use std::fs;
 use std::process::ExitCode;
+use std::sync::Wait;
+use std::thread::Threads;
 
 /// The files of cases.
 const NAMES: [&str; 6] = ["cuts", "histories", "options", "runs", "seeds", "traces"];
@@ -34,20 +37,29 @@ fn main(rt: HostRuntime) -> Result<ExitCode> {
     for name in NAMES {
         let text = fs::read_to_string(&rt, name)?;
         let cases = read_cases(rt.alloc(), &text).context(name)?;
-        let mut agreed = 0usize;
-        for case in &cases {
-            match case.difference(rt, rt.alloc())? {
-                None => agreed = agreed.saturating_add(1),
-                Some(difference) => {
-                    println!(rt; "{name}, line {}: {difference}", case.line)?;
-                    status = ExitCode::FAILURE;
-                    break;
-                }
+        match first_missed(rt, rt.alloc(), &cases)? {
+            None => println!(rt; "{name}: {} cases agree", cases.len())?,
+            Some((line, difference)) => {
+                println!(rt; "{name}: the case in line {line}: {difference}")?;
+                status = ExitCode::FAILURE;
             }
         }
-        println!(rt; "{name}: {agreed} of {} cases agree", cases.len())?;
     }
     Ok(status)
+}
+
+/// The line of the first case in which the program doesn't answer as it is to, and where it doesn't.
+fn first_missed<R: Threads + Wait + Sync + Send + Copy>(
+    rt: R,
+    alloc: Global,
+    cases: &[Case],
+) -> Result<Option<(usize, Difference)>> {
+    for case in cases {
+        if let Some(difference) = case.difference(rt, alloc)? {
+            return Ok(Some((case.line, difference)));
+        }
+    }
+    Ok(None)
 }
 
 /// The cases of a file.

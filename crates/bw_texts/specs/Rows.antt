@@ -9,6 +9,14 @@ use Rattle.bw_texts.specs.declared.part.Part.{Part}
 use Rattle.bw_texts.specs.declared.part.Part.TheVariants as part
 use Rattle.bw_texts.specs.Numbers.{number_of, worker_of, is_text}
 
+-- what a part is called
+abbrev pub part_text : Part → List ℕ
+part_text part.Fields = codes "fields"
+part_text part.Worker = codes "worker"
+part_text part.Op = codes "op"
+part_text part.Key = codes "key"
+part_text part.Value = codes "value"
+
 -- what can be read is read on, and the first part that can't is the answer
 infixl 10 ◌>>=◌
 abbrev pub ◌>>=◌ : {A B : Type 0} → Result A Part → (A → Result B Part) → Result B Part

@@ -53,12 +53,16 @@ impl<T: Drop> From<AllocFailed<T>> for OutFault {
 }
 
 impl From<NoMemory> for OutFault {
+    ghost from_gives = { λ _ fault. fault ≡ out_fault.Memory };
+
     fn from(_: NoMemory) -> OutFault {
         OutFault::Memory
     }
 }
 
 impl From<io::Error> for OutFault {
+    ghost from_gives = { λ _ fault. fault ≡ out_fault.Write };
+
     fn from(_: io::Error) -> OutFault {
         OutFault::Write
     }

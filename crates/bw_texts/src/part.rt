@@ -1,5 +1,8 @@
 //! The parts of a row.
 
+ghost use Rattle.std.specs.Prelude.{Some};
+ghost use Rattle.bw_texts.specs.Rows.{part_text};
+
 use std::fmt;
 
 /// The parts of a row, in the order in which they are read. The first that can't be read names the
@@ -15,6 +18,8 @@ pub enum Part {
 }
 
 impl fmt::Display for Part {
+    ghost output = { λ part. Some (part_text part) };
+
     fn fmt<W: fmt::Write>(&self, f: &mut fmt::Formatter<W>) -> fmt::Result {
         f.write_str(match self {
             Part::Fields => "fields",

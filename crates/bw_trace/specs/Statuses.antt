@@ -4,6 +4,8 @@ use Rattle.bw_audit.specs.declared.verdict.Verdict.{Verdict}
 use Rattle.bw_audit.specs.declared.verdict.Verdict.TheVariants as verdicts
 use Rattle.bw_run.specs.declared.fault.RunFault.{RunFault}
 use Rattle.bw_run.specs.declared.fault.RunFault.TheVariants as runs
+use Rattle.bw_texts.specs.declared.fault.OutFault.{OutFault}
+use Rattle.bw_texts.specs.declared.fault.OutFault.TheVariants as outs
 use Rattle.bw_texts.specs.declared.fault.TextFault.{TextFault}
 use Rattle.bw_texts.specs.declared.fault.TextFault.TheVariants as texts
 use Rattle.bw_trace.specs.declared.program.Fault.{Fault}
@@ -34,6 +36,11 @@ status_of (faults.Text fault) = text_status fault
 status_of (faults.Run fault) = run_status fault
 status_of faults.Write = 1
 status_of faults.Memory = 3
+
+-- what isn't written is the program's own fault
+abbrev pub fault_of : OutFault → Fault
+fault_of outs.Write = faults.Write
+fault_of outs.Memory = faults.Memory
 
 -- 0 for a legal history alone
 abbrev pub verdict_status : Verdict → ℕ

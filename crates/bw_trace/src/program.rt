@@ -1,8 +1,9 @@
 //! What the program does, over a reader and two writers.
 
-ghost use Rattle.std.specs.Prelude.{◌≡◌, ◌≤◌, IfOk, List, OnOk, Some, ℕ};
+ghost use Rattle.std.specs.Prelude.{◌≡◌, ◌≤◌, ◌⊎◌, IfOk, List, OnOk, Some, ℕ};
 ghost use Rattle.std.specs.Io.KnownBytes.{Appends};
-ghost use Rattle.bw_trace.specs.Statuses.{status_of, verdict_status};
+ghost use Rattle.bw_trace.specs.declared.program.Fault.TheVariants as program_fault;
+ghost use Rattle.bw_trace.specs.Statuses.{fault_of, status_of, verdict_status};
 ghost use Rattle.bw_trace.specs.Verdicts.{IsVerdictOn, verdict_line};
 
 use crate::options::{Field, commands, ranged};
@@ -75,6 +76,8 @@ impl Fault {
 }
 
 impl From<clap::Error> for Fault {
+    ghost from_gives = { λ error fault. (fault ≡ program_fault.Memory) ⊎ (fault ≡ program_fault.Usage error) };
+
     fn from(error: clap::Error) -> Fault {
         match error.kind() {
             ErrorKind::OutOfMemory => Fault::Memory,
@@ -84,18 +87,24 @@ impl From<clap::Error> for Fault {
 }
 
 impl From<Field> for Fault {
+    ghost from_gives = { λ field fault. fault ≡ program_fault.Bad field };
+
     fn from(field: Field) -> Fault {
         Fault::Bad(field)
     }
 }
 
 impl From<TextFault> for Fault {
+    ghost from_gives = { λ text fault. fault ≡ program_fault.Text text };
+
     fn from(fault: TextFault) -> Fault {
         Fault::Text(fault)
     }
 }
 
 impl From<OutFault> for Fault {
+    ghost from_gives = { λ out fault. fault ≡ fault_of out };
+
     fn from(fault: OutFault) -> Fault {
         match fault {
             OutFault::Write => Fault::Write,
@@ -105,30 +114,40 @@ impl From<OutFault> for Fault {
 }
 
 impl From<RunFault> for Fault {
+    ghost from_gives = { λ run fault. fault ≡ program_fault.Run run };
+
     fn from(fault: RunFault) -> Fault {
         Fault::Run(fault)
     }
 }
 
 impl From<NoMemory> for Fault {
+    ghost from_gives = { λ _ fault. fault ≡ program_fault.Memory };
+
     fn from(_: NoMemory) -> Fault {
         Fault::Memory
     }
 }
 
 impl From<AllocError> for Fault {
+    ghost from_gives = { λ _ fault. fault ≡ program_fault.Memory };
+
     fn from(_: AllocError) -> Fault {
         Fault::Memory
     }
 }
 
 impl From<AuditFault> for Fault {
+    ghost from_gives = { λ _ fault. fault ≡ program_fault.Memory };
+
     fn from(_: AuditFault) -> Fault {
         Fault::Memory
     }
 }
 
 impl From<io::Error> for Fault {
+    ghost from_gives = { λ _ fault. fault ≡ program_fault.Write };
+
     fn from(_: io::Error) -> Fault {
         Fault::Write
     }
