@@ -12,8 +12,6 @@ mod merging;
 mod plan;
 mod reply;
 mod runner;
-#[cfg(test)]
-mod tests;
 
 pub use acts::do_act;
 pub use bw_texts::{Act, Row, is_trace_for};
