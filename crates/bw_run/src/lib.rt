@@ -13,8 +13,6 @@ mod plan;
 mod reply;
 mod row;
 mod runner;
-#[cfg(test)]
-mod tests;
 
 pub use acts::do_act;
 pub use fault::RunFault;

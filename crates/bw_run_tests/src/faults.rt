@@ -1,0 +1,101 @@
+//! Runs that have no end to show, and the texts of their faults.
+
+use crate::rows::{finish, row};
+use bw_keys::{BadConfig, Config, Field};
+use bw_run::{Act, Row, RunFault, run};
+use bw_test_kit::SMALL;
+use bw_work::{Fault, Open};
+use std::test::Fail;
+
+const BAD: Config = Config {
+    fanout: 4,
+    chain: 4,
+    pages: 7,
+    tries: 100,
+    first_version: 0,
+};
+
+/// A version that is used up lets no key in.
+const WORN: Config = Config {
+    fanout: 4,
+    chain: 4,
+    pages: 64,
+    tries: 100,
+    first_version: u64::MAX,
+};
+
+const BAD_PAGES: RunFault = RunFault::Config(BadConfig(Field::Pages));
+
+/// A configuration, workers and readers, and the fault of a run of them that has no rows.
+static BEFORE: [(Config, u32, u32, Option<RunFault>); 5] = [
+    (BAD, 0, 1, Some(BAD_PAGES)),
+    (SMALL, 0, 1, Some(RunFault::Workers)),
+    (SMALL, 65, 1, Some(RunFault::Workers)),
+    (SMALL, 64, 1, Some(RunFault::Readers)),
+    (SMALL, 64, 0, None),
+];
+
+#[test]
+fn the_first_fault_is_named(rt: HostRuntime) {
+    let machine = rt.alloc();
+    for (config, workers, readers, wanted) in BEFORE.iter() {
+        let fault = run(rt, machine, *config, *workers, *readers, &[], &Open).err();
+        assert_eq!(rt; fault, *wanted);
+    }
+}
+
+static TEXTS: [(RunFault, &str); 8] = [
+    (BAD_PAGES, "bad pages"),
+    (RunFault::Workers, "bad workers"),
+    (RunFault::Readers, "bad readers"),
+    (RunFault::NoReader, "reader"),
+    (RunFault::Threads, "threads"),
+    (RunFault::Memory, "memory"),
+    (RunFault::Audit(1, 0), "audit no 1 0"),
+    (RunFault::Stopped(0, 4, Fault::Worn), "worker 0 row 4: worn"),
+];
+
+#[test]
+fn faults_have_texts(rt: HostRuntime) -> Result<(), Fail> {
+    for (fault, wanted) in TEXTS.iter() {
+        let text = format!(in rt.alloc(); "{fault}")?;
+        assert_eq!(rt; text.as_str(), *wanted);
+    }
+    Ok(())
+}
+
+const BOTH_STOP: [Row; 5] = [
+    row!(0 get 1),
+    row!(1 put 5 => 5),
+    row!(1 get 5),
+    row!(0 put 6 => 6),
+    row!(0 put 7 => 7),
+];
+
+#[test]
+fn of_two_workers_that_stop_the_first_is_named(rt: HostRuntime) {
+    let fault = finish(rt, rt.alloc(), WORN, 2, &BOTH_STOP, &Open).err();
+    assert_eq!(rt; fault, Some(RunFault::Stopped(0, 4, Fault::Worn)));
+}
+
+// Worker 1 stops at its first row. That worker 0 does all of its rows shows in the row that is named: its
+// last, which it can't do either.
+#[test]
+fn where_one_stops_the_other_does_all_its_rows(rt: HostRuntime) -> Result<(), Fail> {
+    let machine = rt.alloc();
+    let mut rows = Vec::new(machine);
+    rows.push(row!(1 put 1 => 1))?;
+    for key in 0..100 {
+        rows.push(row!(0 get key))?;
+    }
+    rows.push(row!(0 put 1 => 1))?;
+    for number in 0..20 {
+        let fault = finish(rt, machine, WORN, 2, &rows, &Open).err();
+        assert_eq!(rt;
+            fault,
+            Some(RunFault::Stopped(0, 102, Fault::Worn)),
+            "run {number}"
+        );
+    }
+    Ok(())
+}

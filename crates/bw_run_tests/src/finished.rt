@@ -1,0 +1,194 @@
+//! Runs that come to their end.
+
+use crate::rows::{INSERTED, Puts, finish, row, trace_of};
+use bw_delta::NoMemory;
+use bw_keys::{Config, Fence, Key};
+use bw_run::{Act, Finished, Reply, Row};
+use bw_step::Kind;
+use bw_test_kit::{LARGE, Meeting, SMALL, leaves_of};
+use bw_work::{Del, Done, Gate, Open, Put};
+use std::alloc::Global;
+use std::test::Fail;
+
+/// A trace of puts and then of rows, and how it ends: all puts insert, the rows are replied to so, and the
+/// leaves and the pairs are these. Where no leaves are written they depend on the workers' turns; the
+/// pairs are those of the puts, and then these.
+#[derive(Clone, Copy)]
+struct Case {
+    workers: u32,
+    puts: &'static [Puts],
+    rows: &'static [Row],
+    replies: &'static [Reply],
+    leaves: &'static [(Key, Fence, u64)],
+    pairs: &'static [(Key, u64)],
+}
+
+static TWO_HUNDRED: Case = Case {
+    workers: 2,
+    puts: &[
+        Puts {
+            worker: 0,
+            first: 1,
+            last: 100,
+        },
+        Puts {
+            worker: 1,
+            first: 101,
+            last: 200,
+        },
+    ],
+    rows: &[],
+    replies: &[],
+    leaves: &[],
+    pairs: &[],
+};
+
+/// Cases that leave the same leaves, whatever turns the workers take.
+static CASES: [Case; 3] = [
+    Case {
+        workers: 1,
+        puts: &[],
+        rows: &[],
+        replies: &[],
+        leaves: &[(0, Fence::Top, 0)],
+        pairs: &[],
+    },
+    Case {
+        workers: 1,
+        puts: &[Puts {
+            worker: 0,
+            first: 1,
+            last: 7,
+        }],
+        rows: &[],
+        replies: &[],
+        leaves: &[
+            (0, Fence::Key(3), 2),
+            (3, Fence::Key(5), 2),
+            (5, Fence::Top, 3),
+        ],
+        pairs: &[],
+    },
+    // each reply stands at its row
+    Case {
+        workers: 3,
+        puts: &[],
+        rows: &[
+            row!(1 get 20),
+            row!(0 put 9 => 1),
+            row!(2 delete 30),
+            row!(0 put 9 => 2),
+            row!(1 put 20 => 5),
+            row!(0 get 9),
+            row!(1 delete 20),
+        ],
+        replies: &[
+            Reply::Get(None),
+            INSERTED,
+            Reply::Delete(Done {
+                reply: Del::NoKey,
+                fault: None,
+            }),
+            Reply::Put(Done {
+                reply: Put::Present(1),
+                fault: None,
+            }),
+            INSERTED,
+            Reply::Get(Some(1)),
+            Reply::Delete(Done {
+                reply: Del::Removed(5),
+                fault: None,
+            }),
+        ],
+        leaves: &[(0, Fence::Top, 1)],
+        pairs: &[(9, 1)],
+    },
+];
+
+/// The replies that are wanted.
+fn replies_of(machine: Global, case: &Case) -> Result<Vec<Reply>, NoMemory> {
+    let mut replies = Vec::new(machine);
+    for put in case.puts {
+        for _ in put.first..=put.last {
+            replies.push(INSERTED)?;
+        }
+    }
+    replies.extend_from_slice(case.replies)?;
+    Ok(replies)
+}
+
+/// The pairs that are wanted.
+fn pairs_of(machine: Global, case: &Case) -> Result<Vec<(Key, u64)>, NoMemory> {
+    let mut pairs = Vec::new(machine);
+    for put in case.puts {
+        for key in put.first..=put.last {
+            pairs.push((key, key))?;
+        }
+    }
+    pairs.extend_from_slice(case.pairs)?;
+    Ok(pairs)
+}
+
+/// Whether the run ended as the case says.
+fn is_as_foretold(machine: Global, case: &Case, ran: &Finished) -> Result<bool, NoMemory> {
+    let leaves = leaves_of(machine, &ran.table)?;
+    Ok(
+        ran.trails.len() == case.workers as usize
+            && ran.replies == replies_of(machine, case)?
+            && ran.table.pairs(machine)? == pairs_of(machine, case)?
+            && (case.leaves.is_empty() || leaves.as_slice() == case.leaves),
+    )
+}
+
+#[test]
+fn runs_end_as_foretold(rt: HostRuntime) -> Result<(), Fail> {
+    let machine = rt.alloc();
+    for case in CASES.iter() {
+        let trace = trace_of(machine, case.puts, case.rows)?;
+        let ran = finish(rt, machine, SMALL, case.workers, &trace, &Open)?;
+        assert!(rt; is_as_foretold(machine, case, &ran)?, "{:?}", case.leaves);
+    }
+    Ok(())
+}
+
+#[test]
+fn two_workers_put_a_hundred_keys_each(rt: HostRuntime) -> Result<(), Fail> {
+    let machine = rt.alloc();
+    let trace = trace_of(machine, TWO_HUNDRED.puts, &[])?;
+    for number in 0..20 {
+        let ran = finish(rt, machine, LARGE, 2, &trace, &Open)?;
+        assert!(rt;
+            is_as_foretold(machine, &TWO_HUNDRED, &ran)?,
+            "run {number}"
+        );
+    }
+    Ok(())
+}
+
+/// Holds each of two workers at its first call until the other's first call came.
+#[derive(Drop)]
+struct FirstCalls {
+    meeting: Meeting,
+}
+
+impl Gate for FirstCalls {
+    fn at(&self, worker: u32, _kind: Kind) {
+        if self.meeting.arrive(worker) {
+            self.meeting.wait_for(if worker == 0 { 1 } else { 0 });
+        }
+    }
+}
+
+#[test]
+fn workers_run_side_by_side(rt: HostRuntime) -> Result<(), Fail> {
+    let machine = rt.alloc();
+    let gate = FirstCalls {
+        meeting: Meeting::new(),
+    };
+    let short = Config { chain: 1, ..LARGE };
+    let trace = trace_of(machine, TWO_HUNDRED.puts, &[])?;
+    let ran = finish(rt, machine, short, 2, &trace, &gate)?;
+    assert!(rt; gate.meeting.came_about());
+    assert!(rt; is_as_foretold(machine, &TWO_HUNDRED, &ran)?);
+    Ok(())
+}

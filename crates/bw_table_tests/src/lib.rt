@@ -1,0 +1,12 @@
+//! Tests of the mapping table with the crates that it stands on: what scripts of steps can't say. The
+//! summaries that it lends, drawn steps against a plain map, and memory that runs out.
+#![tactic(auto)]
+
+#[cfg(test)]
+mod drawn;
+#[cfg(test)]
+mod memory;
+#[cfg(test)]
+mod picture;
+#[cfg(test)]
+mod summaries;

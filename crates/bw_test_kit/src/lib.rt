@@ -1,0 +1,30 @@
+//! What the tests of several crates share: steps as plain data and the steps that are built of them,
+//! drawn steps, heaps that grow, and workers with what is asked of them and what comes between them.
+#![tactic(auto)]
+
+mod change;
+mod configs;
+mod dice;
+mod heaps;
+mod hooked;
+mod meeting;
+mod pages;
+mod play;
+mod receipts;
+mod sights;
+mod tally;
+mod worker;
+
+pub use bw_keys::Pid;
+pub use bw_step::{Kind, Receipt};
+pub use change::{Change, THREE_LEAVES, step_of, step_with, take, take_all};
+pub use configs::{LARGE, SMALL};
+pub use dice::drawn_step;
+pub use heaps::{Rooms, growing_heaps};
+pub use hooked::{Hook, Hooked};
+pub use meeting::Meeting;
+pub use pages::{Pages, seen};
+pub use play::{Ended, NoTree, Play, Turns, Worked, play_on_new_tree};
+pub use sights::{are_own_pairs, leaves_of};
+pub use tally::{Tally, partition_the_keys};
+pub use worker::{Call, Reply, Task, Told, work, work_by_hand};

@@ -1,0 +1,196 @@
+//! What a worker is asked to do, and what it answers.
+
+use crate::play::Worked;
+use bw_delta::NoMemory;
+use bw_keys::Key;
+use bw_step::{Receipt, Step};
+use bw_tree::{Share, Shared};
+use bw_work::{Del, Done, Fault, Gate, Hand, Put, Slice, Steps, delete, get, page_from, put};
+use std::alloc::Global;
+
+/// A call of a worker.
+#[derive(Clone, Copy, Debug, PartialEq, Eq)]
+pub enum Call {
+    Put(Key, u64),
+    Delete(Key),
+    Get(Key),
+    Slice(Key),
+}
+
+/// What a call answers: one reply, and behind it the fault that ended helping or tending, if there was
+/// one. A slice is answered by each of its pairs, and by where the next leaf begins.
+#[derive(Clone, Copy, Debug, PartialEq, Eq)]
+pub enum Reply {
+    Put(Put),
+    Delete(Del),
+    Get(Option<u64>),
+    Pair(Key, u64),
+    Next(Option<Key>),
+    But(Fault),
+}
+
+/// What a worker is to do: to put each key from the first to the last, with itself as value, and then
+/// to make the calls.
+#[derive(Clone, Copy, Debug)]
+pub struct Task<'c> {
+    pub first: Key,
+    pub last: Key,
+    pub calls: &'c [Call],
+}
+
+impl<'c> Task<'c> {
+    /// Puts alone.
+    pub fn puts(first: Key, last: Key) -> Task<'c> {
+        Task {
+            first,
+            last,
+            calls: &[],
+        }
+    }
+
+    /// Calls alone.
+    pub fn calls(calls: &'c [Call]) -> Task<'c> {
+        Task {
+            first: 1,
+            last: 0,
+            calls,
+        }
+    }
+}
+
+/// What a worker was told.
+#[derive(Debug, Drop)]
+pub struct Told {
+    /// The replies to the calls, behind those of the puts that didn't just insert a key.
+    pub replies: Vec<Reply>,
+    /// What the calls left on the trail.
+    pub trail: Vec<Receipt>,
+    /// Where a call, or a put, gave no reply: why.
+    pub fault: Option<Fault>,
+}
+
+impl Told {
+    /// Whether each put just inserted a key, and no call was answered.
+    pub fn is_plain(&self) -> bool {
+        self.replies.is_empty() && self.fault.is_none()
+    }
+}
+
+/// Adds the reply of a slice: its pairs, and where the next leaf begins.
+fn add_slice(replies: &mut Vec<Reply>, slice: &Slice) -> Result<(), NoMemory> {
+    for (key, value) in slice.pairs.iter() {
+        replies.push(Reply::Pair(*key, *value))?;
+    }
+    replies.push(Reply::Next(slice.next))?;
+    Ok(())
+}
+
+/// Adds a reply, with the fault that there was beside it.
+fn add(replies: &mut Vec<Reply>, reply: Reply, but: Option<Fault>) -> Result<(), NoMemory> {
+    replies.push(reply)?;
+    if let Some(fault) = but {
+        replies.push(Reply::But(fault))?;
+    }
+    Ok(())
+}
+
+fn answer<S: Steps<Global, Step<Global>>>(
+    machine: Global,
+    steps: &mut S,
+    call: Call,
+    replies: &mut Vec<Reply>,
+) -> Result<(), Fault> {
+    let added = match call {
+        Call::Put(key, value) => {
+            let Done { reply, fault } = put(steps, key, value)?;
+            add(replies, Reply::Put(reply), fault)
+        }
+        Call::Delete(key) => {
+            let Done { reply, fault } = delete(steps, key)?;
+            add(replies, Reply::Delete(reply), fault)
+        }
+        Call::Get(key) => add(replies, Reply::Get(get(steps, key)?), None),
+        Call::Slice(key) => add_slice(replies, &page_from(steps, machine, key)?),
+    };
+    added.map_err(|_| Fault::NoMemory)
+}
+
+fn put_each<S: Steps<Global, Step<Global>>>(
+    steps: &mut S,
+    task: Task<'_>,
+    replies: &mut Vec<Reply>,
+) -> Result<(), Fault> {
+    for key in task.first..=task.last {
+        let Done { reply, fault } = put(steps, key, key)?;
+        if (reply != Put::Inserted || fault.is_some())
+            && add(replies, Reply::Put(reply), fault).is_err()
+        {
+            return Err(Fault::NoMemory);
+        }
+    }
+    Ok(())
+}
+
+fn call_each<S: Steps<Global, Step<Global>>>(
+    machine: Global,
+    steps: &mut S,
+    calls: &[Call],
+    replies: &mut Vec<Reply>,
+) -> Result<(), Fault> {
+    for call in calls {
+        answer(machine, steps, *call, replies)?;
+    }
+    Ok(())
+}
+
+/// How long the trail was before the calls, and why they ended early, if they did.
+fn serve<S: Steps<Global, Step<Global>>>(
+    machine: Global,
+    steps: &mut S,
+    task: Task<'_>,
+    replies: &mut Vec<Reply>,
+) -> (usize, Option<Fault>) {
+    let put = put_each(steps, task, replies);
+    let before = steps.trail().len();
+    if put.is_err() {
+        return (before, put.err());
+    }
+    (before, call_each(machine, steps, task.calls, replies).err())
+}
+
+/// Does the task. The replies, how long the trail was before the calls, and the fault.
+pub fn work<S: Steps<Global, Step<Global>>>(
+    machine: Global,
+    steps: &mut S,
+    task: Task<'_>,
+) -> Told {
+    let mut replies = Vec::new(machine);
+    let (before, fault) = serve(machine, steps, task, &mut replies);
+    let receipts = steps.trail().iter().skip(before).copied();
+    match receipts.collect(machine) {
+        Ok(trail) => Told {
+            replies,
+            trail,
+            fault,
+        },
+        Err(_) => Told {
+            replies,
+            trail: Vec::new(machine),
+            fault: Some(Fault::NoMemory),
+        },
+    }
+}
+
+/// A worker does its task on a tree.
+pub fn work_by_hand<S: Shared<Global, Step<Global>>, G: Gate>(
+    machine: Global,
+    tree: &S,
+    share: Share<S::Insertions, S::Removals>,
+    (worker, gate): (u32, &G),
+    task: Task<'_>,
+) -> Worked<S::Insertions, S::Removals, Told> {
+    let mut hand = Hand::new(machine, machine, tree, share, worker, gate);
+    let told = work(machine, &mut hand, task);
+    let (share, _) = hand.finish();
+    Worked { share, told }
+}

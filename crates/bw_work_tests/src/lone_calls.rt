@@ -1,0 +1,97 @@
+//! Each call of a worker that is alone, and of one by its hand, by its own name.
+
+use bw_keys::Pid;
+use bw_step::{Step, Todo};
+use bw_table::Table;
+use bw_test_kit::{Pages, Play, Reply, SMALL, Turns, Worked, play_on_new_tree};
+use bw_tree::{Share, Shared};
+use bw_work::{Alone, Del, Fault, Hand, Open, Put, Steps};
+use std::alloc::Global;
+use std::test::Fail;
+
+/// Makes the calls that change and show pairs.
+fn replies(machine: Global, alone: &mut Alone<'_, Global>) -> Result<[Reply; 5], Fault> {
+    let first = alone.put(9, 1)?.reply;
+    let second = alone.put(9, 2)?.reply;
+    let found = alone.get(9)?;
+    let slice = alone.page_from(machine, 0)?;
+    let pair = match slice.pairs.as_slice() {
+        [(key, value)] => Reply::Pair(*key, *value),
+        _ => Reply::Next(slice.next),
+    };
+    Ok([
+        Reply::Put(first),
+        Reply::Put(second),
+        Reply::Get(found),
+        pair,
+        Reply::Delete(alone.delete(9)?.reply),
+    ])
+}
+
+/// Makes the calls that bring unfinished changes on. The effort after each.
+fn efforts(alone: &mut Alone<'_, Global>) -> Result<(u64, u64), Fault> {
+    alone.tend(Pid(0))?;
+    let tended = alone.effort();
+    alone.help(Todo::Post(Pid(1)))?;
+    Ok((tended, alone.effort()))
+}
+
+#[test]
+fn a_lone_worker_has_each_call(rt: HostRuntime) -> Result<(), Fail> {
+    let machine = rt.alloc();
+    let mut table = Table::new(machine, machine, SMALL)?;
+    let mut alone = Alone::new(machine, machine, &mut table);
+    let wanted = [
+        Reply::Put(Put::Inserted),
+        Reply::Put(Put::Present(1)),
+        Reply::Get(Some(1)),
+        Reply::Pair(9, 1),
+        Reply::Delete(Del::Removed(1)),
+    ];
+    assert_eq!(rt; replies(machine, &mut alone), Ok(wanted));
+    assert_eq!(rt; efforts(&mut alone), Ok((0, 1)));
+    assert_eq!(rt; alone.finish().len(), 4);
+    Ok(())
+}
+
+/// Tends and helps where there is nothing to do. The effort that this costs, if it leaves no receipt.
+#[derive(Drop)]
+struct Idle {
+    machine: Global,
+}
+
+fn idle_effort<S: Shared<Global, Step<Global>>>(
+    hand: &mut Hand<'_, Global, S, Open>,
+) -> Result<Option<u64>, Fault> {
+    hand.tend(Pid(0))?;
+    for todo in [
+        Todo::Post(Pid(1)),
+        Todo::Merge(Pid(0)),
+        Todo::DropTerm(Pid(70)),
+    ] {
+        hand.help(todo)?;
+    }
+    Ok(hand.trail().is_empty().then_some(hand.effort()))
+}
+
+impl Play<Result<Option<u64>, Fault>> for Idle {
+    fn work<S: Shared<Global, Step<Global>> + Pages<Global>>(
+        &self,
+        tree: &S,
+        worker: u32,
+        share: Share<S::Insertions, S::Removals>,
+    ) -> Worked<S::Insertions, S::Removals, Result<Option<u64>, Fault>> {
+        let mut hand = Hand::new(self.machine, self.machine, tree, share, worker, &Open);
+        let told = idle_effort(&mut hand);
+        let (share, _) = hand.finish();
+        Worked { share, told }
+    }
+}
+
+#[test]
+fn help_without_need_is_idle(rt: HostRuntime) -> Result<(), Fail> {
+    let machine = rt.alloc();
+    let ended = play_on_new_tree(rt, machine, SMALL, Turns::OneByOne, &Idle { machine })?;
+    assert_eq!(rt; (ended.zero, ended.one), (Ok(Some(3)), Ok(Some(3))));
+    Ok(())
+}
