@@ -3,10 +3,11 @@
 use crate::picture::{Picture, refusal};
 use bw_chain::find;
 use bw_delta::NoMemory;
-use bw_keys::{Config, Key, Pid, Version};
+use bw_keys::{Config, Key, Version};
 use bw_table::{CopyFault, Receipt, Refused, Table};
 use bw_test_kit::{
-    Change, Rooms, SMALL, THREE_LEAVES, growing_heaps, leaves_of, receipt, seen, step_of, take_all,
+    Change, Pages, Rooms, SMALL, THREE_LEAVES, growing_heaps, leaves_of, receipt, seen, step_of,
+    take_all,
 };
 use linked_list_allocator::LocalHeap;
 use std::alloc::Global;
@@ -92,7 +93,7 @@ struct Found {
 fn count_pages(table: &Table<&LocalHeap>) -> u32 {
     let mut there = 0u32;
     for id in 0..table.config().pages {
-        if table.peek(Pid(id)).is_some() {
+        if table.view(id).is_some() {
             there = there.saturating_add(1);
         }
     }
@@ -113,7 +114,7 @@ fn come_of(machine: Global, heap: &LocalHeap, row: &Row) -> Result<Found, Fail> 
         take_all(heap, &mut table, changes)?;
     }
     let there = count_pages(&table);
-    let depth = table.peek(Pid(row.deep.0)).map(|view| view.depth);
+    let depth = table.view(row.deep.0).map(|view| view.depth);
     let used = heap.used();
     let step = step_of(heap, &table, row.next)?;
     let with_step = heap.used();
@@ -148,13 +149,13 @@ fn a_copy_lasts_when_the_table_is_gone(rt: HostRuntime) -> Result<(), Fail> {
     let mut table = Table::new(rt.alloc(), &heap, SMALL)?;
     take_all(&heap, &mut table, &THREE_LEAVES)?;
     assert_eq!(rt; leaves_of(rt.alloc(), &table)?.len(), 3);
-    let old = table.copy_page(&heap, Pid(1), Version(0)).err();
-    let none = table.copy_page(&heap, Pid(4), Version(0)).err();
+    let old = table.chain(&heap, 1, Version(0)).err();
+    let none = table.chain(&heap, 4, Version(0)).err();
     assert_eq!(rt;
         (old, none),
         (Some(CopyFault::Stale), Some(CopyFault::Absent))
     );
-    let copy = table.copy_page(&heap, Pid(1), seen(&table, 1))?;
+    let copy = table.chain(&heap, 1, seen(&table, 1))?;
     drop(table);
     assert_eq!(rt; (copy.depth(), find(&copy, 4)), (1, Some(4)));
     assert!(rt; heap.used() > 0);
@@ -250,7 +251,7 @@ fn each_request_of_a_twin_may_be_refused(rt: HostRuntime) -> Result<(), Fail> {
 
 /// Whether there was room for a copy of a page that was merged, which has this depth.
 fn is_copied<'a>(table: &Table<&'a LocalHeap>, heap: &'a LocalHeap) -> Result<bool, CopyFault> {
-    match table.copy_page(heap, Pid(0), seen(table, 0)) {
+    match table.chain(heap, 0, seen(table, 0)) {
         Ok(copy) if copy.depth() == 3 => Ok(true),
         Ok(_) => Err(CopyFault::Stale),
         Err(CopyFault::NoMemory) => Ok(false),

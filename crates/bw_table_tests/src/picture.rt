@@ -1,8 +1,9 @@
 //! All that a table tells of itself, to see that a refused step leaves it as it was.
 
 use bw_delta::NoMemory;
-use bw_keys::{Key, Pid};
+use bw_keys::Key;
 use bw_table::{Place, Refused, Step, Survey, Table, View};
+use bw_test_kit::Pages;
 use std::alloc::{Allocator, Global};
 
 #[derive(Drop)]
@@ -20,7 +21,7 @@ impl Picture {
     ) -> Result<Picture, NoMemory> {
         let mut pages = Vec::new(machine);
         for id in 0..table.config().pages {
-            pages.push(table.peek(Pid(id)))?;
+            pages.push(table.view(id))?;
         }
         Ok(Picture {
             root: table.root(),
