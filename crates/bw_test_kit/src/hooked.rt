@@ -10,7 +10,7 @@ pub trait Hook<S: Shared<Global, Step<Global>>> {
     ghost use Rattle.std.specs.Prelude.{◌≡◌, IfOk, MatchResult};
     ghost use Rattle.bw_step.specs.ProposalView.{proposal_of};
     ghost use Rattle.bw_tree.specs.Shares.{counted};
-    ghost use Rattle.bw_tree.specs.Steps.{IsReceiptOf};
+    ghost use Rattle.bw_step.specs.Steps.{IsReceiptOf};
 
     /// Proposes the step to the tree, or another in its place.
     fn install(
