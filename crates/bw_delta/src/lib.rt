@@ -8,8 +8,6 @@ mod base;
 mod chain;
 mod fault;
 mod fences;
-#[cfg(test)]
-mod tests;
 
 pub use base::{Base, Entries};
 pub use chain::{Chain, Delta, Merging, Node, Spare};

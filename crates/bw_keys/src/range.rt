@@ -53,30 +53,3 @@ impl Range {
         self.low <= key && self.high.is_above(key)
     }
 }
-
-#[cfg(test)]
-mod tests {
-    use super::*;
-
-    #[test]
-    fn the_last_key_lies_below_top_alone(rt: HostRuntime) {
-        let below_last = Range {
-            low: 3,
-            high: Fence::Key(u64::MAX),
-        };
-        let to_top = Range {
-            low: 3,
-            high: Fence::Top,
-        };
-        for (key, in_first, in_second) in [
-            (2, false, false),
-            (3, true, true),
-            (u64::MAX - 1, true, true),
-            (u64::MAX, false, true),
-        ] {
-            assert_eq!(rt; below_last.holds(key), in_first, "at {key}");
-            assert_eq!(rt; to_top.holds(key), in_second, "at {key}");
-        }
-        assert!(rt; Fence::Key(u64::MAX) < Fence::Top);
-    }
-}

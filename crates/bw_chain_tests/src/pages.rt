@@ -1,4 +1,6 @@
-use crate::{Base, BaseFault, Chain, Delta, Entries, Merging, Node, Spare};
+//! Base pages and chains: what is a page, what stands over what, and memory that is given back.
+
+use bw_delta::{Base, BaseFault, Chain, Delta, Entries, Merging, Node, Spare};
 use bw_keys::{Fence, MAX_DEPTH, Pid};
 use linked_list_allocator::LocalHeap;
 use std::alloc::{Allocator, Global};
