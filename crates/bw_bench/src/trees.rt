@@ -114,13 +114,7 @@ fn shared<
     I: MadeBy + Send + Sync,
     D: Ledger + Send + Sync,
     R: Clock + Threads + Wait + Sync + Send + Copy,
->(
-    rt: R,
-    alloc: Global,
-    task: &Task,
-    config: Config,
-    blanks: Blanks,
-) -> Result<Timed, Stop>
+>(rt: R, alloc: Global, task: &Task, config: Config, blanks: Blanks) -> Result<Timed, Stop>
     requires insertions { Opens I.name I.parts blanks.insertions }
     requires removals { Opens D.name D.parts blanks.removals }
     requires config { I.config ≡ config }

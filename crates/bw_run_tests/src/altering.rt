@@ -3,8 +3,8 @@
 
 use crate::rows::{Puts, row, trace_of};
 use bw_audit::{Verdict, audit, is_ascending};
-use bw_run::{Act, Row, do_act};
 use bw_keys::{Key, Pid};
+use bw_run::{Act, Row, do_act};
 use bw_step::{Look, Receipt, Step};
 use bw_test_kit::{Ended, Hook, Hooked, LARGE, Pages, Play, Turns, Worked, play_on_new_tree};
 use bw_tree::{Denied, Share, Shared};

@@ -60,11 +60,7 @@ struct Kept {
     missing: Option<MissingShare>,
 }
 
-fn keep<I: MadeBy, D: Ledger>(
-    machine: Global,
-    config: Config,
-    blanks: Blanks,
-) -> Result<Kept, Fail>
+fn keep<I: MadeBy, D: Ledger>(machine: Global, config: Config, blanks: Blanks) -> Result<Kept, Fail>
     requires insertions { Opens I.name I.parts blanks.insertions }
     requires removals { Opens D.name D.parts blanks.removals }
     requires config { I.config ≡ config }
