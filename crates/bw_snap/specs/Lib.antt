@@ -1,0 +1,4 @@
+pub mod Proposals
+pub mod Snapshots
+pub mod Fronts
+pub mod Notes
