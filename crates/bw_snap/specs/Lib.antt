@@ -2,3 +2,5 @@ pub mod Proposals
 pub mod Snapshots
 pub mod Fronts
 pub mod Notes
+pub mod Trees
+pub mod Codes
