@@ -6,3 +6,4 @@ pub mod Same
 pub mod Ways
 pub mod Whole
 pub mod Writes
+pub mod Gets

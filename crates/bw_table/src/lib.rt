@@ -8,6 +8,7 @@ mod copy;
 mod fault;
 mod free;
 mod fresh;
+mod get;
 mod install;
 mod slot;
 mod survey;
