@@ -4,3 +4,4 @@ pub mod Fronts
 pub mod Notes
 pub mod Trees
 pub mod Codes
+pub mod Answers

@@ -1,15 +1,17 @@
 //! The reading and the writing end of the published pair, and their steps.
 
-ghost use Rattle.std.specs.Prelude.{◌≡◌, ◌<◌, ◌^◌, ◌++◌, ◌∷◌, [], drop, fold, IfOk, OnOk, OnErr, MatchResult};
+ghost use Rattle.std.specs.Prelude.{◌≡◌, ◌<◌, ◌^◌, ◌++◌, ◌∷◌, [], drop, fold, IfOk, IfSome, OnOk, OnErr, MatchResult};
 ghost use Rattle.bw_law.specs.Tables.{new_table};
 ghost use Rattle.bw_snap.specs.Notes.{noted};
 ghost use Rattle.bw_snap.specs.Snapshots.{IsSnapshot};
+ghost use Rattle.bw_snap.specs.Answers.{IsLookIn};
 
 use crate::front::{Front, Naming};
 use crate::note::Note;
 use crate::shown::{Backed, Sees, Shown};
 use bw_delta::NoMemory;
-use bw_keys::Config;
+use bw_keys::{Config, Key};
+use bw_step::Look;
 use bw_table::Table;
 use core::mem::replace_with;
 use left_right::reader::Reader;
@@ -53,6 +55,28 @@ fn empty(machine: Global, config: Config, front: &Front) -> Result<Shown, NoMemo
         return Err(NoMemory);
     };
     Ok(Shown::new(machine, table, front.again()))
+}
+
+/// What was found, and the front of the table in which it was found.
+#[derive(Drop)]
+pub struct Glance {
+    pub look: Look,
+    pub front: Front,
+}
+
+/// What the published table has at the key; none, where it gave no entry.
+pub fn read<N: Naming>(reader: ReadingEnd<N>, key: Key) -> (ReadingEnd<N>, Option<Glance>)
+    ensures look { IfSome result.1 (λ glance. IsLookIn N.config key glance.front.list glance.look) }
+    ensures book { IfSome result.1 (λ glance. glance.front.book ≡ N.book) }
+{
+    match reader.enter_as::<Sees<N>>() {
+        Ok(reading) => {
+            let look = reading.get().table.look_up(key);
+            let front = reading.get().front.again();
+            (reading.leave(), Some(Glance { look, front }))
+        }
+        Err(reader) => (reader, None),
+    }
 }
 
 /// Puts a note behind what is pending.

@@ -2,10 +2,15 @@
 
 ghost use Rattle.std.specs.Prelude.{◌≡◌, ◌⊎◌, [], IfOk, OnOk, OnErr};
 ghost use Rattle.bw_snap.specs.Snapshots.{BeginsWith};
+ghost use Rattle.bw_snap.specs.Answers.{IsFoundIn, IsLookIn};
 
-use crate::ends::ReadingEnd;
+use crate::ends::{ReadingEnd, read};
+use crate::fault::Closed;
 use crate::front::{Front, Naming};
 use crate::stamp::Stamp;
+use bw_keys::Key;
+use bw_step::Look;
+use core::mem::replace_with;
 use std::marker::Model;
 
 /// Reads the published table, without its lock. Contracts see it as the list of steps that it has
@@ -47,6 +52,34 @@ impl<N: Naming> Reader<N> {
     {
         if stamp.front.goes_on(&self.front) {
             self.front = stamp.front;
+        }
+    }
+
+    /// What the map has at the key after a list of accepted steps, which begins with all that this
+    /// reader has seen and learnt. The list is the reader's from then on.
+    pub fn get(&mut self, key: Key) -> Result<Option<u64>, Closed>
+        ensures seen { BeginsWith self.new self.old }
+        ensures found { IfOk result (IsFoundIn N.config key self.new) }
+        ensures closed { OnErr result (self.new ≡ self.old) }
+    {
+        match self.look(key) {
+            Ok(look) => Ok(look.found),
+            Err(Closed) => Err(Closed),
+        }
+    }
+
+    /// As `get`, and how many changes of the map that list has.
+    pub fn look(&mut self, key: Key) -> Result<Look, Closed>
+        ensures seen { BeginsWith self.new self.old }
+        ensures look { IfOk result (IsLookIn N.config key self.new) }
+        ensures closed { OnErr result (self.new ≡ self.old) }
+    {
+        match replace_with(&mut self.inner, key, read) {
+            Some(glance) if glance.front.goes_on(&self.front) => {
+                self.front = glance.front;
+                Ok(glance.look)
+            }
+            _ => Err(Closed),
         }
     }
 }

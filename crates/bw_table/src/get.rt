@@ -3,14 +3,14 @@
 ghost use Rattle.std.specs.Prelude.{◌≡◌, true};
 ghost use Rattle.bw_step.specs.Stages.{is_in_row};
 ghost use Rattle.bw_law.specs.Slots.{is_merged};
-ghost use Rattle.bw_law.specs.Tables.{Lawful, slot_at};
+ghost use Rattle.bw_law.specs.Tables.{Lawful, slot_at, number_of};
 ghost use Rattle.bw_table.specs.SlotFacts.{HasSoundChain};
 ghost use Rattle.bw_table.specs.Gets.{IsMapAt, IsLeafSlot, IsUpTo, LeadsOn, next_page, live_child};
 
 use crate::slot::Slot;
 use crate::table::Table;
 use bw_keys::{Fence, Key, Pid};
-use bw_step::Stage;
+use bw_step::{Look, Stage};
 use std::alloc::Allocator;
 
 impl<A: Allocator + Copy> Table<A> {
@@ -19,6 +19,17 @@ impl<A: Allocator + Copy> Table<A> {
         ensures { IsMapAt self.now key result }
     {
         self.leaf_for(key).find(key)
+    }
+
+    /// What the map has at the key, and how many changes of the map there were. It takes no memory.
+    pub fn look_up(&self, key: Key) -> Look
+        ensures found { IsMapAt self.now key result.found }
+        ensures at { result.at ≡ number_of self.now.book }
+    {
+        Look {
+            found: self.get(key),
+            at: self.number(),
+        }
     }
 
     /// The leaf whose range holds the key.
