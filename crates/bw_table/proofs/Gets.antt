@@ -17,15 +17,15 @@ use Rattle.bw_chain.proofs.Lasts.{last_below-bound}
 use Rattle.bw_table.specs.SlotFacts.{HasSoundChain}
 use Rattle.bw_table.specs.Views.{view_of}
 use Rattle.bw_table.specs.Visits.{is_there, live_routes, right_to, down_by, way_on, next_by, IsOnTheWay, IsFound}
-use Rattle.bw_table.specs.Gets.{IsMapAt, IsLeafSlot, IsUpTo, LeadsOn, next_page, live_child, page_of, way_left}
+use Rattle.bw_table.specs.Gets.{IsMapAt, IsUpTo, LeadsOn, next_page, live_child, page_of, way_left}
 use Rattle.bw_table.proofs.LiveRoutes.{dead_is_passed, live_is_last, none_is_live}
 use Rattle.bw_table.proofs.Ways.{IsProper, next_is_proper, found_leaf}
 
 -- the leaf has what the map has
-pub leaf_has : (table : TableValue) (key : ℕ) (slot : SlotValue) (found : Option ℕ) → Lawful table → IsLeafSlot table key slot → found ≡ at key (pairs_in slot) → IsMapAt table key found
-leaf_has table key slot found law leaf is value =
-    let decides = leaf_decides table law leaf.page key value leaf.leaf.in_row leaf.leaf.is_leaf leaf.leaf.spans in
-    let same : found ≡ at key (pairs_in (slot_at table leaf.page)) = is ∙ ap (λ (s : SlotValue). at key (pairs_in s)) leaf.its_slot in
+pub leaf_has : (table : TableValue) (key page : ℕ) (slot : SlotValue) (found : Option ℕ) → Lawful table → IsLeafOf table key page → slot ≡ slot_at table page → found ≡ at key (pairs_in slot) → IsMapAt table key found
+leaf_has table key page slot found law leaf its_slot is value =
+    let decides = leaf_decides table law page key value leaf.in_row leaf.is_leaf leaf.spans in
+    let same : found ≡ at key (pairs_in (slot_at table page)) = is ∙ ap (λ (s : SlotValue). at key (pairs_in s)) its_slot in
     ((λ here. decides.1 (sym same ∙ here)), (λ maps. same ∙ decides.0 maps))
 
 module _ (table : TableValue) (law : Lawful table) (key : ℕ) (is_key : key < key_count) (page : Pid) (on : IsUpTo table key page.0) where

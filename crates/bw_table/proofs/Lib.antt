@@ -7,3 +7,4 @@ pub mod Ways
 pub mod Whole
 pub mod Writes
 pub mod Gets
+pub mod Listings

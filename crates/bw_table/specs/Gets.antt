@@ -19,12 +19,6 @@ pub record IsListing (table : TableValue) (low limit : ℕ) (listed : List (ℕ 
   pub map : IsTheMap table pairs
   pub first : listed ≡ take limit (from low pairs)
 
--- the slot of the leaf whose range holds the key
-pub record IsLeafSlot (table : TableValue) (key : ℕ) (slot : SlotValue) : Type 0 where
-  pub page : ℕ
-  pub leaf : IsLeafOf table key page
-  pub its_slot : slot ≡ slot_at table page
-
 -- a page in a row that begins at or below the key
 pub record IsUpTo (table : TableValue) (key page : ℕ) : Type 0 where
   pub in_row : is_in_row (slot_at table page).stage ≡ true

@@ -2,10 +2,11 @@
 
 ghost use Rattle.std.specs.Prelude.{◌≡◌, true};
 ghost use Rattle.bw_step.specs.Stages.{is_in_row};
+ghost use Rattle.bw_law.specs.Laws.{IsLeafOf};
 ghost use Rattle.bw_law.specs.Slots.{is_merged};
 ghost use Rattle.bw_law.specs.Tables.{Lawful, slot_at, number_of};
 ghost use Rattle.bw_table.specs.SlotFacts.{HasSoundChain};
-ghost use Rattle.bw_table.specs.Gets.{IsMapAt, IsLeafSlot, IsUpTo, LeadsOn, next_page, live_child};
+ghost use Rattle.bw_table.specs.Gets.{IsMapAt, IsUpTo, LeadsOn, next_page, live_child};
 
 use crate::slot::Slot;
 use crate::table::Table;
@@ -18,7 +19,7 @@ impl<A: Allocator + Copy> Table<A> {
     pub fn get(&self, key: Key) -> Option<u64>
         ensures { IsMapAt self.now key result }
     {
-        self.leaf_for(key).find(key)
+        self.slot_in_row(self.page_for(key)).find(key)
     }
 
     /// What the map has at the key, and how many changes of the map there were. It takes no memory.
@@ -33,15 +34,15 @@ impl<A: Allocator + Copy> Table<A> {
     }
 
     /// The leaf whose range holds the key.
-    pub(crate) fn leaf_for(&self, key: Key) -> &Slot<A>
+    pub(crate) fn page_for(&self, key: Key) -> Pid
         ensures lawful { Lawful self.now }
-        ensures leaf { IsLeafSlot self.now key result.now }
+        ensures leaf { IsLeafOf self.now key result.0 }
     {
         let mut page = Pid(self.root);
         'walk: while let Some(next) = self.onward(page, key) {
             page = next;
         }
-        self.slot_in_row(page)
+        page
     }
 
     /// The next page of a search for the key; none after the leaf.
@@ -93,7 +94,7 @@ impl<A: Allocator + Copy> Table<A> {
     }
 
     /// The slot of a page in a row.
-    fn slot_in_row(&self, page: Pid) -> &Slot<A>
+    pub(crate) fn slot_in_row(&self, page: Pid) -> &Slot<A>
         requires { is_in_row (slot_at self.now page.0).stage ≡ true }
         ensures lawful { Lawful self.now }
         ensures there { result.now ≡ slot_at self.now page.0 }

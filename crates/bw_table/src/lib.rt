@@ -10,6 +10,7 @@ mod free;
 mod fresh;
 mod get;
 mod install;
+mod listing;
 mod slot;
 mod survey;
 mod table;
