@@ -2,9 +2,10 @@
 
 ghost use Rattle.std.specs.Prelude.{◌≡◌, ◌<◌, ◌^◌, ◌++◌, ◌∷◌, [], drop, fold, IfOk, IfSome, OnOk, OnErr, MatchResult};
 ghost use Rattle.bw_law.specs.Tables.{new_table};
+ghost use Rattle.bw_table.specs.Gets.{IsListing};
 ghost use Rattle.bw_snap.specs.Notes.{noted};
 ghost use Rattle.bw_snap.specs.Snapshots.{IsSnapshot};
-ghost use Rattle.bw_snap.specs.Answers.{IsLookIn};
+ghost use Rattle.bw_snap.specs.Answers.{IsLookIn, IsListedIn};
 
 use crate::front::{Front, Naming};
 use crate::note::Note;
@@ -74,6 +75,43 @@ pub fn read<N: Naming>(reader: ReadingEnd<N>, key: Key) -> (ReadingEnd<N>, Optio
             let look = reading.get().table.look_up(key);
             let front = reading.get().front.again();
             (reading.leave(), Some(Glance { look, front }))
+        }
+        Err(reader) => (reader, None),
+    }
+}
+
+/// The pairs that were found, and the front of the table in which they were found.
+#[derive(Drop)]
+pub struct Scan {
+    pub pairs: Vec<(Key, u64)>,
+    pub front: Front,
+}
+
+/// The table's first pairs from the key on, and its front.
+fn scan_of(shown: &Shown, low: Key, limit: usize) -> Result<Scan, NoMemory>
+    ensures pairs { IfOk result (λ scan. IsListing shown.now.table low limit scan.pairs.items) }
+    ensures front { IfOk result (λ scan. scan.front ≡ shown.now.front) }
+{
+    let mut pairs = Vec::new(shown.machine);
+    shown.table.list_from(low, limit, &mut pairs)?;
+    Ok(Scan {
+        pairs,
+        front: shown.front.again(),
+    })
+}
+
+/// The first pairs that the published table has from the key on; none, where it gave no entry.
+pub fn read_pairs<N: Naming>(
+    reader: ReadingEnd<N>,
+    part: (Key, usize),
+) -> (ReadingEnd<N>, Option<Result<Scan, NoMemory>>)
+    ensures pairs { IfSome result.1 (λ read. IfOk read (λ scan. IsListedIn N.config part.0 part.1 scan.front.list scan.pairs.items)) }
+    ensures book { IfSome result.1 (λ read. IfOk read (λ scan. scan.front.book ≡ N.book)) }
+{
+    match reader.enter_as::<Sees<N>>() {
+        Ok(reading) => {
+            let scan = scan_of(reading.get(), part.0, part.1);
+            (reading.leave(), Some(scan))
         }
         Err(reader) => (reader, None),
     }

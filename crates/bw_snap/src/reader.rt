@@ -2,12 +2,13 @@
 
 ghost use Rattle.std.specs.Prelude.{◌≡◌, ◌⊎◌, [], IfOk, OnOk, OnErr};
 ghost use Rattle.bw_snap.specs.Snapshots.{BeginsWith};
-ghost use Rattle.bw_snap.specs.Answers.{IsFoundIn, IsLookIn};
+ghost use Rattle.bw_snap.specs.Answers.{IsFoundIn, IsLookIn, IsListedIn};
 
-use crate::ends::{ReadingEnd, read};
-use crate::fault::Closed;
+use crate::ends::{ReadingEnd, read, read_pairs};
+use crate::fault::{Closed, ScanFault};
 use crate::front::{Front, Naming};
 use crate::stamp::Stamp;
+use bw_delta::NoMemory;
 use bw_keys::Key;
 use bw_step::Look;
 use core::mem::replace_with;
@@ -80,6 +81,30 @@ impl<N: Naming> Reader<N> {
                 Ok(glance.look)
             }
             _ => Err(Closed),
+        }
+    }
+
+    /// Makes the list the first pairs of the map from the key on, in the order of their keys and no
+    /// more than the limit, after such a list of steps. After a fault it is as before, and so is the
+    /// reader.
+    pub fn scan(
+        &mut self,
+        low: Key,
+        limit: usize,
+        out: &mut Vec<(Key, u64)>,
+    ) -> Result<(), ScanFault>
+        ensures seen { BeginsWith self.new self.old }
+        ensures pairs { OnOk result (IsListedIn N.config low limit self.new out.new.items) }
+        ensures fault { OnErr result ((self.new ≡ self.old) × (out.new ≡ out.old)) }
+    {
+        match replace_with(&mut self.inner, (low, limit), read_pairs) {
+            Some(Ok(scan)) if scan.front.goes_on(&self.front) => {
+                self.front = scan.front;
+                *out = scan.pairs;
+                Ok(())
+            }
+            Some(Err(NoMemory)) => Err(ScanFault::NoMemory),
+            _ => Err(ScanFault::Closed),
         }
     }
 }

@@ -18,7 +18,7 @@ use std::marker::PhantomData;
 pub struct Shown {
     pub table: Table<Global>,
     pub front: Front,
-    machine: Global,
+    pub machine: Global,
 }
 
 impl Shown {
