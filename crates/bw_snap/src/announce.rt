@@ -32,8 +32,11 @@ impl Front {
             return false;
         }
         let mut seen = self.seen.again();
-        let mut offer: Offer<List, u64, Rising, Nothing> = seen
-            .plain::<Nothing, WritingEnd<N>, Add>(writer);
+        let mut offer: Offer<List, u64, Rising, Nothing> = seen.plain::<
+            Nothing,
+            WritingEnd<N>,
+            Add,
+        >(writer);
         let mut pen = seen.no_pen();
         let found = head
             .word

@@ -69,11 +69,7 @@ fn learn_all<N: Naming>(reader: &mut Reader<N>, stamps: &mut Vec<Stamp<N>>) {
 }
 
 /// Whether the reader answers as the act tells.
-fn answers<N: Naming>(
-    machine: Global,
-    reader: &mut Reader<N>,
-    act: Act<'_>,
-) -> Result<bool, Fail> {
+fn answers<N: Naming>(machine: Global, reader: &mut Reader<N>, act: Act<'_>) -> Result<bool, Fail> {
     Ok(match act {
         Act::Get(key, found) => reader.get(key)? == found,
         Act::Look(key, look) => reader.look(key)? == look,

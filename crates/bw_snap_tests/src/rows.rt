@@ -124,9 +124,5 @@ fn a_hand_leaves_the_same_leaves_on_a_tree_with_readers(rt: HostRuntime) -> Resu
         "0 5 2\n5 top 3\ninserted 7 removed 2 pairs 5\n",
     )?;
     let stays = [Act::PutAll(1, 5), Act::Delete(1), Act::Delete(2)];
-    expect(
-        rt,
-        &stays,
-        "0 3 0\n3 top 3\ninserted 5 removed 2 pairs 3\n",
-    )
+    expect(rt, &stays, "0 3 0\n3 top 3\ninserted 5 removed 2 pairs 3\n")
 }

@@ -88,9 +88,9 @@ module _ (pairs old : List (ℕ × ℕ)) (low limit : ℕ) (rising : rises 0 key
       bound = key + 1;
       left = after_is;
       same =
-      so_far.same ∙ ap (λ (es : List (ℕ × ℕ)). take limit (list ++ es)) (rest_is key value is)
-      ∙ ap (take limit) (sym (append_assoc list ((key, value) ∷ []) (from (key + 1) pairs)))
-      ∙ ap (λ (es : List (ℕ × ℕ)). take limit (es ++ from (key + 1) pairs)) (sym longer_is);
+          so_far.same ∙ ap (λ (es : List (ℕ × ℕ)). take limit (list ++ es)) (rest_is key value is)
+          ∙ ap (take limit) (sym (append_assoc list ((key, value) ∷ []) (from (key + 1) pairs)))
+          ∙ ap (λ (es : List (ℕ × ℕ)). take limit (es ++ from (key + 1) pairs)) (sym longer_is);
       few = omega (arith, ap length longer_is, length-append list ((key, value) ∷ []));
     }
 
@@ -237,9 +237,9 @@ module _ (table : TableValue) (law : Lawful table) (low limit : ℕ) where
           pairs = joined_pairs table.slots row;
           map = map_law table law row so_far.is_row;
           first =
-          up_to.is ∙ sym (take-append-le limit up_to.listed (pairs_from table.slots low so_far.rest) many)
-          ∙ ap (λ (l : List (ℕ × ℕ)). take limit (l ++ pairs_from table.slots low so_far.rest)) so_far.listed_is
-          ∙ ap (take limit) (sym (pairs_from-append table.slots low so_far.before so_far.rest));
+              up_to.is ∙ sym (take-append-le limit up_to.listed (pairs_from table.slots low so_far.rest) many)
+              ∙ ap (λ (l : List (ℕ × ℕ)). take limit (l ++ pairs_from table.slots low so_far.rest)) so_far.listed_is
+              ∙ ap (take limit) (sym (pairs_from-append table.slots low so_far.before so_far.rest));
         }
 
     pub listing_is_whole : next ≡ None → IsListing table low limit list
