@@ -1,5 +1,6 @@
 //! The tree under a task's operations, by a worker that has it for itself, or by workers that share it.
 
+ghost use Rattle.std.specs.Prelude.{◌≡◌};
 ghost use Rattle.bw_tree.specs.Shares.{Opens};
 
 use crate::Stop;
@@ -9,7 +10,7 @@ use crate::work::{fill, work};
 use bw_keys::Config;
 use bw_step::Step;
 use bw_table::Table;
-use bw_tree::{Blanks, Share, Shared, Tree};
+use bw_tree::{Blanks, MadeBy, Share, Shared, Tree};
 use bw_work::{Alone, Hand, Open};
 use std::alloc::Global;
 use std::marker::Brand;
@@ -79,19 +80,17 @@ pub(crate) struct Timed {
 
 /// The configuration for the greatest number of keys that there is room for. Short chains suit it, as
 /// each record is a piece of memory of its own, which gets have to pass.
-fn config() -> Config {
-    Config {
-        fanout: 64,
-        chain: 2,
-        pages: 65_536,
-        tries: 1000,
-        first_version: 0,
-    }
-}
+const CONFIG: Config = Config {
+    fanout: 64,
+    chain: 2,
+    pages: 65_536,
+    tries: 1000,
+    first_version: 0,
+};
 
 fn run_alone(rt: &impl Clock, alloc: Global, task: &Task) -> Result<Timed, Stop> {
     let order = task.order(alloc)?;
-    let mut table = Table::new(alloc, alloc, config())?;
+    let mut table = Table::new(alloc, alloc, CONFIG)?;
     let mut filling = Alone::new(alloc, alloc, &mut table);
     fill(&mut filling, task, order.as_slice())?;
     drop(filling);
@@ -108,19 +107,20 @@ fn run_shared<R: Clock + Threads + Wait + Sync + Send + Copy>(
     task: &Task,
 ) -> Result<Timed, Stop> {
     let blanks = Blanks::new(task.workers);
-    shared::<Brand, Brand, R>(rt, alloc, task, blanks)
+    shared::<Brand, Brand, R>(rt, alloc, task, CONFIG, blanks)
 }
 
 fn shared<
-    I: Ledger + Send + Sync,
+    I: MadeBy + Send + Sync,
     D: Ledger + Send + Sync,
     R: Clock + Threads + Wait + Sync + Send + Copy,
->(rt: R, alloc: Global, task: &Task, blanks: Blanks) -> Result<Timed, Stop>
+>(rt: R, alloc: Global, task: &Task, config: Config, blanks: Blanks) -> Result<Timed, Stop>
     requires insertions { Opens I.name I.parts blanks.insertions }
     requires removals { Opens D.name D.parts blanks.removals }
+    requires config { I.config ≡ config }
 {
     let order = task.order(alloc)?;
-    let (tree, mut shares) = Tree::<R, Global, I, D>::new(rt, alloc, alloc, config(), blanks)?;
+    let (tree, mut shares) = Tree::<R, Global, I, D>::new(rt, alloc, alloc, config, blanks)?;
     let first = shares.pop().ok_or(Stop::Wrong)?;
     let mut filling = Hand::new(alloc, alloc, &tree, first, 0, &Open);
     fill(&mut filling, task, order.as_slice())?;
@@ -136,7 +136,7 @@ fn shared<
 
 /// Each worker in a thread of its own.
 fn work_together<
-    I: Ledger + Send + Sync,
+    I: MadeBy + Send + Sync,
     D: Ledger + Send + Sync,
     R: Threads + Wait + Sync + Send + Copy,
 >(

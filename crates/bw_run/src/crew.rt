@@ -6,7 +6,7 @@ ghost use Rattle.bw_run.specs.declared.fault.RunFault.TheVariants as fault;
 use crate::fault::RunFault;
 use crate::job::{Job, Worked, work};
 use bw_texts::Act;
-use bw_tree::Tree;
+use bw_tree::{MadeBy, Tree};
 use bw_work::Gate;
 use std::alloc::Global;
 use std::snapshot::Snapshot;
@@ -29,7 +29,7 @@ impl<I: Ledger, D: Ledger> Promise<Worked<I, D>> for WorkOn {
 /// the jobs. Where a thread can't be started, those that were do their jobs to the end, and all is
 /// given up.
 pub(crate) fn work_all<
-    I: Ledger + Send + Sync,
+    I: MadeBy + Send + Sync,
     D: Ledger + Send + Sync,
     R: Threads + Wait + Sync + Send + Copy,
     G: Gate + Sync,

@@ -24,7 +24,7 @@ use bw_keys::{Config, MAX_WORKERS};
 use bw_step::Receipt;
 use bw_table::Table;
 use bw_texts::Row;
-use bw_tree::{Blanks, NewFault, Tree};
+use bw_tree::{Blanks, MadeBy, Tree};
 use bw_work::Gate;
 use std::alloc::Global;
 use std::marker::Brand;
@@ -62,6 +62,7 @@ pub fn run<R: Threads + Wait + Sync + Send + Copy, G: Gate + Sync>(
     ensures trails { IfOk result (λ finished. length finished.trails.items ≡ workers) }
     ensures told { IfOk result (λ finished. (worker : ℕ) → worker < workers → map Some (tellings (slice_index_or (map (λ trail. trail.items) finished.trails.items) worker [])) ≡ told_to worker rows.now finished.replies.items) }
     ensures tree { IfOk result (λ finished. IsTree finished.table) }
+    ensures config { IfOk result (λ finished. finished.table.config ≡ config) }
     ensures legal { IfOk result (λ finished. (pairs : List (ℕ × ℕ)) → ArePairsOf finished.table pairs → IsLegal (map (λ trail. trail.items) finished.trails.items) pairs) }
     ensures count { IfOk result (λ finished. (pairs : List (ℕ × ℕ)) → ArePairsOf finished.table pairs → CountsChanges (map (λ trail. trail.items) finished.trails.items) pairs) }
     ensures fine { IsOk result → MayRun config workers readers }
@@ -98,7 +99,7 @@ fn check(config: Config, workers: u32, readers: u32) -> Result<(), RunFault>
 
 /// A run over a tree with these blank ledgers.
 fn run_over<
-    I: Ledger + Send + Sync,
+    I: MadeBy + Send + Sync,
     D: Ledger + Send + Sync,
     R: Threads + Wait + Sync + Send + Copy,
     G: Gate + Sync,
@@ -113,10 +114,12 @@ fn run_over<
 ) -> Result<Finished, RunFault>
     requires insertions { Opens I.name I.parts blanks.insertions }
     requires removals { Opens D.name D.parts blanks.removals }
+    requires config { I.config ≡ config }
     requires parts { blanks.workers ≡ workers }
     requires made { MayBeMade config workers }
     requires workers { AllByRecursion (λ row. row.worker < workers) rows.now }
     ensures finished { IfOk result (λ finished. IsRunOf workers rows.now finished.table finished.replies.items (map (λ trail. trail.items) finished.trails.items)) }
+    ensures config { IfOk result (λ finished. finished.table.config ≡ config) }
     ensures fault { IfErr result (IsRunFault config workers 0 rows.now) }
 {
     let Ok((tree, shares)) = Tree::<R, Global, I, D>::new(rt, machine, machine, config, blanks)

@@ -1,19 +1,23 @@
-//! A tree that puts other pairs than it tells, and what an audit says of its workers.
+//! A tree that puts other pairs than it tells, or tells other values than it has, and what an audit says
+//! of its workers.
 
 use crate::rows::{Puts, row, trace_of};
 use bw_audit::{Verdict, audit, is_ascending};
+use bw_keys::{Key, Pid};
 use bw_run::{Act, Row, do_act};
-use bw_step::{Receipt, Step};
+use bw_step::{Look, Receipt, Step};
 use bw_test_kit::{Ended, Hook, Hooked, LARGE, Pages, Play, Turns, Worked, play_on_new_tree};
 use bw_tree::{Denied, Share, Shared};
 use bw_work::{Hand, Open, Steps};
 use std::alloc::Global;
 use std::test::Fail;
 
-/// Raises each value on its way in, and tells of the one that was to be put.
-#[derive(Drop)]
+/// Raises each value that is put, and tells of the one that was to be put; and each value that a look
+/// finds.
+#[derive(Clone, Copy)]
 struct Raise {
-    by: u64,
+    put: u64,
+    found: u64,
 }
 
 impl<S: Shared<Global, Step<Global>>> Hook<S> for Raise {
@@ -37,13 +41,21 @@ impl<S: Shared<Global, Step<Global>>> Hook<S> for Raise {
             page,
             seen,
             key,
-            value: value.wrapping_add(self.by),
+            value: value.wrapping_add(self.put),
             spare,
         };
         match tree.install(share, altered)? {
             Receipt::Inserted { number, key, .. } => Ok(Receipt::Inserted { number, key, value }),
             receipt => Ok(receipt),
         }
+    }
+
+    fn look(&self, tree: &S, pid: Pid, key: Key) -> Option<Look> {
+        let Look { found, at } = tree.look(pid, key)?;
+        Some(Look {
+            found: found.map(|value| value.wrapping_add(self.found)),
+            at,
+        })
     }
 }
 
@@ -114,16 +126,20 @@ const MANY: [Puts; 2] = [
     },
 ];
 
-/// Puts and rows, by how much each value is raised, and the verdict.
-type Case = (&'static [Puts], &'static [Row], u64, Verdict);
+const AS_IT_IS: Raise = Raise { put: 0, found: 0 };
 
-static CASES: [Case; 4] = [
-    (&[], &ENDS, 0, Verdict::Yes),
+/// Puts and rows, by how much values are raised, and the verdict.
+type Case = (&'static [Puts], &'static [Row], Raise, Verdict);
+
+static CASES: [Case; 5] = [
+    (&[], &ENDS, AS_IT_IS, Verdict::Yes),
     // the look that finds 8 where 7 was put
-    (&[], &ENDS, 1, Verdict::No(0, 2)),
-    (&MANY, &[], 0, Verdict::Yes),
+    (&[], &ENDS, Raise { put: 1, found: 0 }, Verdict::No(0, 2)),
+    // the look that tells 8 where it finds 7
+    (&[], &ENDS, Raise { put: 0, found: 1 }, Verdict::No(0, 2)),
+    (&MANY, &[], AS_IT_IS, Verdict::Yes),
     // the pairs, which no look saw
-    (&MANY, &[], 1, Verdict::No(2, 0)),
+    (&MANY, &[], Raise { put: 1, found: 0 }, Verdict::No(2, 0)),
 ];
 
 /// The verdict on the workers' trails and the pairs that are left. None where a worker didn't do all its
@@ -141,11 +157,11 @@ fn verdict_on(machine: Global, ended: Ended<Trail>) -> Result<Option<Verdict>, F
 #[test]
 fn other_pairs_than_were_told_are_no_legal_history(rt: HostRuntime) -> Result<(), Fail> {
     let machine = rt.alloc();
-    for (puts, rows, by, wanted) in CASES.iter() {
+    for (puts, rows, raise, wanted) in CASES.iter() {
         let play = Altered {
             machine,
             rows: trace_of(machine, puts, rows)?,
-            raise: Raise { by: *by },
+            raise: *raise,
         };
         let ended = play_on_new_tree(rt, machine, LARGE, Turns::OneByOne, &play)?;
         assert_eq!(rt; verdict_on(machine, ended)?, Some(*wanted));

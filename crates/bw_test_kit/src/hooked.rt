@@ -5,7 +5,7 @@ use bw_table::CopyFault;
 use bw_tree::{Denied, Share, Shared};
 use std::alloc::Global;
 
-/// What comes between a worker that proposes a step and the tree.
+/// What comes between a worker that takes a step or looks, and the tree.
 pub trait Hook<S: Shared<Global, Step<Global>>> {
     ghost use Rattle.std.specs.Prelude.{◌≡◌, IfOk, MatchResult};
     ghost use Rattle.bw_step.specs.ProposalView.{proposal_of};
@@ -21,6 +21,11 @@ pub trait Hook<S: Shared<Global, Step<Global>>> {
     ) -> Result<Receipt, Denied>
         ensures share { MatchResult result (λ receipt. share.new ≡ counted share.old receipt) (λ _. share.new ≡ share.old) }
         ensures receipt { IfOk result (IsReceiptOf (proposal_of step)) };
+
+    /// Looks at the tree.
+    fn look(&self, tree: &S, pid: Pid, key: Key) -> Option<Look> {
+        tree.look(pid, key)
+    }
 }
 
 /// A shared tree, with a hook before it.
@@ -55,7 +60,7 @@ impl<'t, S: Shared<Global, Step<Global>>, H: Hook<S>> Shared<Global, Step<Global
     }
 
     fn look(&self, pid: Pid, key: Key) -> Option<Look> {
-        self.tree.look(pid, key)
+        self.hook.look(self.tree, pid, key)
     }
 
     fn copy_page(

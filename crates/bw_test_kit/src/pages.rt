@@ -2,7 +2,7 @@ use bw_delta::Chain;
 use bw_keys::{Key, Pid, Version};
 use bw_step::{Go, Place, Step, View};
 use bw_table::{CopyFault, Table};
-use bw_tree::{Shared, Tree};
+use bw_tree::{MadeBy, Shared, Tree};
 use std::alloc::{Allocator, Global};
 use std::sync::Wait;
 use std::sync::ledger::Ledger;
@@ -43,7 +43,7 @@ impl<A: Allocator + Copy> Pages<A> for Table<A> {
     }
 }
 
-impl<R: Wait + Drop, I: Ledger, D: Ledger> Pages<Global> for Tree<R, Global, I, D> {
+impl<R: Wait + Drop, I: MadeBy, D: Ledger> Pages<Global> for Tree<R, Global, I, D> {
     fn top(&self) -> Place {
         self.root()
     }

@@ -1,12 +1,13 @@
 //! A tree for two workers, from its making to its end.
 
+ghost use Rattle.std.specs.Prelude.{◌≡◌};
 ghost use Rattle.bw_tree.specs.Shares.{Opens};
 
 use crate::pages::Pages;
 use bw_keys::Config;
 use bw_step::Step;
 use bw_table::Table;
-use bw_tree::{Blanks, Share, Shared, Tree};
+use bw_tree::{Blanks, MadeBy, Share, Shared, Tree};
 use std::alloc::Global;
 use std::marker::Brand;
 use std::sync::Wait;
@@ -72,7 +73,7 @@ struct Both<I: Ledger, D: Ledger, T> {
 
 /// Lets the workers do their work.
 fn work_both<
-    I: Ledger + Send + Sync,
+    I: MadeBy + Send + Sync,
     D: Ledger + Send + Sync,
     R: Threads + Wait + Sync + Send + Copy,
     T: Drop + Send,
@@ -102,7 +103,7 @@ fn work_both<
 }
 
 fn play_over<
-    I: Ledger + Send + Sync,
+    I: MadeBy + Send + Sync,
     D: Ledger + Send + Sync,
     R: Threads + Wait + Sync + Send + Copy,
     T: Drop + Send,
@@ -117,6 +118,7 @@ fn play_over<
 ) -> Result<Ended<T>, NoTree>
     requires insertions { Opens I.name I.parts blanks.insertions }
     requires removals { Opens D.name D.parts blanks.removals }
+    requires config { I.config ≡ config }
 {
     let Ok((tree, mut shares)) = Tree::<R, Global, I, D>::new(rt, machine, machine, config, blanks)
     else {

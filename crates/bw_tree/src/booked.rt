@@ -11,6 +11,7 @@ ghost use Rattle.bw_step.specs.Steps.{IsReceiptOf};
 ghost use Rattle.bw_tree.specs.Trees.{IsTree, IsBookOf, CountsPairs, IsNewFault, MayBeMade, is_bad_number};
 
 use crate::fault::{MissingShare, NewFault};
+use crate::made_by::MadeBy;
 use crate::share::{Blanks, Share, audit};
 use bw_keys::{Config, MAX_WORKERS};
 use bw_step::{Receipt, Refused, Step};
@@ -21,14 +22,14 @@ use std::sync::ledger::{Book, Ledger};
 
 /// A table and the two ledgers that its book is the total of. Contracts see it as the table.
 #[derive(Drop)]
-pub struct Booked<A: Allocator + Copy, I: Ledger, D: Ledger> {
+pub struct Booked<A: Allocator + Copy, I: MadeBy, D: Ledger> {
     table: Table<A>,
     workers: u32,
     insertions: Book<I>,
     removals: Book<D>,
 }
 
-impl<A: Allocator + Copy, I: Ledger, D: Ledger> Model for Booked<A, I, D> {
+impl<A: Allocator + Copy, I: MadeBy, D: Ledger> Model for Booked<A, I, D> {
     ghost use Rattle.std.specs.Prelude.{◌≡◌, ◌<◌};
     ghost use Rattle.bw_law.specs.Tables.{TableValue};
     ghost use Rattle.bw_table.specs.Codes.{table_code};
@@ -41,10 +42,10 @@ impl<A: Allocator + Copy, I: Ledger, D: Ledger> Model for Booked<A, I, D> {
 
     ghost view = { λ b. b.table };
 
-    ghost invariant = { λ b. IsBookOf b.table b.insertions.total b.removals.total × (b.workers ≡ I.parts) × (b.workers ≡ D.parts) × (0 < b.workers) };
+    ghost invariant = { λ b. IsBookOf b.table b.insertions.total b.removals.total × (b.table.config ≡ I.config) × (b.workers ≡ I.parts) × (b.workers ≡ D.parts) × (0 < b.workers) };
 }
 
-impl<A: Allocator + Copy, I: Ledger, D: Ledger> Booked<A, I, D> {
+impl<A: Allocator + Copy, I: MadeBy, D: Ledger> Booked<A, I, D> {
     /// A table without pairs, and a share of nothing for each worker that the blank ledgers were
     /// made for, 1 to `MAX_WORKERS`. The chains will lie in `alloc`, all else in the machine's
     /// memory.
@@ -56,6 +57,7 @@ impl<A: Allocator + Copy, I: Ledger, D: Ledger> Booked<A, I, D> {
     ) -> Result<(Booked<A, I, D>, Vec<Share<I, D>>), NewFault>
         requires insertions { Opens I.name I.parts blanks.insertions }
         requires removals { Opens D.name D.parts blanks.removals }
+        requires config { I.config ≡ config }
         ensures table { IfOk result (λ made. made.0 ≡ new_table config) }
         ensures count { IfOk result (λ made. length made.1.items ≡ blanks.workers) }
         ensures shares { IfOk result (λ made. All (λ share. share ≡ no_changes) made.1.items) }
@@ -82,6 +84,7 @@ impl<A: Allocator + Copy, I: Ledger, D: Ledger> Booked<A, I, D> {
         requires removals { Opens D.name D.parts blanks.removals }
         requires some { 0 < blanks.workers }
         requires book { IsBookOf table 0 0 }
+        requires config { table.config ≡ I.config }
         requires room { (shares.items ≡ []) × (blanks.workers ≤ vec_capacity shares) }
         ensures table { result.0 ≡ table }
         ensures count { length result.1.items ≡ blanks.workers }
@@ -140,6 +143,7 @@ impl<A: Allocator + Copy, I: Ledger, D: Ledger> Booked<A, I, D> {
     #[tactic(auto, using(crate::proofs::Trees::book_is))]
     pub fn close(self, shares: Vec<Share<I, D>>) -> Result<Table<A>, MissingShare>
         ensures table { IfOk result (λ table. table ≡ self) }
+        ensures config { IfOk result (λ table. table.config ≡ I.config) }
         ensures tree { IfOk result IsTree }
         ensures book { IfOk result (λ table. table.book ≡ sum_of shares.items) }
         ensures pairs { IfOk result (λ table. CountsPairs table (sum_of shares.items)) }

@@ -4,6 +4,7 @@
 
 mod booked;
 mod fault;
+mod made_by;
 mod share;
 mod shared;
 mod tree;
@@ -11,6 +12,7 @@ mod tree;
 pub use booked::Booked;
 pub use bw_step::{Denied, Proposes};
 pub use fault::{MissingShare, NewFault};
+pub use made_by::MadeBy;
 pub use share::{Blanks, Share};
 pub use shared::Shared;
 pub use tree::Tree;

@@ -8,6 +8,7 @@ ghost use Rattle.bw_tree.specs.Trees.{IsTree, CountsPairs, IsNewFault, MayBeMade
 
 use crate::booked::Booked;
 use crate::fault::{MissingShare, NewFault};
+use crate::made_by::MadeBy;
 use crate::share::{Blanks, Share};
 use crate::shared::Shared;
 use bw_delta::Chain;
@@ -22,13 +23,13 @@ use std::sync::{Mutex, Wait};
 /// of the shares, whatever steps others proposed. The runtime value is kept with the lock, so that
 /// code over any shared tree needs none.
 #[derive(Drop)]
-pub struct Tree<R: Wait + Drop, A: Allocator + Copy, I: Ledger, D: Ledger> {
+pub struct Tree<R: Wait + Drop, A: Allocator + Copy, I: MadeBy, D: Ledger> {
     rt: R,
     config: Config,
     booked: Mutex<Booked<A, I, D>>,
 }
 
-impl<R: Wait + Drop, A: Allocator + Copy, I: Ledger, D: Ledger> Tree<R, A, I, D> {
+impl<R: Wait + Drop, A: Allocator + Copy, I: MadeBy, D: Ledger> Tree<R, A, I, D> {
     /// A tree without pairs, and the workers' shares, as `Booked::new` makes them.
     pub fn new(
         rt: R,
@@ -39,6 +40,7 @@ impl<R: Wait + Drop, A: Allocator + Copy, I: Ledger, D: Ledger> Tree<R, A, I, D>
     ) -> Result<(Tree<R, A, I, D>, Vec<Share<I, D>>), NewFault>
         requires insertions { Opens I.name I.parts blanks.insertions }
         requires removals { Opens D.name D.parts blanks.removals }
+        requires config { I.config ≡ config }
         ensures config { IfOk result (λ made. made.0.config ≡ config) }
         ensures count { IfOk result (λ made. length made.1.items ≡ blanks.workers) }
         ensures shares { IfOk result (λ made. All (λ share. share ≡ no_changes) made.1.items) }
@@ -56,6 +58,7 @@ impl<R: Wait + Drop, A: Allocator + Copy, I: Ledger, D: Ledger> Tree<R, A, I, D>
 
     /// Gives the table out, as `Booked::close` does.
     pub fn close(self, shares: Vec<Share<I, D>>) -> Result<Table<A>, MissingShare>
+        ensures config { IfOk result (λ table. table.config ≡ I.config) }
         ensures tree { IfOk result IsTree }
         ensures book { IfOk result (λ table. table.book ≡ sum_of shares.items) }
         ensures pairs { IfOk result (λ table. CountsPairs table (sum_of shares.items)) }
@@ -67,7 +70,7 @@ impl<R: Wait + Drop, A: Allocator + Copy, I: Ledger, D: Ledger> Tree<R, A, I, D>
     }
 }
 
-impl<R: Wait + Drop, A: Allocator + Copy, I: Ledger, D: Ledger> Shared<A, Step<A>>
+impl<R: Wait + Drop, A: Allocator + Copy, I: MadeBy, D: Ledger> Shared<A, Step<A>>
     for Tree<R, A, I, D> {
     type Insertions = I;
 

@@ -1,24 +1,26 @@
 //! A table with its book: the faults of its maker, the shares that its closing asks for, and the
 //! table that it lends.
 
+ghost use Rattle.std.specs.Prelude.{◌≡◌};
 ghost use Rattle.bw_tree.specs.Shares.{Opens};
 
 use bw_keys::{BadConfig, Config, Fence, Field};
 use bw_step::{Book, Survey};
 use bw_test_kit::{Change, SMALL, leaves_of, step_of};
-use bw_tree::{Blanks, Booked, MissingShare, NewFault};
+use bw_tree::{Blanks, Booked, MadeBy, MissingShare, NewFault};
 use std::alloc::Global;
 use std::marker::Brand;
 use std::sync::ledger::Ledger;
 use std::test::Fail;
 
-fn fault_of<I: Ledger, D: Ledger>(
+fn fault_of<I: MadeBy, D: Ledger>(
     machine: Global,
     config: Config,
     blanks: Blanks,
 ) -> Option<NewFault>
     requires insertions { Opens I.name I.parts blanks.insertions }
     requires removals { Opens D.name D.parts blanks.removals }
+    requires config { I.config ≡ config }
 {
     Booked::<Global, I, D>::new(machine, machine, config, blanks).err()
 }
@@ -58,11 +60,12 @@ struct Kept {
     missing: Option<MissingShare>,
 }
 
-fn keep<I: Ledger, D: Ledger>(machine: Global, blanks: Blanks) -> Result<Kept, Fail>
+fn keep<I: MadeBy, D: Ledger>(machine: Global, config: Config, blanks: Blanks) -> Result<Kept, Fail>
     requires insertions { Opens I.name I.parts blanks.insertions }
     requires removals { Opens D.name D.parts blanks.removals }
+    requires config { I.config ≡ config }
 {
-    let (mut booked, mut shares) = Booked::<Global, I, D>::new(machine, machine, SMALL, blanks)?;
+    let (mut booked, mut shares) = Booked::<Global, I, D>::new(machine, machine, config, blanks)?;
     let mut share = shares.pop().ok_or("there is no share")?;
     for key in 1..3 {
         let step = step_of(machine, booked.table(), Change::Insert(0, key, key))?;
@@ -81,7 +84,7 @@ fn keep<I: Ledger, D: Ledger>(machine: Global, blanks: Blanks) -> Result<Kept, F
 
 #[test]
 fn a_closing_asks_for_each_share(rt: HostRuntime) -> Result<(), Fail> {
-    let kept = keep::<Brand, Brand>(rt.alloc(), Blanks::new(2))?;
+    let kept = keep::<Brand, Brand>(rt.alloc(), SMALL, Blanks::new(2))?;
     assert_eq!(rt; kept.leaves.as_slice(), [(0, Fence::Top, 2)].as_slice());
     assert_eq!(rt; kept.levels, 1);
     assert_eq!(rt; (kept.book.inserted, kept.book.removed), (2, 0));

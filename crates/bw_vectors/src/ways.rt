@@ -1,15 +1,17 @@
 //! The ways in which a trace is run.
 
+ghost use Rattle.std.specs.Prelude.{◌≡◌};
 ghost use Rattle.bw_tree.specs.Shares.{Opens};
 
 use crate::texts::Texts;
 use crate::vector::Vector;
 use anyhow::{Context, Result, ensure};
+use bw_keys::Config;
 use bw_run::{Row, do_act};
 use bw_step::Step;
 use bw_table::Table;
 use bw_trace::{command, read_trace};
-use bw_tree::{Blanks, Tree};
+use bw_tree::{Blanks, MadeBy, Tree};
 use bw_work::{Alone, Hand, Open, Steps};
 use std::alloc::Global;
 use std::fmt;
@@ -51,7 +53,10 @@ impl Way {
     ) -> Result<Texts> {
         match self {
             Way::Alone => run_alone(alloc, vector),
-            Way::Hand => run_by_hand::<Brand, Brand, _>(rt, alloc, Blanks::new(1), vector),
+            Way::Hand => {
+                let config = vector.config()?;
+                run_by_hand::<Brand, Brand, _>(rt, alloc, config, Blanks::new(1), vector)
+            }
             Way::Program => run_by_program(rt, alloc, vector),
         }
     }
@@ -80,23 +85,19 @@ fn run_alone(alloc: Global, vector: &Vector) -> Result<Texts> {
     Texts::new(alloc, replies, trail, &table)
 }
 
-fn run_by_hand<I: Ledger, D: Ledger, R: Wait + Drop>(
+fn run_by_hand<I: MadeBy, D: Ledger, R: Wait + Drop>(
     rt: R,
     alloc: Global,
+    config: Config,
     blanks: Blanks,
     vector: &Vector,
 ) -> Result<Texts>
     requires insertions { Opens I.name I.parts blanks.insertions }
     requires removals { Opens D.name D.parts blanks.removals }
+    requires config { I.config ≡ config }
 {
     let rows = read_trace(alloc, vector.trace.as_bytes(), 1)?;
-    let (tree, mut shares) = Tree::<R, Global, I, D>::new(
-        rt,
-        alloc,
-        alloc,
-        vector.config()?,
-        blanks,
-    )?;
+    let (tree, mut shares) = Tree::<R, Global, I, D>::new(rt, alloc, alloc, config, blanks)?;
     let share = shares.pop().context("there is no share")?;
     let mut hand = Hand::new(alloc, alloc, &tree, share, 0, &Open);
     let replies = work(alloc, &mut hand, &rows)?;

@@ -5,3 +5,6 @@ ghosts-shared-I-Ledger g a = record { name = a.blanks.insertions.name; parts = a
 
 abbrev pub ghosts-shared-D-Ledger : goal.ghosts-shared-D-Ledger
 ghosts-shared-D-Ledger g a = record { name = a.blanks.removals.name; parts = a.blanks.removals.parts }
+
+abbrev pub ghosts-shared-I-MadeBy : goal.ghosts-shared-I-MadeBy
+ghosts-shared-I-MadeBy g a = record { config = a.config }

@@ -5,3 +5,6 @@ ghosts-play_over-I-Ledger g a = record { name = a.blanks.insertions.name; parts 
 
 abbrev pub ghosts-play_over-D-Ledger : goal.ghosts-play_over-D-Ledger
 ghosts-play_over-D-Ledger g a = record { name = a.blanks.removals.name; parts = a.blanks.removals.parts }
+
+abbrev pub ghosts-play_over-I-MadeBy : goal.ghosts-play_over-I-MadeBy
+ghosts-play_over-I-MadeBy g a = record { config = a.config }

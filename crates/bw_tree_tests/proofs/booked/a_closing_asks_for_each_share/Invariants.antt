@@ -5,3 +5,6 @@ ghosts-keep-I-Ledger g a = record { name = a.blanks.insertions.name; parts = a.b
 
 abbrev pub ghosts-keep-D-Ledger : goal.ghosts-keep-D-Ledger
 ghosts-keep-D-Ledger g a = record { name = a.blanks.removals.name; parts = a.blanks.removals.parts }
+
+abbrev pub ghosts-keep-I-MadeBy : goal.ghosts-keep-I-MadeBy
+ghosts-keep-I-MadeBy g a = record { config = a.config }

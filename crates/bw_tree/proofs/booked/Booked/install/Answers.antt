@@ -1,12 +1,12 @@
-use Rattle.std.proofs.Common.{refl, sym}
-use Rattle.bw_tree.proofs.Trees.{book_kept, map_after}
+use Rattle.std.proofs.Common.{refl, sym, ◌∙◌}
+use Rattle.bw_tree.proofs.Trees.{book_kept, map_after, config_kept}
 use Rattle.bw_tree.proofs.booked.Booked.install.Goals as goal
 
 pub invariant_of-self-2 : goal.invariant_of-self-2
 invariant_of-self-2 g c =
     let told = c.in_ok-receipt.ensures in
     let kept = c.self.invariant in
-    (book_kept _ _ _ _ _ _ _ _ kept.0 (told.accepted.0 refl) told.taken c.count.ensures.totals, kept.1, kept.2, kept.3)
+    (book_kept _ _ _ _ _ _ _ _ kept.0 (told.accepted.0 refl) told.taken c.count.ensures.totals, config_kept _ _ _ _ told.taken ∙ kept.1, kept.2, kept.3, kept.4)
 
 pub returns-clause-map : goal.returns-clause-map
 returns-clause-map g c = rw (sym c.self.view_is) (map_after _ _ _ _ c.self.invariant.0 (c.in_ok-receipt.ensures.accepted.0 refl))

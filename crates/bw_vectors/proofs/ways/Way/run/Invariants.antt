@@ -5,3 +5,6 @@ ghosts-run_by_hand-I-Ledger g a = record { name = a.blanks.insertions.name; part
 
 abbrev pub ghosts-run_by_hand-D-Ledger : goal.ghosts-run_by_hand-D-Ledger
 ghosts-run_by_hand-D-Ledger g a = record { name = a.blanks.removals.name; parts = a.blanks.removals.parts }
+
+abbrev pub ghosts-run_by_hand-I-MadeBy : goal.ghosts-run_by_hand-I-MadeBy
+ghosts-run_by_hand-I-MadeBy g a = record { config = a.config }
