@@ -4,7 +4,7 @@ use crate::answer::Answer;
 use crate::line::{Line, Question, Unread};
 use bw_delta::NoMemory;
 use bw_keys::{Config, Key, Pid};
-use bw_step::{Step, Survey, View};
+use bw_step::{Refused, Step, Survey, View};
 use bw_table::{NewFault, Table};
 use std::alloc::Global;
 
@@ -43,15 +43,14 @@ fn refuse(
     alloc: Global,
     table: &mut Table<Global>,
     step: Step<Global>,
+    foretold: Refused,
 ) -> Result<Answer, NoMemory> {
-    let foretold = table.check(&step);
     let before = Picture::of(alloc, table)?;
-    match (foretold, table.install(step)) {
-        (Err(reason), Ok(receipt)) => Ok(Answer::RefusalForetold(reason, receipt)),
-        (_, Ok(receipt)) => Ok(Answer::Accepted(receipt)),
-        (foretold, Err(reason)) if foretold != Err(reason) => Ok(Answer::OtherForetold(reason)),
-        (_, Err(reason)) if Picture::of(alloc, table)?.is(&before) => Ok(Answer::Refused(reason)),
-        (_, Err(reason)) => Ok(Answer::Changed(reason)),
+    match table.install(step) {
+        Ok(receipt) => Ok(Answer::RefusalForetold(foretold, receipt)),
+        Err(reason) if reason != foretold => Ok(Answer::OtherForetold(reason)),
+        Err(reason) if Picture::of(alloc, table)?.is(&before) => Ok(Answer::Refused(reason)),
+        Err(reason) => Ok(Answer::Changed(reason)),
     }
 }
 
@@ -61,12 +60,12 @@ fn propose(
     table: &mut Table<Global>,
     step: Step<Global>,
 ) -> Result<Answer, NoMemory> {
-    if table.check(&step).is_err() {
-        return refuse(alloc, table, step);
-    }
-    match table.install(step) {
-        Ok(receipt) => Ok(Answer::Accepted(receipt)),
-        Err(reason) => Ok(Answer::OtherForetold(reason)),
+    match table.check(&step) {
+        Err(foretold) => refuse(alloc, table, step, foretold),
+        Ok(()) => match table.install(step) {
+            Ok(receipt) => Ok(Answer::Accepted(receipt)),
+            Err(reason) => Ok(Answer::OtherForetold(reason)),
+        },
     }
 }
 
