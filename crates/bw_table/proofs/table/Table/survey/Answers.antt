@@ -1,4 +1,4 @@
-use Rattle.std.proofs.Common.{◌∷◌, [], ◌++◌, map, ap, ◌∙◌}
+use Rattle.std.proofs.Common.{◌∷◌, [], ◌++◌, map, ap, ◌∙◌, rules}
 use Rattle.std.proofs.lemmas.List.{map-append}
 use Rattle.bw_law.specs.Slots.{SlotValue}
 use Rattle.bw_table.specs.Views.{leaf_at, leaf_of}
@@ -28,3 +28,6 @@ leaves-smaller g c =
     let slot = c.page-slot.ensures in
     let here = at_next table slot.lawful (map (leaf_at table.slots)) c.leaves.next page c.leaves.leaves.items c.leaves.invariant c.in-Some.is in
     fewer_keys_left table slot.lawful c.leaves.next c.slot.inside.summary.right page here.in_row c.in-Some.is (ap (λ (s : SlotValue). s.right) (c.slot.view_is ∙ slot.there))
+
+pub returns : goal.returns
+returns g c = search rules
