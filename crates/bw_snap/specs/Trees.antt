@@ -6,8 +6,8 @@ use Rattle.bw_step.specs.Proposals.{Proposal}
 use Rattle.bw_law.specs.Refusals.{refusal}
 use Rattle.bw_law.specs.Tables.{TableValue}
 use Rattle.bw_tree.specs.Trees.{MayBeMade, is_bad_number}
-use Rattle.bw_tree.specs.declared.fault.Denied.{Denied}
-use Rattle.bw_tree.specs.declared.fault.Denied.TheVariants as denials
+use Rattle.bw_step.specs.declared.fault.Denied.{Denied}
+use Rattle.bw_step.specs.declared.fault.Denied.TheVariants as denials
 use Rattle.bw_snap.specs.Snapshots.{LeadTo, IsSnapshot}
 use Rattle.bw_snap.specs.declared.fault.SnapFault.{SnapFault}
 use Rattle.bw_snap.specs.declared.fault.SnapFault.TheVariants.{BadConfig, BadWorkers, BadReaders, NoMemory, NoReader}

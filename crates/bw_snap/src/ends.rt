@@ -34,7 +34,7 @@ pub fn begin<N: Naming>(
     requires some { 0 < readers }
     requires few { readers < 2 ^ 32 }
     requires front { front.now ≡ record { list = []; book = N.book } }
-    requires config { config ≡ N.config }
+    requires config { N.config ≡ config }
     ensures table { IfOk result (λ w. w.desk.shown.value.table ≡ new_table config) }
     ensures front { IfOk result (λ w. w.desk.shown.value.front ≡ front.now) }
     ensures pending { IfOk result (λ w. drop w.behind w.log.items ≡ []) }

@@ -5,6 +5,7 @@ ghost use Rattle.bw_snap.specs.Snapshots.{BeginsWith};
 ghost use Rattle.bw_snap.specs.Fronts.{head_of};
 
 use crate::proposed::List;
+use bw_tree::MadeBy;
 use logbook::{Gain, Play, Rule, Seen, Start, Word};
 use std::marker::{Brand, Model, PhantomData};
 
@@ -47,23 +48,17 @@ impl Play<List, u64> for Add {
     ghost then = { Adds };
 }
 
-/// Names one tree: the book of its announced lists, and what it was made by. The call that begins a
-/// tree's work picks it.
-pub trait Naming {
+/// A ledger of insertions that names a tree with readers: by the configuration that it is made by,
+/// and by the book of its announced lists.
+pub trait Naming: MadeBy {
     ghost use Rattle.logbook.specs.Pages.{Book};
-    ghost use Rattle.bw_keys.specs.declared.config.Config.{Config};
 
+    // the book of the announced lists
     ghost book: { Book };
-
-    ghost config: { Config };
 }
 
 impl Naming for Brand {
-    ghost use Rattle.bw_keys.specs.Limits.{usual_config};
-
     ghost book = { record { number = 0; log_name = 0; cells_name = 0 } };
-
-    ghost config = { usual_config };
 }
 
 /// A book without a list, which names no tree yet.

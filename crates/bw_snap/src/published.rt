@@ -3,10 +3,10 @@
 ghost use Rattle.std.specs.Prelude.{◌≡◌, ◌<◌, ◌++◌, ◌∷◌, ◌↔◌, [], length, All, IsOk, IfOk, IfErr, OnOk, OnErr, MatchResult};
 ghost use Rattle.bw_keys.specs.Limits.{first_bad_field};
 ghost use Rattle.bw_step.specs.ProposalView.{proposal_of};
+ghost use Rattle.bw_step.specs.Steps.{IsReceiptOf};
 ghost use Rattle.bw_law.specs.Effects.{TakesStep};
 ghost use Rattle.bw_law.specs.Tables.{new_table};
 ghost use Rattle.bw_tree.specs.Shares.{no_changes, counted, sum_of, Opens};
-ghost use Rattle.bw_tree.specs.Steps.{IsReceiptOf};
 ghost use Rattle.bw_tree.specs.Trees.{IsTree, CountsPairs};
 ghost use Rattle.bw_snap.specs.Trees.{IsPublished, IsDenialOf, IsSnapFault, MayBeRead, is_bad_reader_number};
 
@@ -18,9 +18,9 @@ use crate::reader::Reader;
 use crate::stamp::Stamp;
 use bw_delta::NoMemory;
 use bw_keys::Config;
-use bw_step::{Receipt, Step};
+use bw_step::{Denied, Receipt, Step};
 use bw_table::Table;
-use bw_tree::{Blanks, Booked, Denied, MissingShare, NewFault, Share};
+use bw_tree::{Blanks, Booked, MadeBy, MissingShare, NewFault, Share};
 use std::alloc::{AllocError, Global};
 use std::marker::Model;
 use std::sync::Wait;
@@ -31,15 +31,15 @@ pub const MAX_READERS: u32 = 16;
 
 /// A booked table, with the writing end of two published copies of it and the front of all that was
 /// announced. Steps that were taken since the last publication are pending.
-pub struct Published<R: Wait + Drop, I: Ledger, D: Ledger, N: Naming> {
-    booked: Booked<Global, I, D>,
+pub struct Published<R: Wait + Drop, N: Naming, D: Ledger> {
+    booked: Booked<Global, N, D>,
     writer: WritingEnd<N>,
     head: Head<N>,
     announced: Front,
     rt: R,
 }
 
-impl<R: Wait + Drop, I: Ledger, D: Ledger, N: Naming> Model for Published<R, I, D, N> {
+impl<R: Wait + Drop, N: Naming, D: Ledger> Model for Published<R, N, D> {
     ghost use Rattle.std.specs.Prelude.{◌≡◌, ◌++◌, drop};
     ghost use Rattle.bw_snap.specs.Codes.{published_code};
     ghost use Rattle.bw_snap.specs.Trees.{PublishedValue};
@@ -58,7 +58,7 @@ impl<R: Wait + Drop, I: Ledger, D: Ledger, N: Naming> Model for Published<R, I, 
         × (p.writer.desk.shown.value.front.book ≡ N.book) × (p.announced.book ≡ N.book) };
 }
 
-impl<R: Wait + Drop, I: Ledger, D: Ledger, N: Naming> Drop for Published<R, I, D, N> {
+impl<R: Wait + Drop, N: Naming, D: Ledger> Drop for Published<R, N, D> {
     fn drop(self) {
         let Self {
             booked: _booked,
@@ -71,7 +71,7 @@ impl<R: Wait + Drop, I: Ledger, D: Ledger, N: Naming> Drop for Published<R, I, D
     }
 }
 
-impl<R: Wait + Drop, I: Ledger, D: Ledger, N: Naming> Published<R, I, D, N> {
+impl<R: Wait + Drop, N: Naming, D: Ledger> Published<R, N, D> {
     /// A table without pairs, published as it is, with a share of nothing for each worker. All lies
     /// in the machine's memory. There is room for so many readers, 1 to `MAX_READERS`.
     pub fn new(
@@ -81,11 +81,11 @@ impl<R: Wait + Drop, I: Ledger, D: Ledger, N: Naming> Published<R, I, D, N> {
         blanks: Blanks,
         book: BlankBook,
         readers: u32,
-    ) -> Result<(Published<R, I, D, N>, Vec<Share<I, D>>), SnapFault>
-        requires insertions { Opens I.name I.parts blanks.insertions }
+    ) -> Result<(Published<R, N, D>, Vec<Share<N, D>>), SnapFault>
+        requires insertions { Opens N.name N.parts blanks.insertions }
         requires removals { Opens D.name D.parts blanks.removals }
         requires book { book.seen.book ≡ N.book }
-        requires config { config ≡ N.config }
+        requires config { N.config ≡ config }
         ensures new { IfOk result (λ made. made.0 ≡ record { table = new_table config; published = new_table config; pending = []; list = [] }) }
         ensures count { IfOk result (λ made. length made.1.items ≡ blanks.workers) }
         ensures shares { IfOk result (λ made. All (λ share. share ≡ no_changes) made.1.items) }
@@ -131,7 +131,7 @@ impl<R: Wait + Drop, I: Ledger, D: Ledger, N: Naming> Published<R, I, D, N> {
     /// Takes the step as `Booked::install` does, and notes its twin for the published copies.
     pub fn install(
         &mut self,
-        share: &mut Share<I, D>,
+        share: &mut Share<N, D>,
         step: Step<Global>,
         twin: Step<Global>,
     ) -> Result<Receipt, Denied>
@@ -180,13 +180,14 @@ impl<R: Wait + Drop, I: Ledger, D: Ledger, N: Naming> Published<R, I, D, N> {
     }
 
     /// Gives the table out, as `Booked::close` does. The published copies are given up.
-    pub fn close(self, shares: Vec<Share<I, D>>) -> Result<Table<Global>, MissingShare>
+    pub fn close(self, shares: Vec<Share<N, D>>) -> Result<Table<Global>, MissingShare>
         ensures table { IfOk result (λ table. table ≡ self.table) }
+        ensures config { IfOk result (λ table. table.config ≡ N.config) }
         ensures tree { IfOk result IsTree }
         ensures book { IfOk result (λ table. table.book ≡ sum_of shares.items) }
         ensures pairs { IfOk result (λ table. CountsPairs table (sum_of shares.items)) }
-        ensures all { IsOk result ↔ (length shares.items ≡ I.parts) }
-        ensures missing { OnErr result (length shares.items < I.parts) }
+        ensures all { IsOk result ↔ (length shares.items ≡ N.parts) }
+        ensures missing { OnErr result (length shares.items < N.parts) }
     {
         let Self {
             booked,
@@ -202,7 +203,7 @@ impl<R: Wait + Drop, I: Ledger, D: Ledger, N: Naming> Published<R, I, D, N> {
 
 /// The booked table of a tree with so many readers. Want of memory is told only where no other
 /// fault is.
-fn new_booked<I: Ledger, D: Ledger>(
+fn new_booked<I: MadeBy, D: Ledger>(
     machine: Global,
     config: Config,
     blanks: Blanks,
@@ -210,6 +211,7 @@ fn new_booked<I: Ledger, D: Ledger>(
 ) -> Result<(Booked<Global, I, D>, Vec<Share<I, D>>), SnapFault>
     requires insertions { Opens I.name I.parts blanks.insertions }
     requires removals { Opens D.name D.parts blanks.removals }
+    requires config { I.config ≡ config }
     ensures table { IfOk result (λ made. made.0 ≡ new_table config) }
     ensures count { IfOk result (λ made. length made.1.items ≡ blanks.workers) }
     ensures shares { IfOk result (λ made. All (λ share. share ≡ no_changes) made.1.items) }

@@ -2,8 +2,8 @@
 
 ghost use Rattle.std.specs.Prelude.{◌≡◌, ◌<◌, ◌↔◌, [], IsOk, IfOk, IfErr, OnOk, OnErr, MatchResult, All, length};
 ghost use Rattle.bw_step.specs.ProposalView.{proposal_of};
+ghost use Rattle.bw_step.specs.Steps.{IsReceiptOf};
 ghost use Rattle.bw_tree.specs.Shares.{no_changes, counted, sum_of, Opens};
-ghost use Rattle.bw_tree.specs.Steps.{IsReceiptOf};
 ghost use Rattle.bw_tree.specs.Trees.{IsTree, CountsPairs};
 ghost use Rattle.bw_snap.specs.Trees.{IsSnapFault, IsWant, MayBeRead};
 
@@ -14,9 +14,9 @@ use crate::reader::Reader;
 use crate::stamp::Stamp;
 use bw_delta::{Chain, NoMemory};
 use bw_keys::{Config, Key, Pid, Version};
-use bw_step::{Look, Next, Place, Receipt, Step, View};
-use bw_table::{CopyFault, Table};
-use bw_tree::{Blanks, Denied, MissingShare, Share, Shared};
+use bw_step::{CopyFault, Denied, Look, Next, Place, Receipt, Step, View};
+use bw_table::Table;
+use bw_tree::{Blanks, MissingShare, Share, Shared};
 use std::alloc::Global;
 use std::sync::ledger::Ledger;
 use std::sync::{Mutex, Wait};
@@ -24,14 +24,14 @@ use std::sync::{Mutex, Wait};
 /// A shared tree that readers read without its lock. It lies in the machine's memory. What workers
 /// change is pending until somebody publishes it.
 #[derive(Drop)]
-pub struct ReadTree<R: Wait + Copy, I: Ledger, D: Ledger, N: Naming> {
+pub struct ReadTree<R: Wait + Copy, N: Naming, D: Ledger> {
     rt: R,
     machine: Global,
     config: Config,
-    published: Mutex<Published<R, I, D, N>>,
+    published: Mutex<Published<R, N, D>>,
 }
 
-impl<R: Wait + Copy, I: Ledger, D: Ledger, N: Naming> ReadTree<R, I, D, N> {
+impl<R: Wait + Copy, N: Naming, D: Ledger> ReadTree<R, N, D> {
     /// A tree without pairs, the workers' shares, and so many readers, 1 to `MAX_READERS`, that have
     /// seen nothing.
     pub fn with_readers(
@@ -41,11 +41,11 @@ impl<R: Wait + Copy, I: Ledger, D: Ledger, N: Naming> ReadTree<R, I, D, N> {
         blanks: Blanks,
         book: BlankBook,
         readers: u32,
-    ) -> Result<(ReadTree<R, I, D, N>, Vec<Share<I, D>>, Vec<Reader<N>>), SnapFault>
-        requires insertions { Opens I.name I.parts blanks.insertions }
+    ) -> Result<(ReadTree<R, N, D>, Vec<Share<N, D>>, Vec<Reader<N>>), SnapFault>
+        requires insertions { Opens N.name N.parts blanks.insertions }
         requires removals { Opens D.name D.parts blanks.removals }
         requires book { book.seen.book ≡ N.book }
-        requires config { config ≡ N.config }
+        requires config { N.config ≡ config }
         ensures config { IfOk result (λ made. made.0.config ≡ config) }
         ensures count { IfOk result (λ made. length made.1.items ≡ blanks.workers) }
         ensures shares { IfOk result (λ made. All (λ share. share ≡ no_changes) made.1.items) }
@@ -77,12 +77,13 @@ impl<R: Wait + Copy, I: Ledger, D: Ledger, N: Naming> ReadTree<R, I, D, N> {
     }
 
     /// Gives the table out, as `Booked::close` does. Its readers answer no more.
-    pub fn close(self, shares: Vec<Share<I, D>>) -> Result<Table<Global>, MissingShare>
+    pub fn close(self, shares: Vec<Share<N, D>>) -> Result<Table<Global>, MissingShare>
+        ensures config { IfOk result (λ table. table.config ≡ N.config) }
         ensures tree { IfOk result IsTree }
         ensures book { IfOk result (λ table. table.book ≡ sum_of shares.items) }
         ensures pairs { IfOk result (λ table. CountsPairs table (sum_of shares.items)) }
-        ensures all { IsOk result ↔ (length shares.items ≡ I.parts) }
-        ensures missing { OnErr result (length shares.items < I.parts) }
+        ensures all { IsOk result ↔ (length shares.items ≡ N.parts) }
+        ensures missing { OnErr result (length shares.items < N.parts) }
     {
         let ReadTree { published, .. } = self;
         published.into_inner().close(shares)
@@ -90,9 +91,9 @@ impl<R: Wait + Copy, I: Ledger, D: Ledger, N: Naming> ReadTree<R, I, D, N> {
 }
 
 /// So many readers of what is published.
-fn readers_of<R: Wait + Copy, I: Ledger, D: Ledger, N: Naming>(
+fn readers_of<R: Wait + Copy, N: Naming, D: Ledger>(
     machine: Global,
-    published: &Published<R, I, D, N>,
+    published: &Published<R, N, D>,
     count: u32,
 ) -> Result<Vec<Reader<N>>, SnapFault>
     requires { published.now.list ≡ [] }
@@ -112,9 +113,8 @@ fn readers_of<R: Wait + Copy, I: Ledger, D: Ledger, N: Naming>(
     Ok(readers)
 }
 
-impl<R: Wait + Copy, I: Ledger, D: Ledger, N: Naming> Shared<Global, Step<Global>>
-    for ReadTree<R, I, D, N> {
-    type Insertions = I;
+impl<R: Wait + Copy, N: Naming, D: Ledger> Shared<Global, Step<Global>> for ReadTree<R, N, D> {
+    type Insertions = N;
 
     type Removals = D;
 
@@ -156,7 +156,7 @@ impl<R: Wait + Copy, I: Ledger, D: Ledger, N: Naming> Shared<Global, Step<Global
     }
 
     /// Takes the step by `Published::install`. The step's twin is made before the lock is taken.
-    fn install(&self, share: &mut Share<I, D>, step: Step<Global>) -> Result<Receipt, Denied>
+    fn install(&self, share: &mut Share<N, D>, step: Step<Global>) -> Result<Receipt, Denied>
         ensures share { MatchResult result (λ receipt. share.new ≡ counted share.old receipt) (λ _. share.new ≡ share.old) }
         ensures receipt { IfOk result (IsReceiptOf (proposal_of step)) }
     {

@@ -16,7 +16,7 @@ advance-requires g c =
     let notes = drop w.behind w.log.items in
     let is : c.again.result ≡ record { list = w.desk.shown.value.front.list ++ steps_of notes; book = g.N.Naming.book } = c.again.ensures ∙ c.if-not-announce.ensures in
     rw (c.append.ensures.desk, c.in-Ok.ensures.pending)
-    (lands g.N.Naming.config w.desk.shown.value.table c.self.inside.booked w.desk.shown.value.front c.again.result notes g.N.Naming.book c.self.invariant.0 c.self.invariant.1 is)
+    (lands g.N.MadeBy.config w.desk.shown.value.table c.self.inside.booked w.desk.shown.value.front c.again.result notes g.N.Naming.book c.self.invariant.0 c.self.invariant.1 is)
 
 pub invariant_of-self-in-Err-advance : goal.invariant_of-self-in-Err-advance
 invariant_of-self-in-Err-advance g c =
@@ -47,7 +47,7 @@ invariant_of-self-2 g c =
     let table : c.advance.new.writer.desk.shown.value.table ≡ c.self.inside.booked = end.0 ∙ ap (λ p. p.0) landed in
     let front : c.advance.new.writer.desk.shown.value.front ≡ record { list = v.front.list ++ steps_of notes; book = g.N.Naming.book } = end.1 ∙ (ap (λ p. p.1) landed ∙ is) in
     rw (table, front, end.2, c.if-not-announce.ensures)
-    (refl, leads_on (new_table g.N.Naming.config) v.table c.self.inside.booked v.front.list (steps_of notes) c.self.invariant.1 c.self.invariant.0, ([], refl), refl, refl)
+    (refl, leads_on (new_table g.N.MadeBy.config) v.table c.self.inside.booked v.front.list (steps_of notes) c.self.invariant.1 c.self.invariant.0, ([], refl), refl, refl)
 
 pub returns-clause-table : goal.returns-clause-table
 returns-clause-table g c =
