@@ -180,7 +180,7 @@ impl<R: Wait + Drop, N: Naming, D: Ledger> Published<R, N, D> {
             Ok(()) => {}
             Err(_) => return Err(NoMemory),
         }
-        Ok(Stamp::over(self.announced.again()))
+        Ok(Stamp::over(self.writer.published().front.again()))
     }
 
     /// Gives the table out, as `Booked::close` does. The published copies are given up.
