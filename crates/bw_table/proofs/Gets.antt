@@ -1,5 +1,5 @@
 -- A search that goes from page to page ends at the leaf whose range holds the key, which has what the map has there.
-use Rattle.std.proofs.Common.{◌≡◌, ◌↔◌, ℕ, ◌+◌, ◌-◌, ◌*◌, ◌^◌, ◌<◌, ◌≤◌, Bool, true, false, cond, List, Option, Some, None, refl, sym, ◌∙◌, ap, subst, arith}
+use Rattle.std.proofs.Common.{◌≡◌, ℕ, ◌+◌, ◌<◌, Bool, true, false, cond, List, Option, Some, None, refl, sym, ◌∙◌, ap, subst, arith}
 use Rattle.std.specs.Prelude.{◌==◌, nat_le, nat_lt, option_map}
 use Rattle.std.proofs.lemmas.Bool.Decides.{nat_tests}
 use Rattle.bw_keys.specs.declared.page.Pid.{Pid}
@@ -7,17 +7,16 @@ use Rattle.bw_keys.specs.Ranges.{key_count, end_of}
 use Rattle.bw_delta.specs.Entries.{at, last_upto, last_below}
 use Rattle.bw_step.specs.declared.place.Place.{Place}
 use Rattle.bw_step.specs.declared.place.Go.{Go}
-use Rattle.bw_step.specs.declared.place.Go.TheVariants.{Here}
 use Rattle.bw_step.specs.Stages.{is_in_row}
 use Rattle.bw_law.specs.Laws.{IsLeafOf}
 use Rattle.bw_law.specs.Slots.{SlotValue, slot_in, pairs_in, routes_in, is_merged}
-use Rattle.bw_law.specs.Tables.{TableValue, slot_at, Lawful, Maps}
+use Rattle.bw_law.specs.Tables.{TableValue, slot_at, Lawful}
 use Rattle.bw_law.proofs.Facts.{range_is_not_empty, range_is_among_keys, leaf_decides}
 use Rattle.bw_chain.proofs.Lasts.{last_below-bound}
 use Rattle.bw_table.specs.SlotFacts.{HasSoundChain}
 use Rattle.bw_table.specs.Views.{view_of}
-use Rattle.bw_table.specs.Visits.{is_there, live_routes, right_to, down_by, way_on, next_by, IsOnTheWay, IsFound}
-use Rattle.bw_table.specs.Gets.{IsMapAt, IsUpTo, LeadsOn, next_page, live_child, page_of, way_left}
+use Rattle.bw_table.specs.Visits.{is_there, live_routes, way_on, next_by}
+use Rattle.bw_table.specs.Gets.{IsMapAt, IsUpTo, LeadsOn, next_page, live_child, page_of}
 use Rattle.bw_table.proofs.LiveRoutes.{dead_is_passed, live_is_last, none_is_live}
 use Rattle.bw_table.proofs.Ways.{IsProper, next_is_proper, found_leaf}
 

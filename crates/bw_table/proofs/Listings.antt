@@ -5,7 +5,7 @@ use Rattle.std.proofs.lemmas.Bool.Decides.{nat_tests}
 use Rattle.std.proofs.lemmas.List.{take_all, take-append-le}
 use Rattle.std.proofs.lemmas.List.Elements.{filter-append}
 use Rattle.bw_keys.specs.declared.page.Pid.{Pid}
-use Rattle.bw_keys.specs.Ranges.{key_count, end_of}
+use Rattle.bw_keys.specs.Ranges.{key_count}
 use Rattle.bw_delta.specs.Entries.{from, first_from, first_entry, rises}
 use Rattle.bw_delta.specs.Pairs.{pairs}
 use Rattle.bw_chain.proofs.Ascending.{pairs_ascend}

@@ -6,7 +6,7 @@ use Rattle.bw_delta.specs.Entries.{from, last_upto}
 use Rattle.bw_step.specs.Stages.{is_in_row}
 use Rattle.bw_law.specs.Laws.{IsLeafOf, IsTheMap}
 use Rattle.bw_law.specs.Slots.{SlotValue}
-use Rattle.bw_law.specs.Tables.{TableValue, slot_at, Lawful, Maps}
+use Rattle.bw_law.specs.Tables.{TableValue, slot_at, Maps}
 use Rattle.bw_table.specs.Visits.{live_routes}
 
 -- what was found at the key is the value that the map has there, or none where it has none
