@@ -6,3 +6,5 @@ pub mod Same
 pub mod Ways
 pub mod Whole
 pub mod Writes
+pub mod Gets
+pub mod Listings

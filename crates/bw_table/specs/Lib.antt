@@ -5,3 +5,4 @@ pub mod SlotFacts
 pub mod Views
 pub mod Visits
 pub mod Whole
+pub mod Gets

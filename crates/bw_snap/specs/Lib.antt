@@ -1,0 +1,7 @@
+pub mod Proposals
+pub mod Snapshots
+pub mod Fronts
+pub mod Notes
+pub mod Trees
+pub mod Codes
+pub mod Answers

@@ -1,0 +1,20 @@
+-- Lists of accepted steps, and the tables that they lead to.
+use Rattle.std.specs.Prelude.{◌≡◌, List, [], ◌∷◌, ◌++◌, None}
+use Rattle.bw_keys.specs.declared.config.Config.{Config}
+use Rattle.bw_step.specs.Proposals.{Proposal}
+use Rattle.bw_law.specs.Tables.{TableValue, new_table}
+use Rattle.bw_law.specs.Refusals.{refusal}
+use Rattle.bw_law.specs.Effects.{after}
+
+-- each step of the list is accepted where it stands, and the last leaves this table
+abbrev pub LeadTo : TableValue → List Proposal → TableValue → Type 0
+LeadTo from [] to = to ≡ from
+LeadTo from (step ∷ steps) to = (refusal from step ≡ None) × LeadTo (after from step) steps to
+
+-- the steps lead from the new table to this one
+abbrev pub IsSnapshot : Config → List Proposal → TableValue → Type 0
+IsSnapshot config steps table = LeadTo (new_table config) steps table
+
+-- the list goes on from the other
+abbrev pub BeginsWith : List Proposal → List Proposal → Type 0
+BeginsWith steps seen = (rest : List Proposal) × (steps ≡ seen ++ rest)

@@ -1,0 +1,54 @@
+-- What the lock of a tree with readers keeps, and what its calls answer.
+use Rattle.std.specs.Prelude.{◌≡◌, ℕ, Bool, true, false, List, Some, None}
+use Rattle.bw_keys.specs.declared.config.Config.{Config}
+use Rattle.bw_keys.specs.Limits.{first_bad_field, is_out_of}
+use Rattle.bw_step.specs.Proposals.{Proposal}
+use Rattle.bw_law.specs.Refusals.{refusal}
+use Rattle.bw_law.specs.Tables.{TableValue}
+use Rattle.bw_tree.specs.Trees.{MayBeMade, is_bad_number}
+use Rattle.bw_step.specs.declared.fault.Denied.{Denied}
+use Rattle.bw_step.specs.declared.fault.Denied.TheVariants as denials
+use Rattle.bw_snap.specs.Snapshots.{LeadTo, IsSnapshot}
+use Rattle.bw_snap.specs.declared.fault.SnapFault.{SnapFault}
+use Rattle.bw_snap.specs.declared.fault.SnapFault.TheVariants.{BadConfig, BadWorkers, BadReaders, NoMemory, NoReader}
+
+-- the table, the published one, the steps between, and the list that was published
+pub record PublishedValue : Type 0 where
+  pub table : TableValue
+  pub published : TableValue
+  pub pending : List Proposal
+  pub list : List Proposal
+
+-- the pending steps lead from the published table to the table, and the published list to the published one
+pub record IsPublished (config : Config) (value : PublishedValue) : Type 0 where
+  pub pending : LeadTo value.published value.pending value.table
+  pub snapshot : IsSnapshot config value.list value.published
+
+-- the table's reason to refuse the step, or want of memory where there is none
+abbrev pub IsDenialOf : TableValue → Proposal → Denied → Type 0
+IsDenialOf table step (denials.Refused reason) = refusal table step ≡ Some reason
+IsDenialOf table step denials.NoMemory = refusal table step ≡ None
+
+-- there are no readers, or too many
+abbrev pub is_bad_reader_number : ℕ → Bool
+is_bad_reader_number readers = is_out_of 1 16 readers
+
+-- a tree may be made by the configuration, for so many workers and readers
+abbrev pub MayBeRead : Config → ℕ → ℕ → Type 0
+MayBeRead config workers readers = MayBeMade config workers × (is_bad_reader_number readers ≡ false)
+
+-- the first fault that applies
+abbrev pub IsSnapFault : Config → ℕ → ℕ → SnapFault → Type 0
+IsSnapFault config workers readers (BadConfig bad) = first_bad_field config ≡ Some bad.0
+IsSnapFault config workers readers BadWorkers = (first_bad_field config ≡ None) × (is_bad_number workers ≡ true)
+IsSnapFault config workers readers BadReaders = MayBeMade config workers × (is_bad_reader_number readers ≡ true)
+IsSnapFault config workers readers NoMemory = MayBeRead config workers readers
+IsSnapFault config workers readers NoReader = MayBeRead config workers readers
+
+-- something was wanting that a tree needs, and no bad number was told
+abbrev pub IsWant : SnapFault → Type 0
+IsWant (BadConfig bad) = ⊥
+IsWant BadWorkers = ⊥
+IsWant BadReaders = ⊥
+IsWant NoMemory = Unit {0}
+IsWant NoReader = Unit {0}

@@ -1,0 +1,51 @@
+//! The step that announces a list, before it is published.
+
+ghost use Rattle.std.specs.Prelude.{◌≡◌, ◌++◌, drop, MatchBool};
+ghost use Rattle.bw_snap.specs.Snapshots.{BeginsWith};
+ghost use Rattle.bw_snap.specs.Notes.{steps_of};
+
+use crate::ends::WritingEnd;
+use crate::front::{Add, Front, Head, Naming, Nothing, Rising};
+use crate::proposed::List;
+use logbook::{Offer, Plain};
+
+/// The step asks for the published list, and then what is pending.
+impl<N: Naming> Plain<WritingEnd<N>, List, u64> for Add {
+    ghost use Rattle.std.specs.Prelude.{◌++◌, None, drop};
+    ghost use Rattle.bw_snap.specs.Notes.{steps_of};
+
+    ghost ask = { λ w. w.desk.shown.value.front.list ++ steps_of (drop w.behind w.log.items) };
+
+    ghost state = { λ w. None };
+}
+
+impl Front {
+    /// Adds the published list with what is pending to the book, unless the book has a list that
+    /// this front hasn't seen.
+    pub(crate) fn announce<N: Naming>(&mut self, head: &Head<N>, writer: &WritingEnd<N>) -> bool
+        requires book { self.old.book ≡ N.book }
+        requires list { BeginsWith (writer.now.desk.shown.value.front.list ++ steps_of (drop writer.now.behind writer.now.log.items)) self.old.list }
+        ensures { MatchBool result (self.new ≡ record { list = writer.now.desk.shown.value.front.list ++ steps_of (drop writer.now.behind writer.now.log.items); book = N.book }) (self.new ≡ self.old) }
+    {
+        let count = self.count;
+        if count == u64::MAX {
+            return false;
+        }
+        let mut seen = self.seen.again();
+        let mut offer: Offer<List, u64, Rising, Nothing> = seen.plain::<
+            Nothing,
+            WritingEnd<N>,
+            Add,
+        >(writer);
+        let mut pen = seen.no_pen();
+        let found = head
+            .word
+            .compare_exchange::<Add, Nothing>(count, count + 1, &mut seen, &mut offer, &mut pen);
+        if found != count {
+            return false;
+        }
+        self.count = count + 1;
+        self.seen = seen;
+        true
+    }
+}

@@ -1,0 +1,238 @@
+//! The locked table, with the writing end of the published pair.
+
+ghost use Rattle.std.specs.Prelude.{◌≡◌, ◌<◌, ◌++◌, ◌∷◌, ◌↔◌, [], None, length, All, IsOk, IfOk, IfErr, OnOk, OnErr, MatchResult};
+ghost use Rattle.bw_keys.specs.Limits.{first_bad_field};
+ghost use Rattle.bw_step.specs.ProposalView.{proposal_of};
+ghost use Rattle.bw_step.specs.Steps.{IsReceiptOf};
+ghost use Rattle.bw_law.specs.Effects.{TakesStep};
+ghost use Rattle.bw_law.specs.Laws.{MapAfter};
+ghost use Rattle.bw_law.specs.Refusals.{refusal};
+ghost use Rattle.bw_law.specs.Tables.{new_table};
+ghost use Rattle.bw_tree.specs.Shares.{no_changes, counted, sum_of, Opens};
+ghost use Rattle.bw_tree.specs.Trees.{IsTree, CountsPairs};
+ghost use Rattle.bw_snap.specs.Trees.{IsPublished, IsDenialOf, IsSnapFault, MayBeRead, is_bad_reader_number};
+
+use crate::ends::{WritingEnd, advance, append, begin};
+use crate::fault::SnapFault;
+use crate::front::{BlankBook, Front, Head, Naming};
+use crate::note::Note;
+use crate::reader::Reader;
+use crate::stamp::Stamp;
+use bw_delta::NoMemory;
+use bw_keys::Config;
+use bw_step::{Denied, Receipt, Step};
+use bw_table::Table;
+use bw_tree::{Blanks, Booked, MadeBy, MissingShare, NewFault, Share};
+use std::alloc::{AllocError, Global};
+use std::marker::Model;
+use std::sync::Wait;
+use std::sync::ledger::Ledger;
+
+/// The most readers that a tree may have.
+pub const MAX_READERS: u32 = 16;
+
+/// A booked table, with the writing end of two published copies of it and the front of all that was
+/// announced. Steps that were taken since the last publication are pending.
+pub struct Published<R: Wait + Drop, N: Naming, D: Ledger> {
+    booked: Booked<Global, N, D>,
+    writer: WritingEnd<N>,
+    head: Head<N>,
+    announced: Front,
+    rt: R,
+}
+
+impl<R: Wait + Drop, N: Naming, D: Ledger> Model for Published<R, N, D> {
+    ghost use Rattle.std.specs.Prelude.{◌≡◌, ◌++◌, drop};
+    ghost use Rattle.bw_snap.specs.Codes.{published_code};
+    ghost use Rattle.bw_snap.specs.Trees.{PublishedValue};
+    ghost use Rattle.bw_snap.specs.Snapshots.{LeadTo, IsSnapshot, BeginsWith};
+    ghost use Rattle.bw_snap.specs.Notes.{steps_of};
+
+    ghost Value = { PublishedValue };
+
+    ghost coded = { published_code };
+
+    ghost view = { λ p. record { table = p.booked; published = p.writer.desk.shown.value.table; pending = steps_of (drop p.writer.behind p.writer.log.items); list = p.writer.desk.shown.value.front.list } };
+
+    ghost invariant = { λ p. LeadTo p.writer.desk.shown.value.table (steps_of (drop p.writer.behind p.writer.log.items)) p.booked
+        × IsSnapshot N.config p.writer.desk.shown.value.front.list p.writer.desk.shown.value.table
+        × BeginsWith (p.writer.desk.shown.value.front.list ++ steps_of (drop p.writer.behind p.writer.log.items)) p.announced.list
+        × (p.writer.desk.shown.value.front.book ≡ N.book) × (p.announced.book ≡ N.book) };
+}
+
+impl<R: Wait + Drop, N: Naming, D: Ledger> Drop for Published<R, N, D> {
+    fn drop(self) {
+        let Self {
+            booked: _booked,
+            writer,
+            head: _head,
+            announced: _announced,
+            rt,
+        } = self;
+        drop(writer.take(&rt));
+    }
+}
+
+impl<R: Wait + Drop, N: Naming, D: Ledger> Published<R, N, D> {
+    /// A table without pairs, published as it is, with a share of nothing for each worker. All lies
+    /// in the machine's memory. There is room for so many readers, 1 to `MAX_READERS`.
+    pub fn new(
+        rt: R,
+        machine: Global,
+        config: Config,
+        blanks: Blanks,
+        book: BlankBook,
+        readers: u32,
+    ) -> Result<(Published<R, N, D>, Vec<Share<N, D>>), SnapFault>
+        requires insertions { Opens N.name N.parts blanks.insertions }
+        requires removals { Opens D.name D.parts blanks.removals }
+        requires book { book.seen.book ≡ N.book }
+        requires config { N.config ≡ config }
+        ensures new { IfOk result (λ made. made.0 ≡ record { table = new_table config; published = new_table config; pending = []; list = [] }) }
+        ensures count { IfOk result (λ made. length made.1.items ≡ blanks.workers) }
+        ensures shares { IfOk result (λ made. All (λ share. share ≡ no_changes) made.1.items) }
+        ensures fine { OnOk result (MayBeRead config blanks.workers readers) }
+        ensures fault { IfErr result (IsSnapFault config blanks.workers readers) }
+    {
+        let (booked, shares) = match new_booked(machine, config, blanks, readers) {
+            Ok(made) => made,
+            Err(fault) => return Err(fault),
+        };
+        let (head, announced) = book.named::<N>();
+        let writer = match begin(machine, config, &announced, readers as usize) {
+            Ok(writer) => writer,
+            Err(NoMemory) => return Err(SnapFault::NoMemory),
+        };
+        let published = Published {
+            booked,
+            writer,
+            head,
+            announced,
+            rt,
+        };
+        Ok((published, shares))
+    }
+
+    /// Lends the table, which the pending steps lead to from the published one.
+    pub fn table(&self) -> &Table<Global>
+        ensures same { result.now ≡ self.now.table }
+        ensures tree { IsTree result.now }
+        ensures published { IsPublished N.config self.now }
+    {
+        self.booked.table()
+    }
+
+    /// Makes a reader that has seen what is published.
+    pub(crate) fn reader(&self) -> Result<Reader<N>, AllocError>
+        ensures { IfOk result (λ reader. reader ≡ self.now.list) }
+    {
+        let inner = self.writer.factory().reader()?;
+        Ok(Reader::over(inner, self.writer.published().front.again()))
+    }
+
+    /// Takes the step as `Booked::install` does, and notes its twin for the published copies.
+    pub fn install(
+        &mut self,
+        share: &mut Share<N, D>,
+        step: Step<Global>,
+        twin: Step<Global>,
+    ) -> Result<Receipt, Denied>
+        requires { proposal_of twin ≡ proposal_of step }
+        ensures accepted { OnOk result (refusal self.old.table (proposal_of step) ≡ None) }
+        ensures taken { IfOk result (λ receipt. TakesStep self.old.table (proposal_of step) receipt self.new.table) }
+        ensures told { IfOk result (IsReceiptOf (proposal_of step)) }
+        ensures map { OnOk result (MapAfter self.old.table (proposal_of step)) }
+        ensures pending { OnOk result (self.new.pending ≡ self.old.pending ++ proposal_of step ∷ []) }
+        ensures published { OnOk result ((self.new.published ≡ self.old.published) × (self.new.list ≡ self.old.list)) }
+        ensures denied { IfErr result (IsDenialOf self.old.table (proposal_of step)) }
+        ensures unchanged { OnErr result (self.new ≡ self.old) }
+        ensures share { MatchResult result (λ receipt. share.new ≡ counted share.old receipt) (λ _. share.new ≡ share.old) }
+    {
+        match self.booked.table().check(&step) {
+            Ok(()) => {}
+            Err(reason) => return Err(Denied::Refused(reason)),
+        }
+        match append(&mut self.writer, Note::Step(twin)) {
+            Ok(()) => {}
+            Err(NoMemory) => return Err(Denied::NoMemory),
+        }
+        match self.booked.install(share, step) {
+            Ok(receipt) => return Ok(receipt),
+            Err(reason) => return Err(Denied::Refused(reason)),
+        }
+    }
+
+    /// Publishes what is pending, and stamps the list that was published.
+    pub fn publish(&mut self) -> Result<Stamp<N>, NoMemory>
+        ensures table { OnOk result ((self.new.table ≡ self.old.table) × (self.new.published ≡ self.old.table)) }
+        ensures list { OnOk result ((self.new.list ≡ self.old.list ++ self.old.pending) × (self.new.pending ≡ [])) }
+        ensures stamp { IfOk result (λ stamp. stamp ≡ self.new.list) }
+        ensures unchanged { OnErr result (self.new ≡ self.old) }
+    {
+        if !self.announced.announce(&self.head, &self.writer) {
+            return Err(NoMemory);
+        }
+        match append(&mut self.writer, Note::Mark(self.announced.again())) {
+            Ok(()) => {}
+            Err(NoMemory) => return Err(NoMemory),
+        }
+        match advance(&mut self.writer, &self.rt) {
+            Ok(()) => {}
+            Err(_) => return Err(NoMemory),
+        }
+        Ok(Stamp::over(self.writer.published().front.again()))
+    }
+
+    /// Gives the table out, as `Booked::close` does. The published copies are given up.
+    pub fn close(self, shares: Vec<Share<N, D>>) -> Result<Table<Global>, MissingShare>
+        ensures table { IfOk result (λ table. table ≡ self.table) }
+        ensures config { IfOk result (λ table. table.config ≡ N.config) }
+        ensures tree { IfOk result IsTree }
+        ensures book { IfOk result (λ table. table.book ≡ sum_of shares.items) }
+        ensures pairs { IfOk result (λ table. CountsPairs table (sum_of shares.items)) }
+        ensures all { IsOk result ↔ (length shares.items ≡ N.parts) }
+        ensures missing { OnErr result (length shares.items < N.parts) }
+    {
+        let Self {
+            booked,
+            writer,
+            head: _head,
+            announced: _announced,
+            rt,
+        } = self;
+        drop(writer.take(&rt));
+        booked.close(shares)
+    }
+}
+
+/// The booked table of a tree with so many readers. Want of memory is told only where no other
+/// fault is.
+fn new_booked<I: MadeBy, D: Ledger>(
+    machine: Global,
+    config: Config,
+    blanks: Blanks,
+    readers: u32,
+) -> Result<(Booked<Global, I, D>, Vec<Share<I, D>>), SnapFault>
+    requires insertions { Opens I.name I.parts blanks.insertions }
+    requires removals { Opens D.name D.parts blanks.removals }
+    requires config { I.config ≡ config }
+    ensures table { IfOk result (λ made. made.0 ≡ new_table config) }
+    ensures count { IfOk result (λ made. length made.1.items ≡ blanks.workers) }
+    ensures shares { IfOk result (λ made. All (λ share. share ≡ no_changes) made.1.items) }
+    ensures fine { OnOk result (MayBeRead config blanks.workers readers) }
+    ensures fault { IfErr result (IsSnapFault config blanks.workers readers) }
+{
+    match Booked::new(machine, machine, config, blanks) {
+        Err(NewFault::BadConfig(bad)) => Err(SnapFault::BadConfig(bad)),
+        Err(NewFault::BadWorkers) => Err(SnapFault::BadWorkers),
+        _ if has_too_few_or_many(readers) => Err(SnapFault::BadReaders),
+        Err(NewFault::NoMemory) => Err(SnapFault::NoMemory),
+        Ok(made) => Ok(made),
+    }
+}
+
+fn has_too_few_or_many(readers: u32) -> bool
+    ensures { result ≡ is_bad_reader_number readers }
+{
+    !(1..=MAX_READERS).contains(&readers)
+}

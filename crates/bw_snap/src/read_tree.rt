@@ -1,0 +1,168 @@
+//! The lock round a published table.
+
+ghost use Rattle.std.specs.Prelude.{◌≡◌, ◌<◌, ◌↔◌, [], IsOk, IfOk, IfErr, OnOk, OnErr, MatchResult, All, length};
+ghost use Rattle.bw_step.specs.ProposalView.{proposal_of};
+ghost use Rattle.bw_step.specs.Steps.{IsReceiptOf};
+ghost use Rattle.bw_tree.specs.Shares.{no_changes, counted, sum_of, Opens};
+ghost use Rattle.bw_tree.specs.Trees.{IsTree, CountsPairs};
+ghost use Rattle.bw_snap.specs.Trees.{IsSnapFault, IsWant, MayBeRead};
+
+use crate::fault::SnapFault;
+use crate::front::{BlankBook, Naming};
+use crate::published::Published;
+use crate::reader::Reader;
+use crate::stamp::Stamp;
+use bw_delta::{Chain, NoMemory};
+use bw_keys::{Config, Key, Pid, Version};
+use bw_step::{CopyFault, Denied, Look, Next, Place, Receipt, Step, View};
+use bw_table::Table;
+use bw_tree::{Blanks, MissingShare, Share, Shared};
+use std::alloc::Global;
+use std::sync::ledger::Ledger;
+use std::sync::{Mutex, Wait};
+
+/// A shared tree that readers read without its lock. It lies in the machine's memory. What workers
+/// change is pending until somebody publishes it.
+#[derive(Drop)]
+pub struct ReadTree<R: Wait + Copy, N: Naming, D: Ledger> {
+    rt: R,
+    machine: Global,
+    config: Config,
+    published: Mutex<Published<R, N, D>>,
+}
+
+impl<R: Wait + Copy, N: Naming, D: Ledger> ReadTree<R, N, D> {
+    /// A tree without pairs, the workers' shares, and so many readers, 1 to `MAX_READERS`, that have
+    /// seen nothing.
+    pub fn with_readers(
+        rt: R,
+        machine: Global,
+        config: Config,
+        blanks: Blanks,
+        book: BlankBook,
+        readers: u32,
+    ) -> Result<(ReadTree<R, N, D>, Vec<Share<N, D>>, Vec<Reader<N>>), SnapFault>
+        requires insertions { Opens N.name N.parts blanks.insertions }
+        requires removals { Opens D.name D.parts blanks.removals }
+        requires book { book.seen.book ≡ N.book }
+        requires config { N.config ≡ config }
+        ensures config { IfOk result (λ made. made.0.config ≡ config) }
+        ensures count { IfOk result (λ made. length made.1.items ≡ blanks.workers) }
+        ensures shares { IfOk result (λ made. All (λ share. share ≡ no_changes) made.1.items) }
+        ensures readers { IfOk result (λ made. length made.2.items ≡ readers) }
+        ensures unread { IfOk result (λ made. All (λ reader. reader ≡ []) made.2.items) }
+        ensures fine { OnOk result (MayBeRead config blanks.workers readers) }
+        ensures fault { IfErr result (IsSnapFault config blanks.workers readers) }
+    {
+        let (published, shares) = match Published::new(rt, machine, config, blanks, book, readers) {
+            Ok(made) => made,
+            Err(fault) => return Err(fault),
+        };
+        let readers = match readers_of(machine, &published, readers) {
+            Ok(readers) => readers,
+            Err(fault) => return Err(fault),
+        };
+        let tree = ReadTree {
+            rt,
+            machine,
+            config,
+            published: Mutex::new(published),
+        };
+        Ok((tree, shares, readers))
+    }
+
+    /// Publishes all that was taken, and stamps the list that was published.
+    pub fn publish(&self) -> Result<Stamp<N>, NoMemory> {
+        self.published.lock(&self.rt).publish()
+    }
+
+    /// Gives the table out, as `Booked::close` does. Its readers answer no more.
+    pub fn close(self, shares: Vec<Share<N, D>>) -> Result<Table<Global>, MissingShare>
+        ensures config { IfOk result (λ table. table.config ≡ N.config) }
+        ensures tree { IfOk result IsTree }
+        ensures book { IfOk result (λ table. table.book ≡ sum_of shares.items) }
+        ensures pairs { IfOk result (λ table. CountsPairs table (sum_of shares.items)) }
+        ensures all { IsOk result ↔ (length shares.items ≡ N.parts) }
+        ensures missing { OnErr result (length shares.items < N.parts) }
+    {
+        let ReadTree { published, .. } = self;
+        published.into_inner().close(shares)
+    }
+}
+
+/// So many readers of what is published.
+fn readers_of<R: Wait + Copy, N: Naming, D: Ledger>(
+    machine: Global,
+    published: &Published<R, N, D>,
+    count: u32,
+) -> Result<Vec<Reader<N>>, SnapFault>
+    requires { published.now.list ≡ [] }
+    ensures count { IfOk result (λ readers. length readers.items ≡ count) }
+    ensures unread { IfOk result (λ readers. All (λ reader. reader ≡ []) readers.items) }
+    ensures fault { IfErr result IsWant }
+{
+    let Ok(mut readers) = Vec::with_capacity(machine, count as usize) else {
+        return Err(SnapFault::NoMemory);
+    };
+    for _reader in 0..count {
+        let Ok(reader) = published.reader() else {
+            return Err(SnapFault::NoReader);
+        };
+        readers.push_reserved(reader);
+    }
+    Ok(readers)
+}
+
+impl<R: Wait + Copy, N: Naming, D: Ledger> Shared<Global, Step<Global>> for ReadTree<R, N, D> {
+    type Insertions = N;
+
+    type Removals = D;
+
+    ghost made_by = { λ tree. tree.config };
+
+    fn config(&self) -> Config {
+        self.config
+    }
+
+    fn root(&self) -> Place {
+        self.published.lock(&self.rt).table().root()
+    }
+
+    fn visit(&self, place: Place, key: Key, goal: u8) -> Next {
+        self.published
+            .lock(&self.rt)
+            .table()
+            .visit(place, key, goal)
+    }
+
+    fn peek(&self, pid: Pid) -> Option<View> {
+        self.published.lock(&self.rt).table().peek(pid)
+    }
+
+    fn look(&self, pid: Pid, key: Key) -> Option<Look> {
+        self.published.lock(&self.rt).table().look(pid, key)
+    }
+
+    fn copy_page(
+        &self,
+        alloc: Global,
+        pid: Pid,
+        seen: Version,
+    ) -> Result<Chain<Global>, CopyFault> {
+        self.published
+            .lock(&self.rt)
+            .table()
+            .copy_page(alloc, pid, seen)
+    }
+
+    /// Takes the step by `Published::install`. The step's twin is made before the lock is taken.
+    fn install(&self, share: &mut Share<N, D>, step: Step<Global>) -> Result<Receipt, Denied>
+        ensures share { MatchResult result (λ receipt. share.new ≡ counted share.old receipt) (λ _. share.new ≡ share.old) }
+        ensures receipt { IfOk result (IsReceiptOf (proposal_of step)) }
+    {
+        match step.twin(self.machine) {
+            Ok(twin) => self.published.lock(&self.rt).install(share, step, twin),
+            Err(NoMemory) => Err(Denied::NoMemory),
+        }
+    }
+}

@@ -1,0 +1,110 @@
+//! Readers that take no lock.
+
+ghost use Rattle.std.specs.Prelude.{◌≡◌, ◌⊎◌, [], IfOk, OnOk, OnErr};
+ghost use Rattle.bw_snap.specs.Snapshots.{BeginsWith};
+ghost use Rattle.bw_snap.specs.Answers.{IsFoundIn, IsLookIn, IsListedIn};
+
+use crate::ends::{ReadingEnd, read, read_pairs};
+use crate::fault::{Closed, ScanFault};
+use crate::front::{Front, Naming};
+use crate::stamp::Stamp;
+use bw_delta::NoMemory;
+use bw_keys::Key;
+use bw_step::Look;
+use core::mem::replace_with;
+use std::marker::Model;
+
+/// Reads the published table, without its lock. Contracts see it as the list of steps that it has
+/// seen or learnt.
+#[derive(Drop)]
+pub struct Reader<N: Naming> {
+    inner: ReadingEnd<N>,
+    front: Front,
+}
+
+impl<N: Naming> Model for Reader<N> {
+    ghost use Rattle.std.specs.Prelude.{◌≡◌, List};
+    ghost use Rattle.bw_step.specs.Proposals.{Proposal};
+    ghost use Rattle.bw_snap.specs.Codes.{steps_code};
+
+    ghost Value = { List Proposal };
+
+    ghost coded = { steps_code };
+
+    ghost view = { λ r. r.front.list };
+
+    ghost invariant = { λ r. r.front.book ≡ N.book };
+}
+
+impl<N: Naming> Reader<N> {
+    pub(crate) fn over(inner: ReadingEnd<N>, front: Front) -> Reader<N>
+        requires { front.book ≡ N.book }
+        ensures { result ≡ front.list }
+    {
+        Reader { inner, front }
+    }
+
+    /// Uses the stamp up. The reader's list becomes the longer of its own and the stamp's, which
+    /// begins with both.
+    pub fn learn(&mut self, stamp: Stamp<N>)
+        ensures one { (self.new ≡ self.old) ⊎ (self.new ≡ stamp) }
+        ensures own { BeginsWith self.new self.old }
+        ensures stamp { BeginsWith self.new stamp }
+    {
+        if stamp.front.goes_on(&self.front) {
+            self.front = stamp.front;
+        }
+    }
+
+    /// What the map has at the key after a list of accepted steps, which begins with all that this
+    /// reader has seen and learnt. The list is the reader's from then on.
+    pub fn get(&mut self, key: Key) -> Result<Option<u64>, Closed>
+        ensures seen { BeginsWith self.new self.old }
+        ensures found { IfOk result (IsFoundIn N.config key self.new) }
+        ensures closed { OnErr result (self.new ≡ self.old) }
+    {
+        match self.look(key) {
+            Ok(look) => Ok(look.found),
+            Err(Closed) => Err(Closed),
+        }
+    }
+
+    /// As `get`, and how many changes of the map that list has.
+    pub fn look(&mut self, key: Key) -> Result<Look, Closed>
+        ensures seen { BeginsWith self.new self.old }
+        ensures look { IfOk result (IsLookIn N.config key self.new) }
+        ensures closed { OnErr result (self.new ≡ self.old) }
+    {
+        match replace_with(&mut self.inner, key, read) {
+            Some(glance) if glance.front.goes_on(&self.front) => {
+                self.front = glance.front;
+                Ok(glance.look)
+            }
+            _ => Err(Closed),
+        }
+    }
+
+    /// Makes the list the first pairs of the map from the key on, in the order of their keys and no
+    /// more than the limit, after such a list of steps. After a fault it is as before, and so is the
+    /// reader.
+    pub fn scan(
+        &mut self,
+        low: Key,
+        limit: usize,
+        out: &mut Vec<(Key, u64)>,
+    ) -> Result<(), ScanFault>
+        ensures seen { BeginsWith self.new self.old }
+        ensures pairs { OnOk result (IsListedIn N.config low limit self.new out.new.items) }
+        ensures fault { OnErr result ((self.new ≡ self.old) × (out.new ≡ out.old)) }
+    {
+        match replace_with(&mut self.inner, (low, limit), read_pairs) {
+            Some(Ok(scan)) if scan.front.goes_on(&self.front) => {
+                self.front = scan.front;
+                *out = scan.pairs;
+                Ok(())
+            }
+            Some(Err(NoMemory)) => Err(ScanFault::NoMemory),
+            _ => Err(ScanFault::Closed),
+        }
+    }
+}
