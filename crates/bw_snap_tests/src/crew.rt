@@ -61,7 +61,7 @@ fn write_both<
 /// Lets both readers do theirs.
 fn read_both<
     N: Naming + Send + Sync,
-    R: Threads + Sync,
+    R: Threads + Copy,
     W: Drop,
     L: Drop + Send,
     C: Crew<W, L> + Sync,

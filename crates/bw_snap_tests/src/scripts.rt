@@ -8,7 +8,7 @@ use bw_snap::{BlankBook, Closed, Naming, ReadTree, Reader, ScanFault};
 use bw_snap_reads::{get_after, look_after, scan_after};
 use bw_step::Look;
 use bw_table::Table;
-use bw_test_kit::{Call, Reply, Task, work};
+use bw_test_kit::{Call, Reply, Task, Told, work};
 use bw_tree::Blanks;
 use bw_work::{Hand, Open};
 use std::alloc::Global;
@@ -45,6 +45,11 @@ fn other_list(machine: Global) -> Result<Vec<(Key, u64)>, Fail> {
     Ok(list)
 }
 
+/// Whether a worker gave these replies, and no fault.
+fn has_replied(told: &Told, replies: &[Reply]) -> bool {
+    told.fault.is_none() && told.replies.as_slice() == replies
+}
+
 /// Whether the act is answered as it tells.
 fn is_answered<R: Wait + Copy, N: Naming, D: Ledger>(
     machine: Global,
@@ -54,33 +59,31 @@ fn is_answered<R: Wait + Copy, N: Naming, D: Ledger>(
     act: Act,
 ) -> Result<bool, Fail> {
     let mut list = other_list(machine)?;
-    match act {
-        Act::Puts(first, last) => return Ok(work(machine, hand, Task::puts(first, last)).is_plain()),
+    Ok(match act {
+        Act::Puts(first, last) => work(machine, hand, Task::puts(first, last)).is_plain(),
         Act::Calls(calls, replies) => {
-            let told = work(machine, hand, Task::calls(calls));
-            return Ok(told.fault.is_none() && told.replies.as_slice() == replies);
+            has_replied(&work(machine, hand, Task::calls(calls)), replies)
         }
         Act::Publish => {
             reader.learn(tree.publish()?);
-            return Ok(true);
+            true
         }
-        Act::Get(key, found) => return Ok(reader.get(key)? == found),
-        Act::Look(key, look) => return Ok(reader.look(key)? == look),
+        Act::Get(key, found) => reader.get(key)? == found,
+        Act::Look(key, look) => reader.look(key)? == look,
         Act::Scan(low, limit, pairs) => {
             reader.scan(low, limit, &mut list)?;
-            return Ok(list.as_slice() == pairs);
+            list.as_slice() == pairs
         }
         Act::GetAfterTwo(key, found) => {
             let one = tree.publish()?;
-            let other = tree.publish()?;
-            return Ok(get_after(reader, other, one, key)? == found);
+            get_after(reader, tree.publish()?, one, key)? == found
         }
-        Act::LookAfter(key, look) => return Ok(look_after(reader, tree.publish()?, key)? == look),
+        Act::LookAfter(key, look) => look_after(reader, tree.publish()?, key)? == look,
         Act::ScanAfter(low, limit, pairs) => {
             scan_after(reader, tree.publish()?, low, limit, &mut list)?;
-            return Ok(list.as_slice() == pairs);
+            list.as_slice() == pairs
         }
-    }
+    })
 }
 
 /// The place of the first act that isn't answered as it tells.
