@@ -51,7 +51,7 @@ marked table end from front (Mark other ∷ notes) r = marked table end other fr
 pub lands : (config : Config) (table end : TableValue) (from front : Announced) (notes : List Note) (book : Book)
     → LeadTo table (steps_of notes) end → IsSnapshot config from.list table → front ≡ record { list = from.list ++ steps_of notes; book = book }
     → IsSnapshot config (fold noted (table, from) (notes ++ Mark front ∷ [])).1.list (fold noted (table, from) (notes ++ Mark front ∷ [])).0
-        × ((fold noted (table, from) (notes ++ Mark front ∷ [])).1.book ≡ book)
+    × ((fold noted (table, from) (notes ++ Mark front ∷ [])).1.book ≡ book)
 lands config table end from front notes book run snapshot is =
     subst (λ (shown : TableValue × Announced). IsSnapshot config shown.1.list shown.0 × (shown.1.book ≡ book)) (sym (marked table end from front notes run))
     (subst (λ (f : Announced). IsSnapshot config f.list end × (f.book ≡ book)) (sym is) (leads_on (new_table config) table end from.list (steps_of notes) snapshot run, refl))

@@ -1,10 +1,12 @@
 //! The locked table, with the writing end of the published pair.
 
-ghost use Rattle.std.specs.Prelude.{◌≡◌, ◌<◌, ◌++◌, ◌∷◌, ◌↔◌, [], length, All, IsOk, IfOk, IfErr, OnOk, OnErr, MatchResult};
+ghost use Rattle.std.specs.Prelude.{◌≡◌, ◌<◌, ◌++◌, ◌∷◌, ◌↔◌, [], None, length, All, IsOk, IfOk, IfErr, OnOk, OnErr, MatchResult};
 ghost use Rattle.bw_keys.specs.Limits.{first_bad_field};
 ghost use Rattle.bw_step.specs.ProposalView.{proposal_of};
 ghost use Rattle.bw_step.specs.Steps.{IsReceiptOf};
 ghost use Rattle.bw_law.specs.Effects.{TakesStep};
+ghost use Rattle.bw_law.specs.Laws.{MapAfter};
+ghost use Rattle.bw_law.specs.Refusals.{refusal};
 ghost use Rattle.bw_law.specs.Tables.{new_table};
 ghost use Rattle.bw_tree.specs.Shares.{no_changes, counted, sum_of, Opens};
 ghost use Rattle.bw_tree.specs.Trees.{IsTree, CountsPairs};
@@ -136,8 +138,10 @@ impl<R: Wait + Drop, N: Naming, D: Ledger> Published<R, N, D> {
         twin: Step<Global>,
     ) -> Result<Receipt, Denied>
         requires { proposal_of twin ≡ proposal_of step }
+        ensures accepted { OnOk result (refusal self.old.table (proposal_of step) ≡ None) }
         ensures taken { IfOk result (λ receipt. TakesStep self.old.table (proposal_of step) receipt self.new.table) }
         ensures told { IfOk result (IsReceiptOf (proposal_of step)) }
+        ensures map { OnOk result (MapAfter self.old.table (proposal_of step)) }
         ensures pending { OnOk result (self.new.pending ≡ self.old.pending ++ proposal_of step ∷ []) }
         ensures published { OnOk result ((self.new.published ≡ self.old.published) × (self.new.list ≡ self.old.list)) }
         ensures denied { IfErr result (IsDenialOf self.old.table (proposal_of step)) }
@@ -176,7 +180,7 @@ impl<R: Wait + Drop, N: Naming, D: Ledger> Published<R, N, D> {
             Ok(()) => {}
             Err(_) => return Err(NoMemory),
         }
-        Ok(Stamp::over(self.announced.again()))
+        Ok(Stamp::over(self.writer.published().front.again()))
     }
 
     /// Gives the table out, as `Booked::close` does. The published copies are given up.

@@ -55,6 +55,15 @@ impl Absorb<Note> for Shown {
         }
         Ok(())
     }
+
+    /// The note itself is taken, so it can't fail.
+    fn absorb_second(&mut self, note: Note, _other: &Shown) -> Result<(), Note> {
+        match note {
+            Note::Step(step) => take(&mut self.table, step),
+            Note::Mark(front) => self.front = front,
+        }
+        Ok(())
+    }
 }
 
 /// Takes the step, where the table accepts it.

@@ -1,8 +1,8 @@
-use Rattle.std.proofs.Common.{◌≡◌, ◌++◌, ◌∷◌, [], List, length, drop, sym, ◌∙◌, ap, subst, arith, rules, length-append}
+use Rattle.std.proofs.Common.{◌≡◌, ◌++◌, ◌∷◌, [], List, drop, sym, ◌∙◌, ap, subst, arith, rules, length-append}
 use Rattle.bw_step.specs.Proposals.{Proposal}
 use Rattle.bw_snap.specs.Snapshots.{BeginsWith}
 use Rattle.bw_snap.specs.Notes.{steps_of}
-use Rattle.bw_snap.specs.Fronts.{newest, Rise}
+use Rattle.bw_snap.specs.Fronts.{newest}
 use Rattle.bw_snap.proofs.Adding.{adding_keeps_the_rule, was_added}
 use Rattle.bw_snap.proofs.Beginnings.{one_more_rises, one_more_is_newest}
 use Rattle.bw_snap.proofs.front.Front.announce.Goals as goal

@@ -1,4 +1,4 @@
-use Rattle.std.proofs.Common.{◌≡◌, ap, ◌∙◌, drop, None, ◌++◌, ◌∷◌, [], List}
+use Rattle.std.proofs.Common.{◌≡◌, ap, ◌∙◌, drop, None, ◌++◌, ◌∷◌, []}
 use Rattle.bw_step.specs.Proposals.{Proposal}
 use Rattle.bw_step.specs.ProposalView.{proposal_of}
 use Rattle.bw_law.specs.Refusals.{refusal}

@@ -1,6 +1,5 @@
-use Rattle.std.proofs.Common.{◌≡◌, ap, ◌∙◌, sym, refl, drop, fold, ◌++◌, ◌∷◌, [], List}
-use Rattle.bw_step.specs.Proposals.{Proposal}
-use Rattle.bw_law.specs.Tables.{TableValue, new_table}
+use Rattle.std.proofs.Common.{◌≡◌, ap, ◌∙◌, refl, drop, fold, ◌++◌, ◌∷◌, []}
+use Rattle.bw_law.specs.Tables.{new_table}
 use Rattle.bw_snap.specs.declared.shown.Shown.{Shown}
 use Rattle.bw_snap.specs.declared.note.Note.TheVariants.{Mark}
 use Rattle.bw_snap.specs.Fronts.{Announced}
@@ -71,17 +70,6 @@ returns-clause-list g c =
     let front : c.advance.new.writer.desk.shown.value.front ≡ record { list = v.front.list ++ steps_of notes; book = g.N.Naming.book } = end.1 ∙ (ap (λ p. p.1) landed ∙ is) in
     let lists : v.front.list ++ steps_of notes ≡ c.args.self.now.list ++ c.args.self.now.pending = ap (λ (h : PublishedValue). h.list ++ h.pending) c.self.view_is in
     (ap (λ (f : Announced). f.list) front ∙ lists, ap steps_of end.2)
-
-pub returns-clause-stamp : goal.returns-clause-stamp
-returns-clause-stamp g c =
-    let w = c.self.inside.writer in
-    let notes = drop w.behind w.log.items in
-    let v : Shown = w.desk.shown.value in
-    let is : c.again.result ≡ record { list = v.front.list ++ steps_of notes; book = g.N.Naming.book } = c.again.ensures ∙ c.if-not-announce.ensures in
-    let landed : fold noted (v.table, v.front) (notes ++ Mark c.again.result ∷ []) ≡ (c.self.inside.booked, c.again.result) = marked v.table c.self.inside.booked v.front c.again.result notes c.self.invariant.0 in
-    let end = rw (c.append.ensures.desk, c.in-Ok.ensures.pending) at c.in-Ok-advance.ensures.ok in
-    let front : c.advance.new.writer.desk.shown.value.front ≡ record { list = v.front.list ++ steps_of notes; book = g.N.Naming.book } = end.1 ∙ (ap (λ p. p.1) landed ∙ is) in
-    c.over.ensures ∙ (ap (λ (f : Announced). f.list) (c.again-2.ensures ∙ c.if-not-announce.ensures) ∙ sym (ap (λ (f : Announced). f.list) front))
 
 pub invariant_of-self-in-Err : goal.invariant_of-self-in-Err
 invariant_of-self-in-Err g c =
