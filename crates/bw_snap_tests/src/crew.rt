@@ -43,7 +43,7 @@ fn write_both<
     D: Ledger + Send + Sync,
     R: Threads + Wait + Sync + Send + Copy,
     W: Drop + Send,
-    L: Drop,
+    L: Drop + Send,
     C: Crew<W, L> + Sync,
 >(
     rt: R,
@@ -62,7 +62,7 @@ fn write_both<
 fn read_both<
     N: Naming + Send + Sync,
     R: Threads + Copy,
-    W: Drop,
+    W: Drop + Send,
     L: Drop + Send,
     C: Crew<W, L> + Sync,
 >(
