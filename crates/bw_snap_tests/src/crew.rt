@@ -73,6 +73,28 @@ fn read_both<
     join(&rt, move || crew.read(zero, 0), move || crew.read(one, 1))
 }
 
+/// Lets all do their work side by side.
+fn work_all<
+    N: Naming + Send + Sync,
+    D: Ledger + Send + Sync,
+    R: Threads + Wait + Sync + Send + Copy,
+    W: Drop + Send,
+    L: Drop + Send,
+    C: Crew<W, L> + Sync,
+>(
+    rt: R,
+    tree: &ReadTree<R, N, D>,
+    shares: (Share<N, D>, Share<N, D>),
+    readers: (Reader<N>, Reader<N>),
+    crew: &C,
+) -> ((Worked<N, D, W>, Worked<N, D, W>), (L, L)) {
+    join(
+        &rt,
+        move || write_both(rt, tree, shares, crew),
+        move || read_both(rt, readers, crew),
+    )
+}
+
 fn work_over<
     N: Naming + Send + Sync,
     D: Ledger + Send + Sync,
@@ -104,12 +126,7 @@ fn work_over<
         readers.pop().ok_or("there is no reader")?,
         readers.pop().ok_or("there is no second reader")?,
     );
-    let shared = &tree;
-    let ((zero, one), read) = join(
-        &rt,
-        move || write_both(rt, shared, own, crew),
-        move || read_both(rt, looking, crew),
-    );
+    let ((zero, one), read) = work_all(rt, &tree, own, looking, crew);
     shares.push(zero.share).ok().ok_or("no memory")?;
     shares.push(one.share).ok().ok_or("no memory")?;
     let table = tree.close(shares)?;
