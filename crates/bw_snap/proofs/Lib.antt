@@ -1,3 +1,4 @@
 pub mod Adding
 pub mod Beginnings
 pub mod Notes
+pub mod Crossing

@@ -1,174 +1,113 @@
-//! A reader beside a writer that publishes all the time.
+//! Readers beside writers that publish all the time.
 
-ghost use Rattle.std.specs.Prelude.{◌≡◌};
-ghost use Rattle.bw_tree.specs.Shares.{Opens};
-
-use crate::play::SMALL;
-use bw_keys::Config;
-use bw_snap::{BlankBook, Naming, ReadTree, Reader};
-use bw_tree::{Blanks, Share};
+use crate::crew::{Crew, Left, work_on_new_tree};
+use bw_snap::{Naming, ReadTree, Reader};
+use bw_test_kit::{LARGE, Worked};
+use bw_tree::Share;
 use bw_work::{Hand, Open};
 use std::alloc::Global;
-use std::marker::Brand;
 use std::sync::Wait;
 use std::sync::atomic::{AtomicU64, Ordering};
 use std::sync::ledger::Ledger;
 use std::test::Fail;
-use std::thread::{Threads, join};
 
-/// How often the reader reads.
-const READS: u64 = 1_000_000;
+/// How often each of the two readers reads.
+const READS: u64 = 500_000;
 
 /// How many keys there are, each with itself as value while it is there.
 const KEYS: u64 = 100;
 
-/// Whether the reader has ended.
-#[derive(Drop)]
-struct End {
-    is_over: AtomicU64,
-}
+/// How many changes a writer makes at most.
+const MOST_CHANGES: u64 = 10_000_000;
 
-impl End {
-    fn new() -> End {
-        End {
-            is_over: AtomicU64::new(0),
-        }
-    }
-
-    fn tell(&self) {
-        self.is_over.store(1, Ordering::SeqCst);
-    }
-
-    fn is_told(&self) -> bool {
-        self.is_over.load(Ordering::SeqCst) == 1
-    }
-}
-
-/// What a reader met that it isn't to meet.
+/// How many calls had an answer as it is to be, and how many had none, or another one.
 #[derive(Clone, Copy, Debug, Default, PartialEq, Eq)]
-struct Met {
-    /// Reads that weren't answered.
-    closed: u64,
-    /// Reads of fewer changes than the read before.
-    older: u64,
-    /// Reads that found another value than the key.
-    other: u64,
+struct Count {
+    right: u64,
+    wrong: u64,
 }
 
-/// Reads all keys in turn, and tells when it has ended.
-fn read_all<N: Naming>(reader: Reader<N>, end: &End) -> (Reader<N>, Met) {
-    let mut reader = reader;
-    let mut met = Met::default();
-    let mut seen = 0;
-    for read in 0..READS {
-        let key = read % KEYS;
-        match reader.look(key) {
-            Ok(look) => {
-                if look.at < seen {
-                    met.older = met.older.saturating_add(1);
-                }
-                if look.found.is_some_and(|value| value != key) {
-                    met.other = met.other.saturating_add(1);
-                }
-                seen = look.at;
-            }
-            Err(_) => met.closed = met.closed.saturating_add(1),
-        }
-    }
-    end.tell();
-    (reader, met)
-}
-
-/// A writer's share, how often it published, and how often it could not.
-#[derive(Drop)]
-struct Written<I: Ledger, D: Ledger> {
-    share: Share<I, D>,
-    published: u64,
-    refused: u64,
-}
-
-/// Puts and deletes each key in turn and publishes each change, until the reader has ended.
-fn write_on<I: Ledger, D: Ledger, N: Naming, R: Wait + Copy>(
-    machine: Global,
-    tree: &ReadTree<R, I, D, N>,
-    share: Share<I, D>,
-    end: &End,
-) -> Written<I, D> {
-    let mut hand = Hand::new(machine, machine, tree, share, 0, &Open);
-    let (mut published, mut refused) = (0_u64, 0_u64);
-    for round in 0..u64::MAX {
-        if end.is_told() {
-            break;
-        }
-        let key = round % KEYS;
-        if (round / KEYS).is_multiple_of(2) {
-            let _ = hand.put(key, key);
+impl Count {
+    fn add(&mut self, is_right: bool) {
+        if is_right {
+            self.right = self.right.saturating_add(1);
         } else {
-            let _ = hand.delete(key);
+            self.wrong = self.wrong.saturating_add(1);
         }
-        match tree.publish() {
-            Ok(_stamp) => published = published.saturating_add(1),
-            Err(_) => refused = refused.saturating_add(1),
-        }
-    }
-    let (share, _trail) = hand.finish();
-    Written {
-        share,
-        published,
-        refused,
     }
 }
 
-fn beside_on_new_tree<
-    I: Ledger + Send + Sync,
-    D: Ledger + Send + Sync,
-    N: Naming + Send + Sync,
-    R: Threads + Wait + Sync + Send + Copy,
->(
-    rt: R,
+/// The writers put and delete all keys in turn, and publish each change, until both readers have ended.
+#[derive(Drop)]
+struct Beside {
     machine: Global,
-    config: Config,
-    blanks: Blanks,
-    book: BlankBook,
-) -> Result<(Met, u64, u64), Fail>
-    requires insertions { Opens I.name I.parts blanks.insertions }
-    requires removals { Opens D.name D.parts blanks.removals }
-    requires book { book.seen.book ≡ N.book }
-    requires config { config ≡ N.config }
-{
-    let (tree, mut shares, mut readers) = ReadTree::<R, I, D, N>::with_readers(
-        rt, machine, config, blanks, book, 1,
-    )?;
-    let share = shares.pop().ok_or("there is no share")?;
-    let reader = readers.pop().ok_or("there is no reader")?;
-    let end = End::new();
-    let (shared, told) = (&tree, &end);
-    let (written, (_reader, met)) = join(
-        &rt,
-        move || write_on(machine, shared, share, told),
-        move || read_all(reader, told),
-    );
-    let Written {
-        share,
-        published,
-        refused,
-    } = written;
-    shares.push(share).ok().ok_or("no memory")?;
-    let _table = tree.close(shares)?;
-    Ok((met, published, refused))
+    /// How many readers have ended.
+    ended: AtomicU64,
+}
+
+impl Crew<Count, Count> for Beside {
+    fn write<R: Wait + Copy, N: Naming, D: Ledger>(
+        &self,
+        tree: &ReadTree<R, N, D>,
+        worker: u32,
+        share: Share<N, D>,
+    ) -> Worked<N, D, Count> {
+        let machine = self.machine;
+        let mut hand = Hand::new(machine, machine, tree, share, worker, &Open);
+        let mut count = Count::default();
+        for change in 0..MOST_CHANGES {
+            if self.ended.load(Ordering::SeqCst) == 2 {
+                break;
+            }
+            let key = change % KEYS;
+            let is_made = if (change / KEYS).is_multiple_of(2) {
+                hand.put(key, key).is_ok()
+            } else {
+                hand.delete(key).is_ok()
+            };
+            count.add(is_made && tree.publish().is_ok());
+        }
+        let (share, _trail) = hand.finish();
+        Worked { share, told: count }
+    }
+
+    /// Each look is answered, sees no fewer changes than the one before, and finds the key itself or
+    /// nothing.
+    fn read<N: Naming>(&self, reader: Reader<N>, _number: u32) -> Count {
+        let mut reader = reader;
+        let mut count = Count::default();
+        let mut seen = 0;
+        for read in 0..READS {
+            let key = read % KEYS;
+            match reader.look(key) {
+                Ok(look) => {
+                    let is_own = look.found.is_none() || look.found == Some(key);
+                    count.add(is_own && seen <= look.at);
+                    seen = look.at;
+                }
+                Err(_) => count.add(false),
+            }
+        }
+        self.ended.fetch_add(1, Ordering::SeqCst);
+        count
+    }
 }
 
 #[test]
-fn each_of_a_million_reads_beside_a_writer_is_answered(rt: HostRuntime) -> Result<(), Fail> {
-    let (met, published, refused) = beside_on_new_tree::<Brand, Brand, Brand, _>(
-        rt,
-        rt.alloc(),
-        SMALL,
-        Blanks::new(1),
-        BlankBook::new(),
-    )?;
-    assert_eq!(rt; met, Met::default());
-    assert_eq!(rt; refused, 0);
-    assert!(rt; published > 1);
+fn each_of_a_million_reads_beside_writers_is_answered(rt: HostRuntime) -> Result<(), Fail> {
+    let machine = rt.alloc();
+    let crew = Beside {
+        machine,
+        ended: AtomicU64::new(0),
+    };
+    let Left { written, read, .. } = work_on_new_tree(rt, machine, LARGE, &crew)?;
+    let all = Count {
+        right: READS,
+        wrong: 0,
+    };
+    assert_eq!(rt; read, (all, all));
+    for count in [written.0, written.1] {
+        assert!(rt; count.right > 1 && count.wrong == 0, "{count:?}");
+    }
     Ok(())
 }

@@ -3,18 +3,17 @@
 ghost use Rattle.std.specs.Prelude.{◌≡◌};
 ghost use Rattle.bw_tree.specs.Shares.{Opens};
 
-use crate::play::SMALL;
 use bw_keys::{BadConfig, Config, Field};
-use bw_snap::{BlankBook, MAX_READERS, Naming, ReadTree, SnapFault};
+use bw_snap::{BlankBook, Naming, ReadTree, SnapFault};
+use bw_test_kit::SMALL;
 use bw_tree::Blanks;
 use std::alloc::Global;
 use std::marker::Brand;
 use std::sync::Wait;
 use std::sync::ledger::Ledger;
-use std::test::Fail;
 
 /// How many shares and readers there are, or why there is no tree.
-fn made_on_new_tree<I: Ledger, D: Ledger, N: Naming, R: Wait + Copy>(
+fn made_over<N: Naming, D: Ledger, R: Wait + Copy>(
     rt: R,
     machine: Global,
     config: Config,
@@ -22,12 +21,12 @@ fn made_on_new_tree<I: Ledger, D: Ledger, N: Naming, R: Wait + Copy>(
     book: BlankBook,
     readers: u32,
 ) -> Result<(usize, usize), SnapFault>
-    requires insertions { Opens I.name I.parts blanks.insertions }
+    requires insertions { Opens N.name N.parts blanks.insertions }
     requires removals { Opens D.name D.parts blanks.removals }
     requires book { book.seen.book ≡ N.book }
-    requires config { config ≡ N.config }
+    requires config { N.config ≡ config }
 {
-    let (_tree, shares, readers) = ReadTree::<R, I, D, N>::with_readers(
+    let (_tree, shares, readers) = ReadTree::<R, N, D>::with_readers(
         rt, machine, config, blanks, book, readers,
     )?;
     Ok((shares.len(), readers.len()))
@@ -40,7 +39,7 @@ fn made<R: Wait + Copy>(
     workers: u32,
     readers: u32,
 ) -> Result<(usize, usize), SnapFault> {
-    made_on_new_tree::<Brand, Brand, Brand, _>(
+    made_over::<Brand, Brand, _>(
         rt,
         machine,
         config,
@@ -50,23 +49,29 @@ fn made<R: Wait + Copy>(
     )
 }
 
+const BAD: Config = Config { chain: 0, ..SMALL };
+
+const BAD_CHAIN: SnapFault = SnapFault::BadConfig(BadConfig(Field::Chain));
+
+/// A configuration, how many workers and readers there are to be, and how many there are, or the first
+/// fault.
+const MAKINGS: [(Config, u32, u32, Result<(usize, usize), SnapFault>); 9] = [
+    (BAD, 0, 0, Err(BAD_CHAIN)),
+    (BAD, 65, 17, Err(BAD_CHAIN)),
+    (BAD, 1, 1, Err(BAD_CHAIN)),
+    (SMALL, 0, 0, Err(SnapFault::BadWorkers)),
+    (SMALL, 65, 17, Err(SnapFault::BadWorkers)),
+    (SMALL, 1, 0, Err(SnapFault::BadReaders)),
+    (SMALL, 64, 17, Err(SnapFault::BadReaders)),
+    (SMALL, 1, 1, Ok((1, 1))),
+    (SMALL, 64, 16, Ok((64, 16))),
+];
+
 #[test]
-fn the_first_fault_is_told(rt: HostRuntime) -> Result<(), Fail> {
+fn the_first_fault_of_a_making_is_told(rt: HostRuntime) {
     let machine = rt.alloc();
-    let bad = Config { chain: 0, ..SMALL };
-    let bad_chain = Err(SnapFault::BadConfig(BadConfig(Field::Chain)));
-    let rows = [
-        (bad, 0, 0, bad_chain),
-        (bad, 1, 1, bad_chain),
-        (SMALL, 0, 0, Err(SnapFault::BadWorkers)),
-        (SMALL, 65, 1, Err(SnapFault::BadWorkers)),
-        (SMALL, 1, 0, Err(SnapFault::BadReaders)),
-        (SMALL, 64, MAX_READERS + 1, Err(SnapFault::BadReaders)),
-        (SMALL, 1, 1, Ok((1, 1))),
-        (SMALL, 64, MAX_READERS, Ok((64, 16))),
-    ];
-    for (config, workers, readers, answer) in rows {
-        assert_eq!(rt; made(rt, machine, config, workers, readers), answer);
+    for (config, workers, readers, answer) in MAKINGS {
+        let told = made(rt, machine, config, workers, readers);
+        assert_eq!(rt; told, answer, "{workers} workers, {readers} readers");
     }
-    Ok(())
 }

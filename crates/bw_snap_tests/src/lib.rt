@@ -1,12 +1,18 @@
-//! Tests of readers without the lock: scripts of a writer and a reader, a reader beside a writer
-//! that publishes all the time, and the faults of a tree's maker.
+//! Tests of readers without the lock: scripts of a worker and a reader, readers beside writers, and the
+//! faults of a tree's maker.
 #![tactic(auto)]
 
 #[cfg(test)]
 mod beside;
 #[cfg(test)]
+mod crew;
+#[cfg(test)]
+mod explained;
+#[cfg(test)]
 mod faults;
 #[cfg(test)]
-mod play;
-#[cfg(test)]
 mod rows;
+#[cfg(test)]
+mod scripts;
+#[cfg(test)]
+mod two_workers;

@@ -1,128 +1,198 @@
-//! Worked scripts: what a reader is to answer, and the leaves and the book in the end.
+//! Worked scripts: what a worker and a reader are to answer, and the leaves and the book in the end.
 
-use crate::play::{Act, SMALL, lines, play};
-use bw_keys::Key;
-use bw_snap::Closed;
-use bw_step::Look;
-use std::process::Abort;
-use std::sync::Wait;
+use crate::scripts::{Act, Played, play};
+use bw_delta::NoMemory;
+use bw_keys::{Fence, Key};
+use bw_step::{Book, Look};
+use bw_test_kit::{Call, Reply, SMALL, leaves_of};
+use bw_work::{Del, Put};
+use std::alloc::Global;
 use std::test::Fail;
 
-/// Plays the script. The reader answers as each act tells, and Closed in the end, and the tree has
-/// these leaves.
-fn expect<R: Abort + Wait + AllocGlobal + Copy + Drop>(
-    rt: R,
-    acts: &[Act<'_>],
-    text: &str,
-) -> Result<(), Fail> {
-    let machine = rt.alloc();
-    let played = play(rt, machine, SMALL, acts)?;
-    assert_eq!(rt; played.wrong.as_slice(), [].as_slice());
-    assert_eq!(rt; played.after, Err(Closed));
-    assert_eq!(rt; lines(machine, &played.table)?.as_str(), text);
-    Ok(())
+struct Row {
+    name: &'static str,
+    acts: &'static [Act],
+    leaves: &'static [(Key, Fence, u64)],
+    /// How many pairs were inserted, and how many removed.
+    book: (u64, u64),
 }
 
-#[test]
-fn a_reader_answers_what_was_published(rt: HostRuntime) -> Result<(), Fail> {
-    let acts = [
-        Act::Get(5, None),
-        Act::Put(5, 50),
-        Act::Get(5, None),
-        Act::Publish,
-        Act::Learn,
-        Act::Get(5, Some(50)),
-        Act::Put(6, 60),
-        Act::Get(6, None),
-        Act::Get(5, Some(50)),
-        Act::Scan(0, 10, &[(5, 50)]),
-    ];
-    expect(rt, &acts, "0 top 2\ninserted 2 removed 0 pairs 2\n")
-}
+const INSERTED: Reply = Reply::Put(Put::Inserted);
 
-#[test]
-fn a_scan_begins_at_its_key_and_ends_at_its_limit(rt: HostRuntime) -> Result<(), Fail> {
-    let acts = [
-        Act::PutAll(1, 7),
-        Act::Publish,
-        Act::Learn,
-        Act::Scan(4, 2, &[(4, 4), (5, 5)]),
-        Act::Scan(0, 0, &[]),
-        Act::Scan(8, 3, &[]),
-        Act::Scan(6, 3, &[(6, 6), (7, 7)]),
-        Act::Delete(4),
-        Act::Publish,
-        Act::Learn,
-        Act::Scan(4, 2, &[(5, 5), (6, 6)]),
-        Act::Look(4, Look { found: None, at: 8 }),
-    ];
-    expect(
-        rt,
-        &acts,
-        "0 3 2\n3 5 1\n5 top 3\ninserted 7 removed 1 pairs 6\n",
+static ROWS: [Row; 9] = [
+    Row {
+        name: "a reader answers what was published",
+        acts: &[
+            Act::Get(5, None),
+            Act::Calls(&[Call::Put(5, 50)], &[INSERTED]),
+            Act::Get(5, None),
+            Act::Publish,
+            Act::Get(5, Some(50)),
+            Act::Calls(&[Call::Put(6, 60)], &[INSERTED]),
+            Act::Get(6, None),
+            Act::Get(5, Some(50)),
+            Act::Scan(0, 10, &[(5, 50)]),
+        ],
+        leaves: &[(0, Fence::Top, 2)],
+        book: (2, 0),
+    },
+    Row {
+        name: "a scan begins at its key and ends at its limit",
+        acts: &[
+            Act::Puts(1, 7),
+            Act::ScanAfter(4, 2, &[(4, 4), (5, 5)]),
+            Act::Scan(0, 0, &[]),
+            Act::Scan(8, 3, &[]),
+            Act::Scan(6, usize::MAX, &[(6, 6), (7, 7)]),
+            Act::Calls(&[Call::Delete(4)], &[Reply::Delete(Del::Removed(4))]),
+            Act::Look(
+                4,
+                Look {
+                    found: Some(4),
+                    at: 7,
+                },
+            ),
+            Act::ScanAfter(4, 2, &[(5, 5), (6, 6)]),
+            Act::Look(4, Look { found: None, at: 8 }),
+        ],
+        leaves: &[
+            (0, Fence::Key(3), 2),
+            (3, Fence::Key(5), 1),
+            (5, Fence::Top, 3),
+        ],
+        book: (7, 1),
+    },
+    Row {
+        name: "two publications with nothing between change no answer",
+        acts: &[
+            Act::Puts(5, 6),
+            Act::Publish,
+            Act::Get(5, Some(5)),
+            Act::Get(6, Some(6)),
+            Act::Get(7, None),
+            Act::GetAfterTwo(5, Some(5)),
+            Act::Get(6, Some(6)),
+            Act::Get(7, None),
+        ],
+        leaves: &[(0, Fence::Top, 2)],
+        book: (2, 0),
+    },
+    Row {
+        name: "the least and the greatest key are found and listed",
+        acts: &[
+            Act::Calls(
+                &[Call::Put(Key::MAX, 8), Call::Put(0, 7)],
+                &[INSERTED, INSERTED],
+            ),
+            Act::LookAfter(
+                Key::MAX,
+                Look {
+                    found: Some(8),
+                    at: 2,
+                },
+            ),
+            Act::Scan(0, 2, &[(0, 7), (Key::MAX, 8)]),
+            Act::Scan(0, 1, &[(0, 7)]),
+            Act::Scan(1, 10, &[(Key::MAX, 8)]),
+        ],
+        leaves: &[(0, Fence::Top, 2)],
+        book: (2, 0),
+    },
+    Row {
+        name: "a key that is put again has its new value",
+        acts: &[
+            Act::Calls(&[Call::Put(9, 1)], &[INSERTED]),
+            Act::Publish,
+            Act::Calls(
+                &[Call::Delete(9), Call::Put(9, 2), Call::Put(9, 3)],
+                &[
+                    Reply::Delete(Del::Removed(1)),
+                    INSERTED,
+                    Reply::Put(Put::Present(2)),
+                ],
+            ),
+            Act::Get(9, Some(1)),
+            Act::LookAfter(
+                9,
+                Look {
+                    found: Some(2),
+                    at: 3,
+                },
+            ),
+        ],
+        leaves: &[(0, Fence::Top, 1)],
+        book: (2, 1),
+    },
+    Row {
+        name: "the fifth put splits the leaf",
+        acts: &[Act::Puts(1, 5)],
+        leaves: &[(0, Fence::Key(3), 2), (3, Fence::Top, 3)],
+        book: (5, 0),
+    },
+    Row {
+        name: "the seventh put splits the upper leaf",
+        acts: &[Act::Puts(1, 7)],
+        leaves: &[
+            (0, Fence::Key(3), 2),
+            (3, Fence::Key(5), 2),
+            (5, Fence::Top, 3),
+        ],
+        book: (7, 0),
+    },
+    Row {
+        name: "an empty leaf is merged",
+        acts: &[
+            Act::Puts(1, 7),
+            Act::Publish,
+            Act::Calls(
+                &[Call::Delete(3), Call::Delete(4)],
+                &[
+                    Reply::Delete(Del::Removed(3)),
+                    Reply::Delete(Del::Removed(4)),
+                ],
+            ),
+            Act::Scan(2, 3, &[(2, 2), (3, 3), (4, 4)]),
+            Act::ScanAfter(2, 3, &[(2, 2), (5, 5), (6, 6)]),
+        ],
+        leaves: &[(0, Fence::Key(5), 2), (5, Fence::Top, 3)],
+        book: (7, 2),
+    },
+    Row {
+        name: "a leftmost leaf stays",
+        acts: &[
+            Act::Puts(1, 5),
+            Act::Calls(
+                &[Call::Delete(1), Call::Delete(2)],
+                &[
+                    Reply::Delete(Del::Removed(1)),
+                    Reply::Delete(Del::Removed(2)),
+                ],
+            ),
+        ],
+        leaves: &[(0, Fence::Key(3), 0), (3, Fence::Top, 3)],
+        book: (5, 2),
+    },
+];
+
+/// Whether the script left the row's leaves, its book and as many pairs as that counts.
+fn is_left(machine: Global, row: &Row, played: &Played) -> Result<bool, NoMemory> {
+    let Book { inserted, removed } = played.table.survey(machine)?.book;
+    let many = played.table.pairs(machine)?.len() as u64;
+    Ok(
+        leaves_of(machine, &played.table)?.as_slice() == row.leaves
+            && (inserted, removed) == row.book
+            && inserted.checked_sub(removed) == Some(many),
     )
 }
 
 #[test]
-fn two_publications_with_nothing_between_change_no_answer(rt: HostRuntime) -> Result<(), Fail> {
-    let acts = [
-        Act::Put(5, 50),
-        Act::Put(6, 60),
-        Act::Publish,
-        Act::Learn,
-        Act::Get(5, Some(50)),
-        Act::Get(6, Some(60)),
-        Act::Get(7, None),
-        Act::Publish,
-        Act::Publish,
-        Act::Learn,
-        Act::Get(5, Some(50)),
-        Act::Get(6, Some(60)),
-        Act::Get(7, None),
-    ];
-    expect(rt, &acts, "0 top 2\ninserted 2 removed 0 pairs 2\n")
-}
-
-#[test]
-fn the_greatest_key_is_found_and_listed(rt: HostRuntime) -> Result<(), Fail> {
-    let acts = [
-        Act::Put(Key::MAX, 8),
-        Act::Put(0, 7),
-        Act::Publish,
-        Act::Learn,
-        Act::Look(
-            Key::MAX,
-            Look {
-                found: Some(8),
-                at: 2,
-            },
-        ),
-        Act::Scan(0, 2, &[(0, 7), (Key::MAX, 8)]),
-        Act::Scan(1, 1_000_000, &[(Key::MAX, 8)]),
-    ];
-    expect(rt, &acts, "0 top 2\ninserted 2 removed 0 pairs 2\n")
-}
-
-#[test]
-fn a_hand_leaves_the_same_leaves_on_a_tree_with_readers(rt: HostRuntime) -> Result<(), Fail> {
-    let splits = [Act::PutAll(1, 5)];
-    expect(
-        rt,
-        &splits,
-        "0 3 2\n3 top 3\ninserted 5 removed 0 pairs 5\n",
-    )?;
-    let splits_again = [Act::PutAll(1, 7)];
-    expect(
-        rt,
-        &splits_again,
-        "0 3 2\n3 5 2\n5 top 3\ninserted 7 removed 0 pairs 7\n",
-    )?;
-    let merges = [Act::PutAll(1, 7), Act::Delete(3), Act::Delete(4)];
-    expect(
-        rt,
-        &merges,
-        "0 5 2\n5 top 3\ninserted 7 removed 2 pairs 5\n",
-    )?;
-    let stays = [Act::PutAll(1, 5), Act::Delete(1), Act::Delete(2)];
-    expect(rt, &stays, "0 3 0\n3 top 3\ninserted 5 removed 2 pairs 3\n")
+fn scripts_are_answered(rt: HostRuntime) -> Result<(), Fail> {
+    let machine = rt.alloc();
+    for row in ROWS.iter() {
+        let played = play(rt, machine, SMALL, row.acts)?;
+        assert_eq!(rt; played.wrong, None, "{}", row.name);
+        assert!(rt; is_left(machine, row, &played)?, "{}", row.name);
+        assert!(rt; played.is_closed, "{}", row.name);
+    }
+    Ok(())
 }
