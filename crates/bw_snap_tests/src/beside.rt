@@ -2,7 +2,7 @@
 
 use crate::crew::{Crew, Left, work_on_new_tree};
 use bw_snap::{Naming, ReadTree, Reader};
-use bw_test_kit::{LARGE, Worked};
+use bw_test_kit::{LARGE, Meeting, Worked};
 use bw_tree::Share;
 use bw_work::{Hand, Open};
 use std::alloc::Global;
@@ -43,6 +43,8 @@ impl Count {
 #[derive(Drop)]
 struct Beside {
     machine: Global,
+    /// Where the readers wait for the writer's first publication.
+    begun: Meeting,
     /// How many readers have ended.
     ended: AtomicU64,
 }
@@ -69,6 +71,7 @@ impl Crew<Count, Count> for Beside {
                 hand.delete(key).is_ok()
             };
             count.add(is_made && tree.publish().is_ok());
+            self.begun.arrive(0);
             thread::yield_now();
         }
         let (share, _trail) = hand.finish();
@@ -81,6 +84,7 @@ impl Crew<Count, Count> for Beside {
         let mut reader = reader;
         let mut count = Count::default();
         let mut seen = 0;
+        self.begun.wait_for(0);
         for read in 0..READS {
             let key = read % KEYS;
             match reader.look(key) {
@@ -102,6 +106,7 @@ fn each_of_a_million_reads_beside_a_writer_is_answered(rt: HostRuntime) -> Resul
     let machine = rt.alloc();
     let crew = Beside {
         machine,
+        begun: Meeting::new(),
         ended: AtomicU64::new(0),
     };
     let Left { written, read, .. } = work_on_new_tree(rt, machine, LARGE, &crew)?;
