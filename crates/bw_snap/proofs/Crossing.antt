@@ -62,11 +62,19 @@ module _ (R N D : RattleType) (names : naming.Ghosts N.Denot) (made : made_by.Gh
   Inside-send : IsSend R → IsSend (Inside.the_field R N D names made counts removals).row
   Inside-send r = struct_send (shape (Inside.the_type R N D names made counts removals)) (
     search (Table-send, book.the_send, sendable, crosses) depth 60 fits 10000,
-    (search (Note-send, Shown-send, Shown-sync, writing.the_field_send, sendable, crosses) depth 60 fits 10000,
-    (search (word.the_send, sendable, crosses) depth 60,
-    (search (Front-send, sendable, crosses) depth 60,
-    (search (r, sendable),
-    tt)))),
+    (
+      search (Note-send, Shown-send, Shown-sync, writing.the_field_send, sendable, crosses) depth 60 fits 10000,
+      (
+        search (word.the_send, sendable, crosses) depth 60,
+        (
+          search (Front-send, sendable, crosses) depth 60,
+          (
+            search (r, sendable),
+            tt,
+          ),
+        ),
+      ),
+    ),
   )
 
   Published-send : IsSend R → IsSend (Published.the_row R N D names made counts removals)
@@ -75,8 +83,14 @@ module _ (R N D : RattleType) (names : naming.Ghosts N.Denot) (made : made_by.Gh
   pub ReadTree-sync : IsSend R → IsSync R → IsSync (ReadTree.the_field R N D names made counts removals).row
   ReadTree-sync r y = struct_sync (shape (ReadTree.the_type R N D names made counts removals)) (
     search (y, sendable),
-    (search (heap.the_field_sync, sendable),
-    (search sendable depth 60,
-    (search (Published-send r, sendable, crosses) depth 60,
-    tt))),
+    (
+      search (heap.the_field_sync, sendable),
+      (
+        search sendable depth 60,
+        (
+          search (Published-send r, sendable, crosses) depth 60,
+          tt,
+        ),
+      ),
+    ),
   )

@@ -1,8 +1,8 @@
-//! Readers beside writers that publish all the time.
+//! Readers beside a writer that publishes all the time.
 
 use crate::crew::{Crew, Left, work_on_new_tree};
 use bw_snap::{Naming, ReadTree, Reader};
-use bw_test_kit::{LARGE, Worked};
+use bw_test_kit::{LARGE, Meeting, Worked};
 use bw_tree::Share;
 use bw_work::{Hand, Open};
 use std::alloc::Global;
@@ -10,14 +10,15 @@ use std::sync::Wait;
 use std::sync::atomic::{AtomicU64, Ordering};
 use std::sync::ledger::Ledger;
 use std::test::Fail;
+use std::thread;
 
 /// How often each of the two readers reads.
 const READS: u64 = 500_000;
 
 /// How many keys there are, each with itself as value while it is there.
-const KEYS: u64 = 100;
+const KEYS: u64 = 16;
 
-/// How many changes a writer makes at most.
+/// How many changes the writer makes at most.
 const MOST_CHANGES: u64 = 10_000_000;
 
 /// How many calls had an answer as it is to be, and how many had none, or another one.
@@ -37,10 +38,13 @@ impl Count {
     }
 }
 
-/// The writers put and delete all keys in turn, and publish each change, until both readers have ended.
+/// Writer 0 puts and deletes all keys in turn, and publishes each change, until both readers have ended.
+/// Writer 1 writes nothing.
 #[derive(Drop)]
 struct Beside {
     machine: Global,
+    /// Where the readers wait for the writer's first publication.
+    begun: Meeting,
     /// How many readers have ended.
     ended: AtomicU64,
 }
@@ -55,7 +59,8 @@ impl Crew<Count, Count> for Beside {
         let machine = self.machine;
         let mut hand = Hand::new(machine, machine, tree, share, worker, &Open);
         let mut count = Count::default();
-        for change in 0..MOST_CHANGES {
+        let most = if worker == 0 { MOST_CHANGES } else { 0 };
+        for change in 0..most {
             if self.ended.load(Ordering::SeqCst) == 2 {
                 break;
             }
@@ -66,6 +71,8 @@ impl Crew<Count, Count> for Beside {
                 hand.delete(key).is_ok()
             };
             count.add(is_made && tree.publish().is_ok());
+            self.begun.arrive(0);
+            thread::yield_now();
         }
         let (share, _trail) = hand.finish();
         Worked { share, told: count }
@@ -77,6 +84,7 @@ impl Crew<Count, Count> for Beside {
         let mut reader = reader;
         let mut count = Count::default();
         let mut seen = 0;
+        self.begun.wait_for(0);
         for read in 0..READS {
             let key = read % KEYS;
             match reader.look(key) {
@@ -94,10 +102,11 @@ impl Crew<Count, Count> for Beside {
 }
 
 #[test]
-fn each_of_a_million_reads_beside_writers_is_answered(rt: HostRuntime) -> Result<(), Fail> {
+fn each_of_a_million_reads_beside_a_writer_is_answered(rt: HostRuntime) -> Result<(), Fail> {
     let machine = rt.alloc();
     let crew = Beside {
         machine,
+        begun: Meeting::new(),
         ended: AtomicU64::new(0),
     };
     let Left { written, read, .. } = work_on_new_tree(rt, machine, LARGE, &crew)?;
@@ -106,8 +115,6 @@ fn each_of_a_million_reads_beside_writers_is_answered(rt: HostRuntime) -> Result
         wrong: 0,
     };
     assert_eq!(rt; read, (all, all));
-    for count in [written.0, written.1] {
-        assert!(rt; count.right > 1 && count.wrong == 0, "{count:?}");
-    }
+    assert!(rt; written.0.right > 1 && written.0.wrong == 0, "{written:?}");
     Ok(())
 }

@@ -65,11 +65,7 @@ fn read_both<
     W: Drop + Send,
     L: Drop + Send,
     C: Crew<W, L> + Sync,
->(
-    rt: R,
-    (zero, one): (Reader<N>, Reader<N>),
-    crew: &C,
-) -> (L, L) {
+>(rt: R, (zero, one): (Reader<N>, Reader<N>), crew: &C) -> (L, L) {
     join(&rt, move || crew.read(zero, 0), move || crew.read(one, 1))
 }
 
@@ -143,12 +139,7 @@ pub(crate) fn work_on_new_tree<
     W: Drop + Send,
     L: Drop + Send,
     C: Crew<W, L> + Sync,
->(
-    rt: R,
-    machine: Global,
-    config: Config,
-    crew: &C,
-) -> Result<Left<W, L>, Fail> {
+>(rt: R, machine: Global, config: Config, crew: &C) -> Result<Left<W, L>, Fail> {
     work_over::<Brand, Brand, R, W, L, C>(
         rt,
         machine,

@@ -111,11 +111,14 @@ impl Crew<Trail, Trail> for Drawn {
             let is_last = self.ended.load(Ordering::SeqCst) == 2;
             let key = drawn_key(&mut rng);
             let is_told = match reader.look(key) {
-                Ok(look) => trail.receipts.push(Receipt::Looked {
-                    at: look.at,
-                    key,
-                    found: look.found,
-                }).is_ok(),
+                Ok(look) => trail
+                    .receipts
+                    .push(Receipt::Looked {
+                        at: look.at,
+                        key,
+                        found: look.found,
+                    })
+                    .is_ok(),
                 Err(_) => false,
             };
             trail.count(is_told);
@@ -208,7 +211,10 @@ fn what_readers_see_beside_writers_is_explained(rt: HostRuntime) -> Result<(), F
         let all = changes.len() as u64;
         for trail in [&written.0, &written.1, &read.0, &read.1] {
             assert_eq!(rt; trail.unanswered, 0, "run {run}");
-            assert!(rt; are_explained(&changes, &trail.receipts), "run {run}: {trail:?}");
+            assert!(rt;
+                are_explained(&changes, &trail.receipts),
+                "run {run}: {trail:?}"
+            );
         }
         for trail in [&read.0, &read.1] {
             assert_eq!(rt; last_seen(&trail.receipts), Some(all), "run {run}");

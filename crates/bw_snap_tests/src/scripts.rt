@@ -106,10 +106,12 @@ fn first_wrong<R: Wait + Copy, N: Naming, D: Ledger>(
 fn is_closed_to<N: Naming>(machine: Global, reader: &mut Reader<N>) -> Result<bool, Fail> {
     let mut list = other_list(machine)?;
     let scan = reader.scan(0, 10, &mut list);
-    Ok(reader.get(0) == Err(Closed)
-        && reader.look(0) == Err(Closed)
-        && scan == Err(ScanFault::Closed)
-        && list.as_slice() == &[(7, 77)][..])
+    Ok(
+        reader.get(0) == Err(Closed)
+            && reader.look(0) == Err(Closed)
+            && scan == Err(ScanFault::Closed)
+            && list.as_slice() == &[(7, 77)][..],
+    )
 }
 
 /// What a script leaves.
@@ -160,12 +162,5 @@ pub(crate) fn play<R: Wait + Copy>(
     config: Config,
     acts: &[Act],
 ) -> Result<Played, Fail> {
-    play_over::<Brand, Brand, _>(
-        rt,
-        machine,
-        config,
-        Blanks::new(1),
-        BlankBook::new(),
-        acts,
-    )
+    play_over::<Brand, Brand, _>(rt, machine, config, Blanks::new(1), BlankBook::new(), acts)
 }
