@@ -10,7 +10,7 @@ use crate::fault::Fault;
 use crate::offer::{Answer, reshape};
 use crate::steps::Steps;
 use crate::walk::walk;
-use bw_delta::{Base, BaseFault, NoMemory, Spare};
+use bw_delta::{Base, BaseFault, Spare};
 use bw_keys::{Fence, Key, Pid};
 use bw_step::{Place, Refused, Stage, Step, Todo, View};
 use std::alloc::Allocator;
@@ -109,14 +109,10 @@ fn make_room<A: Allocator + Copy, S: Steps<A, Step<A>>>(
     ensures works { Works 1 limit result (S.seen steps.old) (S.seen steps.new) }
     ensures over { IfOk result (λ turn. turn ≡ Turn.Over) }
 {
-    match consolidation(steps, view) {
-        Ok(Some(step)) => {
-            reshape(steps, limit, step)?;
-            Ok(Turn::Over)
-        }
-        Ok(None) => Ok(Turn::Over),
-        Err(NoMemory) => Err(Fault::NoMemory),
+    if let Some(step) = consolidation(steps, view)? {
+        reshape(steps, limit, step)?;
     }
+    Ok(Turn::Over)
 }
 
 /// The round that names an unposted page in its parent, or puts a new root over it.
@@ -193,9 +189,7 @@ fn post_under<A: Allocator + Copy, S: Steps<A, Step<A>>>(
     if parent.stage == Stage::Marked {
         return Ok(merge_first(rung, parent));
     }
-    let Ok(spare) = Spare::new(steps.alloc()) else {
-        return Err(Fault::NoMemory);
-    };
+    let spare = Spare::new(steps.alloc())?;
     let step = Step::TermAdd {
         parent: parent.pid,
         parent_seen: parent.version,
@@ -263,12 +257,8 @@ fn merge_under<A: Allocator + Copy, S: Steps<A, Step<A>>>(
     if left.stage == Stage::Marked {
         return Ok(merge_first(rung, left));
     }
-    let Ok(left_spare) = Spare::new(steps.alloc()) else {
-        return Err(Fault::NoMemory);
-    };
-    let Ok(page_spare) = Spare::new(steps.alloc()) else {
-        return Err(Fault::NoMemory);
-    };
+    let left_spare = Spare::new(steps.alloc())?;
+    let page_spare = Spare::new(steps.alloc())?;
     let step = Step::Merge {
         left: left.pid,
         left_seen: left.version,
@@ -323,9 +313,7 @@ fn drop_under<A: Allocator + Copy, S: Steps<A, Step<A>>>(
     if parent.stage == Stage::Marked {
         return Ok(merge_first(rung, parent));
     }
-    let Ok(spare) = Spare::new(steps.alloc()) else {
-        return Err(Fault::NoMemory);
-    };
+    let spare = Spare::new(steps.alloc())?;
     let step = Step::TermDelete {
         parent: parent.pid,
         parent_seen: parent.version,

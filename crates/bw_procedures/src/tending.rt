@@ -137,9 +137,7 @@ fn split_page<A: Allocator + Copy, S: Steps<A, Step<A>>>(
         Err(HalveFault::TooSmall) => return Ok(None),
         Err(HalveFault::NoMemory) => return Err(Fault::NoMemory),
     };
-    let Ok(spare) = Spare::new(steps.alloc()) else {
-        return Err(Fault::NoMemory);
-    };
+    let spare = Spare::new(steps.alloc())?;
     let step = Step::Split {
         page: view.pid,
         seen: view.version,
@@ -221,9 +219,7 @@ fn mark_page<A: Allocator + Copy, S: Steps<A, Step<A>>>(
     if parent.low == view.low {
         return Ok(None);
     }
-    let Ok(spare) = Spare::new(steps.alloc()) else {
-        return Err(Fault::NoMemory);
-    };
+    let spare = Spare::new(steps.alloc())?;
     let step = Step::Mark {
         page: view.pid,
         seen: view.version,
