@@ -38,7 +38,7 @@ found_by keep key look a b h = look_adds (is_kept keep look.found) key look.at l
 
 -- the look that is kept answers the call
 pub replied : {T : Type 0} → (is_of : T → Receipt → Type 0) (passes_posts kept : Bool) (limit key : ℕ) (found : Option ℕ) (reply : T) (a b : Seen) → kept ≡ true → ((at : ℕ) → is_of reply (Looked at key found)) → LookAdds kept key found a b → Attempts is_of passes_posts limit (Ok (Reply reply)) a b
-replied is_of passes_posts true limit key found reply a b is goes h = ((Looked h.0.0 key found, (h.0.1, goes h.0.0)), h.1)
+replied is_of passes_posts true limit key found reply a b is goes h = ((Looked h.0.0 key found, h.0.1, goes h.0.0), h.1)
 replied is_of passes_posts false limit key found reply a b is goes h = let bad : false ≡ true = is in cc
 
 -- the look that isn't kept leaves the trail
@@ -51,7 +51,7 @@ pub attempts_any : {T : Type 0} → (is_of : T → Receipt → Type 0) (passes_p
 attempts_any is_of passes_posts limit (Ok (Reply reply)) a b h = h
 attempts_any is_of passes_posts limit (Ok (Tend reply page)) a b h = h
 attempts_any is_of passes_posts limit (Ok Again) a b h = h
-attempts_any is_of passes_posts limit (Ok (Kept fault)) a b h = let bad : true ≡ false = h.2.1 in cc
+attempts_any is_of passes_posts limit (Ok (Kept fault)) a b h = let bad : true ≡ false = h.2 in cc
 attempts_any is_of passes_posts limit (Err fault) a b h = h
 
 pub insertion_made : (page seen key value : ℕ) (receipt : Receipt) → IsReceiptOf (insert page seen key value) receipt → IsReceiptOfPut key value PutInserted receipt
