@@ -1,5 +1,5 @@
 -- What a step that changes the map leaves.
-use Rattle.std.proofs.Common.{◌≡◌, ℕ, ◌≤◌, Bool, true, false, if◌then◌else◌, List, [], ◌∷◌, ◌++◌, Option, Some, None, Result, Ok, Err, refl, ap, sym, subst, ◌∙◌, arith}
+use Rattle.std.proofs.Common.{◌≡◌, ℕ, ◌≤◌, Bool, true, false, if◌then◌else◌, List, [], ◌∷◌, ◌++◌, Option, Some, Result, Ok, Err, refl, ap, ◌∙◌, arith}
 use Rattle.bw_step.specs.Proposals.{Proposal, insert, delete}
 use Rattle.bw_step.specs.Steps.{IsReceiptOf}
 use Rattle.bw_step.specs.declared.receipt.Receipt.{Receipt}

@@ -3,7 +3,7 @@
 
 ghost use Rattle.std.specs.Prelude.{◌≡◌, ◌+◌, ◌<◌, IsTrue, IfOk};
 ghost use Rattle.bw_procedures.specs.Calls.{Works};
-ghost use Rattle.bw_procedures.specs.Rounds.{TurnCosts, IsFree, NextBelow, rank, kind_rank};
+ghost use Rattle.bw_procedures.specs.Rounds.{IsRound, IsFree, NextBelow, rank, kind_rank};
 
 use crate::consolidation::consolidation;
 use crate::fault::Fault;
@@ -48,9 +48,7 @@ pub(crate) fn round<A: Allocator + Copy, S: Steps<A, Step<A>>>(
     task: Task,
 ) -> Result<Turn, Fault>
     ensures follows { S.follows steps.old steps.new }
-    ensures works { Works 0 limit result (S.seen steps.old) (S.seen steps.new) }
-    ensures cost { IfOk result (λ turn. TurnCosts turn (S.seen steps.old) (S.seen steps.new)) }
-    ensures next { IfOk result (NextBelow task.rung (kind_rank task.todo)) }
+    ensures round { IsRound task.rung (kind_rank task.todo) limit result (S.seen steps.old) (S.seen steps.new) }
 {
     match task.todo {
         Todo::Post(page) => post(steps, limit, task.rung, page),
@@ -123,9 +121,7 @@ fn post<A: Allocator + Copy, S: Steps<A, Step<A>>>(
     page: Pid,
 ) -> Result<Turn, Fault>
     ensures follows { S.follows steps.old steps.new }
-    ensures works { Works 0 limit result (S.seen steps.old) (S.seen steps.new) }
-    ensures cost { IfOk result (λ turn. TurnCosts turn (S.seen steps.old) (S.seen steps.new)) }
-    ensures next { IfOk result (NextBelow rung (kind_rank (Todo.Post page))) }
+    ensures round { IsRound rung (kind_rank (Todo.Post page)) limit result (S.seen steps.old) (S.seen steps.new) }
 {
     let Some(view) = steps.peek(page) else {
         return Ok(Turn::Idle);
@@ -182,9 +178,7 @@ fn post_under<A: Allocator + Copy, S: Steps<A, Step<A>>>(
     parent: View,
 ) -> Result<Turn, Fault>
     ensures follows { S.follows steps.old steps.new }
-    ensures works { Works 0 limit result (S.seen steps.old) (S.seen steps.new) }
-    ensures cost { IfOk result (λ turn. TurnCosts turn (S.seen steps.old) (S.seen steps.new)) }
-    ensures next { IfOk result (NextBelow rung (kind_rank (Todo.Post view.pid))) }
+    ensures round { IsRound rung (kind_rank (Todo.Post view.pid)) limit result (S.seen steps.old) (S.seen steps.new) }
 {
     if parent.stage == Stage::Marked {
         return Ok(merge_first(rung, parent));
@@ -215,9 +209,7 @@ fn merge<A: Allocator + Copy, S: Steps<A, Step<A>>>(
     page: Pid,
 ) -> Result<Turn, Fault>
     ensures follows { S.follows steps.old steps.new }
-    ensures works { Works 0 limit result (S.seen steps.old) (S.seen steps.new) }
-    ensures cost { IfOk result (λ turn. TurnCosts turn (S.seen steps.old) (S.seen steps.new)) }
-    ensures next { IfOk result (NextBelow rung (kind_rank (Todo.Merge page))) }
+    ensures round { IsRound rung (kind_rank (Todo.Merge page)) limit result (S.seen steps.old) (S.seen steps.new) }
 {
     let Some(view) = steps.peek(page) else {
         return Ok(Turn::Idle);
@@ -250,9 +242,7 @@ fn merge_under<A: Allocator + Copy, S: Steps<A, Step<A>>>(
     left: View,
 ) -> Result<Turn, Fault>
     ensures follows { S.follows steps.old steps.new }
-    ensures works { Works 0 limit result (S.seen steps.old) (S.seen steps.new) }
-    ensures cost { IfOk result (λ turn. TurnCosts turn (S.seen steps.old) (S.seen steps.new)) }
-    ensures next { IfOk result (NextBelow rung (kind_rank (Todo.Merge view.pid))) }
+    ensures round { IsRound rung (kind_rank (Todo.Merge view.pid)) limit result (S.seen steps.old) (S.seen steps.new) }
 {
     if left.stage == Stage::Marked {
         return Ok(merge_first(rung, left));
@@ -281,9 +271,7 @@ fn drop_term<A: Allocator + Copy, S: Steps<A, Step<A>>>(
     page: Pid,
 ) -> Result<Turn, Fault>
     ensures follows { S.follows steps.old steps.new }
-    ensures works { Works 0 limit result (S.seen steps.old) (S.seen steps.new) }
-    ensures cost { IfOk result (λ turn. TurnCosts turn (S.seen steps.old) (S.seen steps.new)) }
-    ensures next { IfOk result (NextBelow rung (kind_rank (Todo.DropTerm page))) }
+    ensures round { IsRound rung (kind_rank (Todo.DropTerm page)) limit result (S.seen steps.old) (S.seen steps.new) }
 {
     let Some(view) = steps.peek(page) else {
         return Ok(Turn::Idle);
@@ -306,9 +294,7 @@ fn drop_under<A: Allocator + Copy, S: Steps<A, Step<A>>>(
     parent: View,
 ) -> Result<Turn, Fault>
     ensures follows { S.follows steps.old steps.new }
-    ensures works { Works 0 limit result (S.seen steps.old) (S.seen steps.new) }
-    ensures cost { IfOk result (λ turn. TurnCosts turn (S.seen steps.old) (S.seen steps.new)) }
-    ensures next { IfOk result (NextBelow rung (kind_rank (Todo.DropTerm view.pid))) }
+    ensures round { IsRound rung (kind_rank (Todo.DropTerm view.pid)) limit result (S.seen steps.old) (S.seen steps.new) }
 {
     if parent.stage == Stage::Marked {
         return Ok(merge_first(rung, parent));
