@@ -1,16 +1,20 @@
 -- What a step that changes the map leaves.
-use Rattle.std.proofs.Common.{◌≡◌, ℕ, ◌≤◌, Bool, true, false, if◌then◌else◌, List, [], ◌∷◌, ◌++◌, Option, Some, None, Ok, refl, ap, sym, subst, ◌∙◌, arith}
+use Rattle.std.proofs.Common.{◌≡◌, ℕ, ◌≤◌, Bool, true, false, if◌then◌else◌, List, [], ◌∷◌, ◌++◌, Option, Some, Result, Ok, Err, refl, ap, ◌∙◌, arith}
 use Rattle.bw_step.specs.Proposals.{Proposal, insert, delete}
+use Rattle.bw_step.specs.Steps.{IsReceiptOf}
 use Rattle.bw_step.specs.declared.receipt.Receipt.{Receipt}
-use Rattle.bw_step.specs.declared.receipt.Receipt.TheVariants.{Inserted, Deleted, Looked}
+use Rattle.bw_step.specs.declared.receipt.Receipt.TheVariants.{Inserted, Deleted, Looked, Shaped}
 use Rattle.bw_step.specs.declared.view.Look.{Look}
 use Rattle.bw_procedures.specs.declared.steps.Keep.{Keep}
-use Rattle.bw_procedures.specs.declared.writing.Found.{Found}
+use Rattle.bw_procedures.specs.declared.fault.Fault.{Fault}
 use Rattle.bw_procedures.specs.declared.offer.Answer.TheVariants as answers
+use Rattle.bw_procedures.specs.declared.reply.Put.TheVariants.{Inserted as PutInserted}
+use Rattle.bw_procedures.specs.declared.writing.Tried.{Tried}
+use Rattle.bw_procedures.specs.declared.writing.Tried.TheVariants.{Reply, Tend, Again, Kept}
 use Rattle.bw_procedures.specs.Seen.{Seen, SameCounts, IsAccepted, is_kept}
 use Rattle.bw_procedures.specs.Seen.{Looked as LookTaken}
-use Rattle.bw_procedures.specs.Writing.{LookAdds, FoundBy, found_of}
-use Rattle.bw_procedures.specs.Calls.{Offered, ChangesShape, plain}
+use Rattle.bw_procedures.specs.Writing.{Attempts, LookAdds, FoundBy, IsReceiptOfPut, IsDeletionOf}
+use Rattle.bw_procedures.specs.Calls.{Offered, OnlyReshapes, ChangesShape, plain}
 use Rattle.bw_procedures.proofs.Reshaping.{plain-append, counts_grow}
 
 pub adds_plain : (a b : Seen) (r : Receipt) → plain (r ∷ []) ≡ r ∷ [] → b.trail ≡ a.trail ++ r ∷ [] → plain b.trail ≡ plain a.trail ++ r ∷ []
@@ -29,11 +33,35 @@ look_adds : (kept : Bool) (key at : ℕ) (found : Option ℕ) (a b : Seen) → S
 look_adds true key at found a b counts trail effort = ((at, adds_plain a b (Looked at key found) refl trail), counts_grow a b counts effort)
 look_adds false key at found a b counts trail effort = record { plain = ap plain trail; grows = counts_grow a b counts effort }
 
-found_is : (keep : Keep) (key at : ℕ) (found : Option ℕ) (a b : Seen) → LookAdds (is_kept keep found) key found a b → FoundBy keep key (Ok (found_of found)) a b
-found_is keep key at None a b adds = adds
-found_is keep key at (Some value) a b adds = adds
+pub found_by : (keep : Keep) (key : ℕ) (look : Look) (a b : Seen) → LookTaken keep key (Ok (Some look)) a b → FoundBy keep key (Ok (Some look)) a b
+found_by keep key look a b h = look_adds (is_kept keep look.found) key look.at look.found a b h.0 h.1 (omega (arith, h.2))
 
-pub found_by : (keep : Keep) (key : ℕ) (look : Look) (held : Found) (a b : Seen) → held ≡ found_of look.found → LookTaken keep key (Ok (Some look)) a b → FoundBy keep key (Ok held) a b
-found_by keep key look held a b is h =
-    subst (λ (it : Found). FoundBy keep key (Ok it) a b) (sym is)
-    (found_is keep key look.at look.found a b (look_adds (is_kept keep look.found) key look.at look.found a b h.0 h.1 (omega (arith, h.2))))
+-- the look that is kept answers the call
+pub replied : {T : Type 0} → (is_of : T → Receipt → Type 0) (passes_posts kept : Bool) (limit key : ℕ) (found : Option ℕ) (reply : T) (a b : Seen) → kept ≡ true → ((at : ℕ) → is_of reply (Looked at key found)) → LookAdds kept key found a b → Attempts is_of passes_posts limit (Ok (Reply reply)) a b
+replied is_of passes_posts true limit key found reply a b is goes h = ((Looked h.0.0 key found, h.0.1, goes h.0.0), h.1)
+replied is_of passes_posts false limit key found reply a b is goes h = let bad : false ≡ true = is in cc
+
+-- the look that isn't kept leaves the trail
+pub wanted : (kept : Bool) (key : ℕ) (found : Option ℕ) (a b : Seen) → kept ≡ false → LookAdds kept key found a b → OnlyReshapes a b
+wanted true key found a b is h = let bad : true ≡ false = is in cc
+wanted false key found a b is h = h
+
+-- an attempt that keeps no fault
+pub attempts_any : {T : Type 0} → (is_of : T → Receipt → Type 0) (passes_posts : Bool) (limit : ℕ) (result : Result (Tried T) Fault) (a b : Seen) → Attempts is_of true limit result a b → Attempts is_of passes_posts limit result a b
+attempts_any is_of passes_posts limit (Ok (Reply reply)) a b h = h
+attempts_any is_of passes_posts limit (Ok (Tend reply page)) a b h = h
+attempts_any is_of passes_posts limit (Ok Again) a b h = h
+attempts_any is_of passes_posts limit (Ok (Kept fault)) a b h = let bad : true ≡ false = h.2 in cc
+attempts_any is_of passes_posts limit (Err fault) a b h = h
+
+pub insertion_made : (page seen key value : ℕ) (receipt : Receipt) → IsReceiptOf (insert page seen key value) receipt → IsReceiptOfPut key value PutInserted receipt
+insertion_made page seen key value (Inserted number k v) h = h
+insertion_made page seen key value (Deleted number k v) h = absurd h
+insertion_made page seen key value (Looked at k found) h = absurd h
+insertion_made page seen key value (Shaped kind at other) h = absurd h
+
+pub deletion_made : (page seen key : ℕ) (receipt : Receipt) → IsReceiptOf (delete page seen key) receipt → IsDeletionOf key receipt
+deletion_made page seen key (Inserted number k v) h = absurd h
+deletion_made page seen key (Deleted number k v) h = h
+deletion_made page seen key (Looked at k found) h = absurd h
+deletion_made page seen key (Shaped kind at other) h = absurd h

@@ -2,6 +2,7 @@
 use Rattle.std.specs.Prelude.{◌≡◌, ◌⊎◌, ℕ, Bool, true, false, [], ◌∷◌, ◌++◌, Option, Some, None, Result, Ok, Err}
 use Rattle.bw_step.specs.declared.receipt.Receipt.{Receipt}
 use Rattle.bw_step.specs.declared.receipt.Receipt.TheVariants as receipts
+use Rattle.bw_step.specs.declared.view.Look.{Look}
 use Rattle.bw_procedures.specs.declared.fault.Fault.{Fault}
 use Rattle.bw_procedures.specs.declared.fault.Fault.TheVariants as faults
 use Rattle.bw_procedures.specs.declared.reply.Del.{Del}
@@ -11,8 +12,6 @@ use Rattle.bw_procedures.specs.declared.reply.Put.TheVariants.{Inserted, Present
 use Rattle.bw_procedures.specs.declared.steps.Keep.{Keep}
 use Rattle.bw_procedures.specs.declared.writing.Arrival.{Arrival}
 use Rattle.bw_procedures.specs.declared.writing.Arrival.TheVariants.{Gone, Here, Help}
-use Rattle.bw_procedures.specs.declared.writing.Found.{Found}
-use Rattle.bw_procedures.specs.declared.writing.Found.TheVariants.{Unknown, NoValue, Value}
 use Rattle.bw_procedures.specs.declared.writing.Tried.{Tried}
 use Rattle.bw_procedures.specs.declared.writing.Tried.TheVariants.{Reply, Tend, Again, Kept}
 use Rattle.bw_procedures.specs.Seen.{Seen, Grows, is_kept}
@@ -29,6 +28,11 @@ abbrev pub IsReceiptOfDelete : ℕ → Del → Receipt → Type 0
 IsReceiptOfDelete key (Removed value) (receipts.Deleted number k v) = (k ≡ key) × (v ≡ value)
 IsReceiptOfDelete key NoKey (receipts.Looked at k found) = (k ≡ key) × (found ≡ None)
 IsReceiptOfDelete key reply receipt = ⊥
+
+-- the receipt of the key's deletion, whatever value it had
+abbrev pub IsDeletionOf : ℕ → Receipt → Type 0
+IsDeletionOf key (receipts.Deleted number k value) = k ≡ key
+IsDeletionOf key receipt = ⊥
 
 -- one receipt that isn't Shaped was added, and it is this reply's
 abbrev pub AddsReceipt : {T : Type 0} → (T → Receipt → Type 0) → T → Seen → Seen → Type 0
@@ -66,18 +70,13 @@ abbrev pub EndsFairly : ℕ → Option Fault → Option Fault → Seen → Seen 
 EndsFairly limit kept None old new = kept ≡ None
 EndsFairly limit kept (Some fault) old new = (kept ≡ Some fault) ⊎ IsFair limit old new fault
 
-abbrev pub found_of : Option ℕ → Found
-found_of None = NoValue
-found_of (Some value) = Value value
-
 -- a look that is kept adds its receipt, and one that isn't adds none
 abbrev pub LookAdds : Bool → ℕ → Option ℕ → Seen → Seen → Type 0
 LookAdds true key found old new = ((at : ℕ) × (plain new.trail ≡ plain old.trail ++ receipts.Looked at key found ∷ [])) × Grows old new
 LookAdds false key found old new = OnlyReshapes old new
 
 -- one look at a page
-abbrev pub FoundBy : Keep → ℕ → Result Found Fault → Seen → Seen → Type 0
-FoundBy keep key (Ok Unknown) old new = OnlyReshapes old new × RoseBy 1 old.effort new.effort
-FoundBy keep key (Ok NoValue) old new = LookAdds (is_kept keep None) key None old new
-FoundBy keep key (Ok (Value value)) old new = LookAdds (is_kept keep (Some value)) key (Some value) old new
+abbrev pub FoundBy : Keep → ℕ → Result (Option Look) Fault → Seen → Seen → Type 0
+FoundBy keep key (Ok None) old new = OnlyReshapes old new × RoseBy 1 old.effort new.effort
+FoundBy keep key (Ok (Some look)) old new = LookAdds (is_kept keep look.found) key look.found old new
 FoundBy keep key (Err fault) old new = OnlyReshapes old new × (fault ≡ faults.NoMemory)

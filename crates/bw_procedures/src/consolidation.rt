@@ -44,10 +44,8 @@ pub(crate) fn consolidate<A: Allocator + Copy, S: Steps<A, Step<A>>>(
     ensures follows { S.follows steps.old steps.new }
     ensures works { Works 1 limit result (S.seen steps.old) (S.seen steps.new) }
 {
-    let step = match consolidation(steps, view) {
-        Ok(Some(step)) => step,
-        Ok(None) => return Ok(false),
-        Err(NoMemory) => return Err(Fault::NoMemory),
+    let Some(step) = consolidation(steps, view)? else {
+        return Ok(false);
     };
     match offer(steps, limit, step)? {
         Answer::Accepted(_) => Ok(true),

@@ -40,10 +40,8 @@ pub fn page_from<A: Allocator + Copy, S: Steps<A, Step<A>>>(
 {
     let limit = limit(steps);
     'again: loop {
-        match read_page(steps, machine, key) {
-            Ok(Some(slice)) => return Ok(slice),
-            Ok(None) => {}
-            Err(NoMemory) => return Err(Fault::NoMemory),
+        if let Some(slice) = read_page(steps, machine, key)? {
+            return Ok(slice);
         }
         if is_spent(steps, limit) {
             return Err(Fault::Contended);

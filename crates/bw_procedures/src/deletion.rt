@@ -3,18 +3,16 @@
 ghost use Rattle.std.specs.Prelude.{◌≡◌, IfOk, IfErr, IfSome, OnErr};
 ghost use Rattle.bw_procedures.specs.Calls.{limit_of, IsFair, plain};
 ghost use Rattle.bw_procedures.specs.Seen.{Grows};
-ghost use Rattle.bw_procedures.specs.Writing.{Attempts, AddsReceipt, IsReceiptOfDelete};
+ghost use Rattle.bw_procedures.specs.Writing.{AddsReceipt, IsReceiptOfDelete};
 
-use crate::consolidation::consolidate;
-use crate::effort::{is_spent, limit};
 use crate::fault::Fault;
-use crate::offer::{Answer, change};
 use crate::reply::{Del, Done};
 use crate::steps::{Keep, Steps};
-use crate::writing::{Arrival, Found, Tried, approach, finish, help_on, look_at};
+use crate::wish::Wish;
+use crate::writing::write;
 use bw_delta::Spare;
 use bw_keys::Key;
-use bw_step::{Receipt, Refused, Step, View};
+use bw_step::{Receipt, Step, View};
 use std::alloc::Allocator;
 
 /// Takes the key out, if it is there. The walk to the key's leaf helps what it meets unfinished, and
@@ -35,88 +33,58 @@ pub fn delete<A: Allocator + Copy, S: Steps<A, Step<A>>>(
     ensures fault { IfErr result (IsFair (limit_of (S.seen steps.old)) (S.seen steps.old) (S.seen steps.new)) }
     ensures kept { IfOk result (λ done. IfSome done.fault (IsFair (limit_of (S.seen steps.old)) (S.seen steps.old) (S.seen steps.new))) }
 {
-    let limit = limit(steps);
-    let mut kept: Option<Fault> = None;
-    'again: loop {
-        let passes_posts = kept.is_some();
-        match try_delete(steps, limit, passes_posts, key)? {
-            Tried::Reply(reply) => return Ok(Done { reply, fault: kept }),
-            Tried::Tend(reply, page) => return Ok(finish(steps, limit, kept, reply, page)),
-            Tried::Again => {}
-            Tried::Kept(fault) => kept = Some(fault),
-        }
-        if is_spent(steps, limit) {
-            return Err(Fault::Contended);
-        }
-    }
+    write(steps, Deletion { key })
 }
 
-/// One walk to the leaf, and a delete there.
-fn try_delete<A: Allocator + Copy, S: Steps<A, Step<A>>>(
-    steps: &mut S,
-    limit: u64,
-    passes_posts: bool,
+/// That the key is taken out, if it is there.
+#[derive(Clone, Copy)]
+struct Deletion {
     key: Key,
-) -> Result<Tried<Del>, Fault>
-    ensures follows { S.follows steps.old steps.new }
-    ensures attempts { Attempts (IsReceiptOfDelete key) passes_posts limit result (S.seen steps.old) (S.seen steps.new) }
-{
-    let root = steps.root();
-    match approach(steps, root, key, passes_posts) {
-        Arrival::Gone => Ok(Tried::Again),
-        Arrival::Help(todo) => help_on(steps, limit, passes_posts, todo),
-        Arrival::Here(view) => delete_at(steps, limit, passes_posts, view, key),
-    }
 }
 
-/// A delete at a page, where the key is there.
-fn delete_at<A: Allocator + Copy, S: Steps<A, Step<A>>>(
-    steps: &mut S,
-    limit: u64,
-    passes_posts: bool,
-    view: View,
-    key: Key,
-) -> Result<Tried<Del>, Fault>
-    ensures follows { S.follows steps.old steps.new }
-    ensures attempts { Attempts (IsReceiptOfDelete key) passes_posts limit result (S.seen steps.old) (S.seen steps.new) }
-{
-    match look_at(steps, view.pid, key, Keep::IfNone)? {
-        Found::NoValue => Ok(Tried::Reply(Del::NoKey)),
-        Found::Value(_) => remove_at(steps, limit, passes_posts, view, key),
-        Found::Unknown => Ok(Tried::Again),
-    }
-}
+impl Wish for Deletion {
+    ghost use Rattle.bw_procedures.specs.declared.steps.Keep.TheVariants.{IfNone};
+    ghost use Rattle.bw_procedures.specs.Writing.{IsReceiptOfDelete, IsDeletionOf};
 
-/// Proposes the deletion. A page that is too deep for it is consolidated.
-fn remove_at<A: Allocator + Copy, S: Steps<A, Step<A>>>(
-    steps: &mut S,
-    limit: u64,
-    passes_posts: bool,
-    view: View,
-    key: Key,
-) -> Result<Tried<Del>, Fault>
-    ensures follows { S.follows steps.old steps.new }
-    ensures attempts { Attempts (IsReceiptOfDelete key) passes_posts limit result (S.seen steps.old) (S.seen steps.new) }
-{
-    let Ok(spare) = Spare::new(steps.alloc()) else {
-        return Err(Fault::NoMemory);
-    };
-    let step = Step::Delete {
-        page: view.pid,
-        seen: view.version,
-        key,
-        spare,
-    };
-    match change(steps, limit, step)? {
-        Answer::Accepted(Receipt::Deleted { value, .. }) => {
-            Ok(Tried::Tend(Del::Removed(value), view.pid))
+    type Reply = Del;
+
+    ghost key_of = { λ wish. wish.key };
+
+    ghost keep_of = { λ wish. IfNone };
+
+    ghost is_receipt_of = { λ wish. IsReceiptOfDelete wish.key };
+
+    ghost is_made = { λ wish. IsDeletionOf wish.key };
+
+    fn key(self) -> Key {
+        self.key
+    }
+
+    fn keep(self) -> Keep {
+        Keep::IfNone
+    }
+
+    fn answered(self, found: Option<u64>) -> Option<Del> {
+        match found {
+            Some(_) => None,
+            None => Some(Del::NoKey),
         }
-        Answer::Accepted(_) => unreachable!(),
-        Answer::Refused(Refused::Deep) => {
-            consolidate(steps, limit, view)?;
-            Ok(Tried::Again)
+    }
+
+    #[tactic(auto, using(crate::proofs::Changing::deletion_made))]
+    fn step<A: Allocator + Copy>(self, view: View, spare: Spare<A>) -> Step<A> {
+        Step::Delete {
+            page: view.pid,
+            seen: view.version,
+            key: self.key,
+            spare,
         }
-        Answer::Refused(Refused::Worn) => Err(Fault::Worn),
-        Answer::Refused(_) => Ok(Tried::Again),
+    }
+
+    fn reply(self, receipt: Receipt) -> Del {
+        match receipt {
+            Receipt::Deleted { value, .. } => Del::Removed(value),
+            _ => unreachable!(),
+        }
     }
 }

@@ -1,3 +1,7 @@
+ghost use Rattle.std.specs.Prelude.{◌≡◌};
+ghost use Rattle.bw_procedures.specs.declared.fault.Fault.TheVariants as faults;
+
+use bw_delta::NoMemory;
 use thiserror::Error;
 
 /// Why a call gave up.
@@ -18,4 +22,12 @@ pub enum Fault {
     /// A version or the book's number is used up.
     #[error("worn")]
     Worn,
+}
+
+impl From<NoMemory> for Fault {
+    ghost from_gives = { λ _ fault. fault ≡ faults.NoMemory };
+
+    fn from(_: NoMemory) -> Fault {
+        Fault::NoMemory
+    }
 }

@@ -3,18 +3,16 @@
 ghost use Rattle.std.specs.Prelude.{◌≡◌, IfOk, IfErr, IfSome, OnErr};
 ghost use Rattle.bw_procedures.specs.Seen.{Grows};
 ghost use Rattle.bw_procedures.specs.Calls.{limit_of, IsFair, plain};
-ghost use Rattle.bw_procedures.specs.Writing.{Attempts, AddsReceipt, IsReceiptOfPut};
+ghost use Rattle.bw_procedures.specs.Writing.{AddsReceipt, IsReceiptOfPut};
 
-use crate::consolidation::consolidate;
-use crate::effort::{is_spent, limit};
 use crate::fault::Fault;
-use crate::offer::{Answer, change};
 use crate::reply::{Done, Put};
 use crate::steps::{Keep, Steps};
-use crate::writing::{Arrival, Found, Tried, approach, finish, help_on, look_at};
+use crate::wish::Wish;
+use crate::writing::write;
 use bw_delta::Spare;
 use bw_keys::Key;
-use bw_step::{Refused, Step, View};
+use bw_step::{Receipt, Step, View};
 use std::alloc::Allocator;
 
 /// Gives the key the value, unless the key is there. The walk to the key's leaf helps what it meets
@@ -36,89 +34,58 @@ pub fn put<A: Allocator + Copy, S: Steps<A, Step<A>>>(
     ensures fault { IfErr result (IsFair (limit_of (S.seen steps.old)) (S.seen steps.old) (S.seen steps.new)) }
     ensures kept { IfOk result (λ done. IfSome done.fault (IsFair (limit_of (S.seen steps.old)) (S.seen steps.old) (S.seen steps.new))) }
 {
-    let limit = limit(steps);
-    let mut kept: Option<Fault> = None;
-    'again: loop {
-        let passes_posts = kept.is_some();
-        match try_put(steps, limit, passes_posts, key, value)? {
-            Tried::Reply(reply) => return Ok(Done { reply, fault: kept }),
-            Tried::Tend(reply, page) => return Ok(finish(steps, limit, kept, reply, page)),
-            Tried::Again => {}
-            Tried::Kept(fault) => kept = Some(fault),
-        }
-        if is_spent(steps, limit) {
-            return Err(Fault::Contended);
-        }
-    }
+    write(steps, Insertion { key, value })
 }
 
-/// One walk to the leaf, and a put there.
-fn try_put<A: Allocator + Copy, S: Steps<A, Step<A>>>(
-    steps: &mut S,
-    limit: u64,
-    passes_posts: bool,
+/// That the key gets the value, unless it is there.
+#[derive(Clone, Copy)]
+struct Insertion {
     key: Key,
     value: u64,
-) -> Result<Tried<Put>, Fault>
-    ensures follows { S.follows steps.old steps.new }
-    ensures attempts { Attempts (IsReceiptOfPut key value) passes_posts limit result (S.seen steps.old) (S.seen steps.new) }
-{
-    let root = steps.root();
-    match approach(steps, root, key, passes_posts) {
-        Arrival::Gone => Ok(Tried::Again),
-        Arrival::Help(todo) => help_on(steps, limit, passes_posts, todo),
-        Arrival::Here(view) => put_at(steps, limit, passes_posts, view, key, value),
-    }
 }
 
-/// A put at a page, where the key isn't there.
-fn put_at<A: Allocator + Copy, S: Steps<A, Step<A>>>(
-    steps: &mut S,
-    limit: u64,
-    passes_posts: bool,
-    view: View,
-    key: Key,
-    value: u64,
-) -> Result<Tried<Put>, Fault>
-    ensures follows { S.follows steps.old steps.new }
-    ensures attempts { Attempts (IsReceiptOfPut key value) passes_posts limit result (S.seen steps.old) (S.seen steps.new) }
-{
-    match look_at(steps, view.pid, key, Keep::IfFound)? {
-        Found::Value(found) => Ok(Tried::Reply(Put::Present(found))),
-        Found::NoValue => insert_at(steps, limit, passes_posts, view, key, value),
-        Found::Unknown => Ok(Tried::Again),
-    }
-}
+impl Wish for Insertion {
+    ghost use Rattle.bw_procedures.specs.declared.reply.Put.TheVariants.{Inserted};
+    ghost use Rattle.bw_procedures.specs.declared.steps.Keep.TheVariants.{IfFound};
+    ghost use Rattle.bw_procedures.specs.Writing.{IsReceiptOfPut};
 
-/// Proposes the insertion. A page that is too deep for it is consolidated.
-fn insert_at<A: Allocator + Copy, S: Steps<A, Step<A>>>(
-    steps: &mut S,
-    limit: u64,
-    passes_posts: bool,
-    view: View,
-    key: Key,
-    value: u64,
-) -> Result<Tried<Put>, Fault>
-    ensures follows { S.follows steps.old steps.new }
-    ensures attempts { Attempts (IsReceiptOfPut key value) passes_posts limit result (S.seen steps.old) (S.seen steps.new) }
-{
-    let Ok(spare) = Spare::new(steps.alloc()) else {
-        return Err(Fault::NoMemory);
-    };
-    let step = Step::Insert {
-        page: view.pid,
-        seen: view.version,
-        key,
-        value,
-        spare,
-    };
-    match change(steps, limit, step)? {
-        Answer::Accepted(_) => Ok(Tried::Tend(Put::Inserted, view.pid)),
-        Answer::Refused(Refused::Deep) => {
-            consolidate(steps, limit, view)?;
-            Ok(Tried::Again)
+    type Reply = Put;
+
+    ghost key_of = { λ wish. wish.key };
+
+    ghost keep_of = { λ wish. IfFound };
+
+    ghost is_receipt_of = { λ wish. IsReceiptOfPut wish.key wish.value };
+
+    ghost is_made = { λ wish. IsReceiptOfPut wish.key wish.value Inserted };
+
+    fn key(self) -> Key {
+        self.key
+    }
+
+    fn keep(self) -> Keep {
+        Keep::IfFound
+    }
+
+    fn answered(self, found: Option<u64>) -> Option<Put> {
+        match found {
+            Some(value) => Some(Put::Present(value)),
+            None => None,
         }
-        Answer::Refused(Refused::Worn) => Err(Fault::Worn),
-        Answer::Refused(_) => Ok(Tried::Again),
+    }
+
+    #[tactic(auto, using(crate::proofs::Changing::insertion_made))]
+    fn step<A: Allocator + Copy>(self, view: View, spare: Spare<A>) -> Step<A> {
+        Step::Insert {
+            page: view.pid,
+            seen: view.version,
+            key: self.key,
+            value: self.value,
+            spare,
+        }
+    }
+
+    fn reply(self, _receipt: Receipt) -> Put {
+        Put::Inserted
     }
 }

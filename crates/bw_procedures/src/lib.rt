@@ -17,6 +17,7 @@ mod round;
 mod steps;
 mod tending;
 mod walk;
+mod wish;
 mod writing;
 
 pub use cursor::page_from;

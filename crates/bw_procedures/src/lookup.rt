@@ -33,10 +33,8 @@ pub fn get<A: Allocator + Copy, S: Steps<A, Step<A>>>(
 {
     let limit = limit(steps);
     'again: loop {
-        match seek(steps, key) {
-            Ok(Some(look)) => return Ok(look.found),
-            Ok(None) => {}
-            Err(NoMemory) => return Err(Fault::NoMemory),
+        if let Some(look) = seek(steps, key)? {
+            return Ok(look.found);
         }
         if is_spent(steps, limit) {
             return Err(Fault::Contended);

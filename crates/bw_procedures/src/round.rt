@@ -3,14 +3,14 @@
 
 ghost use Rattle.std.specs.Prelude.{◌≡◌, ◌+◌, ◌<◌, IsTrue, IfOk};
 ghost use Rattle.bw_procedures.specs.Calls.{Works};
-ghost use Rattle.bw_procedures.specs.Rounds.{TurnCosts, IsFree, NextBelow, rank, kind_rank};
+ghost use Rattle.bw_procedures.specs.Rounds.{IsRound, IsFree, NextBelow, rank, kind_rank};
 
 use crate::consolidation::consolidation;
 use crate::fault::Fault;
 use crate::offer::{Answer, reshape};
 use crate::steps::Steps;
 use crate::walk::walk;
-use bw_delta::{Base, BaseFault, NoMemory, Spare};
+use bw_delta::{Base, BaseFault, Spare};
 use bw_keys::{Fence, Key, Pid};
 use bw_step::{Place, Refused, Stage, Step, Todo, View};
 use std::alloc::Allocator;
@@ -48,9 +48,7 @@ pub(crate) fn round<A: Allocator + Copy, S: Steps<A, Step<A>>>(
     task: Task,
 ) -> Result<Turn, Fault>
     ensures follows { S.follows steps.old steps.new }
-    ensures works { Works 0 limit result (S.seen steps.old) (S.seen steps.new) }
-    ensures cost { IfOk result (λ turn. TurnCosts turn (S.seen steps.old) (S.seen steps.new)) }
-    ensures next { IfOk result (NextBelow task.rung (kind_rank task.todo)) }
+    ensures round { IsRound task.rung (kind_rank task.todo) limit result (S.seen steps.old) (S.seen steps.new) }
 {
     match task.todo {
         Todo::Post(page) => post(steps, limit, task.rung, page),
@@ -109,14 +107,10 @@ fn make_room<A: Allocator + Copy, S: Steps<A, Step<A>>>(
     ensures works { Works 1 limit result (S.seen steps.old) (S.seen steps.new) }
     ensures over { IfOk result (λ turn. turn ≡ Turn.Over) }
 {
-    match consolidation(steps, view) {
-        Ok(Some(step)) => {
-            reshape(steps, limit, step)?;
-            Ok(Turn::Over)
-        }
-        Ok(None) => Ok(Turn::Over),
-        Err(NoMemory) => Err(Fault::NoMemory),
+    if let Some(step) = consolidation(steps, view)? {
+        reshape(steps, limit, step)?;
     }
+    Ok(Turn::Over)
 }
 
 /// The round that names an unposted page in its parent, or puts a new root over it.
@@ -127,9 +121,7 @@ fn post<A: Allocator + Copy, S: Steps<A, Step<A>>>(
     page: Pid,
 ) -> Result<Turn, Fault>
     ensures follows { S.follows steps.old steps.new }
-    ensures works { Works 0 limit result (S.seen steps.old) (S.seen steps.new) }
-    ensures cost { IfOk result (λ turn. TurnCosts turn (S.seen steps.old) (S.seen steps.new)) }
-    ensures next { IfOk result (NextBelow rung (kind_rank (Todo.Post page))) }
+    ensures round { IsRound rung (kind_rank (Todo.Post page)) limit result (S.seen steps.old) (S.seen steps.new) }
 {
     let Some(view) = steps.peek(page) else {
         return Ok(Turn::Idle);
@@ -186,16 +178,12 @@ fn post_under<A: Allocator + Copy, S: Steps<A, Step<A>>>(
     parent: View,
 ) -> Result<Turn, Fault>
     ensures follows { S.follows steps.old steps.new }
-    ensures works { Works 0 limit result (S.seen steps.old) (S.seen steps.new) }
-    ensures cost { IfOk result (λ turn. TurnCosts turn (S.seen steps.old) (S.seen steps.new)) }
-    ensures next { IfOk result (NextBelow rung (kind_rank (Todo.Post view.pid))) }
+    ensures round { IsRound rung (kind_rank (Todo.Post view.pid)) limit result (S.seen steps.old) (S.seen steps.new) }
 {
     if parent.stage == Stage::Marked {
         return Ok(merge_first(rung, parent));
     }
-    let Ok(spare) = Spare::new(steps.alloc()) else {
-        return Err(Fault::NoMemory);
-    };
+    let spare = Spare::new(steps.alloc())?;
     let step = Step::TermAdd {
         parent: parent.pid,
         parent_seen: parent.version,
@@ -221,9 +209,7 @@ fn merge<A: Allocator + Copy, S: Steps<A, Step<A>>>(
     page: Pid,
 ) -> Result<Turn, Fault>
     ensures follows { S.follows steps.old steps.new }
-    ensures works { Works 0 limit result (S.seen steps.old) (S.seen steps.new) }
-    ensures cost { IfOk result (λ turn. TurnCosts turn (S.seen steps.old) (S.seen steps.new)) }
-    ensures next { IfOk result (NextBelow rung (kind_rank (Todo.Merge page))) }
+    ensures round { IsRound rung (kind_rank (Todo.Merge page)) limit result (S.seen steps.old) (S.seen steps.new) }
 {
     let Some(view) = steps.peek(page) else {
         return Ok(Turn::Idle);
@@ -256,19 +242,13 @@ fn merge_under<A: Allocator + Copy, S: Steps<A, Step<A>>>(
     left: View,
 ) -> Result<Turn, Fault>
     ensures follows { S.follows steps.old steps.new }
-    ensures works { Works 0 limit result (S.seen steps.old) (S.seen steps.new) }
-    ensures cost { IfOk result (λ turn. TurnCosts turn (S.seen steps.old) (S.seen steps.new)) }
-    ensures next { IfOk result (NextBelow rung (kind_rank (Todo.Merge view.pid))) }
+    ensures round { IsRound rung (kind_rank (Todo.Merge view.pid)) limit result (S.seen steps.old) (S.seen steps.new) }
 {
     if left.stage == Stage::Marked {
         return Ok(merge_first(rung, left));
     }
-    let Ok(left_spare) = Spare::new(steps.alloc()) else {
-        return Err(Fault::NoMemory);
-    };
-    let Ok(page_spare) = Spare::new(steps.alloc()) else {
-        return Err(Fault::NoMemory);
-    };
+    let left_spare = Spare::new(steps.alloc())?;
+    let page_spare = Spare::new(steps.alloc())?;
     let step = Step::Merge {
         left: left.pid,
         left_seen: left.version,
@@ -291,9 +271,7 @@ fn drop_term<A: Allocator + Copy, S: Steps<A, Step<A>>>(
     page: Pid,
 ) -> Result<Turn, Fault>
     ensures follows { S.follows steps.old steps.new }
-    ensures works { Works 0 limit result (S.seen steps.old) (S.seen steps.new) }
-    ensures cost { IfOk result (λ turn. TurnCosts turn (S.seen steps.old) (S.seen steps.new)) }
-    ensures next { IfOk result (NextBelow rung (kind_rank (Todo.DropTerm page))) }
+    ensures round { IsRound rung (kind_rank (Todo.DropTerm page)) limit result (S.seen steps.old) (S.seen steps.new) }
 {
     let Some(view) = steps.peek(page) else {
         return Ok(Turn::Idle);
@@ -316,16 +294,12 @@ fn drop_under<A: Allocator + Copy, S: Steps<A, Step<A>>>(
     parent: View,
 ) -> Result<Turn, Fault>
     ensures follows { S.follows steps.old steps.new }
-    ensures works { Works 0 limit result (S.seen steps.old) (S.seen steps.new) }
-    ensures cost { IfOk result (λ turn. TurnCosts turn (S.seen steps.old) (S.seen steps.new)) }
-    ensures next { IfOk result (NextBelow rung (kind_rank (Todo.DropTerm view.pid))) }
+    ensures round { IsRound rung (kind_rank (Todo.DropTerm view.pid)) limit result (S.seen steps.old) (S.seen steps.new) }
 {
     if parent.stage == Stage::Marked {
         return Ok(merge_first(rung, parent));
     }
-    let Ok(spare) = Spare::new(steps.alloc()) else {
-        return Err(Fault::NoMemory);
-    };
+    let spare = Spare::new(steps.alloc())?;
     let step = Step::TermDelete {
         parent: parent.pid,
         parent_seen: parent.version,

@@ -1,9 +1,9 @@
 //! Tending a page after a change: its chain is kept short, its entries few and not too few, and what
 //! that changes on the level above is tended in turn.
 
-ghost use Rattle.std.specs.Prelude.{◌≡◌, ◌<◌, IfOk, IfErr};
+ghost use Rattle.std.specs.Prelude.{◌≡◌, ◌<◌, IfErr};
 ghost use Rattle.bw_procedures.specs.Calls.{Works, OnlyReshapes, IsFair, limit_of};
-ghost use Rattle.bw_procedures.specs.Tending.{GoesOnWithin};
+ghost use Rattle.bw_procedures.specs.Tending.{IsTended};
 
 use crate::consolidation::consolidate;
 use crate::effort::{is_spent, limit};
@@ -62,8 +62,7 @@ fn tend_once<A: Allocator + Copy, S: Steps<A, Step<A>>>(
     page: Pid,
 ) -> Result<Option<Pid>, Fault>
     ensures follows { S.follows steps.old steps.new }
-    ensures works { Works 0 limit result (S.seen steps.old) (S.seen steps.new) }
-    ensures on { IfOk result (GoesOnWithin limit (S.seen steps.old) (S.seen steps.new)) }
+    ensures tended { IsTended limit result (S.seen steps.old) (S.seen steps.new) }
 {
     let Some(view) = shorten(steps, limit, page)? else {
         return Ok(None);
@@ -124,8 +123,7 @@ fn split_page<A: Allocator + Copy, S: Steps<A, Step<A>>>(
     view: View,
 ) -> Result<Option<Pid>, Fault>
     ensures follows { S.follows steps.old steps.new }
-    ensures works { Works 0 limit result (S.seen steps.old) (S.seen steps.new) }
-    ensures on { IfOk result (GoesOnWithin limit (S.seen steps.old) (S.seen steps.new)) }
+    ensures tended { IsTended limit result (S.seen steps.old) (S.seen steps.new) }
 {
     let chain = match steps.copy_page(view.pid, view.version) {
         Ok(chain) => chain,
@@ -137,9 +135,7 @@ fn split_page<A: Allocator + Copy, S: Steps<A, Step<A>>>(
         Err(HalveFault::TooSmall) => return Ok(None),
         Err(HalveFault::NoMemory) => return Err(Fault::NoMemory),
     };
-    let Ok(spare) = Spare::new(steps.alloc()) else {
-        return Err(Fault::NoMemory);
-    };
+    let spare = Spare::new(steps.alloc())?;
     let step = Step::Split {
         page: view.pid,
         seen: view.version,
@@ -212,8 +208,7 @@ fn mark_page<A: Allocator + Copy, S: Steps<A, Step<A>>>(
     view: View,
 ) -> Result<Option<Pid>, Fault>
     ensures follows { S.follows steps.old steps.new }
-    ensures works { Works 0 limit result (S.seen steps.old) (S.seen steps.new) }
-    ensures on { IfOk result (GoesOnWithin limit (S.seen steps.old) (S.seen steps.new)) }
+    ensures tended { IsTended limit result (S.seen steps.old) (S.seen steps.new) }
 {
     let Some(parent) = parent_of(steps, limit, view)? else {
         return Ok(None);
@@ -221,9 +216,7 @@ fn mark_page<A: Allocator + Copy, S: Steps<A, Step<A>>>(
     if parent.low == view.low {
         return Ok(None);
     }
-    let Ok(spare) = Spare::new(steps.alloc()) else {
-        return Err(Fault::NoMemory);
-    };
+    let spare = Spare::new(steps.alloc())?;
     let step = Step::Mark {
         page: view.pid,
         seen: view.version,

@@ -1,23 +1,28 @@
-//! What put and delete share: the writer's walk, which helps what it meets unfinished, the look at the
-//! leaf, and the end of a call.
+//! Writing a key, whatever is wished of it: the writer's walk, which helps what it meets unfinished, the
+//! look at the leaf, the step, and the end of a call.
 
-ghost use Rattle.std.specs.Prelude.{◌≡◌};
-ghost use Rattle.bw_procedures.specs.Calls.{Waits, OnlyReshapes};
-ghost use Rattle.bw_procedures.specs.Writing.{ArrivalCosts, Helped, EndsFairly, FoundBy, found_of};
+ghost use Rattle.std.specs.Prelude.{◌≡◌, true, IfOk, IfErr, IfSome, OnErr};
+ghost use Rattle.bw_procedures.specs.Seen.{Grows};
+ghost use Rattle.bw_procedures.specs.Calls.{Waits, OnlyReshapes, limit_of, IsFair, plain};
+ghost use Rattle.bw_procedures.specs.Writing.{AddsReceipt, ArrivalCosts, Attempts, Helped, EndsFairly, FoundBy};
 
+use crate::consolidation::consolidate;
+use crate::effort::{is_spent, limit};
 use crate::fault::Fault;
 use crate::helping::help_within;
+use crate::offer::{Answer, change};
 use crate::reply::Done;
 use crate::steps::{Keep, Steps};
 use crate::tending::tend_within;
-use bw_delta::NoMemory;
+use crate::wish::Wish;
+use bw_delta::Spare;
 use bw_keys::{Key, Pid};
-use bw_step::{Go, Look, Place, Step, Todo, View};
+use bw_step::{Go, Look, Place, Refused, Step, Todo, View};
 use std::alloc::Allocator;
 
 /// Where a writer's walk came to.
 #[derive(Clone, Copy, Debug, PartialEq, Eq)]
-pub(crate) enum Arrival {
+enum Arrival {
     /// A place was gone.
     Gone,
     /// The leaf whose range holds the key.
@@ -26,18 +31,9 @@ pub(crate) enum Arrival {
     Help(Todo),
 }
 
-/// What a leaf holds at a key.
-#[derive(Clone, Copy, Debug, PartialEq, Eq)]
-pub(crate) enum Found {
-    /// The page isn't the key's leaf any more.
-    Unknown,
-    NoValue,
-    Value(u64),
-}
-
 /// What one attempt of a call came to.
 #[derive(Clone, Copy, Debug, PartialEq, Eq)]
-pub(crate) enum Tried<T> {
+enum Tried<T> {
     /// The reply, from a look.
     Reply(T),
     /// The reply, from an accepted change of the page, which is to be tended.
@@ -48,8 +44,55 @@ pub(crate) enum Tried<T> {
     Kept(Fault),
 }
 
+/// Brings about what is wished for, as `put` and `delete` tell.
+pub(crate) fn write<A: Allocator + Copy, S: Steps<A, Step<A>>, W: Wish>(
+    steps: &mut S,
+    wish: W,
+) -> Result<Done<W::Reply>, Fault>
+    ensures follows { S.follows steps.old steps.new }
+    ensures grows { Grows (S.seen steps.old) (S.seen steps.new) }
+    ensures receipt { IfOk result (λ done. AddsReceipt (W.is_receipt_of wish) done.reply (S.seen steps.old) (S.seen steps.new)) }
+    ensures no_receipt { OnErr result (plain (S.seen steps.new).trail ≡ plain (S.seen steps.old).trail) }
+    ensures fault { IfErr result (IsFair (limit_of (S.seen steps.old)) (S.seen steps.old) (S.seen steps.new)) }
+    ensures kept { IfOk result (λ done. IfSome done.fault (IsFair (limit_of (S.seen steps.old)) (S.seen steps.old) (S.seen steps.new))) }
+{
+    let limit = limit(steps);
+    let mut kept: Option<Fault> = None;
+    'again: loop {
+        let passes_posts = kept.is_some();
+        match try_once(steps, limit, passes_posts, wish)? {
+            Tried::Reply(reply) => return Ok(Done { reply, fault: kept }),
+            Tried::Tend(reply, page) => return Ok(finish(steps, limit, kept, reply, page)),
+            Tried::Again => {}
+            Tried::Kept(fault) => kept = Some(fault),
+        }
+        if is_spent(steps, limit) {
+            return Err(Fault::Contended);
+        }
+    }
+}
+
+/// One walk to the leaf, and what is wished for there.
+#[tactic(auto, using(crate::proofs::Changing::attempts_any))]
+fn try_once<A: Allocator + Copy, S: Steps<A, Step<A>>, W: Wish>(
+    steps: &mut S,
+    limit: u64,
+    passes_posts: bool,
+    wish: W,
+) -> Result<Tried<W::Reply>, Fault>
+    ensures follows { S.follows steps.old steps.new }
+    ensures attempts { Attempts (W.is_receipt_of wish) passes_posts limit result (S.seen steps.old) (S.seen steps.new) }
+{
+    let root = steps.root();
+    match approach(steps, root, wish.key(), passes_posts) {
+        Arrival::Gone => Ok(Tried::Again),
+        Arrival::Help(todo) => help_on(steps, limit, passes_posts, todo),
+        Arrival::Here(view) => write_at(steps, limit, view, wish),
+    }
+}
+
 /// The writer's walk from a place to the leaf, or to the first thing that is unfinished.
-pub(crate) fn approach<A: Allocator + Copy, S: Steps<A, Step<A>>>(
+fn approach<A: Allocator + Copy, S: Steps<A, Step<A>>>(
     steps: &mut S,
     start: Place,
     key: Key,
@@ -83,7 +126,7 @@ fn wanted(todo: Option<Todo>, passes_posts: bool) -> Option<Todo> {
 }
 
 /// Helps, and keeps the fault where a page can't be posted.
-pub(crate) fn help_on<A: Allocator + Copy, S: Steps<A, Step<A>>, T: Drop>(
+fn help_on<A: Allocator + Copy, S: Steps<A, Step<A>>, T: Drop>(
     steps: &mut S,
     limit: u64,
     passes_posts: bool,
@@ -118,35 +161,64 @@ fn is_want_of_pages(fault: Fault) -> bool {
     }
 }
 
-/// Looks the key up at a page.
+/// What is wished for, at a page.
+#[tactic(auto, using(crate::proofs::Changing::replied, crate::proofs::Changing::wanted))]
+fn write_at<A: Allocator + Copy, S: Steps<A, Step<A>>, W: Wish>(
+    steps: &mut S,
+    limit: u64,
+    view: View,
+    wish: W,
+) -> Result<Tried<W::Reply>, Fault>
+    ensures follows { S.follows steps.old steps.new }
+    ensures attempts { Attempts (W.is_receipt_of wish) true limit result (S.seen steps.old) (S.seen steps.new) }
+{
+    let Some(look) = look_at(steps, view.pid, wish.key(), wish.keep())? else {
+        return Ok(Tried::Again);
+    };
+    match wish.answered(look.found) {
+        Some(reply) => Ok(Tried::Reply(reply)),
+        None => propose(steps, limit, view, wish),
+    }
+}
+
+/// Looks the key up at a page. None where the page isn't the key's leaf any more.
 #[tactic(auto, using(crate::proofs::Changing::found_by))]
-pub(crate) fn look_at<A: Allocator + Copy, S: Steps<A, Step<A>>>(
+fn look_at<A: Allocator + Copy, S: Steps<A, Step<A>>>(
     steps: &mut S,
     page: Pid,
     key: Key,
     keep: Keep,
-) -> Result<Found, Fault>
+) -> Result<Option<Look>, Fault>
     ensures follows { S.follows steps.old steps.new }
     ensures found { FoundBy keep key result (S.seen steps.old) (S.seen steps.new) }
 {
-    match steps.look(page, key, keep) {
-        Ok(Some(look)) => Ok(read(look)),
-        Ok(None) => Ok(Found::Unknown),
-        Err(NoMemory) => Err(Fault::NoMemory),
-    }
+    Ok(steps.look(page, key, keep)?)
 }
 
-fn read(look: Look) -> Found
-    ensures { result ≡ found_of look.found }
+/// Proposes the step that is wished for. A page that is too deep for it is consolidated.
+fn propose<A: Allocator + Copy, S: Steps<A, Step<A>>, W: Wish>(
+    steps: &mut S,
+    limit: u64,
+    view: View,
+    wish: W,
+) -> Result<Tried<W::Reply>, Fault>
+    ensures follows { S.follows steps.old steps.new }
+    ensures attempts { Attempts (W.is_receipt_of wish) true limit result (S.seen steps.old) (S.seen steps.new) }
 {
-    match look.found {
-        Some(value) => Found::Value(value),
-        None => Found::NoValue,
+    let spare = Spare::new(steps.alloc())?;
+    match change(steps, limit, wish.step(view, spare))? {
+        Answer::Accepted(receipt) => Ok(Tried::Tend(wish.reply(receipt), view.pid)),
+        Answer::Refused(Refused::Deep) => {
+            consolidate(steps, limit, view)?;
+            Ok(Tried::Again)
+        }
+        Answer::Refused(Refused::Worn) => Err(Fault::Worn),
+        Answer::Refused(_) => Ok(Tried::Again),
     }
 }
 
 /// Tends the page of an accepted change, and gives the reply out.
-pub(crate) fn finish<A: Allocator + Copy, S: Steps<A, Step<A>>, T>(
+fn finish<A: Allocator + Copy, S: Steps<A, Step<A>>, T>(
     steps: &mut S,
     limit: u64,
     kept: Option<Fault>,
