@@ -5,7 +5,7 @@ use Rattle.std.proofs.lemmas.Bool.Decides.{nat_tests}
 use Rattle.bw_delta.specs.Entries.{at, rises, below, from}
 use Rattle.bw_delta.proofs.At.{at-put_same, at-put_other, at-without_same, at-without_other, at-below_in, at-below_out}
 use Rattle.bw_delta.proofs.Rises.{rises-put, rises-without, rises-below}
-use Rattle.bw_chain.specs.Edited.{edited_at, edited, edited_below, falls, noted}
+use Rattle.bw_chain.specs.Passing.Edited.{edited_at, edited, edited_below, falls, noted}
 use Rattle.bw_chain.proofs.Firsts.{at-before}
 
 -- what an edit says, or else what stood there

@@ -6,8 +6,8 @@ use Rattle.bw_delta.specs.declared.chain.Delta.TheVariants.{Insert, Delete, Spli
 use Rattle.bw_delta.specs.Entries.{put, without, below, from}
 use Rattle.bw_delta.specs.Pages.{Listed}
 use Rattle.bw_delta.specs.Records.{Records, bare, above, merged}
-use Rattle.bw_chain.specs.declared.change.Change.{Change}
-use Rattle.bw_chain.specs.declared.change.Change.TheVariants.{Put, Without, Below, Nothing}
+use Rattle.bw_chain.specs.declared.entries.change.Change.{Change}
+use Rattle.bw_chain.specs.declared.entries.change.Change.TheVariants.{Put, Without, Below, Nothing}
 
 -- the entries with the change
 abbrev pub changed : {X : Type 0} → Change X → List (ℕ × X) → List (ℕ × X)

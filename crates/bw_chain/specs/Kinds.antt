@@ -10,7 +10,7 @@ use Rattle.bw_delta.specs.Records.{Records, bare, above, merged}
 use Rattle.bw_delta.specs.Sound.{IsWellBuilt}
 use Rattle.bw_delta.proofs.Stands.{pairs_rise, routes_rise}
 use Rattle.bw_chain.specs.Changes.{entries_by, pair_change, route_change}
-use Rattle.bw_chain.specs.Cuts.{IsUncut}
+use Rattle.bw_chain.specs.Passing.Cuts.{IsUncut}
 
 pub pairs_are : (chain : Records) → entries_by pairs_listed pair_change chain ≡ pairs chain
 pairs_are (bare page) = refl

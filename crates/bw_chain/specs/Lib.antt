@@ -1,13 +1,6 @@
-pub mod Appends
 pub mod Ascends
 pub mod Changes
-pub mod Cuts
-pub mod Deciding
-pub mod Edited
-pub mod Ends
-pub mod Gaps
-pub mod Halves
-pub mod Heads
 pub mod Kinds
-pub mod Reaches
-pub mod Rests
+pub mod Pages
+pub mod Passing
+pub mod Searching

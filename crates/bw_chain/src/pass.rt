@@ -2,6 +2,16 @@
 //! and the page's entries are handed on in stretches between them. Under a merge the left half
 //! is done so, and then the right one.
 
+mod around;
+mod comparison;
+mod consolidation;
+mod counting;
+mod edits;
+mod listing;
+mod sink;
+mod stripping;
+mod writing;
+
 ghost use Rattle.std.specs.Prelude.{◌≡◌, ◌≤◌, ◌+◌, true, length, take, OnOk, OnErr};
 ghost use Rattle.bw_keys.specs.Ranges.{end_of, key_count};
 ghost use Rattle.bw_delta.specs.Entries.{below, from};
@@ -10,16 +20,20 @@ ghost use Rattle.bw_delta.specs.Records.{depth};
 ghost use Rattle.bw_delta.specs.Sound.{IsWellBuilt};
 ghost use Rattle.bw_chain.specs.Ascends.{IsAscending};
 ghost use Rattle.bw_chain.specs.Changes.{entries_by};
-ghost use Rattle.bw_chain.specs.Edited.{edited_below, falls};
-ghost use Rattle.bw_chain.specs.Heads.{BeginsWith};
+ghost use Rattle.bw_chain.specs.Passing.Edited.{edited_below, falls};
+ghost use Rattle.bw_chain.specs.Passing.Heads.{BeginsWith};
 
-use crate::bounds::at_most;
-use crate::edits::{count_from, note_change};
-use crate::sink::Sink;
-use crate::sorted::below_fence;
-use crate::value::EntryValue;
+use crate::entries::bounds::at_most;
+use crate::entries::sorted::below_fence;
+use crate::entries::value::EntryValue;
+use crate::pass::edits::{count_from, note_change};
+use crate::pass::sink::Sink;
 use bw_delta::{Chain, Node};
 use bw_keys::{Fence, Key};
+pub use comparison::{is_upper_part, same};
+pub use consolidation::consolidate;
+pub use counting::count;
+pub use listing::append_pairs;
 use std::alloc::Allocator;
 
 /// Hands on the chain's entries below the end, under so many edits. Those from the end on stay in

@@ -1,11 +1,26 @@
+//! Searches for one key down a chain: for what stands there, for the next entry, and for the last one.
+//!
+//! Each key that a base page or a record names is a candidate for the next entry, even one that a
+//! newer record deletes; keys that a split or a merge cuts off are none. So one walk over the chain
+//! finds a candidate, and a search for it tells whether it holds.
+
+mod entry;
+mod greatest;
+pub(crate) mod least;
+mod reach;
+mod separator;
+
 ghost use Rattle.std.specs.Prelude.{◌≡◌};
 ghost use Rattle.bw_delta.specs.Entries.{at, first_from, last_below, last_upto};
 ghost use Rattle.bw_delta.specs.Pairs.{pairs, routes};
 ghost use Rattle.bw_delta.specs.Sound.{IsSound};
 
-use crate::entries::{find_entry, first_from, last_upto};
+use crate::search::entry::find_entry;
+use crate::search::greatest::last_upto;
+use crate::search::least::first_from;
 use bw_delta::Chain;
 use bw_keys::{Fence, Key, Pid};
+pub use separator::is_later_key;
 use std::alloc::Allocator;
 
 /// The value at the key: that of the newest record which names the key, and the base page's where

@@ -1,14 +1,13 @@
-ghost use Rattle.std.specs.Prelude.{◌≡◌, IfOk, OnOk};
+ghost use Rattle.std.specs.Prelude.{◌≡◌, ◌++◌, IfOk, OnOk};
 ghost use Rattle.bw_delta.specs.Entries.{put, without, below, from};
-ghost use Rattle.bw_delta.specs.PageView.{listed};
-ghost use Rattle.bw_delta.specs.Sound.{IsSound, listed_for, page_for};
 ghost use Rattle.bw_delta.specs.Fence.{is_leaf};
-ghost use Rattle.bw_chain.specs.Changes.{changed, entries_by};
+ghost use Rattle.bw_delta.specs.PageView.{listed};
+ghost use Rattle.bw_delta.specs.Pairs.{pairs, pairs_after, routes, routes_after};
+ghost use Rattle.bw_delta.specs.Sound.{IsSound, listed_for, page_for};
 
-use bw_chain::parts::{Change, EntryValue};
 use bw_chain::{fences, is_leaf};
-use bw_delta::{Base, Chain, Entries, Fences, NoMemory, Node};
-use bw_keys::Key;
+use bw_delta::{Base, Chain, Delta, Entries, Fences, NoMemory, Node};
+use bw_keys::{Key, Pid};
 use std::alloc::Allocator;
 
 /// The base page that has all of the chain's effects: its entries, its range and its side link
@@ -29,95 +28,149 @@ pub fn consolidate<A: Allocator + Copy>(alloc: A, chain: &Chain<A>) -> Result<Ba
 }
 
 /// What the chain lists, of whichever kind.
-#[tactic(auto, using(bw_chain::proofs::Bridges::both_kinds))]
 fn entries_of<A: Allocator + Copy>(alloc: A, chain: &Chain<A>) -> Result<Entries<A>, NoMemory>
     ensures { IfOk result (λ entries. listed entries ≡ listed_for (is_leaf chain.now) chain.now) }
 {
     if is_leaf(chain) {
-        Ok(Entries::Pairs(list(alloc, chain)?))
+        Ok(Entries::Pairs(list_pairs(alloc, chain)?))
     } else {
-        Ok(Entries::Routes(list(alloc, chain)?))
+        Ok(Entries::Routes(list_routes(alloc, chain)?))
     }
 }
 
-/// The entries of one kind, listed.
-fn list<A: Allocator + Copy, X: EntryValue>(
+fn list_pairs<A: Allocator + Copy>(
     alloc: A,
     chain: &Chain<A>,
-) -> Result<Vec<(Key, X), A>, NoMemory>
-    ensures { IfOk result (λ entries. entries.items ≡ entries_by X.own_entries X.own_change chain.now) }
+) -> Result<Vec<(Key, u64), A>, NoMemory>
+    ensures { IfOk result (λ list. list.items ≡ pairs chain.now) }
 {
     match &chain.node {
-        Node::Bare(base) => Ok(Vec::from_slice(alloc, X::entries_on(base))?),
+        Node::Bare(base) => match &base.entries {
+            Entries::Pairs(pairs) => Ok(Vec::from_slice(alloc, pairs)?),
+            Entries::Routes(_) => Ok(Vec::new(alloc)),
+        },
         Node::Above(delta, below) => {
-            let mut entries = list(alloc, below)?;
-            apply(&mut entries, X::change_by(*delta))?;
-            Ok(entries)
+            let mut list = list_pairs(alloc, below)?;
+            apply_to_pairs(&mut list, *delta)?;
+            Ok(list)
         }
         Node::Merged(merging, left, right) => {
-            let mut entries = list(alloc, left)?;
-            keep_below(&mut entries, merging.separator);
-            let mut upper = list(alloc, right)?;
-            keep_from(&mut upper, merging.separator);
-            entries.extend_from_slice(&upper)?;
-            Ok(entries)
+            let mut list = list_pairs(alloc, left)?;
+            let upper = list_pairs(alloc, right)?;
+            join(&mut list, upper, merging.separator)?;
+            Ok(list)
         }
     }
 }
 
-/// Applies one record.
-fn apply<X: Copy, A: Allocator + Copy>(
-    entries: &mut Vec<(Key, X), A>,
-    change: Change<X>,
-) -> Result<(), NoMemory>
-    ensures { OnOk result (entries.new.items ≡ changed change entries.old.items) }
+fn list_routes<A: Allocator + Copy>(
+    alloc: A,
+    chain: &Chain<A>,
+) -> Result<Vec<(Key, Pid), A>, NoMemory>
+    ensures { IfOk result (λ list. list.items ≡ routes chain.now) }
 {
-    match change {
-        Change::Put(key, value) => put(entries, key, value)?,
-        Change::Without(key) => remove(entries, key),
-        Change::Below(bound) => keep_below(entries, bound),
-        Change::Nothing => {}
+    match &chain.node {
+        Node::Bare(base) => match &base.entries {
+            Entries::Pairs(_) => Ok(Vec::new(alloc)),
+            Entries::Routes(routes) => Ok(Vec::from_slice(alloc, routes)?),
+        },
+        Node::Above(delta, below) => {
+            let mut list = list_routes(alloc, below)?;
+            apply_to_routes(&mut list, *delta)?;
+            Ok(list)
+        }
+        Node::Merged(merging, left, right) => {
+            let mut list = list_routes(alloc, left)?;
+            let upper = list_routes(alloc, right)?;
+            join(&mut list, upper, merging.separator)?;
+            Ok(list)
+        }
     }
+}
+
+/// Applies one record to the pairs below it.
+fn apply_to_pairs<A: Allocator + Copy>(
+    pairs: &mut Vec<(Key, u64), A>,
+    delta: Delta,
+) -> Result<(), NoMemory>
+    ensures { OnOk result (pairs.new.items ≡ pairs_after delta pairs.old.items) }
+{
+    match delta {
+        Delta::Insert(key, value) => put(pairs, key, value)?,
+        Delta::Delete(key) => remove(pairs, key),
+        Delta::Split(separator, _) => keep_below(pairs, separator),
+        Delta::Remove | Delta::TermAdd(_, _) | Delta::TermDelete(_) => {}
+    }
+    Ok(())
+}
+
+/// Applies one record to the routes below it.
+fn apply_to_routes<A: Allocator + Copy>(
+    routes: &mut Vec<(Key, Pid), A>,
+    delta: Delta,
+) -> Result<(), NoMemory>
+    ensures { OnOk result (routes.new.items ≡ routes_after delta routes.old.items) }
+{
+    match delta {
+        Delta::TermAdd(separator, child) => put(routes, separator, child)?,
+        Delta::TermDelete(separator) => remove(routes, separator),
+        Delta::Split(separator, _) => keep_below(routes, separator),
+        Delta::Remove | Delta::Insert(_, _) | Delta::Delete(_) => {}
+    }
+    Ok(())
+}
+
+/// Joins the entries below the separator and those of the other list from it on.
+fn join<X: Copy, A: Allocator + Copy>(
+    list: &mut Vec<(Key, X), A>,
+    mut upper: Vec<(Key, X), A>,
+    separator: Key,
+) -> Result<(), NoMemory>
+    ensures { OnOk result (list.new.items ≡ below separator list.old.items ++ from separator upper.items) }
+{
+    keep_below(list, separator);
+    keep_from(&mut upper, separator);
+    list.extend_from_slice(&upper)?;
     Ok(())
 }
 
 /// Puts an entry in its place among entries whose keys rise.
 fn put<X: Copy, A: Allocator + Copy>(
-    entries: &mut Vec<(Key, X), A>,
+    list: &mut Vec<(Key, X), A>,
     key: Key,
     value: X,
 ) -> Result<(), NoMemory>
-    ensures { OnOk result (entries.new.items ≡ put key value entries.old.items) }
+    ensures { OnOk result (list.new.items ≡ put key value list.old.items) }
 {
-    for i in 0..entries.len() {
-        let listed = entries[i].0;
+    for i in 0..list.len() {
+        let listed = list[i].0;
         if listed == key {
-            entries[i] = (key, value);
+            list[i] = (key, value);
             return Ok(());
         }
         if key < listed {
-            entries.insert(i, (key, value))?;
+            list.insert(i, (key, value))?;
             return Ok(());
         }
     }
-    entries.push((key, value))?;
+    list.push((key, value))?;
     Ok(())
 }
 
-fn remove<X: Copy, A: Allocator + Copy>(entries: &mut Vec<(Key, X), A>, key: Key)
-    ensures { entries.new.items ≡ without key entries.old.items }
+fn remove<X: Copy, A: Allocator + Copy>(list: &mut Vec<(Key, X), A>, key: Key)
+    ensures { list.new.items ≡ without key list.old.items }
 {
-    entries.retain(|entry| entry.0 != key);
+    list.retain(|entry| entry.0 != key);
 }
 
-fn keep_below<X: Copy, A: Allocator + Copy>(entries: &mut Vec<(Key, X), A>, bound: Key)
-    ensures { entries.new.items ≡ below bound entries.old.items }
+fn keep_below<X: Copy, A: Allocator + Copy>(list: &mut Vec<(Key, X), A>, bound: Key)
+    ensures { list.new.items ≡ below bound list.old.items }
 {
-    entries.retain(|entry| entry.0 < bound);
+    list.retain(|entry| entry.0 < bound);
 }
 
-fn keep_from<X: Copy, A: Allocator + Copy>(entries: &mut Vec<(Key, X), A>, bound: Key)
-    ensures { entries.new.items ≡ from bound entries.old.items }
+fn keep_from<X: Copy, A: Allocator + Copy>(list: &mut Vec<(Key, X), A>, bound: Key)
+    ensures { list.new.items ≡ from bound list.old.items }
 {
-    entries.retain(|entry| bound <= entry.0);
+    list.retain(|entry| bound <= entry.0);
 }

@@ -3,13 +3,13 @@ use Rattle.std.proofs.lemmas.Result.{on_ok_weaker, on_err_weaker}
 use Rattle.bw_keys.specs.Ranges.{key_count, end_of}
 use Rattle.bw_delta.specs.Entries.{from}
 use Rattle.bw_chain.specs.Changes.{entries_by}
-use Rattle.bw_chain.specs.Edited.{falls}
-use Rattle.bw_chain.specs.Heads.{BeginsWith}
-use Rattle.bw_chain.proofs.Descents.{downward, sideward}
-use Rattle.bw_chain.proofs.Heads.{begins-more, begins-take}
-use Rattle.bw_chain.proofs.Notes.{from-begins}
+use Rattle.bw_chain.specs.Passing.Edited.{falls}
+use Rattle.bw_chain.specs.Passing.Heads.{BeginsWith}
+use Rattle.bw_chain.proofs.Passing.Descents.{downward, sideward}
+use Rattle.bw_chain.proofs.Passing.Heads.{begins-more, begins-take}
+use Rattle.bw_chain.proofs.Passing.Notes.{from-begins}
 use Rattle.bw_chain.proofs.Overlays.{falls-from, falls-lower}
-use Rattle.bw_chain.proofs.Passes.{from-both}
+use Rattle.bw_chain.proofs.Passing.Passes.{from-both}
 use Rattle.bw_chain.proofs.pass.+pass.Goals as goal
 
 pub returns-in-Bare-clause-left : goal.returns-in-Bare-clause-left

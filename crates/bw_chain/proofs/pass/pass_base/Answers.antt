@@ -1,9 +1,9 @@
 use Rattle.std.proofs.Common.{◌≡◌, true}
 use Rattle.bw_keys.specs.Ranges.{key_count, end_of}
 use Rattle.bw_delta.specs.Entries.{below}
-use Rattle.bw_chain.specs.Edited.{falls}
+use Rattle.bw_chain.specs.Passing.Edited.{falls}
 use Rattle.bw_chain.proofs.Overlays.{falls-below, falls-higher}
-use Rattle.bw_chain.proofs.Passes.{ascending-below}
+use Rattle.bw_chain.proofs.Passing.Passes.{ascending-below}
 use Rattle.bw_chain.proofs.pass.pass_base.Goals as goal
 
 pub take_edited-requires-clause-ascending : goal.take_edited-requires-clause-ascending

@@ -4,4 +4,4 @@ use Rattle.bw_plain.proofs.consolidation.put.Given as goal
 
 abbrev pub invariant-loop-i : goal.invariant-loop-i
 invariant-loop-i g l =
-    (l.entries.items ≡ l.initial.entries.items) × (put l.key l.value l.entries.items ≡ take l.i l.entries.items ++ put l.key l.value (drop l.i l.entries.items))
+    (l.list.items ≡ l.initial.list.items) × (put l.key l.value l.list.items ≡ take l.i l.list.items ++ put l.key l.value (drop l.i l.list.items))

@@ -1,0 +1,2 @@
+-- Lemmas of the halves of a page.
+pub mod HalfPages

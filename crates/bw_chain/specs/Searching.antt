@@ -1,0 +1,4 @@
+-- What the searches down a chain cite.
+pub mod Deciding
+pub mod Gaps
+pub mod Reaches

@@ -1,0 +1,116 @@
+//! Searches in a list of entries, as a base page has one.
+
+ghost use Rattle.std.specs.Prelude.{◌≡◌, ◌≤◌, ◌<◌, ◌+◌, ◌*◌, length, take, drop};
+ghost use Rattle.bw_keys.specs.Ranges.{end_of};
+ghost use Rattle.bw_delta.specs.Entries.{at, below, from, first_from, last_below};
+ghost use Rattle.bw_chain.specs.Ascends.{IsAscending};
+
+use bw_keys::{Fence, Key};
+
+/// How many of the entries lie below the fence.
+fn count_below<X: Copy>(entries: &[(Key, X)], fence: Fence) -> usize
+    requires ascending { IsAscending entries.now }
+    ensures within { result ≤ length entries.now }
+    ensures before { below (end_of fence) entries.now ≡ take result entries.now }
+    ensures after { from (end_of fence) entries.now ≡ drop result entries.now }
+{
+    match fence {
+        Fence::Key(key) => count_below_key(entries, key),
+        Fence::Top => entries.len(),
+    }
+}
+
+/// How many of the entries lie below the key: those that were passed, and at most `left` more. Each
+/// step compares the entries at the ends of three quarters of what is left, and adds up what it
+/// finds. It takes no branch on an entry: no processor can guess the way that a search takes.
+fn count_below_key<X: Copy>(entries: &[(Key, X)], key: Key) -> usize
+    requires ascending { IsAscending entries.now }
+    ensures { result ≡ length (below key entries.now) }
+{
+    let mut passed = 0;
+    let mut left = entries.len();
+    'quarters: while left > 2 {
+        let quarter = (left + 1) / 4;
+        passed += count_quarters(entries, passed, quarter, key);
+        left -= 3 * quarter;
+    }
+    match left {
+        0 => passed,
+        1 => passed + one_if_below(entries, passed, key),
+        _ => passed + one_if_below(entries, passed, key) + one_if_below(entries, passed + 1, key),
+    }
+}
+
+/// How many of the entries from the place on lie below the key, counted in whole quarters of which
+/// three are looked at.
+#[inline(always)]
+fn count_quarters<X: Copy>(entries: &[(Key, X)], place: usize, quarter: usize, key: Key) -> usize
+    requires ascending { IsAscending entries.now }
+    requires some { 0 < quarter }
+    requires inside { place + 3 * quarter ≤ length entries.now }
+    requires from { place ≤ length (below key entries.now) }
+    ensures three { result ≤ 3 * quarter }
+    ensures least { place + result ≤ length (below key entries.now) }
+    ensures most { result < 3 * quarter → length (below key entries.now) < place + result + quarter }
+{
+    let first = one_if_below(entries, place + quarter - 1, key);
+    let second = one_if_below(entries, place + 2 * quarter - 1, key);
+    let third = one_if_below(entries, place + 3 * quarter - 1, key);
+    (first + second + third) * quarter
+}
+
+/// 1 where the entry at the place lies below the key, and 0 where it doesn't.
+#[inline(always)]
+fn one_if_below<X: Copy>(entries: &[(Key, X)], place: usize, key: Key) -> usize
+    requires ascending { IsAscending entries.now }
+    requires inside { place < length entries.now }
+    ensures one { result ≤ 1 }
+    ensures under { 0 < result → place < length (below key entries.now) }
+    ensures past { result ≡ 0 → length (below key entries.now) ≤ place }
+{
+    usize::from(entries[place].0 < key)
+}
+
+/// The entries below the fence.
+pub(crate) fn below_fence<X: Copy>(entries: &[(Key, X)], fence: Fence) -> &[(Key, X)]
+    requires ascending { IsAscending entries.now }
+    ensures { result.now ≡ below (end_of fence) entries.now }
+{
+    &entries[..count_below(entries, fence)]
+}
+
+/// The entries from the fence on.
+pub(crate) fn from_fence<X: Copy>(entries: &[(Key, X)], fence: Fence) -> &[(Key, X)]
+    requires ascending { IsAscending entries.now }
+    ensures { result.now ≡ from (end_of fence) entries.now }
+{
+    &entries[count_below(entries, fence)..]
+}
+
+/// The first entry from the fence on.
+pub(crate) fn first_listed<X: Copy>(entries: &[(Key, X)], fence: Fence) -> Option<(Key, X)>
+    requires ascending { IsAscending entries.now }
+    ensures { result ≡ first_from (end_of fence) entries.now }
+{
+    from_fence(entries, fence).first().copied()
+}
+
+/// The last entry below the fence.
+pub(crate) fn last_listed<X: Copy>(entries: &[(Key, X)], fence: Fence) -> Option<(Key, X)>
+    requires ascending { IsAscending entries.now }
+    ensures { result ≡ last_below (end_of fence) entries.now }
+{
+    below_fence(entries, fence).last().copied()
+}
+
+/// What stands at the key.
+#[tactic(auto, using(crate::proofs::Firsts::stands_at))]
+pub(crate) fn value_at<X: Copy>(entries: &[(Key, X)], key: Key) -> Option<X>
+    requires ascending { IsAscending entries.now }
+    ensures { result ≡ at key entries.now }
+{
+    match first_listed(entries, Fence::Key(key)) {
+        Some(entry) if entry.0 == key => Some(entry.1),
+        _ => None,
+    }
+}

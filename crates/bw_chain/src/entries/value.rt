@@ -1,0 +1,128 @@
+ghost use Rattle.std.specs.Prelude.{◌≡◌, ◌↔◌, IsTrue};
+ghost use Rattle.bw_chain.specs.Ascends.{IsAscending};
+
+use crate::entries::change::Change;
+use bw_delta::{Base, Delta, Entries};
+use bw_keys::{Key, Pid};
+use std::alloc::Allocator;
+
+/// What an entry has beside its key: the number of a pair, or the page of a route. What a chain
+/// says is worked out once for both.
+pub trait EntryValue: Copy {
+    ghost use Rattle.std.specs.Prelude.{ℕ, List};
+    ghost use Rattle.bw_delta.specs.Pages.{Listed};
+    ghost use Rattle.bw_delta.specs.declared.chain.Delta.{Delta};
+    ghost use Rattle.std.specs.Prelude.{true};
+    ghost use Rattle.bw_keys.specs.Ranges.{end_of};
+    ghost use Rattle.bw_delta.specs.Entries.{rises};
+    ghost use Rattle.bw_delta.specs.Fence.{fences};
+    ghost use Rattle.bw_delta.specs.Records.{Records, above};
+    ghost use Rattle.bw_delta.specs.Sound.{IsWellBuilt};
+    ghost use Rattle.bw_chain.specs.Changes.{entries_by};
+    ghost use Rattle.bw_chain.specs.Passing.Cuts.{IsUncut};
+    ghost use Rattle.bw_chain.specs.declared.entries.change.Change.{Change};
+
+    /// The entries of this kind that a page lists.
+    ghost own_entries: { Listed → List (ℕ × Self) };
+
+    /// What a record changes of them.
+    ghost own_change: { Delta → Change Self };
+
+    /// The entries of this kind on a base page: none, if the page is of the other kind.
+    fn entries_on<A: Allocator>(base: &Base<A>) -> &[(Key, Self)]
+        ensures listed { result.now ≡ own_entries base.now.listed }
+        ensures ascending { IsAscending result.now };
+
+    /// What the record changes of the entries below it.
+    fn change_by(delta: Delta) -> Change<Self>
+        ensures { result ≡ own_change delta };
+
+    /// A value that holds a place until one is written there.
+    fn blank() -> Self;
+
+    /// Whether the values are equal.
+    fn is_same(self, other: Self) -> bool
+        ensures { IsTrue result ↔ (self ≡ other) };
+
+    // The entries of a chain rise inside its range.
+    ghost rise: { (chain : Records) → IsWellBuilt chain → rises (fences chain).low (end_of (fences chain).high) (entries_by own_entries own_change chain) ≡ true };
+
+    // A chain's range ends where its newest record cuts the entries off.
+    ghost cut: { (delta : Delta) (chain : Records) → IsUncut (end_of (fences (above delta chain)).high) (own_change delta) };
+}
+
+impl EntryValue for u64 {
+    ghost use Rattle.bw_delta.specs.Pairs.{pairs_listed};
+    ghost use Rattle.bw_chain.specs.Changes.{pair_change};
+    ghost use Rattle.bw_chain.specs.Kinds.{pairs_rise_in_range, pairs_cut_at_high};
+
+    ghost own_entries = { pairs_listed };
+
+    ghost own_change = { pair_change };
+
+    ghost rise = { pairs_rise_in_range };
+
+    ghost cut = { pairs_cut_at_high };
+
+    fn entries_on<A: Allocator>(base: &Base<A>) -> &[(Key, u64)] {
+        match &base.entries {
+            Entries::Pairs(pairs) => pairs,
+            Entries::Routes(_) => &[],
+        }
+    }
+
+    fn change_by(delta: Delta) -> Change<u64> {
+        match delta {
+            Delta::Insert(key, value) => Change::Put(key, value),
+            Delta::Delete(key) => Change::Without(key),
+            Delta::Split(separator, _) => Change::Below(separator),
+            Delta::Remove | Delta::TermAdd(_, _) | Delta::TermDelete(_) => Change::Nothing,
+        }
+    }
+
+    fn blank() -> u64 {
+        0
+    }
+
+    fn is_same(self, other: u64) -> bool {
+        self == other
+    }
+}
+
+impl EntryValue for Pid {
+    ghost use Rattle.bw_delta.specs.Pairs.{routes_listed};
+    ghost use Rattle.bw_chain.specs.Changes.{route_change};
+    ghost use Rattle.bw_chain.specs.Kinds.{routes_rise_in_range, routes_cut_at_high};
+
+    ghost own_entries = { routes_listed };
+
+    ghost own_change = { route_change };
+
+    ghost rise = { routes_rise_in_range };
+
+    ghost cut = { routes_cut_at_high };
+
+    fn entries_on<A: Allocator>(base: &Base<A>) -> &[(Key, Pid)] {
+        match &base.entries {
+            Entries::Pairs(_) => &[],
+            Entries::Routes(routes) => routes,
+        }
+    }
+
+    fn change_by(delta: Delta) -> Change<Pid> {
+        match delta {
+            Delta::TermAdd(separator, child) => Change::Put(separator, child),
+            Delta::TermDelete(separator) => Change::Without(separator),
+            Delta::Split(separator, _) => Change::Below(separator),
+            Delta::Remove | Delta::Insert(_, _) | Delta::Delete(_) => Change::Nothing,
+        }
+    }
+
+    fn blank() -> Pid {
+        Pid(0)
+    }
+
+    fn is_same(self, other: Pid) -> bool {
+        self == other
+    }
+}

@@ -1,0 +1,8 @@
+//! The page that a chain stands for: its fences, its kind and its depth; and the upper half of a
+//! base page.
+
+mod halving;
+pub(crate) mod shape;
+
+pub use halving::{HalveFault, halve};
+pub use shape::{depth, fences, is_leaf};

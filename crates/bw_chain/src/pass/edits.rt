@@ -1,0 +1,145 @@
+//! What the newest record for each key says, gathered on the way down a chain: the key's value, or
+//! that it has none. The greatest key comes first. So many edits in front of a slice were noted, and
+//! no memory is asked for.
+
+ghost use Rattle.std.specs.Prelude.{◌≡◌, ◌≤◌, ◌+◌, ◌-◌, ◌<◌, true, false, List, ℕ, [], ◌∷◌, ◌++◌, length, take, drop, insert};
+ghost use Rattle.bw_keys.specs.Ranges.{end_of, key_count};
+ghost use Rattle.bw_delta.specs.Entries.{below, from};
+ghost use Rattle.bw_chain.specs.Ascends.{IsAscending};
+ghost use Rattle.bw_chain.specs.Changes.{changed};
+ghost use Rattle.bw_chain.specs.Passing.Edited.{edited_at, edited_below, falls, noted};
+ghost use Rattle.bw_chain.specs.Passing.Cuts.{IsUncut};
+
+use crate::entries::change::Change;
+use bw_keys::{Fence, Key};
+use smallvec::SmallVec;
+
+/// As many edits as can be noted: no path of a chain has more records.
+pub(crate) const MOST_EDITS: usize = 64;
+
+/// The places of edits. All of them lie inline, so the allocator is never asked.
+pub(crate) type Edits<'a, X, A> = SmallVec<(Key, Option<X>), MOST_EDITS, &'a A>;
+
+/// Notes what a record changes below the end among so many edits in front, and answers how many
+/// there are then.
+#[inline(always)]
+pub(crate) fn note_change<X: Copy>(
+    edits: &mut [(Key, Option<X>)],
+    count: usize,
+    change: Change<X>,
+    end: Fence,
+) -> usize
+    requires uncut { IsUncut (end_of end) change }
+    requires among { end_of end ≤ key_count }
+    requires inside { count < length edits.old }
+    requires falling { falls 0 key_count (take count edits.old) ≡ true }
+    ensures noted { (es : List (ℕ × X)) → IsAscending es → edited_below (end_of end) (take result edits.new) es ≡ edited_below (end_of end) (take count edits.old) (changed change es) }
+    ensures others { from (end_of end) (take result edits.new) ≡ from (end_of end) (take count edits.old) }
+    ensures falling { falls 0 key_count (take result edits.new) ≡ true }
+    ensures one_more { result ≤ count + 1 }
+    ensures as_many { length edits.new ≡ length edits.old }
+{
+    match change.edit() {
+        Some((key, edit)) => note_below(edits, count, end, key, edit),
+        None => count,
+    }
+}
+
+/// Notes an edit of the key, if it lies below the end.
+#[inline(always)]
+fn note_below<X: Copy>(
+    edits: &mut [(Key, Option<X>)],
+    count: usize,
+    end: Fence,
+    key: Key,
+    edit: Option<X>,
+) -> usize
+    requires among { end_of end ≤ key_count }
+    requires inside { count < length edits.old }
+    requires falling { falls 0 key_count (take count edits.old) ≡ true }
+    ensures noted { (es : List (ℕ × X)) → IsAscending es → edited_below (end_of end) (take result edits.new) es ≡ edited_below (end_of end) (take count edits.old) (edited_at key edit es) }
+    ensures others { from (end_of end) (take result edits.new) ≡ from (end_of end) (take count edits.old) }
+    ensures falling { falls 0 key_count (take result edits.new) ≡ true }
+    ensures one_more { result ≤ count + 1 }
+    ensures as_many { length edits.new ≡ length edits.old }
+{
+    if end.is_above(key) {
+        note_among(edits, count, key, edit)
+    } else {
+        count
+    }
+}
+
+/// Notes an edit of the key among so many in front, unless a newer one was noted, and answers how
+/// many there are then.
+#[inline(always)]
+fn note_among<X: Copy>(edits: &mut [(Key, X)], count: usize, key: Key, edit: X) -> usize
+    requires inside { count < length edits.old }
+    requires falling { falls 0 key_count (take count edits.old) ≡ true }
+    ensures as_many { length edits.new ≡ length edits.old }
+    ensures one_more { result ≤ count + 1 }
+    ensures front { take result edits.new ≡ noted key edit (take count edits.old) }
+{
+    let (place, is_there) = raise(edits, count, key);
+    if is_there {
+        lower(edits, place, count);
+        return count;
+    }
+    edits[place] = (key, edit);
+    count + 1
+}
+
+/// Moves those of so many in front that have smaller keys up by one. It answers where they began,
+/// and whether the edit before them is one of the key.
+#[inline(always)]
+fn raise<X: Copy>(edits: &mut [(Key, X)], count: usize, key: Key) -> (usize, bool)
+    requires inside { count < length edits.old }
+    requires falling { falls 0 key_count (take count edits.old) ≡ true }
+    ensures upto { result.0 ≤ count }
+    ensures as_many { length edits.new ≡ length edits.old }
+    ensures before { take result.0 edits.new ≡ take result.0 edits.old }
+    ensures behind { drop (result.0 + 1) edits.new ≡ drop result.0 (take count edits.old) ++ drop (count + 1) edits.old }
+    ensures there { result.1 ≡ true → (x : X) → noted key x (take count edits.old) ≡ take count edits.old }
+    ensures missing { result.1 ≡ false → (x : X) → noted key x (take count edits.old) ≡ insert (take count edits.old) result.0 (key, x) }
+{
+    let mut i = count;
+    'up: while 0 < i {
+        let edit = edits[i - 1];
+        if key <= edit.0 {
+            return (i, key == edit.0);
+        }
+        edits[i] = edit;
+        i -= 1;
+    }
+    (i, false)
+}
+
+/// Moves the items behind the place, up to the last one, down by one.
+#[inline(always)]
+fn lower<T: Copy>(items: &mut [T], place: usize, last: usize)
+    requires upto { place ≤ last }
+    requires inside { last < length items.old }
+    ensures as_many { length items.new ≡ length items.old }
+    ensures front { take last items.new ≡ take place items.old ++ take (last - place) (drop (place + 1) items.old) }
+    ensures behind { drop (last + 1) items.new ≡ drop (last + 1) items.old }
+{
+    for i in place..last {
+        items[i] = items[i + 1];
+    }
+}
+
+/// How many edits have keys from the fence on. In a chain without merges none do.
+pub(crate) fn count_from<X: Copy>(edits: &[(Key, X)], fence: Fence) -> usize
+    requires falling { falls 0 key_count edits.now ≡ true }
+    ensures within { result ≤ length edits.now }
+    ensures before { from (end_of fence) edits.now ≡ take result edits.now }
+    ensures after { below (end_of fence) edits.now ≡ drop result edits.now }
+{
+    let Some(greatest) = edits.first() else {
+        return 0;
+    };
+    if fence.is_above(greatest.0) {
+        return 0;
+    }
+    edits.partition_point(|edit| !fence.is_above(edit.0))
+}

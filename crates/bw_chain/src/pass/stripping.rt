@@ -1,0 +1,155 @@
+//! A list that is compared with the entries that a pass hands on.
+
+ghost use Rattle.std.specs.Prelude.{◌≡◌, ◌≢◌, ◌↔◌, ◌++◌, List, ℕ, length, true, IsTrue, MatchOption};
+ghost use Rattle.bw_keys.specs.Ranges.{end_of, key_count};
+ghost use Rattle.bw_delta.specs.Entries.{from};
+ghost use Rattle.bw_chain.specs.Ascends.{IsAscending};
+ghost use Rattle.bw_chain.specs.Passing.Edited.{edited, entry_of, falls};
+ghost use Rattle.bw_chain.specs.Passing.Rests.{Begins, BeginsOtherwise};
+
+use crate::entries::sorted::from_fence;
+use crate::entries::value::EntryValue;
+use crate::pass::around::split_around;
+use crate::pass::sink::Sink;
+use bw_keys::{Fence, Key};
+
+/// What is left of the list. Entries below the fence are passed over.
+#[derive(Drop)]
+pub(crate) struct Compared<'a, X> {
+    pub(crate) rest: &'a [(Key, X)],
+    pub(crate) from: Fence,
+}
+
+/// The list goes on otherwise.
+pub(crate) struct Differs;
+
+impl<'a, X: EntryValue> Sink<X> for Compared<'a, X> {
+    ghost use Rattle.std.specs.Prelude.{◌≡◌};
+    ghost use Rattle.std.proofs.Common.{◌∙◌};
+    ghost use Rattle.bw_chain.specs.Passing.Rests.{Begins, BeginsOtherwise, begins_joined, otherwise_more, otherwise_later};
+
+    type Stop = Differs;
+
+    ghost takes = { λ s es t. Begins s.from s.rest.now es t.rest.now × (t.from ≡ s.from) };
+
+    ghost refuses = { λ s es. BeginsOtherwise s.from s.rest.now es };
+
+    fn take_edited(
+        &mut self,
+        entries: &[(Key, X)],
+        edits: &[(Key, Option<X>)],
+    ) -> Result<(), Differs> {
+        match strip_edited(self.rest, self.from, entries, edits) {
+            Some(rest) => {
+                self.rest = rest;
+                Ok(())
+            }
+            None => Err(Differs),
+        }
+    }
+
+    ghost takes_joined = { λ s t u es fs first second. (begins_joined s.from t.from s.rest.now t.rest.now u.rest.now es fs first.1 first.0 second.0, second.1 ∙ first.1) };
+
+    ghost refuses_more = { λ s es fs other. otherwise_more s.from s.rest.now es fs other };
+
+    ghost refuses_later = { λ s t es fs first other. otherwise_later s.from t.from s.rest.now t.rest.now es fs first.1 first.0 other };
+}
+
+/// What comes behind the entries with the edits, if the list begins with those from the fence on.
+fn strip_edited<'a, X: EntryValue>(
+    list: &'a [(Key, X)],
+    fence: Fence,
+    entries: &[(Key, X)],
+    edits: &[(Key, Option<X>)],
+) -> Option<&'a [(Key, X)]>
+    requires ascending { IsAscending entries.now }
+    requires falling { falls 0 key_count edits.now ≡ true }
+    ensures { MatchOption result (BeginsOtherwise fence list.now (edited edits.now entries.now)) (λ rest. Begins fence list.now (edited edits.now entries.now) rest.now) }
+{
+    let (mut list, mut rest, mut left) = (list, entries, edits);
+    'edits: while let Some((edit, greater)) = left.split_last() {
+        let (key, value) = *edit;
+        let (before, after) = split_around(rest, key);
+        let Some(behind) = strip_front(list, entries_from(before, fence)) else {
+            return None;
+        };
+        let Some(behind) = strip_edit(behind, fence, key, value) else {
+            return None;
+        };
+        list = behind;
+        rest = after;
+        left = greater;
+    }
+    match strip_front(list, entries_from(rest, fence)) {
+        Some(behind) => Some(behind),
+        None => None,
+    }
+}
+
+/// The entries from the fence on, which mostly all of them are.
+#[inline(always)]
+fn entries_from<X: Copy>(entries: &[(Key, X)], fence: Fence) -> &[(Key, X)]
+    requires ascending { IsAscending entries.now }
+    ensures { result.now ≡ from (end_of fence) entries.now }
+{
+    let Some(least) = entries.first() else {
+        return entries;
+    };
+    if fence.is_above(least.0) {
+        from_fence(entries, fence)
+    } else {
+        entries
+    }
+}
+
+/// What comes behind the entry that the edit puts, if the list begins with it or it lies below
+/// the fence.
+fn strip_edit<'a, X: EntryValue>(
+    list: &'a [(Key, X)],
+    fence: Fence,
+    key: Key,
+    edit: Option<X>,
+) -> Option<&'a [(Key, X)]>
+    ensures { MatchOption result (BeginsOtherwise fence list.now (entry_of key edit)) (λ rest. Begins fence list.now (entry_of key edit) rest.now) }
+{
+    match edit {
+        Some(value) if !fence.is_above(key) => match list.split_first() {
+            Some((first, rest)) if first.0 == key && first.1.is_same(value) => Some(rest),
+            _ => None,
+        },
+        _ => Some(list),
+    }
+}
+
+/// What comes behind the front, if the list begins so.
+fn strip_front<'a, X: EntryValue>(
+    list: &'a [(Key, X)],
+    front: &[(Key, X)],
+) -> Option<&'a [(Key, X)]>
+    ensures { MatchOption result
+        ((rest : List (ℕ × X)) → list.now ≢ front.now ++ rest)
+        (λ rest. list.now ≡ front.now ++ rest.now) }
+{
+    if list.len() < front.len() {
+        return None;
+    }
+    let (head, rest) = list.split_at(front.len());
+    if are_same(head, front) {
+        Some(rest)
+    } else {
+        None
+    }
+}
+
+/// Whether the entries are the same, one by one.
+fn are_same<X: EntryValue>(one: &[(Key, X)], other: &[(Key, X)]) -> bool
+    requires as_many { length one.now ≡ length other.now }
+    ensures { IsTrue result ↔ (one.now ≡ other.now) }
+{
+    for i in 0..one.len() {
+        if one[i].0 != other[i].0 || !one[i].1.is_same(other[i].1) {
+            return false;
+        }
+    }
+    true
+}

@@ -1,0 +1,148 @@
+//! The greatest entry up to a key.
+
+ghost use Rattle.std.specs.Prelude.{◌≡◌, ℕ, ◌≤◌, List, Option};
+ghost use Rattle.bw_keys.specs.Ranges.{end_of};
+ghost use Rattle.bw_delta.specs.Entries.{last_below, last_upto};
+ghost use Rattle.bw_chain.specs.Ascends.{IsAscending};
+ghost use Rattle.bw_chain.specs.Changes.{changed, entries_by};
+ghost use Rattle.bw_chain.specs.Searching.Gaps.{HasGap, end_under};
+ghost use Rattle.bw_chain.specs.Searching.Reaches.{IsGreatest};
+
+use crate::entries::bounds::{at_most, last_key_below, later, past};
+use crate::entries::change::Change;
+use crate::entries::sorted::last_listed;
+use crate::entries::value::EntryValue;
+use crate::search::entry::find_entry;
+use crate::search::reach::Reach;
+use bw_delta::{Base, Chain, Node};
+use bw_keys::{Fence, Key};
+use std::alloc::Allocator;
+
+/// The greatest entry up to the key. Where no deletion and no merge is in the way it takes one walk
+/// over the records and one search of the base page.
+pub(crate) fn last_upto<A: Allocator + Copy, X: EntryValue>(
+    chain: &Chain<A>,
+    key: Key,
+) -> Option<(Key, X)>
+    requires ascending { IsAscending (entries_by X.own_entries X.own_change chain.now) }
+    ensures { result ≡ last_upto key (entries_by X.own_entries X.own_change chain.now) }
+{
+    let mut reach = Reach::new(key);
+    match &under_passed::<A, X>(chain, &mut reach).node {
+        Node::Bare(base) => reach.greatest(X::entries_on(base)),
+        Node::Above(_, _) | Node::Merged(_, _, _) => last_below(chain, past(key)),
+    }
+}
+
+/// The part of the chain under the records that the search for the greatest entry can pass. This
+/// walk is a loop once it is built, too.
+fn under_passed<'a, A: Allocator + Copy, X: EntryValue>(
+    chain: &'a Chain<A>,
+    reach: &mut Reach<X>,
+) -> &'a Chain<A>
+    ensures { (answer : Option (ℕ × X)) →
+        IsGreatest reach.new.upto reach.new.best (entries_by X.own_entries X.own_change result.now) answer →
+        IsGreatest reach.old.upto reach.old.best (entries_by X.own_entries X.own_change chain.now) answer }
+{
+    match &chain.node {
+        Node::Bare(_) => chain,
+        Node::Above(delta, below) => {
+            if reach.passes(X::change_by(*delta)) {
+                under_passed::<A, X>(below, reach)
+            } else {
+                chain
+            }
+        }
+        Node::Merged(merging, left, _) => {
+            if reach.upto < merging.separator {
+                under_passed::<A, X>(left, reach)
+            } else {
+                chain
+            }
+        }
+    }
+}
+
+/// The greatest entry below the fence: candidates are tried in turn, as for the least one.
+fn last_below<A: Allocator + Copy, X: EntryValue>(
+    chain: &Chain<A>,
+    fence: Fence,
+) -> Option<(Key, X)>
+    requires ascending { IsAscending (entries_by X.own_entries X.own_change chain.now) }
+    ensures { result ≡ last_below (end_of fence) (entries_by X.own_entries X.own_change chain.now) }
+{
+    let mut to = fence;
+    'candidates: while let Some(key) = last_key_below(past_last_candidate::<A, X>(chain, to)) {
+        if let Some(value) = find_entry(chain, key) {
+            return Some((key, value));
+        }
+        to = Fence::Key(key);
+    }
+    None
+}
+
+/// The fence right above the greatest candidate below the fence, or 0 where there is none.
+fn past_last_candidate<A: Allocator + Copy, X: EntryValue>(chain: &Chain<A>, to: Fence) -> Fence
+    ensures earlier { end_of result ≤ end_of to }
+    ensures gap { HasGap (end_of result) (end_of to) (entries_by X.own_entries X.own_change chain.now) }
+{
+    match &chain.node {
+        Node::Bare(base) => past_last_on_base::<A, X>(base, to),
+        Node::Above(delta, below) => {
+            let change = X::change_by(*delta);
+            let found = past_last_candidate::<A, X>(below, end_under(change, to));
+            past_last_under(change, to, found)
+        }
+        Node::Merged(merging, left, right) => {
+            let found = past_last_candidate::<A, X>(right, to);
+            if found.is_above(merging.separator) {
+                found
+            } else {
+                past_last_candidate::<A, X>(left, at_most(to, merging.separator))
+            }
+        }
+    }
+}
+
+fn past_last_on_base<A: Allocator + Copy, X: EntryValue>(base: &Base<A>, to: Fence) -> Fence
+    ensures earlier { end_of result ≤ end_of to }
+    ensures gap { HasGap (end_of result) (end_of to) (X.own_entries base.now.listed) }
+{
+    match last_listed(X::entries_on(base), to) {
+        Some(entry) => past(entry.0),
+        None => Fence::Key(0),
+    }
+}
+
+/// Where the keys below the fence end that the change leaves.
+fn end_under<X: Copy>(change: Change<X>, to: Fence) -> Fence
+    ensures { end_of result ≡ end_under change (end_of to) }
+{
+    match change {
+        Change::Below(bound) => at_most(to, bound),
+        Change::Put(_, _) | Change::Without(_) | Change::Nothing => to,
+    }
+}
+
+/// The fence right above the greatest candidate once the change stands above those that were
+/// found.
+fn past_last_under<X: Copy>(change: Change<X>, to: Fence, found: Fence) -> Fence
+    requires earlier { end_of found ≤ end_under change (end_of to) }
+    ensures earlier { end_of result ≤ end_of to }
+    ensures gap { (es : List (ℕ × X)) →
+        HasGap (end_of found) (end_under change (end_of to)) es →
+        HasGap (end_of result) (end_of to) (changed change es) }
+{
+    match change {
+        Change::Put(key, _) => {
+            if to.is_above(key) {
+                later(found, past(key))
+            } else {
+                found
+            }
+        }
+        Change::Below(_) => found,
+        Change::Without(_) => found,
+        Change::Nothing => found,
+    }
+}

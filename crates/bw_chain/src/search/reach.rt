@@ -1,0 +1,83 @@
+ghost use Rattle.std.specs.Prelude.{◌≡◌, ℕ, List, Option, None, true, false};
+ghost use Rattle.bw_chain.specs.Ascends.{IsAscending};
+ghost use Rattle.bw_chain.specs.Changes.{changed};
+ghost use Rattle.bw_chain.specs.Searching.Reaches.{is_open, IsGreatest};
+
+use crate::entries::bounds::past;
+use crate::entries::change::Change;
+use crate::entries::sorted::last_listed;
+use bw_keys::Key;
+
+/// How far a search for the greatest entry has come on its way down a chain.
+#[derive(Clone, Copy)]
+pub(crate) struct Reach<X> {
+    /// The greatest key that the entry may have.
+    pub(crate) upto: Key,
+    /// The greatest entry that was found.
+    pub(crate) best: Option<(Key, X)>,
+}
+
+impl<X: Copy> Reach<X> {
+    /// A search that has found nothing yet.
+    pub(crate) fn new(upto: Key) -> Reach<X>
+        ensures upto { result.upto ≡ upto }
+        ensures none { result.best ≡ None }
+    {
+        Reach { upto, best: None }
+    }
+
+    /// Whether an entry at the key would be better than the best one.
+    fn is_open(self, key: Key) -> bool
+        ensures { result ≡ is_open self.upto self.best key }
+    {
+        key <= self.upto
+            && match self.best {
+                Some(best) => best.0 < key,
+                None => true,
+            }
+    }
+
+    /// Takes account of a change, and tells whether the search may go on below it. It may not below a
+    /// deletion that could hide what it finds.
+    pub(crate) fn passes(&mut self, change: Change<X>) -> bool
+        ensures passed { result ≡ true → (es : List (ℕ × X)) → (answer : Option (ℕ × X)) →
+            IsGreatest self.new.upto self.new.best es answer →
+            IsGreatest self.old.upto self.old.best (changed change es) answer }
+        ensures stopped { result ≡ false → self.new ≡ self.old }
+    {
+        match change {
+            Change::Put(key, value) => {
+                if self.is_open(key) {
+                    self.best = Some((key, value));
+                }
+                true
+            }
+            Change::Below(bound) => match bound.checked_sub(1) {
+                Some(last) => {
+                    self.upto = self.upto.min(last);
+                    true
+                }
+                None => false,
+            },
+            Change::Without(key) => !self.is_open(key),
+            Change::Nothing => true,
+        }
+    }
+
+    /// The greatest entry, where only those of a base page are left.
+    pub(crate) fn greatest(self, entries: &[(Key, X)]) -> Option<(Key, X)>
+        requires ascending { IsAscending entries.now }
+        ensures { IsGreatest self.upto self.best entries.now result }
+    {
+        match last_listed(entries, past(self.upto)) {
+            Some(entry) => {
+                if self.is_open(entry.0) {
+                    Some(entry)
+                } else {
+                    self.best
+                }
+            }
+            None => self.best,
+        }
+    }
+}
