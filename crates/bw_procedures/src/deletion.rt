@@ -14,7 +14,7 @@ use crate::steps::{Keep, Steps};
 use crate::writing::{Arrival, Found, Tried, approach, finish, help_on, look_at};
 use bw_delta::Spare;
 use bw_keys::Key;
-use bw_step::{Receipt, Refused, Step, View};
+use bw_step::{Delete, Receipt, Refused, Step, View};
 use std::alloc::Allocator;
 
 /// Takes the key out, if it is there. The walk to the key's leaf helps what it meets unfinished, and
@@ -101,12 +101,12 @@ fn remove_at<A: Allocator + Copy, S: Steps<A, Step<A>>>(
     let Ok(spare) = Spare::new(steps.alloc()) else {
         return Err(Fault::NoMemory);
     };
-    let step = Step::Delete {
+    let step = Step::Delete(Delete {
         page: view.pid,
         seen: view.version,
         key,
         spare,
-    };
+    });
     match change(steps, limit, step)? {
         Answer::Accepted(Receipt::Deleted { value, .. }) => {
             Ok(Tried::Tend(Del::Removed(value), view.pid))

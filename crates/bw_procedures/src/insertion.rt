@@ -14,7 +14,7 @@ use crate::steps::{Keep, Steps};
 use crate::writing::{Arrival, Found, Tried, approach, finish, help_on, look_at};
 use bw_delta::Spare;
 use bw_keys::Key;
-use bw_step::{Refused, Step, View};
+use bw_step::{Insert, Refused, Step, View};
 use std::alloc::Allocator;
 
 /// Gives the key the value, unless the key is there. The walk to the key's leaf helps what it meets
@@ -105,13 +105,13 @@ fn insert_at<A: Allocator + Copy, S: Steps<A, Step<A>>>(
     let Ok(spare) = Spare::new(steps.alloc()) else {
         return Err(Fault::NoMemory);
     };
-    let step = Step::Insert {
+    let step = Step::Insert(Insert {
         page: view.pid,
         seen: view.version,
         key,
         value,
         spare,
-    };
+    });
     match change(steps, limit, step)? {
         Answer::Accepted(_) => Ok(Tried::Tend(Put::Inserted, view.pid)),
         Answer::Refused(Refused::Deep) => {
