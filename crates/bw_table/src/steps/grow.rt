@@ -26,7 +26,13 @@ impl<A: Allocator + Copy> Table<A> {
         let Some(under) = self.slot(step.child) else {
             return Err(Refused::Absent);
         };
-        may_grow(under, Pid(self.root), self.root_slot(), self.new_slot(), step)
+        may_grow(
+            under,
+            Pid(self.root),
+            self.root_slot(),
+            self.new_slot(),
+            step,
+        )
     }
 
     /// Does a growth that isn't refused.

@@ -18,10 +18,7 @@ use bw_step::{Refused, Stage, Summary};
 use std::alloc::Allocator;
 
 /// Why a page isn't open for a change: it isn't in a row, has another version, or is leaving.
-pub(super) fn check_open<A: Allocator + Copy>(
-    slot: &Slot<A>,
-    seen: Version,
-) -> Result<(), Refused>
+pub(super) fn check_open<A: Allocator + Copy>(slot: &Slot<A>, seen: Version) -> Result<(), Refused>
     ensures { result ≡ fine_unless (first_reason (absent (slot.now ∷ []) ∷ stale ((slot.now, seen.0) ∷ []) ∷ frozen slot.now ∷ [])) }
 {
     if !slot.stage.is_in_row() {
