@@ -8,7 +8,7 @@ use crate::fault::Fault;
 use crate::offer::{Answer, offer};
 use crate::steps::Steps;
 use bw_delta::NoMemory;
-use bw_step::{CopyFault, Step, View};
+use bw_step::{Consolidate, CopyFault, Step, View};
 use std::alloc::Allocator;
 
 /// The step that consolidates the page as it was seen. None where the page has changed since, or is
@@ -27,11 +27,11 @@ pub(crate) fn consolidation<A: Allocator + Copy, S: Steps<A, Step<A>>>(
         Err(CopyFault::Absent | CopyFault::Stale) => return Ok(None),
     };
     let base = bw_chain::consolidate(steps.alloc(), &chain)?;
-    Ok(Some(Step::Consolidate {
+    Ok(Some(Step::Consolidate(Consolidate {
         page: view.pid,
         seen: view.version,
         base,
-    }))
+    })))
 }
 
 /// Consolidates the page as it was seen, and tells whether that was accepted. Where it wasn't, the new

@@ -12,7 +12,7 @@ use crate::wish::Wish;
 use crate::writing::write;
 use bw_delta::Spare;
 use bw_keys::Key;
-use bw_step::{Receipt, Step, View};
+use bw_step::{Delete, Receipt, Step, View};
 use std::alloc::Allocator;
 
 /// Takes the key out, if it is there. The walk to the key's leaf helps what it meets unfinished, and
@@ -73,12 +73,12 @@ impl Wish for Deletion {
 
     #[tactic(auto, using(crate::proofs::Changing::deletion_made))]
     fn step<A: Allocator + Copy>(self, view: View, spare: Spare<A>) -> Step<A> {
-        Step::Delete {
+        Step::Delete(Delete {
             page: view.pid,
             seen: view.version,
             key: self.key,
             spare,
-        }
+        })
     }
 
     fn reply(self, receipt: Receipt) -> Del {

@@ -12,7 +12,7 @@ use crate::wish::Wish;
 use crate::writing::write;
 use bw_delta::Spare;
 use bw_keys::Key;
-use bw_step::{Receipt, Step, View};
+use bw_step::{Insert, Receipt, Step, View};
 use std::alloc::Allocator;
 
 /// Gives the key the value, unless the key is there. The walk to the key's leaf helps what it meets
@@ -76,13 +76,13 @@ impl Wish for Insertion {
 
     #[tactic(auto, using(crate::proofs::Changing::insertion_made))]
     fn step<A: Allocator + Copy>(self, view: View, spare: Spare<A>) -> Step<A> {
-        Step::Insert {
+        Step::Insert(Insert {
             page: view.pid,
             seen: view.version,
             key: self.key,
             value: self.value,
             spare,
-        }
+        })
     }
 
     fn reply(self, _receipt: Receipt) -> Put {

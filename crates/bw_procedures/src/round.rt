@@ -12,7 +12,7 @@ use crate::steps::Steps;
 use crate::walk::walk;
 use bw_delta::{Base, BaseFault, Spare};
 use bw_keys::{Fence, Key, Pid};
-use bw_step::{Place, Refused, Stage, Step, Todo, View};
+use bw_step::{Grow, Merge, Place, Refused, Stage, Step, TermAdd, TermDelete, Todo, View};
 use std::alloc::Allocator;
 
 /// The page that the last change of rounds led to. The next one leads up from it, or to a smaller key
@@ -160,11 +160,11 @@ fn grow<A: Allocator + Copy, S: Steps<A, Step<A>>>(
             return Ok(());
         }
     };
-    let step = Step::Grow {
+    let step = Step::Grow(Grow {
         child: view.pid,
         seen: view.version,
         base,
-    };
+    });
     reshape(steps, limit, step)?;
     Ok(())
 }
@@ -184,13 +184,13 @@ fn post_under<A: Allocator + Copy, S: Steps<A, Step<A>>>(
         return Ok(merge_first(rung, parent));
     }
     let spare = Spare::new(steps.alloc())?;
-    let step = Step::TermAdd {
+    let step = Step::TermAdd(TermAdd {
         parent: parent.pid,
         parent_seen: parent.version,
         child: view.pid,
         child_seen: view.version,
         spare,
-    };
+    });
     match reshape(steps, limit, step)? {
         Answer::Refused(Refused::TermStands(merged)) => Ok(Turn::Next(Task {
             todo: Todo::DropTerm(merged),
@@ -249,14 +249,14 @@ fn merge_under<A: Allocator + Copy, S: Steps<A, Step<A>>>(
     }
     let left_spare = Spare::new(steps.alloc())?;
     let page_spare = Spare::new(steps.alloc())?;
-    let step = Step::Merge {
+    let step = Step::Merge(Merge {
         left: left.pid,
         left_seen: left.version,
         page: view.pid,
         seen: view.version,
         left_spare,
         page_spare,
-    };
+    });
     match reshape(steps, limit, step)? {
         Answer::Refused(Refused::Deep) if left.depth > 0 => make_room(steps, limit, left),
         _ => Ok(Turn::Over),
@@ -300,13 +300,13 @@ fn drop_under<A: Allocator + Copy, S: Steps<A, Step<A>>>(
         return Ok(merge_first(rung, parent));
     }
     let spare = Spare::new(steps.alloc())?;
-    let step = Step::TermDelete {
+    let step = Step::TermDelete(TermDelete {
         parent: parent.pid,
         parent_seen: parent.version,
         child: view.pid,
         child_seen: view.version,
         spare,
-    };
+    });
     match reshape(steps, limit, step)? {
         Answer::Refused(Refused::Deep) => make_room(steps, limit, parent),
         _ => Ok(Turn::Over),

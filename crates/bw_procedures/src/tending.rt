@@ -16,7 +16,7 @@ use crate::walk::walk;
 use bw_chain::{HalveFault, halve};
 use bw_delta::{Base, Chain, Node, Spare};
 use bw_keys::{Key, Pid};
-use bw_step::{CopyFault, Receipt, Stage, Step, Todo, View};
+use bw_step::{CopyFault, Mark, Receipt, Split, Stage, Step, Todo, View};
 use std::alloc::Allocator;
 
 /// Consolidates, splits or removes the page where its chain is long, its entries many or few, and then
@@ -136,13 +136,13 @@ fn split_page<A: Allocator + Copy, S: Steps<A, Step<A>>>(
         Err(HalveFault::NoMemory) => return Err(Fault::NoMemory),
     };
     let spare = Spare::new(steps.alloc())?;
-    let step = Step::Split {
+    let step = Step::Split(Split {
         page: view.pid,
         seen: view.version,
         separator,
         base,
         spare,
-    };
+    });
     match reshape(steps, limit, step)? {
         Answer::Accepted(receipt) => Ok(after_split(steps, limit, view.level, separator, receipt)?),
         Answer::Refused(_) => Ok(None),
@@ -217,12 +217,12 @@ fn mark_page<A: Allocator + Copy, S: Steps<A, Step<A>>>(
         return Ok(None);
     }
     let spare = Spare::new(steps.alloc())?;
-    let step = Step::Mark {
+    let step = Step::Mark(Mark {
         page: view.pid,
         seen: view.version,
         parent: parent.pid,
         spare,
-    };
+    });
     match reshape(steps, limit, step)? {
         Answer::Accepted(_) => Ok(after_mark(steps, limit, view)?),
         Answer::Refused(_) => Ok(None),

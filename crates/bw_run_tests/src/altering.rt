@@ -5,7 +5,7 @@ use crate::rows::{Puts, row, trace_of};
 use bw_audit::{Verdict, audit, is_ascending};
 use bw_keys::{Key, Pid};
 use bw_run::{Act, Row, do_act};
-use bw_step::{Look, Receipt, Step};
+use bw_step::{Insert, Look, Receipt, Step};
 use bw_test_kit::{Ended, Hook, Hooked, LARGE, Pages, Play, Turns, Worked, play_on_new_tree};
 use bw_tree::{Denied, Share, Shared};
 use bw_work::{Hand, Open, Steps};
@@ -27,23 +27,23 @@ impl<S: Shared<Global, Step<Global>>> Hook<S> for Raise {
         share: &mut Share<S::Insertions, S::Removals>,
         step: Step<Global>,
     ) -> Result<Receipt, Denied> {
-        let Step::Insert {
+        let Step::Insert(Insert {
             page,
             seen,
             key,
             value,
             spare,
-        } = step
+        }) = step
         else {
             return tree.install(share, step);
         };
-        let altered = Step::Insert {
+        let altered = Step::Insert(Insert {
             page,
             seen,
             key,
             value: value.wrapping_add(self.put),
             spare,
-        };
+        });
         match tree.install(share, altered)? {
             Receipt::Inserted { number, key, .. } => Ok(Receipt::Inserted { number, key, value }),
             receipt => Ok(receipt),

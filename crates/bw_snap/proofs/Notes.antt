@@ -10,7 +10,7 @@ use Rattle.bw_law.specs.Refusals.{refusal}
 use Rattle.bw_law.specs.Effects.{after}
 use Rattle.bw_law.specs.Runs.{next_table}
 use Rattle.bw_law.specs.Tables.{TableValue, new_table}
-use Rattle.bw_table.specs.Answers.{verdict}
+use Rattle.bw_table.specs.Answers.{fine_unless}
 use Rattle.bw_snap.specs.declared.note.Note.{Note}
 use Rattle.bw_snap.specs.declared.note.Note.TheVariants.{Step, Mark}
 use Rattle.bw_snap.specs.Fronts.{Announced}
@@ -25,7 +25,7 @@ leads_on a b c (x ∷ xs) ys r s = (r.0, leads_on (after a x) b c xs ys r.1 s)
 pub leads_one_more : (a b c : TableValue) (xs : List Proposal) (step : Proposal) → LeadTo a xs b → refusal b step ≡ None → c ≡ after b step → LeadTo a (xs ++ step ∷ []) c
 leads_one_more a b c xs step r accepted is = leads_on a b c xs (step ∷ []) r (accepted, is)
 
-pub not_refused : (o : Option Refused) → Ok tt ≡ verdict o → o ≡ None
+pub not_refused : (o : Option Refused) → Ok tt ≡ fine_unless o → o ≡ None
 not_refused None is = refl
 not_refused (Some reason) is = absurd (cc (is))
 

@@ -1,15 +1,51 @@
 -- What a step proposes, whatever the allocator of its memory.
 use Rattle.bw_step.specs.declared.step.Step.{Step}
-use Rattle.bw_step.specs.declared.step.Step.TheVariants.{Insert, Delete, Consolidate, Split, TermAdd, Grow, Mark, Merge, TermDelete}
+use Rattle.bw_step.specs.declared.step.Step.TheVariants as steps
+use Rattle.bw_step.specs.declared.steps.insert.Insert.{Insert}
+use Rattle.bw_step.specs.declared.steps.delete.Delete.{Delete}
+use Rattle.bw_step.specs.declared.steps.consolidate.Consolidate.{Consolidate}
+use Rattle.bw_step.specs.declared.steps.split.Split.{Split}
+use Rattle.bw_step.specs.declared.steps.term_add.TermAdd.{TermAdd}
+use Rattle.bw_step.specs.declared.steps.grow.Grow.{Grow}
+use Rattle.bw_step.specs.declared.steps.mark.Mark.{Mark}
+use Rattle.bw_step.specs.declared.steps.merge.Merge.{Merge}
+use Rattle.bw_step.specs.declared.steps.term_delete.TermDelete.{TermDelete}
 use Rattle.bw_step.specs.Proposals.{Proposal, insert, delete, consolidate, split, term_add, grow, mark, merge, term_delete}
 
+abbrev pub insert_of : {A : Type 0} → Insert A → Proposal
+insert_of step = insert step.page.0 step.seen.0 step.key step.value
+
+abbrev pub delete_of : {A : Type 0} → Delete A → Proposal
+delete_of step = delete step.page.0 step.seen.0 step.key
+
+abbrev pub consolidate_of : {A : Type 0} → Consolidate A → Proposal
+consolidate_of step = consolidate step.page.0 step.seen.0 step.base
+
+abbrev pub split_of : {A : Type 0} → Split A → Proposal
+split_of step = split step.page.0 step.seen.0 step.separator step.base
+
+abbrev pub term_add_of : {A : Type 0} → TermAdd A → Proposal
+term_add_of step = term_add step.parent.0 step.parent_seen.0 step.child.0 step.child_seen.0
+
+abbrev pub grow_of : {A : Type 0} → Grow A → Proposal
+grow_of step = grow step.child.0 step.seen.0 step.base
+
+abbrev pub mark_of : {A : Type 0} → Mark A → Proposal
+mark_of step = mark step.page.0 step.seen.0 step.parent.0
+
+abbrev pub merge_of : {A : Type 0} → Merge A → Proposal
+merge_of step = merge step.left.0 step.left_seen.0 step.page.0 step.seen.0
+
+abbrev pub term_delete_of : {A : Type 0} → TermDelete A → Proposal
+term_delete_of step = term_delete step.parent.0 step.parent_seen.0 step.child.0 step.child_seen.0
+
 abbrev pub proposal_of : {A : Type 0} → Step A → Proposal
-proposal_of (Insert page seen key value spare) = insert page.0 seen.0 key value
-proposal_of (Delete page seen key spare) = delete page.0 seen.0 key
-proposal_of (Consolidate page seen base) = consolidate page.0 seen.0 base
-proposal_of (Split page seen separator base spare) = split page.0 seen.0 separator base
-proposal_of (TermAdd parent parent_seen child child_seen spare) = term_add parent.0 parent_seen.0 child.0 child_seen.0
-proposal_of (Grow child seen base) = grow child.0 seen.0 base
-proposal_of (Mark page seen parent spare) = mark page.0 seen.0 parent.0
-proposal_of (Merge left left_seen page seen left_spare page_spare) = merge left.0 left_seen.0 page.0 seen.0
-proposal_of (TermDelete parent parent_seen child child_seen spare) = term_delete parent.0 parent_seen.0 child.0 child_seen.0
+proposal_of (steps.Insert step) = insert_of step
+proposal_of (steps.Delete step) = delete_of step
+proposal_of (steps.Consolidate step) = consolidate_of step
+proposal_of (steps.Split step) = split_of step
+proposal_of (steps.TermAdd step) = term_add_of step
+proposal_of (steps.Grow step) = grow_of step
+proposal_of (steps.Mark step) = mark_of step
+proposal_of (steps.Merge step) = merge_of step
+proposal_of (steps.TermDelete step) = term_delete_of step

@@ -8,6 +8,7 @@ mod proposes;
 mod receipt;
 mod refused;
 mod step;
+mod steps;
 mod survey;
 mod view;
 
@@ -17,5 +18,6 @@ pub use proposes::Proposes;
 pub use receipt::{Kind, Receipt};
 pub use refused::Refused;
 pub use step::Step;
+pub use steps::{Consolidate, Delete, Grow, Insert, Mark, Merge, Split, TermAdd, TermDelete};
 pub use survey::{Book, Leaf, Summary, Survey};
 pub use view::{Look, Stage, View};

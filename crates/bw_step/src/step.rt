@@ -1,81 +1,22 @@
 ghost use Rattle.std.specs.Prelude.{◌≡◌, IfOk};
 
-use bw_delta::{Base, NoMemory, Spare};
-use bw_keys::{Key, Pid, Version};
+use crate::steps::{Consolidate, Delete, Grow, Insert, Mark, Merge, Split, TermAdd, TermDelete};
+use bw_delta::NoMemory;
 use std::alloc::Allocator;
 
 /// A proposed change of the table, with the versions of the pages as they were seen, and with the
 /// memory that the change takes.
 #[derive(Drop)]
 pub enum Step<A: Allocator> {
-    /// Give the key the value.
-    Insert {
-        page: Pid,
-        seen: Version,
-        key: Key,
-        value: u64,
-        spare: Spare<A>,
-    },
-    /// Take the key out.
-    Delete {
-        page: Pid,
-        seen: Version,
-        key: Key,
-        spare: Spare<A>,
-    },
-    /// Put the base, which lists what the chain does, in the chain's place.
-    Consolidate {
-        page: Pid,
-        seen: Version,
-        base: Base<A>,
-    },
-    /// Give the entries from the separator on, which the base lists, to a new page on the right.
-    Split {
-        page: Pid,
-        seen: Version,
-        separator: Key,
-        base: Base<A>,
-        spare: Spare<A>,
-    },
-    /// Name the child, which a split made, in its parent.
-    TermAdd {
-        parent: Pid,
-        parent_seen: Version,
-        child: Pid,
-        child_seen: Version,
-        spare: Spare<A>,
-    },
-    /// Put a new root over the old one and the child that a split of it made.
-    Grow {
-        child: Pid,
-        seen: Version,
-        base: Base<A>,
-    },
-    /// Begin the removal of the page, whose parent is named to show that the page isn't its
-    /// leftmost child.
-    Mark {
-        page: Pid,
-        seen: Version,
-        parent: Pid,
-        spare: Spare<A>,
-    },
-    /// Take the marked page in to its left neighbour.
-    Merge {
-        left: Pid,
-        left_seen: Version,
-        page: Pid,
-        seen: Version,
-        left_spare: Spare<A>,
-        page_spare: Spare<A>,
-    },
-    /// Take the term of the merged child out of its parent, and free the child's slot.
-    TermDelete {
-        parent: Pid,
-        parent_seen: Version,
-        child: Pid,
-        child_seen: Version,
-        spare: Spare<A>,
-    },
+    Insert(Insert<A>),
+    Delete(Delete<A>),
+    Consolidate(Consolidate<A>),
+    Split(Split<A>),
+    TermAdd(TermAdd<A>),
+    Grow(Grow<A>),
+    Mark(Mark<A>),
+    Merge(Merge<A>),
+    TermDelete(TermDelete<A>),
 }
 
 impl<A: Allocator + Copy> Step<A> {
@@ -84,104 +25,15 @@ impl<A: Allocator + Copy> Step<A> {
         ensures { IfOk result (λ twin. twin ≡ self.now) }
     {
         match self {
-            Step::Insert {
-                page,
-                seen,
-                key,
-                value,
-                ..
-            } => Ok(Step::Insert {
-                page: *page,
-                seen: *seen,
-                key: *key,
-                value: *value,
-                spare: Spare::new(alloc)?,
-            }),
-            Step::Delete {
-                page,
-                seen,
-                key,
-                ..
-            } => Ok(Step::Delete {
-                page: *page,
-                seen: *seen,
-                key: *key,
-                spare: Spare::new(alloc)?,
-            }),
-            Step::Consolidate { page, seen, base } => Ok(Step::Consolidate {
-                page: *page,
-                seen: *seen,
-                base: base.copy_in(alloc)?,
-            }),
-            Step::Split {
-                page,
-                seen,
-                separator,
-                base,
-                ..
-            } => Ok(Step::Split {
-                page: *page,
-                seen: *seen,
-                separator: *separator,
-                base: base.copy_in(alloc)?,
-                spare: Spare::new(alloc)?,
-            }),
-            Step::TermAdd {
-                parent,
-                parent_seen,
-                child,
-                child_seen,
-                ..
-            } => Ok(Step::TermAdd {
-                parent: *parent,
-                parent_seen: *parent_seen,
-                child: *child,
-                child_seen: *child_seen,
-                spare: Spare::new(alloc)?,
-            }),
-            Step::Grow { child, seen, base } => Ok(Step::Grow {
-                child: *child,
-                seen: *seen,
-                base: base.copy_in(alloc)?,
-            }),
-            Step::Mark {
-                page,
-                seen,
-                parent,
-                ..
-            } => Ok(Step::Mark {
-                page: *page,
-                seen: *seen,
-                parent: *parent,
-                spare: Spare::new(alloc)?,
-            }),
-            Step::Merge {
-                left,
-                left_seen,
-                page,
-                seen,
-                ..
-            } => Ok(Step::Merge {
-                left: *left,
-                left_seen: *left_seen,
-                page: *page,
-                seen: *seen,
-                left_spare: Spare::new(alloc)?,
-                page_spare: Spare::new(alloc)?,
-            }),
-            Step::TermDelete {
-                parent,
-                parent_seen,
-                child,
-                child_seen,
-                ..
-            } => Ok(Step::TermDelete {
-                parent: *parent,
-                parent_seen: *parent_seen,
-                child: *child,
-                child_seen: *child_seen,
-                spare: Spare::new(alloc)?,
-            }),
+            Step::Insert(step) => Ok(Step::Insert(step.twin(alloc)?)),
+            Step::Delete(step) => Ok(Step::Delete(step.twin(alloc)?)),
+            Step::Consolidate(step) => Ok(Step::Consolidate(step.twin(alloc)?)),
+            Step::Split(step) => Ok(Step::Split(step.twin(alloc)?)),
+            Step::TermAdd(step) => Ok(Step::TermAdd(step.twin(alloc)?)),
+            Step::Grow(step) => Ok(Step::Grow(step.twin(alloc)?)),
+            Step::Mark(step) => Ok(Step::Mark(step.twin(alloc)?)),
+            Step::Merge(step) => Ok(Step::Merge(step.twin(alloc)?)),
+            Step::TermDelete(step) => Ok(Step::TermDelete(step.twin(alloc)?)),
         }
     }
 }

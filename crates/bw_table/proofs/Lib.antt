@@ -1,6 +1,7 @@
 pub mod Doing
 pub mod FreeIds
 pub mod LiveRoutes
+pub mod Reasons
 pub mod RowWalk
 pub mod Same
 pub mod Ways

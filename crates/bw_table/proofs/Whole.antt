@@ -1,5 +1,6 @@
 -- What is true of each table gives the code what it asks for.
-use Rattle.std.proofs.Common.{◌≡◌, ℕ, ◌<◌, ◌≤◌, ◌^◌, true, List, length, Option, Some, None, unwrap_or, refl, ◌∙◌, ap, arith}
+use Rattle.std.proofs.Common.{◌≡◌, ℕ, ◌<◌, ◌≤◌, ◌^◌, Bool, true, Option, Some, None, unwrap_or, refl, ◌∙◌, ap, arith}
+use Rattle.std.specs.Prelude.{option_map, is_none}
 use Rattle.std.proofs.lemmas.Bool.Decides.{nat_tests}
 use Rattle.bw_keys.specs.declared.config.Config.{Config}
 use Rattle.bw_keys.specs.Limits.{first_bad_field}
@@ -7,11 +8,11 @@ use Rattle.bw_keys.specs.Ranges.{is_within}
 use Rattle.bw_delta.specs.Entries.{at}
 use Rattle.bw_step.specs.Proposals.{Proposal, insert, delete, consolidate, split, term_add, grow, mark, merge, term_delete}
 use Rattle.bw_law.specs.Tables.{TableValue, slot_at, is_leaf_in_row, Lawful, new_table}
-use Rattle.bw_law.specs.Slots.{pairs_in}
+use Rattle.bw_law.specs.Slots.{SlotValue, pairs_in}
 use Rattle.bw_law.specs.Refusals.{refusal, new_id, last_id}
 use Rattle.bw_law.specs.Effects.{after}
 use Rattle.bw_law.proofs.AllSteps.{step_law}
-use Rattle.bw_law.proofs.Facts.{root_is_here, here_is_inside, last_id_is_free, leaf_decides}
+use Rattle.bw_law.proofs.Facts.{leaf_decides}
 use Rattle.bw_law.proofs.NewTable.{new_law}
 use Rattle.bw_table.specs.SlotFacts.{HasSoundChain}
 use Rattle.bw_table.specs.Views.{IsValueAt}
@@ -27,16 +28,19 @@ pub found_is_mapped : (table : TableValue) (page key : ℕ) → Lawful table →
 found_is_mapped table page key law leaf within value =
     leaf_decides table law page key value (grind (arith, nat_tests)) (grind (arith, nat_tests)) (grind (arith, nat_tests), grind (arith, nat_tests))
 
--- the root's slot is there, and that of a new page
-pub root_inside : (table : TableValue) → Lawful table → table.root < length table.slots
-root_inside table law = here_is_inside table law table.root (root_is_here table law)
-
-pub new_inside : (table : TableValue) → Lawful table → new_id table < length table.slots
-new_inside table law = by_last (last_id table.free) refl
+-- what is so whichever slot stands for a new page's, where none is free, is so of the table's
+pub by_new_slot : {X : Type 0} (table : TableValue) (new : Option SlotValue) (answer : X) (by_slot : SlotValue → Bool → X)
+    → new ≡ option_map (slot_at table) (last_id table.free)
+    → ((other : SlotValue) → answer ≡ by_slot (unwrap_or new other) (is_none new))
+    → answer ≡ by_slot (slot_at table (new_id table)) (is_none (last_id table.free))
+by_new_slot {X} table new answer by_slot is told =
+    told (slot_at table (new_id table)) ∙ ap (λ (n : Option SlotValue). by_slot (unwrap_or n (slot_at table (new_id table))) (is_none n)) is ∙ stands (last_id table.free)
   where
-    by_last : (last : Option ℕ) → last_id table.free ≡ last → unwrap_or last 0 < length table.slots
-    by_last None none = omega (arith, root_inside table law)
-    by_last (Some id) is = (last_id_is_free table law id is).0
+    stands : (last : Option ℕ)
+        → by_slot (unwrap_or (option_map (slot_at table) last) (slot_at table (unwrap_or last 0))) (is_none (option_map (slot_at table) last))
+        ≡ by_slot (slot_at table (unwrap_or last 0)) (is_none last)
+    stands None = refl
+    stands (Some id) = refl
 
 -- no step changes the configuration
 same_config : (table : TableValue) (step : Proposal) → (after table step).config ≡ table.config
@@ -63,7 +67,3 @@ whole_after table step room whole none =
 pub whole_new : (config : Config) (room : ℕ) → first_bad_field config ≡ None → config.first_version < 2 ^ 64 → config.pages ≤ room → IsWhole (new_table config) room
 whole_new config room fine fits enough =
     let empty = new_law config fine fits in record { lawful = empty.lawful; booked = empty.booked; free_room = omega (arith, empty.lawful.bounds.slots) }
-
--- the id that was read of the free list is that of a new page
-pub new_slot_is : (free ids : List ℕ) (last : Option ℕ) (id : ℕ) → ids ≡ free → last ≡ last_id ids → id ≡ unwrap_or last 0 → id ≡ unwrap_or (last_id free) 0
-new_slot_is free ids last id same found is = is ∙ ap (λ o. unwrap_or o 0) (found ∙ ap last_id same)

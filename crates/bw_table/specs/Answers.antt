@@ -7,9 +7,9 @@ use Rattle.bw_table.specs.declared.fault.NewFault.{NewFault}
 use Rattle.bw_table.specs.declared.fault.NewFault.TheVariants.{BadConfig, NoMemory}
 
 -- fine, or the reason
-abbrev pub verdict : Option Refused → Result (Unit {0}) Refused
-verdict None = Ok tt
-verdict (Some reason) = Err reason
+abbrev pub fine_unless : Option Refused → Result (Unit {0}) Refused
+fine_unless None = Ok tt
+fine_unless (Some reason) = Err reason
 
 -- the first bad field, or want of memory where there is none
 abbrev pub IsNewFault : Config → NewFault → Type 0

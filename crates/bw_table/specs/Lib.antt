@@ -1,5 +1,6 @@
 pub mod Answers
 pub mod Codes
+pub mod FreeLists
 pub mod LeafRows
 pub mod SlotFacts
 pub mod Views

@@ -1,6 +1,6 @@
-ghost use Rattle.std.specs.Prelude.{◌≡◌, ◌-◌, ◌<◌, ◌≤◌, ◌^◌, ◌∷◌, IfOk, replicate, vec_capacity};
+ghost use Rattle.std.specs.Prelude.{◌≡◌, ◌-◌, ◌<◌, ◌^◌, ◌∷◌, IfOk, replicate};
 ghost use Rattle.bw_law.specs.Slots.{free_slot};
-ghost use Rattle.bw_law.specs.Tables.{first_slot, ids_down};
+ghost use Rattle.bw_law.specs.Tables.{first_slot};
 
 use crate::slot::Slot;
 use std::alloc::{AllocError, Allocator, Global};
@@ -23,17 +23,4 @@ pub(crate) fn first_slots<A: Allocator + Copy>(
         slots.push(Slot::free(version))?;
     }
     Ok(slots)
-}
-
-/// The ids of a new table's free slots, the greatest first, with room for every id.
-#[tactic(auto, using(crate::proofs::FreeIds::next_ids))]
-pub(crate) fn free_ids(machine: Global, pages: u32) -> Result<Vec<u32>, AllocError>
-    ensures ids { IfOk result (λ ids. ids.items ≡ ids_down pages) }
-    ensures room { IfOk result (λ ids. pages ≤ vec_capacity ids) }
-{
-    let mut ids = Vec::with_capacity(machine, pages as usize)?;
-    for id in (1..pages).rev() {
-        ids.push(id)?;
-    }
-    Ok(ids)
 }

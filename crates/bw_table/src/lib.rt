@@ -2,24 +2,21 @@
 //! step (Levandoski et al., ICDE 2013, "mapping table").
 #![tactic(auto)]
 
-mod change;
-mod check;
 mod copy;
 mod fault;
 mod free;
 mod fresh;
 mod get;
-mod install;
 mod listing;
 mod slot;
+mod steps;
 mod survey;
 mod table;
-mod verdict;
 mod visit;
 
 pub use bw_step::{
-    Book, CopyFault, Go, Kind, Leaf, Look, Next, Place, Receipt, Refused, Stage, Step, Summary,
-    Survey, Todo, View,
+    Book, Consolidate, CopyFault, Delete, Go, Grow, Insert, Kind, Leaf, Look, Mark, Merge, Next,
+    Place, Receipt, Refused, Split, Stage, Step, Summary, Survey, TermAdd, TermDelete, Todo, View,
 };
 pub use fault::NewFault;
 pub use table::Table;

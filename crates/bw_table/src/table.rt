@@ -1,24 +1,21 @@
-ghost use Rattle.std.specs.Prelude.{◌≡◌, ◌+◌, ◌<◌, ◌≤◌, ◌^◌, ◌↔◌, ℕ, None, Some, IsOk, IsSome, IfOk, IfErr, IfSome, IfNone, OnErr, is_none};
-ghost use Rattle.std.specs.Option.{option_copied};
+ghost use Rattle.std.specs.Prelude.{◌≡◌, ◌≤◌, ℕ, None, IsOk, IfOk, IfErr, IfSome, IfNone, option_map, option_copied};
 ghost use Rattle.bw_keys.specs.Limits.{first_bad_field};
-ghost use Rattle.bw_step.specs.ProposalView.{proposal_of};
 ghost use Rattle.bw_step.specs.declared.view.Stage.TheVariants.{Merged};
 ghost use Rattle.bw_law.specs.Slots.{free_slot};
 ghost use Rattle.bw_law.specs.Tables.{Lawful, Booked, HasNothing, slot_at, number_of, new_table};
-ghost use Rattle.bw_law.specs.Refusals.{refusal, new_id, last_id};
-ghost use Rattle.bw_law.specs.Effects.{TakesStep};
-ghost use Rattle.bw_table.specs.Answers.{verdict, IsNewFault};
+ghost use Rattle.bw_law.specs.Refusals.{last_id};
+ghost use Rattle.bw_table.specs.Answers.{IsNewFault};
 ghost use Rattle.bw_table.specs.SlotFacts.{HasSoundChain};
 ghost use Rattle.bw_table.specs.Views.{view_at, summary_at, look_at, root_place, IsValueAt};
 ghost use Rattle.bw_table.specs.Visits.{IsOnTheWay};
 
 use crate::fault::NewFault;
-use crate::free;
-use crate::fresh::{first_slots, free_ids};
+use crate::free::FreeList;
+use crate::fresh::first_slots;
 use crate::slot::Slot;
 use bw_delta::NoMemory;
 use bw_keys::{Config, Key, Pid};
-use bw_step::{Book, Look, Place, Receipt, Refused, Stage, Step, Summary, View};
+use bw_step::{Book, Look, Place, Stage, Summary, View};
 use std::alloc::{Allocator, Global};
 use std::marker::Model;
 
@@ -27,14 +24,13 @@ use std::marker::Model;
 #[derive(Drop)]
 pub struct Table<A: Allocator> {
     pub(crate) slots: Vec<Slot<A>>,
-    pub(crate) free: Vec<u32>,
+    pub(crate) free: FreeList,
     pub(crate) root: u32,
     pub(crate) book: Book,
     pub(crate) config: Config,
 }
 
 impl<A: Allocator> Model for Table<A> {
-    ghost use Rattle.std.specs.Prelude.{vec_capacity};
     ghost use Rattle.bw_law.specs.Tables.{TableValue};
     ghost use Rattle.bw_table.specs.Codes.{table_code};
     ghost use Rattle.bw_table.specs.Whole.{IsWhole};
@@ -43,9 +39,9 @@ impl<A: Allocator> Model for Table<A> {
 
     ghost coded = { table_code };
 
-    ghost view = { λ t. record { slots = t.slots.items; free = t.free.items; root = t.root; book = t.book; config = t.config } };
+    ghost view = { λ t. record { slots = t.slots.items; free = t.free.ids; root = t.root; book = t.book; config = t.config } };
 
-    ghost invariant = { λ t. IsWhole (record { slots = t.slots.items; free = t.free.items; root = t.root; book = t.book; config = t.config }) (vec_capacity t.free) };
+    ghost invariant = { λ t. IsWhole (record { slots = t.slots.items; free = t.free.ids; root = t.root; book = t.book; config = t.config }) t.free.room };
 }
 
 impl<A: Allocator + Copy> Table<A> {
@@ -70,7 +66,7 @@ impl<A: Allocator + Copy> Table<A> {
         ensures { IfOk result (λ table. table ≡ new_table config) }
     {
         let slots = first_slots(machine, alloc, config.pages, config.first_version)?;
-        let free = free_ids(machine, config.pages)?;
+        let free = FreeList::new(machine, config.pages)?;
         Ok(Table {
             slots,
             free,
@@ -167,18 +163,11 @@ impl<A: Allocator + Copy> Table<A> {
         &self.slots[self.root as usize]
     }
 
-    /// The slot that a new page takes; page 0's, if none is free.
-    pub(crate) fn new_slot(&self) -> &Slot<A>
-        ensures { result.now ≡ slot_at self.now (new_id self.now) }
+    /// The slot that a new page takes, if one is free.
+    pub(crate) fn new_slot(&self) -> Option<&Slot<A>>
+        ensures { option_copied result ≡ option_map (slot_at self.now) (last_id self.now.free) }
     {
-        let id = free::last(&self.free).unwrap_or(0);
-        &self.slots[id as usize]
-    }
-
-    /// Whether no slot is free.
-    pub(crate) fn has_no_room(&self) -> bool
-        ensures { result ≡ is_none (last_id self.now.free) }
-    {
-        free::last(&self.free).is_none()
+        let id = self.free.last()?;
+        Some(&self.slots[id as usize])
     }
 }

@@ -4,7 +4,9 @@ use crate::pages::{Pages, seen};
 use bw_chain::{HalveFault, consolidate, halve};
 use bw_delta::{Base, BaseFault, NoMemory, Spare};
 use bw_keys::{Fence, Key, Pid, Version};
-use bw_step::{Receipt, Step};
+use bw_step::{
+    Consolidate, Delete, Grow, Insert, Mark, Merge, Receipt, Split, Step, TermAdd, TermDelete,
+};
 use bw_table::{CopyFault, Table};
 use std::alloc::{Allocator, Global};
 use std::test::Fail;
@@ -63,11 +65,11 @@ fn consolidation<A: Allocator + Copy, S: Pages<A>>(
     seen: Version,
 ) -> Result<Step<A>, NoMemory> {
     let base = base_of(alloc, pages, page, seen)?;
-    Ok(Step::Consolidate {
+    Ok(Step::Consolidate(Consolidate {
         page: Pid(page),
         seen,
         base,
-    })
+    }))
 }
 
 /// The upper half of the page, with its separator. The whole page where it has less than two entries.
@@ -93,13 +95,13 @@ fn split<A: Allocator + Copy, S: Pages<A>>(
 ) -> Result<Step<A>, NoMemory> {
     let spare = Spare::new(alloc)?;
     let (separator, base) = upper_half(alloc, pages, page, seen)?;
-    Ok(Step::Split {
+    Ok(Step::Split(Split {
         page: Pid(page),
         seen,
         separator,
         base,
         spare,
-    })
+    }))
 }
 
 /// A new root over the root that there is and the child. An empty leaf where these make no page.
@@ -119,11 +121,11 @@ fn growth<A: Allocator + Copy, S: Pages<A>>(
         Err(BaseFault::BadEntries) => Base::empty(alloc),
         Err(BaseFault::NoMemory) => return Err(NoMemory),
     };
-    Ok(Step::Grow {
+    Ok(Step::Grow(Grow {
         child: Pid(child),
         seen,
         base,
-    })
+    }))
 }
 
 fn merge<A: Allocator + Copy>(
@@ -133,14 +135,14 @@ fn merge<A: Allocator + Copy>(
 ) -> Result<Step<A>, NoMemory> {
     let left_spare = Spare::new(alloc)?;
     let page_spare = Spare::new(alloc)?;
-    Ok(Step::Merge {
+    Ok(Step::Merge(Merge {
         left: Pid(left),
         left_seen,
         page: Pid(page),
         seen,
         left_spare,
         page_spare,
-    })
+    }))
 }
 
 /// The step, with these versions of the pages that it names.
@@ -151,43 +153,43 @@ pub fn step_with<A: Allocator + Copy, S: Pages<A>>(
     (first, second): (Version, Version),
 ) -> Result<Step<A>, NoMemory> {
     match change {
-        Change::Insert(page, key, value) => Ok(Step::Insert {
+        Change::Insert(page, key, value) => Ok(Step::Insert(Insert {
             page: Pid(page),
             seen: first,
             key,
             value,
             spare: Spare::new(alloc)?,
-        }),
-        Change::Delete(page, key) => Ok(Step::Delete {
+        })),
+        Change::Delete(page, key) => Ok(Step::Delete(Delete {
             page: Pid(page),
             seen: first,
             key,
             spare: Spare::new(alloc)?,
-        }),
+        })),
         Change::Consolidate(page) => consolidation(alloc, pages, page, first),
         Change::Split(page) => split(alloc, pages, page, first),
         Change::Grow(child) => growth(alloc, pages, child, first),
-        Change::Mark(page, parent) => Ok(Step::Mark {
+        Change::Mark(page, parent) => Ok(Step::Mark(Mark {
             page: Pid(page),
             seen: first,
             parent: Pid(parent),
             spare: Spare::new(alloc)?,
-        }),
+        })),
         Change::Merge(left, page) => merge(alloc, (left, first), (page, second)),
-        Change::TermAdd(parent, child) => Ok(Step::TermAdd {
+        Change::TermAdd(parent, child) => Ok(Step::TermAdd(TermAdd {
             parent: Pid(parent),
             parent_seen: first,
             child: Pid(child),
             child_seen: second,
             spare: Spare::new(alloc)?,
-        }),
-        Change::TermDelete(parent, child) => Ok(Step::TermDelete {
+        })),
+        Change::TermDelete(parent, child) => Ok(Step::TermDelete(TermDelete {
             parent: Pid(parent),
             parent_seen: first,
             child: Pid(child),
             child_seen: second,
             spare: Spare::new(alloc)?,
-        }),
+        })),
     }
 }
 

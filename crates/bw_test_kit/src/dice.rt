@@ -117,8 +117,8 @@ fn drawn_change<S: Pages<Global>>(rng: &mut Pcg32, pages: &S) -> Change {
 /// A split at another key.
 fn at_another_key(step: Step<Global>, key: Key) -> Step<Global> {
     let mut step = step;
-    if let Step::Split { separator, .. } = &mut step {
-        *separator = key;
+    if let Step::Split(split) = &mut step {
+        split.separator = key;
     }
     step
 }

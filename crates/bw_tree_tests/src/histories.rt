@@ -5,7 +5,7 @@ ghost use Rattle.std.specs.Prelude.{◌≡◌};
 use bw_audit::{Act, Event, ReplayFault, Replayed, Verdict, audit, is_ascending, replay};
 use bw_delta::{NoMemory, Spare};
 use bw_keys::{BadConfig, Config, Field, Key, Pid, Version};
-use bw_step::{Receipt, Step};
+use bw_step::{Insert, Receipt, Step};
 use bw_test_kit::{SMALL, receipt};
 use std::alloc::Global;
 use std::test::Fail;
@@ -154,13 +154,13 @@ fn put(worker: u32, key: Key, value: u64, spare: Spare<Global>) -> Event
 {
     Event {
         worker,
-        act: Act::Step(Step::Insert {
+        act: Act::Step(Step::Insert(Insert {
             page: Pid(0),
             seen: Version(0),
             key,
             value,
             spare,
-        }),
+        })),
     }
 }
 

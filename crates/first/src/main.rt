@@ -5,7 +5,7 @@ ghost use Rattle.std.specs.Prelude.{◌≡◌, ◌≢◌};
 
 use bw_delta::{NoMemory, Spare};
 use bw_keys::{Config, Key, Pid};
-use bw_table::{NewFault, Refused, Step, Table};
+use bw_table::{Insert, NewFault, Refused, Step, Table};
 use std::alloc::{AllocError, Allocator, Global};
 use std::process::ExitCode;
 use thiserror::Error;
@@ -62,13 +62,13 @@ impl Stop {
 fn put<A: Allocator + Copy>(alloc: A, table: &mut Table<A>, key: Key) -> Result<(), Stop> {
     let page = Pid(0);
     let view = table.peek(page).ok_or(Stop::Refused(Refused::Absent))?;
-    let step = Step::Insert {
+    let step = Step::Insert(Insert {
         page,
         seen: view.version,
         key,
         value: key,
         spare: Spare::new(alloc)?,
-    };
+    });
     match table.install(step) {
         Ok(_) => Ok(()),
         Err(reason) => Err(Stop::Refused(reason)),

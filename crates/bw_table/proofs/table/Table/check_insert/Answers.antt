@@ -2,4 +2,4 @@ use Rattle.std.proofs.Common.{refl}
 use Rattle.bw_table.proofs.table.Table.check_insert.Goals as goal
 
 pub returns : goal.returns
-returns g c = rw (c.check_insert.ensures, c.number.ensures, c.in-Some.ensures.there) refl
+returns g c = rw (c.may_insert.ensures, c.number.ensures, c.in-Some.ensures.there) refl

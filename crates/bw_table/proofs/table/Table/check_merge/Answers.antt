@@ -2,4 +2,4 @@ use Rattle.std.proofs.Common.{refl}
 use Rattle.bw_table.proofs.table.Table.check_merge.Goals as goal
 
 pub returns : goal.returns
-returns g c = rw (c.check_merge.ensures, c.in-Some-Some.ensures.there, c.in-Some-Some.ensures'.there) refl
+returns g c = rw (c.may_merge.ensures, c.in-Some-Some.ensures.there, c.in-Some-Some.ensures'.there) refl

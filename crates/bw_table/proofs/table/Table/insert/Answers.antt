@@ -5,17 +5,17 @@ use Rattle.bw_table.proofs.Whole.{whole_after}
 use Rattle.bw_table.proofs.table.Table.insert.Goals as goal
 
 pub insert_at-requires-clause-deeper : goal.insert_at-requires-clause-deeper
-insert_at-requires-clause-deeper g c = (does_insert _ _ c.self.invariant c.args.page.0 c.args.seen.0 c.args.key c.args.value (rw (← c.self.view_is) at c.requires)).deeper
+insert_at-requires-clause-deeper g c = (does_insert _ _ c.self.invariant c.args.step.page.0 c.args.step.seen.0 c.args.step.key c.args.step.value (rw (← c.self.view_is) at c.requires)).deeper
 
 pub insert_at-requires-clause-count : goal.insert_at-requires-clause-count
-insert_at-requires-clause-count g c = (does_insert _ _ c.self.invariant c.args.page.0 c.args.seen.0 c.args.key c.args.value (rw (← c.self.view_is) at c.requires)).count
+insert_at-requires-clause-count g c = (does_insert _ _ c.self.invariant c.args.step.page.0 c.args.step.seen.0 c.args.step.key c.args.step.value (rw (← c.self.view_is) at c.requires)).count
 
 pub overflow_add-self : goal.overflow_add-self
-overflow_add-self g c = omega (arith, (does_insert _ _ c.self.invariant c.args.page.0 c.args.seen.0 c.args.key c.args.value (rw (← c.self.view_is) at c.requires)).number)
+overflow_add-self g c = omega (arith, (does_insert _ _ c.self.invariant c.args.step.page.0 c.args.step.seen.0 c.args.step.key c.args.step.value (rw (← c.self.view_is) at c.requires)).number)
 
 pub overflow_add-result : goal.overflow_add-result
-overflow_add-result g c = omega (arith, (does_insert _ _ c.self.invariant c.args.page.0 c.args.seen.0 c.args.key c.args.value (rw (← c.self.view_is) at c.requires)).number)
+overflow_add-result g c = omega (arith, (does_insert _ _ c.self.invariant c.args.step.page.0 c.args.step.seen.0 c.args.step.key c.args.step.value (rw (← c.self.view_is) at c.requires)).number)
 
 pub invariant_of-self : goal.invariant_of-self
 invariant_of-self g c =
-    rw (c.insert_at.ensures, add-one c.self.inside.book.inserted) (whole_after _ (insert c.args.page.0 c.args.seen.0 c.args.key c.args.value) _ c.self.invariant (rw (← c.self.view_is) at c.requires))
+    rw (c.insert_at.ensures, add-one c.self.inside.book.inserted) (whole_after _ (insert c.args.step.page.0 c.args.step.seen.0 c.args.step.key c.args.step.value) _ c.self.invariant (rw (← c.self.view_is) at c.requires))

@@ -1,0 +1,28 @@
+ghost use Rattle.std.specs.Prelude.{◌≡◌, IfOk};
+
+use bw_delta::{NoMemory, Spare};
+use bw_keys::{Key, Pid, Version};
+use std::alloc::Allocator;
+
+/// Takes the key out.
+#[derive(Drop)]
+pub struct Delete<A: Allocator> {
+    pub page: Pid,
+    pub seen: Version,
+    pub key: Key,
+    pub spare: Spare<A>,
+}
+
+impl<A: Allocator + Copy> Delete<A> {
+    /// An equal step with memory of its own.
+    pub fn twin(&self, alloc: A) -> Result<Delete<A>, NoMemory>
+        ensures { IfOk result (λ twin. twin ≡ self.now) }
+    {
+        Ok(Delete {
+            page: self.page,
+            seen: self.seen,
+            key: self.key,
+            spare: Spare::new(alloc)?,
+        })
+    }
+}

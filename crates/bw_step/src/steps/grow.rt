@@ -1,0 +1,26 @@
+ghost use Rattle.std.specs.Prelude.{◌≡◌, IfOk};
+
+use bw_delta::{Base, NoMemory};
+use bw_keys::{Pid, Version};
+use std::alloc::Allocator;
+
+/// Puts a new root over the old one and the child that a split of it made.
+#[derive(Drop)]
+pub struct Grow<A: Allocator> {
+    pub child: Pid,
+    pub seen: Version,
+    pub base: Base<A>,
+}
+
+impl<A: Allocator + Copy> Grow<A> {
+    /// An equal step with memory of its own.
+    pub fn twin(&self, alloc: A) -> Result<Grow<A>, NoMemory>
+        ensures { IfOk result (λ twin. twin ≡ self.now) }
+    {
+        Ok(Grow {
+            child: self.child,
+            seen: self.seen,
+            base: self.base.copy_in(alloc)?,
+        })
+    }
+}

@@ -1,0 +1,30 @@
+ghost use Rattle.std.specs.Prelude.{◌≡◌, IfOk};
+
+use bw_delta::{NoMemory, Spare};
+use bw_keys::{Pid, Version};
+use std::alloc::Allocator;
+
+/// Names the child, which a split made, in its parent.
+#[derive(Drop)]
+pub struct TermAdd<A: Allocator> {
+    pub parent: Pid,
+    pub parent_seen: Version,
+    pub child: Pid,
+    pub child_seen: Version,
+    pub spare: Spare<A>,
+}
+
+impl<A: Allocator + Copy> TermAdd<A> {
+    /// An equal step with memory of its own.
+    pub fn twin(&self, alloc: A) -> Result<TermAdd<A>, NoMemory>
+        ensures { IfOk result (λ twin. twin ≡ self.now) }
+    {
+        Ok(TermAdd {
+            parent: self.parent,
+            parent_seen: self.parent_seen,
+            child: self.child,
+            child_seen: self.child_seen,
+            spare: Spare::new(alloc)?,
+        })
+    }
+}

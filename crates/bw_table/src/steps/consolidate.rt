@@ -1,0 +1,85 @@
+//! consolidate: the base is the chain.
+
+ghost use Rattle.std.specs.Prelude.{◌≡◌, ◌+◌, ◌^◌, ◌<◌, None, length, slice_set};
+ghost use Rattle.bw_keys.specs.Reasons.{first_reason};
+ghost use Rattle.bw_step.specs.ProposalView.{consolidate_of};
+ghost use Rattle.bw_law.specs.Effects.{TakesStep, consolidated};
+ghost use Rattle.bw_law.specs.Refusals.{refusal, consolidate_reasons};
+ghost use Rattle.bw_law.specs.Slots.{slot_in};
+ghost use Rattle.bw_table.specs.Answers.{fine_unless};
+ghost use Rattle.bw_table.specs.SlotFacts.{HasSoundChain};
+
+use crate::slot::Slot;
+use crate::steps::shared::check_open;
+use crate::table::Table;
+use bw_delta::{Base, Chain};
+use bw_keys::Pid;
+use bw_step::{Consolidate, Kind, Receipt, Refused};
+use std::alloc::Allocator;
+
+impl<A: Allocator + Copy> Table<A> {
+    /// Why the consolidation is refused.
+    pub(super) fn check_consolidate(&self, step: &Consolidate<A>) -> Result<(), Refused>
+        ensures { result ≡ fine_unless (refusal self.now (consolidate_of step.now)) }
+    {
+        let Some(slot) = self.slot(step.page) else {
+            return Err(Refused::Absent);
+        };
+        may_consolidate(slot, step)
+    }
+
+    /// Does a consolidation that isn't refused.
+    pub(super) fn consolidate(&mut self, step: Consolidate<A>) -> Receipt
+        requires { refusal self.old (consolidate_of step) ≡ None }
+        ensures { TakesStep self.old (consolidate_of step) result self.new }
+    {
+        let Consolidate { page, base, .. } = step;
+        consolidate_at(&mut self.slots, page, base);
+        Receipt::Shaped {
+            kind: Kind::Consolidate,
+            page,
+            other: None,
+        }
+    }
+}
+
+/// Why the consolidation is refused on the slot of its page.
+fn may_consolidate<A: Allocator + Copy>(
+    slot: &Slot<A>,
+    step: &Consolidate<A>,
+) -> Result<(), Refused>
+    requires sound { HasSoundChain slot.now }
+    ensures { result ≡ fine_unless (first_reason (consolidate_reasons slot.now step.now.seen.0 step.now.base)) }
+{
+    check_open(slot, step.seen)?;
+    if slot.is_other_kind(&step.base) {
+        return Err(Refused::WrongKind);
+    }
+    if !slot.is_same_as(&step.base) {
+        return Err(Refused::NotSame);
+    }
+    if slot.is_worn() {
+        return Err(Refused::Worn);
+    }
+    Ok(())
+}
+
+/// Puts the base in the place of the page's chain.
+fn consolidate_at<A: Allocator + Copy>(slots: &mut Vec<Slot<A>>, page: Pid, base: Base<A>)
+    requires exists { page.0 < length slots.old.items }
+    requires version { (slot_in slots.old.items page.0).version + 1 < 2 ^ 64 }
+    ensures { slots.new.items ≡ slice_set slots.old.items page.0 (consolidated base (slot_in slots.old.items page.0)) }
+{
+    slots[page.0 as usize].consolidate(base);
+}
+
+impl<A: Allocator + Copy> Slot<A> {
+    fn consolidate(&mut self, base: Base<A>)
+        requires version { self.old.version + 1 < 2 ^ 64 }
+        ensures { self.new ≡ consolidated base self.old }
+    {
+        self.version += 1;
+        self.summary.depth = 0;
+        self.chain = Some(Chain::bare(base));
+    }
+}

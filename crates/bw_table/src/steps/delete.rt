@@ -1,0 +1,97 @@
+//! delete: a record on the leaf; the book's removals rise.
+
+ghost use Rattle.std.specs.Prelude.{◌≡◌, ◌-◌, ◌<◌, None, length, slice_set, unwrap_or};
+ghost use Rattle.bw_keys.specs.Reasons.{first_reason};
+ghost use Rattle.bw_delta.specs.Entries.{at};
+ghost use Rattle.bw_delta.specs.declared.chain.Delta.TheVariants as deltas;
+ghost use Rattle.bw_step.specs.ProposalView.{delete_of};
+ghost use Rattle.bw_law.specs.Effects.{TakesStep, with_record};
+ghost use Rattle.bw_law.specs.Refusals.{refusal, delete_reasons};
+ghost use Rattle.bw_law.specs.Slots.{slot_in, pairs_in};
+ghost use Rattle.bw_table.specs.Answers.{fine_unless};
+ghost use Rattle.bw_table.specs.SlotFacts.{MayGrowDeeper};
+
+use crate::slot::Slot;
+use crate::steps::shared::{check_change, check_leaf};
+use crate::table::Table;
+use bw_delta::{Delta, Spare};
+use bw_keys::{Key, Pid};
+use bw_step::{Delete, Receipt, Refused};
+use std::alloc::Allocator;
+
+impl<A: Allocator + Copy> Table<A> {
+    /// Why the deletion is refused.
+    pub(super) fn check_delete(&self, step: &Delete<A>) -> Result<(), Refused>
+        ensures { result ≡ fine_unless (refusal self.now (delete_of step.now)) }
+    {
+        let Some(slot) = self.slot(step.page) else {
+            return Err(Refused::Absent);
+        };
+        may_delete(slot, self.number(), step)
+    }
+
+    /// Does a deletion that isn't refused.
+    pub(super) fn delete(&mut self, step: Delete<A>) -> Receipt
+        requires { refusal self.old (delete_of step) ≡ None }
+        ensures { TakesStep self.old (delete_of step) result self.new }
+    {
+        let Delete {
+            page,
+            key,
+            spare,
+            ..
+        } = step;
+        let value = delete_at(&mut self.slots, page, key, spare);
+        self.book.removed += 1;
+        Receipt::Deleted {
+            number: self.book.inserted + self.book.removed,
+            key,
+            value,
+        }
+    }
+}
+
+/// Why the deletion is refused on the slot of its page, at the book's number.
+fn may_delete<A: Allocator + Copy>(
+    slot: &Slot<A>,
+    number: u64,
+    step: &Delete<A>,
+) -> Result<(), Refused>
+    ensures { result ≡ fine_unless (first_reason (delete_reasons slot.now number step.now.seen.0 step.now.key)) }
+{
+    check_leaf(slot, step.seen, step.key)?;
+    if slot.find(step.key).is_none() {
+        return Err(Refused::NoKey);
+    }
+    check_change(slot, number)
+}
+
+/// Deletes a key that the leaf has, and answers its value.
+fn delete_at<A: Allocator + Copy>(
+    slots: &mut Vec<Slot<A>>,
+    page: Pid,
+    key: Key,
+    spare: Spare<A>,
+) -> u64
+    requires exists { page.0 < length slots.old.items }
+    requires deeper { MayGrowDeeper (slot_in slots.old.items page.0) }
+    requires count { 0 < (slot_in slots.old.items page.0).count }
+    ensures value { result ≡ unwrap_or (at key (pairs_in (slot_in slots.old.items page.0))) 0 }
+    ensures slots { let slot = slot_in slots.old.items page.0 in slots.new.items ≡ slice_set slots.old.items page.0 (with_record (deltas.Delete key) (slot.count - 1) slot) }
+{
+    slots[page.0 as usize].delete(key, spare)
+}
+
+impl<A: Allocator + Copy> Slot<A> {
+    fn delete(&mut self, key: Key, spare: Spare<A>) -> u64
+        requires deeper { MayGrowDeeper self.old }
+        requires count { 0 < self.old.count }
+        ensures value { result ≡ unwrap_or (at key (pairs_in self.old)) 0 }
+        ensures slot { self.new ≡ with_record (deltas.Delete key) (self.old.count - 1) self.old }
+    {
+        let value = self.find(key).unwrap_or(0);
+        let count = self.summary.count - 1;
+        self.record(Delta::Delete(key), count, spare);
+        value
+    }
+}

@@ -1,0 +1,141 @@
+//! grow: a new page takes the base and is the root, one level higher; the child is Posted.
+
+ghost use Rattle.std.specs.Prelude.{◌≡◌, ◌≢◌, ◌+◌, ◌^◌, ◌<◌, None, [], ◌∷◌, length, slice_set, is_none, unwrap_or, option_copied};
+ghost use Rattle.bw_keys.specs.Reasons.{first_reason};
+ghost use Rattle.bw_step.specs.ProposalView.{grow_of};
+ghost use Rattle.bw_step.specs.declared.view.Stage.TheVariants.{Posted};
+ghost use Rattle.bw_law.specs.Effects.{TakesStep, with_stage, grown_root};
+ghost use Rattle.bw_law.specs.Refusals.{refusal, grow_reasons, root_page};
+ghost use Rattle.bw_law.specs.Same.{is_same_page, are_same_entries, is_same_pid};
+ghost use Rattle.bw_law.specs.Slots.{SlotValue, slot_in};
+ghost use Rattle.bw_table.specs.Answers.{fine_unless};
+
+use crate::slot::{NOTHING, Slot};
+use crate::steps::shared::check_room;
+use crate::table::Table;
+use bw_delta::{Base, Entries};
+use bw_keys::{Fence, Key, MAX_LEVEL, Pid};
+use bw_step::{Grow, Kind, Receipt, Refused, Stage, Summary};
+use std::alloc::Allocator;
+
+impl<A: Allocator + Copy> Table<A> {
+    /// Why the growth is refused.
+    pub(super) fn check_grow(&self, step: &Grow<A>) -> Result<(), Refused>
+        ensures { result ≡ fine_unless (refusal self.now (grow_of step.now)) }
+    {
+        let Some(under) = self.slot(step.child) else {
+            return Err(Refused::Absent);
+        };
+        may_grow(
+            under,
+            Pid(self.root),
+            self.root_slot(),
+            self.new_slot(),
+            step,
+        )
+    }
+
+    /// Does a growth that isn't refused.
+    pub(super) fn grow(&mut self, step: Grow<A>) -> Receipt
+        requires { refusal self.old (grow_of step) ≡ None }
+        ensures { TakesStep self.old (grow_of step) result self.new }
+    {
+        let Grow { child, base, .. } = step;
+        let level = self.root().level;
+        let new = Pid(self.free.take_last());
+        grow_at(&mut self.slots, child, new, level, base);
+        self.root = new.0;
+        Receipt::Shaped {
+            kind: Kind::Grow,
+            page: new,
+            other: Some(child),
+        }
+    }
+}
+
+/// Why the growth is refused on the slots of the child and the root, where the new root takes a slot if
+/// one is free.
+fn may_grow<A: Allocator + Copy>(
+    under: &Slot<A>,
+    root_id: Pid,
+    root: &Slot<A>,
+    new: Option<&Slot<A>>,
+    step: &Grow<A>,
+) -> Result<(), Refused>
+    // Where there is no slot for the new root, any other may stand in its place.
+    ensures { (other : SlotValue) → result ≡ fine_unless (first_reason (grow_reasons under.now root.now (unwrap_or (option_copied new.entry) other) (is_none (option_copied new.entry)) step.now.seen.0 step.now.base (root_page root_id.0 under.now.low step.now.child.0))) }
+{
+    if !under.stage.is_in_row() {
+        return Err(Refused::Absent);
+    }
+    if under.version != step.seen.0 {
+        return Err(Refused::Stale);
+    }
+    if step.base.is_leaf() {
+        return Err(Refused::WrongKind);
+    }
+    if !is_root_page(&step.base, root_id, under.summary.low, step.child) {
+        return Err(Refused::NotSame);
+    }
+    if under.stage != Stage::Unposted {
+        return Err(Refused::WrongStage);
+    }
+    if under.summary.level != root.summary.level {
+        return Err(Refused::WrongParent);
+    }
+    if root.summary.level >= MAX_LEVEL {
+        return Err(Refused::TooTall);
+    }
+    check_room(under, new)
+}
+
+/// Whether the base is that of a new root over the old one and the child.
+fn is_root_page<A: Allocator + Copy>(base: &Base<A>, root: Pid, low: Key, child: Pid) -> bool
+    ensures { result ≡ is_same_page base.now (root_page root.0 low child.0) }
+{
+    base.low == 0
+        && base.high == Fence::Top
+        && base.right.is_none()
+        && match &base.entries {
+            Entries::Routes(routes) => are_root_routes(routes, root, low, child),
+            Entries::Pairs(_) => false,
+        }
+}
+
+/// Whether the routes are those of a new root.
+#[tactic(auto, using(crate::proofs::Same::lengths))]
+fn are_root_routes(routes: &[(Key, Pid)], root: Pid, low: Key, child: Pid) -> bool
+    ensures { result ≡ are_same_entries is_same_pid routes.now ((0, root) ∷ (low, child) ∷ []) }
+{
+    match routes {
+        [first, second] => {
+            first.0 == 0 && first.1 == root && second.0 == low && second.1 == child
+        }
+        _ => false,
+    }
+}
+
+/// Puts the base into the new root's slot, and posts the child.
+fn grow_at<A: Allocator + Copy>(
+    slots: &mut Vec<Slot<A>>,
+    child: Pid,
+    new: Pid,
+    level: u8,
+    base: Base<A>,
+)
+    requires child_exists { child.0 < length slots.old.items }
+    requires new_exists { new.0 < length slots.old.items }
+    requires apart { new.0 ≢ child.0 }
+    requires child_version { (slot_in slots.old.items child.0).version + 1 < 2 ^ 64 }
+    requires new_version { (slot_in slots.old.items new.0).version + 1 < 2 ^ 64 }
+    requires level { level + 1 < 256 }
+    ensures { slots.new.items ≡ slice_set (slice_set slots.old.items child.0 (with_stage Posted (slot_in slots.old.items child.0))) new.0 (grown_root (slot_in slots.old.items new.0).version level base) }
+{
+    slots[child.0 as usize].post();
+    let whole = Summary {
+        level: level + 1,
+        count: base.len() as u64,
+        ..NOTHING
+    };
+    slots[new.0 as usize].hold(Stage::Posted, whole, base);
+}

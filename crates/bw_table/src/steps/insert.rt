@@ -1,0 +1,94 @@
+//! insert: a record on the leaf; the book's insertions rise.
+
+ghost use Rattle.std.specs.Prelude.{◌≡◌, suc, ◌+◌, ◌^◌, ◌<◌, None, length, slice_set};
+ghost use Rattle.bw_keys.specs.Reasons.{first_reason};
+ghost use Rattle.bw_delta.specs.declared.chain.Delta.TheVariants as deltas;
+ghost use Rattle.bw_step.specs.ProposalView.{insert_of};
+ghost use Rattle.bw_law.specs.Effects.{TakesStep, with_record};
+ghost use Rattle.bw_law.specs.Refusals.{refusal, insert_reasons};
+ghost use Rattle.bw_law.specs.Slots.{slot_in};
+ghost use Rattle.bw_table.specs.Answers.{fine_unless};
+ghost use Rattle.bw_table.specs.SlotFacts.{MayGrowDeeper};
+
+use crate::slot::Slot;
+use crate::steps::shared::{check_change, check_leaf};
+use crate::table::Table;
+use bw_delta::{Delta, Spare};
+use bw_keys::{Key, Pid};
+use bw_step::{Insert, Receipt, Refused};
+use std::alloc::Allocator;
+
+impl<A: Allocator + Copy> Table<A> {
+    /// Why the insertion is refused.
+    pub(super) fn check_insert(&self, step: &Insert<A>) -> Result<(), Refused>
+        ensures { result ≡ fine_unless (refusal self.now (insert_of step.now)) }
+    {
+        let Some(slot) = self.slot(step.page) else {
+            return Err(Refused::Absent);
+        };
+        may_insert(slot, self.number(), step)
+    }
+
+    /// Does an insertion that isn't refused.
+    pub(super) fn insert(&mut self, step: Insert<A>) -> Receipt
+        requires { refusal self.old (insert_of step) ≡ None }
+        ensures { TakesStep self.old (insert_of step) result self.new }
+    {
+        let Insert {
+            page,
+            key,
+            value,
+            spare,
+            ..
+        } = step;
+        insert_at(&mut self.slots, page, key, value, spare);
+        self.book.inserted += 1;
+        Receipt::Inserted {
+            number: self.book.inserted + self.book.removed,
+            key,
+            value,
+        }
+    }
+}
+
+/// Why the insertion is refused on the slot of its page, at the book's number.
+fn may_insert<A: Allocator + Copy>(
+    slot: &Slot<A>,
+    number: u64,
+    step: &Insert<A>,
+) -> Result<(), Refused>
+    ensures { result ≡ fine_unless (first_reason (insert_reasons slot.now number step.now.seen.0 step.now.key)) }
+{
+    check_leaf(slot, step.seen, step.key)?;
+    if let Some(value) = slot.find(step.key) {
+        return Err(Refused::Present(value));
+    }
+    check_change(slot, number)
+}
+
+/// Inserts a key that the leaf doesn't have.
+fn insert_at<A: Allocator + Copy>(
+    slots: &mut Vec<Slot<A>>,
+    page: Pid,
+    key: Key,
+    value: u64,
+    spare: Spare<A>,
+)
+    requires exists { page.0 < length slots.old.items }
+    requires deeper { MayGrowDeeper (slot_in slots.old.items page.0) }
+    requires count { (slot_in slots.old.items page.0).count + 1 < 2 ^ 64 }
+    ensures { let slot = slot_in slots.old.items page.0 in slots.new.items ≡ slice_set slots.old.items page.0 (with_record (deltas.Insert key value) (suc slot.count) slot) }
+{
+    slots[page.0 as usize].insert(key, value, spare);
+}
+
+impl<A: Allocator + Copy> Slot<A> {
+    fn insert(&mut self, key: Key, value: u64, spare: Spare<A>)
+        requires deeper { MayGrowDeeper self.old }
+        requires count { self.old.count + 1 < 2 ^ 64 }
+        ensures { self.new ≡ with_record (deltas.Insert key value) (suc self.old.count) self.old }
+    {
+        let count = self.summary.count + 1;
+        self.record(Delta::Insert(key, value), count, spare);
+    }
+}

@@ -1,0 +1,143 @@
+//! split: a new page takes the base; the page ends at the separator and links to it.
+
+ghost use Rattle.std.specs.Prelude.{◌≡◌, ◌≢◌, suc, ◌+◌, ◌-◌, ◌^◌, ◌<◌, ◌≤◌, Some, None, length, slice_set, is_none, unwrap_or, option_copied};
+ghost use Rattle.bw_keys.specs.Reasons.{first_reason};
+ghost use Rattle.bw_keys.specs.declared.range.Fence.TheVariants.{Key};
+ghost use Rattle.bw_delta.specs.Entries.{at};
+ghost use Rattle.bw_delta.specs.Pages.{listed_length};
+ghost use Rattle.bw_delta.specs.declared.chain.Delta.TheVariants as deltas;
+ghost use Rattle.bw_step.specs.ProposalView.{split_of};
+ghost use Rattle.bw_law.specs.Effects.{TakesStep, with_record, lower_half, upper_half};
+ghost use Rattle.bw_law.specs.Refusals.{refusal, split_reasons, is_leaving_at};
+ghost use Rattle.bw_law.specs.Slots.{SlotValue, slot_in, routes_in};
+ghost use Rattle.bw_table.specs.Answers.{fine_unless};
+ghost use Rattle.bw_table.specs.SlotFacts.{HasSoundChain, MayGrowDeeper};
+
+use crate::slot::Slot;
+use crate::steps::shared::{check_open, check_room};
+use crate::table::Table;
+use bw_delta::{Base, Delta, Spare};
+use bw_keys::{Fence, Key, Pid};
+use bw_step::{Kind, Receipt, Refused, Split, Stage, Summary};
+use std::alloc::Allocator;
+
+impl<A: Allocator + Copy> Table<A> {
+    /// Why the split is refused.
+    pub(super) fn check_split(&self, step: &Split<A>) -> Result<(), Refused>
+        ensures { result ≡ fine_unless (refusal self.now (split_of step.now)) }
+    {
+        let Some(slot) = self.slot(step.page) else {
+            return Err(Refused::Absent);
+        };
+        let child_leaving = self.is_leaving_at(slot, step.separator);
+        may_split(slot, self.new_slot(), child_leaving, step)
+    }
+
+    /// Does a split that isn't refused.
+    pub(super) fn split(&mut self, step: Split<A>) -> Receipt
+        requires { refusal self.old (split_of step) ≡ None }
+        ensures { TakesStep self.old (split_of step) result self.new }
+    {
+        let Split {
+            page,
+            separator,
+            base,
+            spare,
+            ..
+        } = step;
+        let new = Pid(self.free.take_last());
+        split_at(&mut self.slots, page, new, separator, base, spare);
+        Receipt::Shaped {
+            kind: Kind::Split,
+            page,
+            other: Some(new),
+        }
+    }
+
+    /// Whether the page that is routed at the separator is being removed.
+    fn is_leaving_at(&self, slot: &Slot<A>, separator: Key) -> bool
+        ensures { result ≡ is_leaving_at self.now.slots (at separator (routes_in slot.now)) }
+    {
+        match slot.route_at(separator) {
+            Some(child) => match self.slot(child) {
+                Some(slot) => slot.stage.is_leaving(),
+                None => false,
+            },
+            None => false,
+        }
+    }
+}
+
+/// Why the split is refused on the slot of its page, where the new page takes a slot if one is free, and
+/// the child that is routed at the separator may be leaving.
+fn may_split<A: Allocator + Copy>(
+    slot: &Slot<A>,
+    new: Option<&Slot<A>>,
+    child_leaving: bool,
+    step: &Split<A>,
+) -> Result<(), Refused>
+    requires sound { HasSoundChain slot.now }
+    // Where there is no slot for the new page, any other may stand in its place.
+    ensures { (other : SlotValue) → result ≡ fine_unless (first_reason (split_reasons slot.now (unwrap_or (option_copied new.entry) other) child_leaving (is_none (option_copied new.entry)) step.now.seen.0 step.now.separator step.now.base)) }
+{
+    check_open(slot, step.seen)?;
+    if slot.is_other_kind(&step.base) {
+        return Err(Refused::WrongKind);
+    }
+    if !slot.holds(step.separator) {
+        return Err(Refused::OutOfRange);
+    }
+    if slot.summary.depth > 0 {
+        return Err(Refused::NotBare);
+    }
+    if !slot.is_later_key(step.separator) || child_leaving {
+        return Err(Refused::BadSeparator);
+    }
+    if !slot.has_upper_part(&step.base, step.separator) {
+        return Err(Refused::NotSame);
+    }
+    check_room(slot, new)
+}
+
+/// Gives the upper part of a page to a new one.
+fn split_at<A: Allocator + Copy>(
+    slots: &mut Vec<Slot<A>>,
+    page: Pid,
+    new: Pid,
+    separator: Key,
+    base: Base<A>,
+    spare: Spare<A>,
+)
+    requires exists { page.0 < length slots.old.items }
+    requires new_exists { new.0 < length slots.old.items }
+    requires apart { new.0 ≢ page.0 }
+    requires deeper { MayGrowDeeper (slot_in slots.old.items page.0) }
+    requires new_version { (slot_in slots.old.items new.0).version + 1 < 2 ^ 64 }
+    requires count { listed_length base.listed ≤ (slot_in slots.old.items page.0).count }
+    ensures { let slot = slot_in slots.old.items page.0 in slots.new.items ≡ slice_set (slice_set slots.old.items page.0 (lower_half separator new base slot)) new.0 (upper_half (slot_in slots.old.items new.0).version separator base slot) }
+{
+    let upper = slots[page.0 as usize].split_off(separator, new, base.len() as u64, spare);
+    slots[new.0 as usize].hold(Stage::Unposted, upper, base);
+}
+
+impl<A: Allocator + Copy> Slot<A> {
+    /// Ends the page before the separator, and answers the summary of the part from it on.
+    fn split_off(&mut self, separator: Key, new: Pid, count: u64, spare: Spare<A>) -> Summary
+        requires deeper { MayGrowDeeper self.old }
+        requires count { count ≤ self.old.count }
+        ensures upper { result ≡ record { low = separator; high = self.old.high; right = self.old.right; level = self.old.level; count = count; depth = 0 } }
+        ensures lower { self.new ≡ record (with_record (deltas.Split separator new) (self.old.count - count) self.old) { high = Key separator; right = Some new } }
+    {
+        let upper = Summary {
+            low: separator,
+            count,
+            depth: 0,
+            ..self.summary
+        };
+        let left = self.summary.count - count;
+        self.record(Delta::Split(separator, new), left, spare);
+        self.summary.high = Fence::Key(separator);
+        self.summary.right = Some(new);
+        upper
+    }
+}
