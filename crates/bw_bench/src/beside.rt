@@ -179,7 +179,5 @@ pub(crate) fn report<R: Clock + Threads + Wait + Sync + Send + Copy>(
     let reads = f64::from(task.count()) / 1e6 / read.seconds;
     let changes = f64::from(written.changes) / 1e6 / written.seconds;
     let longest = written.longest.as_secs_f64() * 1e3;
-    Ok(format!(in alloc;
-        "reader {reads:.9} writer {changes:.6} longest {longest:.3}\n"
-    )?)
+    Ok(format!(in alloc; "reader {reads:.9} writer {changes:.6} longest {longest:.3}\n")?)
 }

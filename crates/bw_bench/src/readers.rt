@@ -72,19 +72,12 @@ fn run_over<
 }
 
 /// Makes a tree for the trial, and does it.
-pub(crate) fn run_trial<
-    R: Clock + Threads + Wait + Sync + Send + Copy,
-    T: Drop,
-    C: Trial<T>,
->(rt: R, alloc: Global, trial: &C) -> Result<T, Stop> {
-    run_over::<Brand, Brand, R, T, C>(
-        rt,
-        alloc,
-        CONFIG,
-        Blanks::new(1),
-        BlankBook::new(),
-        trial,
-    )
+pub(crate) fn run_trial<R: Clock + Threads + Wait + Sync + Send + Copy, T: Drop, C: Trial<T>>(
+    rt: R,
+    alloc: Global,
+    trial: &C,
+) -> Result<T, Stop> {
+    run_over::<Brand, Brand, R, T, C>(rt, alloc, CONFIG, Blanks::new(1), BlankBook::new(), trial)
 }
 
 /// Fills the tree and publishes it, part by part.

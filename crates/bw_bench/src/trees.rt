@@ -35,8 +35,7 @@ pub(crate) enum Structure {
 }
 
 impl Structure {
-    pub(crate) const ALL: [Structure; 3] =
-        [Structure::Alone, Structure::Hand, Structure::Reader];
+    pub(crate) const ALL: [Structure; 3] = [Structure::Alone, Structure::Hand, Structure::Reader];
 
     pub(crate) fn read(word: &str) -> Option<Structure> {
         match word {
