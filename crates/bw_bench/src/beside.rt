@@ -1,16 +1,21 @@
 //! Readers beside one writer, which changes the tree and publishes what it changed.
 
+ghost use Rattle.std.specs.Prelude.{◌≡◌};
+ghost use Rattle.bw_tree.specs.Shares.{Opens};
+
 use crate::Stop;
-use crate::readers::{Reading, Reads, Trial, fill_and_publish, read_timed, run_trial};
+use crate::readers::{Reading, Reads, fill_and_publish, read_timed};
 use crate::tally::Tally;
 use crate::task::Task;
-use crate::trees::Timed;
+use crate::trees::{CONFIG, Timed};
 use crate::work::change_one;
-use bw_snap::{Naming, ReadTree, Reader, ScanFault};
-use bw_tree::Share;
+use bw_keys::Config;
+use bw_snap::{BlankBook, Naming, ReadTree, Reader, ScanFault};
+use bw_tree::{Blanks, Share};
 use bw_work::{Hand, Open};
 use rand_pcg::Pcg32;
 use std::alloc::Global;
+use std::marker::Brand;
 use std::sync::Wait;
 use std::sync::atomic::{AtomicU64, Ordering};
 use std::sync::ledger::Ledger;
@@ -139,27 +144,35 @@ fn publish_time<R: Clock + Wait + Copy, N: Naming, D: Ledger>(
     Ok(start.elapsed(rt)?)
 }
 
-impl Trial<(Timed, Written)> for Beside {
-    fn readers(&self) -> u32 {
-        self.reads.task.workers
-    }
-
-    fn run<
-        R: Clock + Threads + Wait + Sync + Send + Copy,
-        N: Naming + Send + Sync,
-        D: Ledger + Send + Sync,
-    >(
-        &self,
-        rt: R,
-        tree: &ReadTree<R, N, D>,
-        share: Share<N, D>,
-        readers: Vec<Reader<N>>,
-    ) -> Result<(Timed, Written), Stop> {
-        let alloc = self.reads.alloc;
-        let share = fill_and_publish(alloc, tree, share, &self.reads.task)?;
-        let (written, read) = work_side_by_side(rt, alloc, tree, share, readers, self);
-        Ok((read?, written?))
-    }
+fn run_over<
+    N: Naming + Send + Sync,
+    D: Ledger + Send + Sync,
+    R: Clock + Threads + Wait + Sync + Send + Copy,
+>(
+    rt: R,
+    config: Config,
+    blanks: Blanks,
+    book: BlankBook,
+    beside: &Beside,
+) -> Result<(Timed, Written), Stop>
+    requires insertions { Opens N.name N.parts blanks.insertions }
+    requires removals { Opens D.name D.parts blanks.removals }
+    requires book { book.seen.book ≡ N.book }
+    requires config { N.config ≡ config }
+{
+    let alloc = beside.reads.alloc;
+    let (tree, mut shares, readers) = ReadTree::<R, N, D>::with_readers(
+        rt,
+        alloc,
+        config,
+        blanks,
+        book,
+        beside.reads.task.workers,
+    )?;
+    let share = shares.pop().ok_or(Stop::Wrong)?;
+    let share = fill_and_publish(alloc, &tree, share, &beside.reads.task)?;
+    let (written, read) = work_side_by_side(rt, alloc, &tree, share, readers, beside);
+    Ok((read?, written?))
 }
 
 /// How many million operations a second the readers do, how many million changes a second the writer
@@ -175,7 +188,13 @@ pub(crate) fn report<R: Clock + Threads + Wait + Sync + Send + Copy>(
         every,
         ended: AtomicU64::new(0),
     };
-    let (read, written) = run_trial(rt, alloc, &beside)?;
+    let (read, written) = run_over::<Brand, Brand, R>(
+        rt,
+        CONFIG,
+        Blanks::new(1),
+        BlankBook::new(),
+        &beside,
+    )?;
     let reads = f64::from(task.count()) / 1e6 / read.seconds;
     let changes = f64::from(written.changes) / 1e6 / written.seconds;
     let longest = written.longest.as_secs_f64() * 1e3;

@@ -1,19 +1,61 @@
 //! What puts through a tree with readers cost, and trees of which nothing is published.
 
+ghost use Rattle.std.specs.Prelude.{◌≡◌};
+ghost use Rattle.bw_tree.specs.Shares.{Opens};
+
 use crate::Stop;
-use crate::readers::{Trial, run_trial};
 use crate::tally::Tally;
 use crate::task::Task;
-use crate::trees::{PART, Timed, fill_by_hand};
+use crate::trees::{CONFIG, PART, Timed, fill_by_hand};
 use crate::work::work;
-use bw_snap::{Naming, ReadTree, Reader};
-use bw_tree::Share;
+use bw_keys::Config;
+use bw_snap::{BlankBook, Naming, ReadTree};
+use bw_tree::{Blanks, Share};
 use bw_work::{Hand, Open};
 use std::alloc::Global;
+use std::marker::Brand;
 use std::sync::Wait;
 use std::sync::ledger::Ledger;
-use std::thread::Threads;
 use std::time::{Clock, Instant};
+
+/// What one worker does on a new tree that one reader could read.
+trait Trial<T: Drop> {
+    fn run<R: Clock + Wait + Copy, N: Naming, D: Ledger>(
+        &self,
+        rt: R,
+        tree: &ReadTree<R, N, D>,
+        share: Share<N, D>,
+    ) -> Result<T, Stop>;
+}
+
+fn run_over<N: Naming, D: Ledger, R: Clock + Wait + Copy, T: Drop, C: Trial<T>>(
+    rt: R,
+    alloc: Global,
+    config: Config,
+    blanks: Blanks,
+    book: BlankBook,
+    trial: &C,
+) -> Result<T, Stop>
+    requires insertions { Opens N.name N.parts blanks.insertions }
+    requires removals { Opens D.name D.parts blanks.removals }
+    requires book { book.seen.book ≡ N.book }
+    requires config { N.config ≡ config }
+{
+    let (tree, mut shares, _readers) = ReadTree::<R, N, D>::with_readers(
+        rt, alloc, config, blanks, book, 1,
+    )?;
+    let share = shares.pop().ok_or(Stop::Wrong)?;
+    trial.run(rt, &tree, share)
+}
+
+/// Makes a tree for the trial, and does it.
+fn run_trial<R: Clock + Wait + Copy, T: Drop, C: Trial<T>>(
+    rt: R,
+    alloc: Global,
+    trial: &C,
+) -> Result<T, Stop> {
+    run_over::<Brand, Brand, R, T, C>(rt, alloc, CONFIG, Blanks::new(1), BlankBook::new(), trial)
+}
 
 /// A load by one worker, published every so many puts.
 #[derive(Drop)]
@@ -24,20 +66,11 @@ struct Puts {
 }
 
 impl Trial<Timed> for Puts {
-    fn readers(&self) -> u32 {
-        1
-    }
-
-    fn run<
-        R: Clock + Threads + Wait + Sync + Send + Copy,
-        N: Naming + Send + Sync,
-        D: Ledger + Send + Sync,
-    >(
+    fn run<R: Clock + Wait + Copy, N: Naming, D: Ledger>(
         &self,
         rt: R,
         tree: &ReadTree<R, N, D>,
         share: Share<N, D>,
-        _readers: Vec<Reader<N>>,
     ) -> Result<Timed, Stop> {
         let alloc = self.alloc;
         let order = self.task.order(alloc)?;
@@ -54,7 +87,7 @@ impl Trial<Timed> for Puts {
 }
 
 /// How many million puts a second are done, where every so many are published.
-pub(crate) fn report<R: Clock + Threads + Wait + Sync + Send + Copy>(
+pub(crate) fn report<R: Clock + Wait + Copy>(
     rt: R,
     alloc: Global,
     task: &Task,
@@ -78,20 +111,11 @@ struct Pending {
 }
 
 impl Trial<()> for Pending {
-    fn readers(&self) -> u32 {
-        1
-    }
-
-    fn run<
-        R: Clock + Threads + Wait + Sync + Send + Copy,
-        N: Naming + Send + Sync,
-        D: Ledger + Send + Sync,
-    >(
+    fn run<R: Clock + Wait + Copy, N: Naming, D: Ledger>(
         &self,
         _rt: R,
         tree: &ReadTree<R, N, D>,
         share: Share<N, D>,
-        _readers: Vec<Reader<N>>,
     ) -> Result<(), Stop> {
         let order = self.task.order(self.alloc)?;
         let mut share = share;
@@ -103,7 +127,7 @@ impl Trial<()> for Pending {
 }
 
 /// Fills a tree with readers and publishes nothing, for the memory that this takes.
-pub(crate) fn leave_pending<R: Clock + Threads + Wait + Sync + Send + Copy>(
+pub(crate) fn leave_pending<R: Clock + Wait + Copy>(
     rt: R,
     alloc: Global,
     task: &Task,

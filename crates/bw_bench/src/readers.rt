@@ -21,65 +21,6 @@ use std::thread;
 use std::thread::Threads;
 use std::time::{Clock, Instant};
 
-/// What is done on a new tree with readers.
-pub(crate) trait Trial<T: Drop> {
-    /// How many readers the tree is to have.
-    fn readers(&self) -> u32;
-
-    /// Does it, by the tree's one worker, whose share is handed in, and by its readers.
-    fn run<
-        R: Clock + Threads + Wait + Sync + Send + Copy,
-        N: Naming + Send + Sync,
-        D: Ledger + Send + Sync,
-    >(
-        &self,
-        rt: R,
-        tree: &ReadTree<R, N, D>,
-        share: Share<N, D>,
-        readers: Vec<Reader<N>>,
-    ) -> Result<T, Stop>;
-}
-
-fn run_over<
-    N: Naming + Send + Sync,
-    D: Ledger + Send + Sync,
-    R: Clock + Threads + Wait + Sync + Send + Copy,
-    T: Drop,
-    C: Trial<T>,
->(
-    rt: R,
-    alloc: Global,
-    config: Config,
-    blanks: Blanks,
-    book: BlankBook,
-    trial: &C,
-) -> Result<T, Stop>
-    requires insertions { Opens N.name N.parts blanks.insertions }
-    requires removals { Opens D.name D.parts blanks.removals }
-    requires book { book.seen.book ≡ N.book }
-    requires config { N.config ≡ config }
-{
-    let (tree, mut shares, readers) = ReadTree::<R, N, D>::with_readers(
-        rt,
-        alloc,
-        config,
-        blanks,
-        book,
-        trial.readers(),
-    )?;
-    let share = shares.pop().ok_or(Stop::Wrong)?;
-    trial.run(rt, &tree, share, readers)
-}
-
-/// Makes a tree for the trial, and does it.
-pub(crate) fn run_trial<R: Clock + Threads + Wait + Sync + Send + Copy, T: Drop, C: Trial<T>>(
-    rt: R,
-    alloc: Global,
-    trial: &C,
-) -> Result<T, Stop> {
-    run_over::<Brand, Brand, R, T, C>(rt, alloc, CONFIG, Blanks::new(1), BlankBook::new(), trial)
-}
-
 /// Fills the tree and publishes it, part by part.
 pub(crate) fn fill_and_publish<R: Wait + Copy, N: Naming, D: Ledger>(
     alloc: Global,
@@ -201,25 +142,28 @@ impl Reading for Reads {
     }
 }
 
-impl Trial<Timed> for Reads {
-    fn readers(&self) -> u32 {
-        self.task.workers
-    }
-
-    fn run<
-        R: Clock + Threads + Wait + Sync + Send + Copy,
-        N: Naming + Send + Sync,
-        D: Ledger + Send + Sync,
-    >(
-        &self,
-        rt: R,
-        tree: &ReadTree<R, N, D>,
-        share: Share<N, D>,
-        readers: Vec<Reader<N>>,
-    ) -> Result<Timed, Stop> {
-        let _share = fill_and_publish(self.alloc, tree, share, &self.task)?;
-        read_timed(&rt, self.alloc, readers, self)
-    }
+fn read_over<
+    N: Naming + Send + Sync,
+    D: Ledger + Send + Sync,
+    R: Clock + Threads + Wait + Sync + Send + Copy,
+>(rt: R, config: Config, blanks: Blanks, book: BlankBook, reads: &Reads) -> Result<Timed, Stop>
+    requires insertions { Opens N.name N.parts blanks.insertions }
+    requires removals { Opens D.name D.parts blanks.removals }
+    requires book { book.seen.book ≡ N.book }
+    requires config { N.config ≡ config }
+{
+    let alloc = reads.alloc;
+    let (tree, mut shares, readers) = ReadTree::<R, N, D>::with_readers(
+        rt,
+        alloc,
+        config,
+        blanks,
+        book,
+        reads.task.workers,
+    )?;
+    let share = shares.pop().ok_or(Stop::Wrong)?;
+    let _share = fill_and_publish(alloc, &tree, share, &reads.task)?;
+    read_timed(&rt, alloc, readers, reads)
 }
 
 /// Does a task that only reads, by readers of a tree that was filled and published before.
@@ -229,5 +173,5 @@ pub(crate) fn run_readers<R: Clock + Threads + Wait + Sync + Send + Copy>(
     task: &Task,
 ) -> Result<Timed, Stop> {
     let reads = Reads { alloc, task: *task };
-    run_trial(rt, alloc, &reads)
+    read_over::<Brand, Brand, R>(rt, CONFIG, Blanks::new(1), BlankBook::new(), &reads)
 }

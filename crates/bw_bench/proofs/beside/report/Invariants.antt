@@ -1,4 +1,4 @@
-use Rattle.bw_bench.proofs.readers.run_trial.Given as goal
+use Rattle.bw_bench.proofs.beside.report.Given as goal
 
 abbrev pub ghosts-run_over-N-Ledger : goal.ghosts-run_over-N-Ledger
 ghosts-run_over-N-Ledger g a = record { name = a.blanks.insertions.name; parts = a.blanks.insertions.parts }
