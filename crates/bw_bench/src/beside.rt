@@ -34,7 +34,8 @@ struct Written {
     longest: Duration,
 }
 
-/// Readers with a writer beside them.
+/// Readers with a writer beside them. Threads share a value of it behind this trait, so that what it
+/// holds doesn't matter to them.
 trait Writing: Reading {
     /// Writes until the readers have ended.
     fn write<R: Clock + Wait + Copy, N: Naming, D: Ledger>(
@@ -144,6 +145,7 @@ fn publish_time<R: Clock + Wait + Copy, N: Naming, D: Ledger>(
     Ok(start.elapsed(rt)?)
 }
 
+/// Makes a tree and fills it, and lets the writer and the readers work on it.
 fn run_over<
     N: Naming + Send + Sync,
     D: Ledger + Send + Sync,

@@ -28,6 +28,7 @@ trait Trial<T: Drop> {
     ) -> Result<T, Stop>;
 }
 
+/// Makes a tree, and lets its worker do the trial.
 fn run_over<N: Naming, D: Ledger, R: Clock + Wait + Copy, T: Drop, C: Trial<T>>(
     rt: R,
     alloc: Global,
@@ -48,7 +49,7 @@ fn run_over<N: Naming, D: Ledger, R: Clock + Wait + Copy, T: Drop, C: Trial<T>>(
     trial.run(rt, &tree, share)
 }
 
-/// Makes a tree for the trial, and does it.
+/// Does the trial on a new tree.
 fn run_trial<R: Clock + Wait + Copy, T: Drop, C: Trial<T>>(
     rt: R,
     alloc: Global,

@@ -142,6 +142,7 @@ impl Reading for Reads {
     }
 }
 
+/// Makes a tree, fills and publishes it, and lets the readers read.
 fn read_over<
     N: Naming + Send + Sync,
     D: Ledger + Send + Sync,
