@@ -1,10 +1,12 @@
 //! The operations of `bw_bench` on the ordered maps of Rust's standard library.
 
+mod beside;
 mod dice;
 mod index;
 mod tally;
 mod task;
 
+use beside::{run_beside, Beside};
 use index::Worker;
 use std::process::ExitCode;
 use std::sync::{Mutex, RwLock};
@@ -14,9 +16,10 @@ use tally::Tally;
 use task::{Task, Work};
 
 const USAGE: &str = "usage: peers STRUCTURE WORK THREADS KEYS OPERATIONS
+       peers beside STRUCTURE WORK THREADS KEYS OPERATIONS
        peers tallies KEYS OPERATIONS
-STRUCTURE is btree (one thread), mutex or rwlock;
-WORK is load, scan, or the percent of gets beside puts and deletes.";
+STRUCTURE is btree (one thread, and no other beside it), mutex or rwlock;
+WORK is load, scan, list, or the percent of gets beside puts and deletes.";
 
 #[derive(Clone, Copy, PartialEq, Eq)]
 enum Structure {
@@ -62,6 +65,23 @@ impl Structure {
             }
         }
     }
+
+    /// Does the task on a new map beside a thread that changes it. None where threads can't share it.
+    fn run_beside(self, task: &Task) -> Option<Beside> {
+        let order = task.order();
+        let map = task.map(&order);
+        match self {
+            Structure::Btree => None,
+            Structure::Mutex => {
+                let shared = Mutex::new(map);
+                Some(run_beside(task, &order, || &shared))
+            }
+            Structure::Rwlock => {
+                let shared = RwLock::new(map);
+                Some(run_beside(task, &order, || &shared))
+            }
+        }
+    }
 }
 
 /// The workers side by side, each with what it is handed of the map.
@@ -86,13 +106,28 @@ fn run_together<W: Worker + Send>(
     (tally, start.elapsed())
 }
 
+/// Million operations a second.
+fn rate_of(task: &Task, time: Duration) -> f64 {
+    f64::from(task.count()) / 1e6 / time.as_secs_f64()
+}
+
 fn rate(words: &[String]) -> Option<String> {
     let (name, rest) = words.split_first()?;
     let structure = Structure::read(name)?;
     let task = Task::read(rest).filter(|task| structure.is_for(task.threads))?;
     let (_, time) = structure.run(&task);
-    let rate = f64::from(task.count()) / 1e6 / time.as_secs_f64();
+    let rate = rate_of(&task, time);
     Some(format!("{name} {rate:.3}\n"))
+}
+
+/// How many million operations and changes a second are done side by side.
+fn rates_beside(words: &[String]) -> Option<String> {
+    let (name, rest) = words.split_first()?;
+    let task = Task::read(rest)?;
+    let Beside { time, changes } = Structure::read(name)?.run_beside(&task)?;
+    let rate = rate_of(&task, time);
+    let changes = changes / 1e6;
+    Some(format!("{name} {rate:.9} writer {changes:.6}\n"))
 }
 
 /// What one worker is answered, a line for each work and structure.
@@ -114,6 +149,7 @@ fn tallies(words: &[String]) -> Option<String> {
 fn main() -> ExitCode {
     let words: Vec<String> = env::args().skip(1).collect();
     let text = match words.split_first() {
+        Some((first, rest)) if first == "beside" => rates_beside(rest),
         Some((first, rest)) if first == "tallies" => tallies(rest),
         _ => rate(&words),
     };

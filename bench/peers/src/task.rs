@@ -17,6 +17,8 @@ pub enum Work {
     Mix { gets: u32 },
     /// The first hundred pairs from a key on.
     Scan,
+    /// All pairs.
+    List,
 }
 
 impl Work {
@@ -33,6 +35,7 @@ impl Work {
         match word {
             "load" => Some(Work::Load),
             "scan" => Some(Work::Scan),
+            "list" => Some(Work::List),
             percent => {
                 let gets = percent.parse().ok().filter(|gets| *gets <= 100)?;
                 Some(Work::Mix { gets })
@@ -47,6 +50,7 @@ impl fmt::Display for Work {
             Work::Load => f.write_str("load"),
             Work::Mix { gets } => write!(f, "{gets}"),
             Work::Scan => f.write_str("scan"),
+            Work::List => f.write_str("list"),
         }
     }
 }
@@ -82,7 +86,7 @@ impl Task {
     pub fn count(&self) -> u32 {
         match self.work {
             Work::Load => self.keys,
-            Work::Mix { .. } | Work::Scan => self.turns() * self.threads,
+            Work::Mix { .. } | Work::Scan | Work::List => self.turns() * self.threads,
         }
     }
 
@@ -113,7 +117,7 @@ impl Task {
         match self.work {
             Work::Load => self.load(worker, order, &mut index),
             Work::Mix { gets } => self.mix(worker, gets, &mut index),
-            Work::Scan => self.scan_often(worker, &mut index),
+            Work::Scan | Work::List => self.scan_often(worker, &mut index),
         }
     }
 
@@ -147,14 +151,22 @@ impl Task {
         let mut tally = Tally::default();
         let mut dice = Dice::new(u64::from(worker), 1);
         for _ in 0..self.turns() {
-            let low = self.drawn_key(&mut dice);
-            tally.scanned += black_box(index.scan(low, SCANNED)).len() as u64;
+            let (low, limit) = self.drawn_part(&mut dice);
+            tally.scanned += black_box(index.scan(low, limit)).len() as u64;
         }
         tally
     }
 
+    /// From which key on pairs are listed, and how many at most.
+    fn drawn_part(&self, dice: &mut Dice) -> (u64, usize) {
+        match self.work {
+            Work::List => (0, usize::MAX),
+            _ => (self.drawn_key(dice), SCANNED),
+        }
+    }
+
     /// A key below twice their number.
-    fn drawn_key(&self, dice: &mut Dice) -> u64 {
+    pub fn drawn_key(&self, dice: &mut Dice) -> u64 {
         u64::from(dice.below(2 * self.keys))
     }
 }

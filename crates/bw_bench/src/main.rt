@@ -2,8 +2,11 @@
 #![tactic(auto)]
 
 mod audit;
+mod beside;
 mod chains;
 mod consolidation;
+mod publish;
+mod readers;
 mod request;
 mod tally;
 mod task;
@@ -86,6 +89,21 @@ impl From<bw_tree::NewFault> for Stop {
     }
 }
 
+impl From<bw_snap::SnapFault> for Stop {
+    fn from(_: bw_snap::SnapFault) -> Stop {
+        Stop::Wrong
+    }
+}
+
+impl From<bw_snap::ScanFault> for Stop {
+    fn from(fault: bw_snap::ScanFault) -> Stop {
+        match fault {
+            bw_snap::ScanFault::Closed => Stop::Wrong,
+            bw_snap::ScanFault::NoMemory => Stop::Memory,
+        }
+    }
+}
+
 impl From<bw_work::Fault> for Stop {
     fn from(_: bw_work::Fault) -> Stop {
         Stop::Wrong
@@ -120,6 +138,9 @@ fn tallies<R: Clock + Threads + Wait + Sync + Send + Copy>(
             operations,
         };
         for structure in Structure::ALL {
+            if !structure.is_for(&task) {
+                continue;
+            }
             let Timed { tally, .. } = structure.run(rt, alloc, &task)?;
             let line = format!(in alloc; "{structure} {work}: {tally}\n")?;
             text.push_str(&line)?;
@@ -136,6 +157,9 @@ fn answer<R: Clock + Threads + Wait + Sync + Send + Copy>(
 ) -> Result<String, Stop> {
     match request {
         Request::Rate(structure, task) => rate(rt, alloc, structure, &task),
+        Request::Beside { task, every } => beside::report(rt, alloc, &task, every),
+        Request::Puts { task, every } => publish::report(rt, alloc, &task, every),
+        Request::Pending(task) => publish::leave_pending(rt, alloc, &task),
         Request::Tallies { keys, operations } => tallies(rt, alloc, keys, operations),
         Request::Consolidation(rounds) => consolidation::report(&rt, alloc, rounds),
         Request::Audit(receipts) => audit::report(&rt, alloc, receipts),

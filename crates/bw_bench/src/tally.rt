@@ -17,6 +17,11 @@ pub(crate) struct Tally {
 }
 
 impl Tally {
+    /// Whether a key was given a value or taken out.
+    pub(crate) fn has_changes(self) -> bool {
+        self.inserted > 0 || self.removed > 0
+    }
+
     /// The sum of both.
     pub(crate) fn plus(self, other: Tally) -> Tally {
         Tally {

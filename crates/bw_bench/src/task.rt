@@ -14,6 +14,8 @@ pub(crate) enum Work {
     Mix { gets: u32 },
     /// The first hundred pairs from a key on.
     Scan,
+    /// All pairs.
+    List,
 }
 
 impl Work {
@@ -26,10 +28,20 @@ impl Work {
         Work::Scan,
     ];
 
+    /// Whether nothing is changed.
+    pub(crate) fn only_reads(self) -> bool {
+        match self {
+            Work::Load => false,
+            Work::Mix { gets } => gets == 100,
+            Work::Scan | Work::List => true,
+        }
+    }
+
     fn read(word: &str) -> Option<Work> {
         match word {
             "load" => Some(Work::Load),
             "scan" => Some(Work::Scan),
+            "list" => Some(Work::List),
             gets => Some(Work::Mix {
                 gets: number(gets, 0, 100)?,
             }),
@@ -43,6 +55,7 @@ impl fmt::Display for Work {
             Work::Load => f.write_str("load"),
             Work::Mix { gets } => write!(f, "{gets}"),
             Work::Scan => f.write_str("scan"),
+            Work::List => f.write_str("list"),
         }
     }
 }
@@ -76,7 +89,9 @@ impl Task {
     pub(crate) fn count(&self) -> u32 {
         match self.work {
             Work::Load => self.keys,
-            Work::Mix { .. } | Work::Scan => self.turns().saturating_mul(self.workers),
+            Work::Mix { .. } | Work::Scan | Work::List => {
+                self.turns().saturating_mul(self.workers)
+            }
         }
     }
 
@@ -96,7 +111,7 @@ impl Task {
     }
 }
 
-fn number(word: &str, least: u32, greatest: u32) -> Option<u32> {
+pub(crate) fn number(word: &str, least: u32, greatest: u32) -> Option<u32> {
     word.parse::<u32>()
         .ok()
         .filter(|number: &u32| (least..=greatest).contains(number))

@@ -1,13 +1,16 @@
-//! The tree under a task's operations, by a worker that has it for itself, or by workers that share it.
+//! The tree under a task's operations, by a worker that has it for itself, by workers that share it, or by
+//! readers.
 
 ghost use Rattle.std.specs.Prelude.{◌≡◌};
 ghost use Rattle.bw_tree.specs.Shares.{Opens};
 
 use crate::Stop;
+use crate::readers::run_readers;
 use crate::tally::Tally;
 use crate::task::Task;
 use crate::work::{fill, work};
 use bw_keys::Config;
+use bw_snap::MAX_READERS;
 use bw_step::Step;
 use bw_table::Table;
 use bw_tree::{Blanks, MadeBy, Share, Shared, Tree};
@@ -27,24 +30,28 @@ pub(crate) enum Structure {
     Alone,
     /// By workers that share it, each in a thread of its own.
     Hand,
+    /// By readers of what was published, each in a thread of its own.
+    Reader,
 }
 
 impl Structure {
-    pub(crate) const ALL: [Structure; 2] = [Structure::Alone, Structure::Hand];
+    pub(crate) const ALL: [Structure; 3] = [Structure::Alone, Structure::Hand, Structure::Reader];
 
     pub(crate) fn read(word: &str) -> Option<Structure> {
         match word {
             "alone" => Some(Structure::Alone),
             "hand" => Some(Structure::Hand),
+            "reader" => Some(Structure::Reader),
             _ => None,
         }
     }
 
-    /// Whether so many workers can have it.
-    pub(crate) fn is_for(self, workers: u32) -> bool {
+    /// Whether the task can be done so.
+    pub(crate) fn is_for(self, task: &Task) -> bool {
         match self {
-            Structure::Alone => workers == 1,
+            Structure::Alone => task.workers == 1,
             Structure::Hand => true,
+            Structure::Reader => task.work.only_reads() && task.workers <= MAX_READERS,
         }
     }
 
@@ -58,6 +65,7 @@ impl Structure {
         match self {
             Structure::Alone => run_alone(&rt, alloc, task),
             Structure::Hand => run_shared(rt, alloc, task),
+            Structure::Reader => run_readers(rt, alloc, task),
         }
     }
 }
@@ -67,6 +75,7 @@ impl fmt::Display for Structure {
         f.write_str(match self {
             Structure::Alone => "alone",
             Structure::Hand => "hand",
+            Structure::Reader => "reader",
         })
     }
 }
@@ -80,7 +89,7 @@ pub(crate) struct Timed {
 
 /// The configuration for the greatest number of keys that there is room for. Short chains suit it, as
 /// each record is a piece of memory of its own, which gets have to pass.
-const CONFIG: Config = Config {
+pub(crate) const CONFIG: Config = Config {
     fanout: 64,
     chain: 2,
     pages: 65_536,
@@ -88,17 +97,46 @@ const CONFIG: Config = Config {
     first_version: 0,
 };
 
+/// How many keys one worker puts while a tree is filled. Its trail is given up then, so that little of the
+/// memory at that time is a trail's.
+pub(crate) const PART: usize = 4096;
+
+/// Fills the table with a part of the keys.
+fn fill_alone(
+    alloc: Global,
+    table: &mut Table<Global>,
+    task: &Task,
+    part: &[u32],
+) -> Result<(), Stop> {
+    let mut filling = Alone::new(alloc, alloc, table);
+    fill(&mut filling, task, part)
+}
+
 fn run_alone(rt: &impl Clock, alloc: Global, task: &Task) -> Result<Timed, Stop> {
     let order = task.order(alloc)?;
     let mut table = Table::new(alloc, alloc, CONFIG)?;
-    let mut filling = Alone::new(alloc, alloc, &mut table);
-    fill(&mut filling, task, order.as_slice())?;
-    drop(filling);
+    for part in order.chunks(PART) {
+        fill_alone(alloc, &mut table, task, part)?;
+    }
     let mut steps = Alone::new(alloc, alloc, &mut table);
     let start = Instant::now(rt)?;
     let tally = work(&mut steps, alloc, task, 0, order.as_slice())?;
     let seconds = start.elapsed(rt)?.as_secs_f64();
     Ok(Timed { tally, seconds })
+}
+
+/// Fills the tree with a part of the keys, and gives the share back.
+pub(crate) fn fill_by_hand<S: Shared<Global, Step<Global>>>(
+    alloc: Global,
+    tree: &S,
+    share: Share<S::Insertions, S::Removals>,
+    task: &Task,
+    part: &[u32],
+) -> Result<Share<S::Insertions, S::Removals>, Stop> {
+    let mut filling = Hand::new(alloc, alloc, tree, share, 0, &Open);
+    fill(&mut filling, task, part)?;
+    let (share, _trail) = filling.finish();
+    Ok(share)
 }
 
 fn run_shared<R: Clock + Threads + Wait + Sync + Send + Copy>(
@@ -121,10 +159,10 @@ fn shared<
 {
     let order = task.order(alloc)?;
     let (tree, mut shares) = Tree::<R, Global, I, D>::new(rt, alloc, alloc, config, blanks)?;
-    let first = shares.pop().ok_or(Stop::Wrong)?;
-    let mut filling = Hand::new(alloc, alloc, &tree, first, 0, &Open);
-    fill(&mut filling, task, order.as_slice())?;
-    let (first, _trail) = filling.finish();
+    let mut first = shares.pop().ok_or(Stop::Wrong)?;
+    for part in order.chunks(PART) {
+        first = fill_by_hand(alloc, &tree, first, task, part)?;
+    }
     if shares.push(first).is_err() {
         return Err(Stop::Memory);
     }

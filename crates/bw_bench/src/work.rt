@@ -39,7 +39,7 @@ pub(crate) fn work<S: Steps<Global, Step<Global>>>(
     match task.work {
         Work::Load => load(steps, task, worker, order),
         Work::Mix { gets } => mix(steps, task, worker, gets),
-        Work::Scan => scan_often(steps, alloc, task, worker),
+        Work::Scan | Work::List => scan_often(steps, alloc, task, worker),
     }
 }
 
@@ -109,13 +109,35 @@ fn delete_one<S: Steps<Global, Step<Global>>>(steps: &mut S, key: Key) -> Result
     })
 }
 
+/// A put or a delete, in equal parts, of a drawn key.
+pub(crate) fn change_one<S: Steps<Global, Step<Global>>>(
+    steps: &mut S,
+    task: &Task,
+    rng: &mut Pcg32,
+) -> Result<Tally, Stop> {
+    let key = drawn_key(rng, task);
+    if rng.next_u32() % 2 == 0 {
+        put_one(steps, key)
+    } else {
+        delete_one(steps, key)
+    }
+}
+
 /// A key below twice their number.
-fn drawn_key(rng: &mut Pcg32, task: &Task) -> Key {
+pub(crate) fn drawn_key(rng: &mut Pcg32, task: &Task) -> Key {
     let end = task.keys.saturating_mul(2).max(1);
     u64::from(rng.next_u32() % end)
 }
 
-/// Scans from drawn keys on.
+/// From which key on pairs are listed, and how many at most.
+pub(crate) fn drawn_part(rng: &mut Pcg32, task: &Task) -> (Key, usize) {
+    match task.work {
+        Work::List => (0, usize::MAX),
+        Work::Load | Work::Mix { .. } | Work::Scan => (drawn_key(rng, task), SCANNED),
+    }
+}
+
+/// Scans from drawn keys on, or lists all pairs.
 fn scan_often<S: Steps<Global, Step<Global>>>(
     steps: &mut S,
     alloc: Global,
@@ -125,8 +147,8 @@ fn scan_often<S: Steps<Global, Step<Global>>>(
     let mut tally = Tally::default();
     let mut rng = Pcg32::new(u64::from(worker), 1);
     for _ in 0..task.turns() {
-        let low = drawn_key(&mut rng, task);
-        let pairs = scan(steps, alloc, low)?;
+        let (low, limit) = drawn_part(&mut rng, task);
+        let pairs = scan(steps, alloc, low, limit)?;
         tally = tally.plus(Tally {
             scanned: pairs.len() as u64,
             ..Tally::default()
@@ -140,10 +162,11 @@ fn scan<S: Steps<Global, Step<Global>>>(
     steps: &mut S,
     alloc: Global,
     low: Key,
+    limit: usize,
 ) -> Result<Vec<(Key, u64)>, Stop> {
     let mut pairs = Vec::with_capacity(alloc, 2 * SCANNED)?;
     let mut key = low;
-    'leaves: while pairs.len() < SCANNED {
+    'leaves: while pairs.len() < limit {
         let slice = page_from(steps, alloc, key)?;
         pairs.extend_from_slice(slice.pairs.as_slice())?;
         match slice.next {
@@ -151,6 +174,6 @@ fn scan<S: Steps<Global, Step<Global>>>(
             None => break,
         }
     }
-    pairs.truncate(SCANNED);
+    pairs.truncate(limit);
     Ok(pairs)
 }
