@@ -1,5 +1,6 @@
 -- What the pass over a whole chain cites.
 pub mod Appends
+pub mod Counts
 pub mod Cuts
 pub mod Edited
 pub mod Heads

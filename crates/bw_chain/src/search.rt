@@ -6,7 +6,7 @@
 
 mod entry;
 mod greatest;
-pub(crate) mod least;
+mod least;
 mod reach;
 mod separator;
 

@@ -3,7 +3,7 @@ use Rattle.std.proofs.Common.{◌≡◌, ◌↔◌, ℕ, ◌+◌, ◌<◌, ◌�
 use Rattle.std.specs.Prelude.{Option, Some, None, is_some}
 use Rattle.std.proofs.lemmas.Bool.Decides.{nat_tests, leb_tells}
 use Rattle.bw_keys.specs.Ranges.{key_count}
-use Rattle.bw_delta.specs.Entries.{rises, below, from, first_entry, last_entry, first_from, last_below}
+use Rattle.bw_delta.specs.Entries.{rises, below, from, last_entry, first_from, last_below}
 use Rattle.bw_delta.proofs.Rises.{below_all}
 use Rattle.bw_chain.specs.Ascends.{IsAscending}
 use Rattle.bw_chain.proofs.Firsts.{from_step, from_zero}

@@ -1,5 +1,5 @@
 -- The last of falling edits, which has the least key, and the entries at whose front it is made.
-use Rattle.std.proofs.Common.{◌≡◌, ℕ, ◌+◌, ◌≤◌, true, List, [], ◌∷◌, ◌++◌, length, take, drop, append_assoc, refl, ap, sym, ◌∙◌, arith}
+use Rattle.std.proofs.Common.{◌≡◌, ℕ, ◌+◌, ◌≤◌, true, List, [], ◌∷◌, ◌++◌, length, length-append, take, drop, append_assoc, refl, ap, sym, ◌∙◌, arith}
 use Rattle.std.specs.Prelude.{Option, Some, None}
 use Rattle.std.proofs.lemmas.Bool.Decides.{nat_tests}
 use Rattle.std.proofs.lemmas.List.{length-drop}
@@ -33,6 +33,18 @@ module _ {X : Type 0} where
       ∙ edited-snoc greater e es
       ∙ ap (edited greater) (edited_at-parts 0 key_count e.0 e.1 es h)
       ∙ edited-append 0 (e.0 + 1) key_count greater (below e.0 es ++ entry_of e.0 e.1) (from (e.0 + 1) es) left (before_rises 0 key_count e.0 e.1 es h (omega arith))
+
+  length-entry_of : (key : ℕ) (edit : Option X) → length (entry_of key edit) ≡ puts edit
+  length-entry_of key (Some x) = refl
+  length-entry_of key None = refl
+
+  -- so they are as many as those before its key, behind it, and its own if it puts one
+  pub length-edited-last : (edits greater : List (ℕ × Option X)) (e : ℕ × Option X) (es : List (ℕ × X)) → edits ≡ greater ++ e ∷ [] → falls 0 key_count edits ≡ true → IsAscending es
+      → length (edited edits es) ≡ length (below e.0 es) + puts e.1 + length (edited greater (from (e.0 + 1) es))
+  length-edited-last edits greater e es is f h =
+      let own = entry_of e.0 e.1 in
+      let rest = edited greater (from (e.0 + 1) es) in
+      omega (arith, ap length (edited-last edits greater e es is f h), length-append (below e.0 es ++ own) rest, length-append (below e.0 es) own, length-entry_of e.0 e.1)
 
   pub merge_step : (list copied : List (ℕ × X)) (end count : ℕ) (edits greater : List (ℕ × Option X)) (e : ℕ × Option X) (rest : List (ℕ × X)) → edits ≡ greater ++ e ∷ [] → falls 0 key_count edits ≡ true → IsAscending rest
       → below e.0 rest ≡ take count rest → take (end + count) copied ≡ take end list ++ take count rest

@@ -1,39 +1,113 @@
-ghost use Rattle.std.specs.Prelude.{◌≡◌, ◌-◌, ◌^◌, min, length};
-ghost use Rattle.bw_delta.specs.Sound.{IsSound, entry_count};
+//! Counting in one pass over the records and the base pages.
+
+ghost use Rattle.std.specs.Prelude.{◌≡◌, ◌≤◌, ◌+◌, ◌-◌, ◌^◌, min, true, length};
+ghost use Rattle.bw_keys.specs.Ranges.{key_count};
+ghost use Rattle.bw_delta.specs.Fence.{fences};
+ghost use Rattle.bw_delta.specs.Records.{depth};
+ghost use Rattle.bw_delta.specs.Sound.{IsSound, IsWellBuilt, entry_count};
 ghost use Rattle.bw_chain.specs.Ascends.{IsAscending};
 ghost use Rattle.bw_chain.specs.Changes.{entries_by};
+ghost use Rattle.bw_chain.specs.Passing.Edited.{edited, falls};
 
-use crate::entries::bounds::past;
 use crate::entries::value::EntryValue;
-use crate::page::shape::is_leaf;
-use crate::search::least::first_from;
-use bw_delta::Chain;
-use bw_keys::{Fence, Pid};
+use crate::page::shape::{Extent, allocator, extent_of};
+use crate::pass::around::split_around;
+use crate::pass::edits::{Edits, MOST_EDITS};
+use crate::pass::pass;
+use crate::pass::sink::Sink;
+use crate::pass::writing::puts;
+use bw_delta::{Chain, Fences};
+use bw_keys::{Fence, Key, Pid};
 use std::alloc::Allocator;
+use std::convert::Infallible;
 
 /// How many pairs a leaf chain has, or how many routes an inner one. A leaf could have a pair at
-/// each key, one more than the answer can say: then it is the greatest number.
-#[tactic(auto, using(crate::proofs::Bridges::both_kinds))]
+/// each key, one more than the answer can say: then it is the greatest number. It takes no memory.
 pub fn count<A: Allocator + Copy>(chain: &Chain<A>) -> u64
     requires sound { IsSound chain.now }
     ensures { result ≡ min (entry_count chain.now) (2 ^ 64 - 1) }
 {
-    if is_leaf(chain) {
-        count_entries::<A, u64>(chain)
+    let Extent {
+        fences,
+        is_leaf,
+        ..
+    } = extent_of(chain);
+    let Fences { high, .. } = fences;
+    let alloc = allocator(chain);
+    if is_leaf {
+        let mut edits: Edits<'_, u64, A> = Edits::from_buf(alloc, [(0, None); MOST_EDITS]);
+        count_entries(chain, high, edits.as_mut_slice())
     } else {
-        count_entries::<A, Pid>(chain)
+        let mut edits: Edits<'_, Pid, A> = Edits::from_buf(alloc, [(0, None); MOST_EDITS]);
+        count_entries(chain, high, edits.as_mut_slice())
     }
 }
 
-fn count_entries<A: Allocator + Copy, X: EntryValue>(chain: &Chain<A>) -> u64
-    requires ascending { IsAscending (entries_by X.own_entries X.own_change chain.now) }
+/// How many entries of one kind there are. There is room for as many edits as the chain is deep.
+fn count_entries<A: Allocator + Copy, X: EntryValue>(
+    chain: &Chain<A>,
+    high: Fence,
+    edits: &mut [(Key, Option<X>)],
+) -> u64
+    requires built { IsWellBuilt chain.now }
+    requires high { high ≡ (fences chain.now).high }
+    requires deep { depth chain.now ≤ length edits.old }
     ensures { result ≡ min (length (entries_by X.own_entries X.own_change chain.now)) (2 ^ 64 - 1) }
 {
-    let mut count = 0u64;
-    let mut from = Fence::Key(0);
-    'entries: while let Some(entry) = first_from::<A, X>(chain, from) {
-        count = count.saturating_add(1);
-        from = past(entry.0);
+    let mut counted = Counted { count: 0 };
+    match pass(chain, high, edits, 0, &mut counted) {
+        Ok(()) => counted.count,
+        Err(never) => match never {},
     }
-    count
+}
+
+/// How many entries came, or the greatest number if there were more.
+#[derive(Drop)]
+struct Counted {
+    count: u64,
+}
+
+impl<X: EntryValue> Sink<X> for Counted {
+    ghost use Rattle.std.specs.Prelude.{◌≡◌, ◌+◌, ◌-◌, ◌^◌, min, length};
+    ghost use Rattle.bw_chain.specs.Passing.Counts.{counted_twice};
+
+    type Stop = Infallible;
+
+    ghost takes = { λ s es t. t.count ≡ min (s.count + length es) (2 ^ 64 - 1) };
+
+    ghost refuses = { λ s es. Unit {0} };
+
+    fn take_edited(
+        &mut self,
+        entries: &[(Key, X)],
+        edits: &[(Key, Option<X>)],
+    ) -> Result<(), Infallible> {
+        self.count = count_edited(self.count, entries, edits);
+        Ok(())
+    }
+
+    ghost takes_joined = { λ s t u es fs first second. counted_twice s.count t.count u.count es fs first second };
+
+    ghost refuses_more = { λ s es fs refused. tt };
+
+    ghost refuses_later = { λ s t es fs first refused. tt };
+}
+
+/// The count, raised by the number of the entries with the edits.
+fn count_edited<X: Copy>(count: u64, entries: &[(Key, X)], edits: &[(Key, Option<X>)]) -> u64
+    requires ascending { IsAscending entries.now }
+    requires falling { falls 0 key_count edits.now ≡ true }
+    ensures { result ≡ min (count + length (edited edits.now entries.now)) (2 ^ 64 - 1) }
+{
+    let (mut rest, mut left, mut sum) = (entries, edits, count);
+    'edits: while let Some((edit, greater)) = left.split_last() {
+        let (key, value) = *edit;
+        let (before, behind) = split_around(rest, key);
+        sum = sum
+            .saturating_add(before.len() as u64)
+            .saturating_add(puts(value) as u64);
+        rest = behind;
+        left = greater;
+    }
+    sum.saturating_add(rest.len() as u64)
 }

@@ -21,7 +21,7 @@ pub(crate) fn count_puts<X: Copy>(edits: &[(Key, Option<X>)]) -> usize
 }
 
 /// 1 for an edit that puts an entry.
-fn puts<X: Copy>(edit: Option<X>) -> usize
+pub(crate) fn puts<X: Copy>(edit: Option<X>) -> usize
     ensures { result ≡ puts edit }
 {
     match edit {
