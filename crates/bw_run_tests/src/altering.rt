@@ -27,13 +27,15 @@ impl<S: Shared<Global, Step<Global>>> Hook<S> for Raise {
         share: &mut Share<S::Insertions, S::Removals>,
         step: Step<Global>,
     ) -> Result<Receipt, Denied> {
-        let Step::Insert(Insert {
-            page,
-            seen,
-            key,
-            value,
-            spare,
-        }) = step
+        let Step::Insert(
+            Insert {
+                page,
+                seen,
+                key,
+                value,
+                spare,
+            },
+        ) = step
         else {
             return tree.install(share, step);
         };
