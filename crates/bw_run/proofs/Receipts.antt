@@ -10,8 +10,11 @@ use Rattle.bw_procedures.specs.declared.reply.Put.TheVariants as puts
 use Rattle.bw_procedures.specs.Calls.{AddsLook, plain}
 use Rattle.bw_procedures.specs.Seen.{Seen}
 use Rattle.bw_procedures.specs.Writing.{AddsReceipt, IsReceiptOfPut, IsReceiptOfDelete}
+use Rattle.bw_step.specs.declared.view.Look.{Look}
 use Rattle.bw_run.specs.declared.reply.Reply.{Reply}
+use Rattle.bw_run.specs.Reads.{IsReadBy}
 use Rattle.bw_texts.specs.declared.row.Act.{Act}
+use Rattle.bw_texts.specs.declared.row.Act.TheVariants as acts
 use Rattle.bw_run.specs.Told.{Told, inserted, removed, looked, tellings, told_of, told_of_put, told_of_delete, answers}
 
 tellings-append : (xs ys : List Receipt) → tellings (xs ++ ys) ≡ tellings xs ++ tellings ys
@@ -71,6 +74,11 @@ get_tells key found old new more =
 
 pub get_none : (key : ℕ) (fault : Fault) (old new : List Receipt) → AddsLook key (Err fault) old new → tellings new ≡ tellings old
 get_none key fault old new same = ap tellings same
+
+pub read_tells : (reads : Look → Type 0) (key : ℕ) (old new : List Receipt) (reply : Reply) → IsReadBy reads key old new reply
+    → map Some (tellings new) ≡ map Some (tellings old) ++ told_of (acts.Get key) reply ∷ []
+read_tells reads key old new reply is =
+    rw is.2.0 (get_tells key is.0.found old new (is.0.at, is.2.1))
 
 -- one more reply
 pub answers_more : (acts : List Act) (replies : List Reply) (reply : Reply) (place : ℕ) (d : Act) → length replies ≡ place → place < length acts

@@ -217,8 +217,14 @@ fn do_run<T: Threads + Wait + Sync + Send + Copy, R: Read + Drop, W: Write>(
 ) -> Result<u8, Fault>
     ensures { IfOk result (λ status. status ≤ 4) }
 {
-    let rows = read_trace(alloc, input, options.workers)?;
-    match run(rt, alloc, options.config, options.workers, 0, &rows, &Open) {
+    let RunOptions {
+        config,
+        workers,
+        readers,
+        ..
+    } = options;
+    let rows = read_trace(alloc, input, workers)?;
+    match run(rt, alloc, config, workers, readers, &rows, &Open) {
         Ok(finished) => print_run(alloc, options, output, &finished),
         Err(RunFault::Audit(worker, receipt)) => {
             print_verdict(output, Verdict::No(worker, receipt))

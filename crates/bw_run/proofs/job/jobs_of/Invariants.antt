@@ -7,6 +7,6 @@ abbrev pub invariant-loop-acts : goal.invariant-loop-acts
 invariant-loop-acts g l = record {
   shares : length l.shares.items ≡ length l.acts-iterator.rest.items;
   new : All (λ share. share ≡ no_changes) l.shares.items;
-  count : l.worker + length l.acts-iterator.rest.items ≡ l.workers;
+  count : l.worker + length l.acts-iterator.rest.items ≡ length l.fn.plan.items;
   acts : map (λ job. job.acts.items) l.jobs.items ++ map (λ acts. acts.items) l.acts-iterator.rest.items ≡ map (λ acts. acts.items) l.fn.plan.items;
 }
