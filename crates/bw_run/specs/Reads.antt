@@ -1,5 +1,5 @@
--- What a row is that a reader answers.
-use Rattle.std.specs.Prelude.{◌≡◌, ℕ, List, [], ◌∷◌, ◌++◌, Option, Some, None}
+-- Who has a reader, and what a row is that a reader answers.
+use Rattle.std.specs.Prelude.{◌≡◌, ℕ, zero, suc, List, [], ◌∷◌, ◌++◌, Option, Some, None}
 use Rattle.bw_step.specs.declared.receipt.Receipt.{Receipt}
 use Rattle.bw_step.specs.declared.receipt.Receipt.TheVariants.{Looked}
 use Rattle.bw_step.specs.declared.view.Look.{Look}
@@ -7,6 +7,12 @@ use Rattle.bw_run.specs.declared.reply.Reply.{Reply}
 use Rattle.bw_run.specs.declared.reply.Reply.TheVariants as replies
 use Rattle.bw_texts.specs.declared.row.Act.{Act}
 use Rattle.bw_texts.specs.declared.row.Act.TheVariants as acts
+
+-- so many workers' readers: the first workers have one each, as long as there are any
+abbrev pub handed_out : {R : Type 0} → ℕ → List R → List (Option R)
+handed_out zero readers = []
+handed_out (suc n) [] = None ∷ handed_out n []
+handed_out (suc n) (reader ∷ readers) = Some reader ∷ handed_out n readers
 
 -- the reply tells what the reader found, and the receipt of that look is the one that was added
 abbrev pub IsReadBy : (Look → Type 0) → ℕ → List Receipt → List Receipt → Reply → Type 0

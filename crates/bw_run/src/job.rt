@@ -3,6 +3,7 @@
 ghost use Rattle.std.specs.Prelude.{◌≡◌, ◌+◌, ◌<◌, ◌≤◌, ◌^◌, [], Some, IfOk, All, fold, length, map, vec_len, vec_capacity};
 ghost use Rattle.std.specs.Option.{ForNone, ForSome};
 ghost use Rattle.bw_tree.specs.Shares.{no_changes, counted};
+ghost use Rattle.bw_run.specs.Reads.{handed_out};
 ghost use Rattle.bw_run.specs.Told.{answers, tellings};
 
 use crate::acts::do_acts;
@@ -56,10 +57,11 @@ pub(crate) fn jobs_of<I: Ledger, D: Ledger, L: Drop>(
     requires plan { length plan.items < 2 ^ 32 }
     requires shares { length shares.items ≡ length plan.items }
     requires new { All (λ share. share ≡ no_changes) shares.items }
-    ensures { IfOk result (λ jobs. map (λ job. job.acts.items) jobs.items ≡ map (λ acts. acts.items) plan.items) }
+    ensures acts { IfOk result (λ jobs. map (λ job. job.acts.items) jobs.items ≡ map (λ acts. acts.items) plan.items) }
+    ensures readers { IfOk result (λ jobs. map (λ job. job.reader) jobs.items ≡ handed_out (length plan.items) readers.items) }
 {
     let mut shares = shares;
-    let mut readers = readers.into_iter();
+    let mut left = readers.into_iter();
     let mut jobs = Vec::with_capacity(machine, plan.len())?;
     let mut worker = 0;
     for acts in plan {
@@ -72,7 +74,7 @@ pub(crate) fn jobs_of<I: Ledger, D: Ledger, L: Drop>(
             share,
             acts,
             replies,
-            reader: readers.next(),
+            reader: left.next(),
         })?;
         worker += 1;
     }
