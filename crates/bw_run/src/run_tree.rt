@@ -92,11 +92,7 @@ impl<R: Wait + Copy, N: Naming, D: Ledger> RunTree for ReadTree<R, N, D> {
 }
 
 /// What the reader finds at the key, once it has learnt of what the stamp covers.
-fn look_after<N: Naming>(
-    reader: &mut Reader<N>,
-    stamp: Stamp<N>,
-    key: Key,
-) -> Result<Look, Closed>
+fn look_after<N: Naming>(reader: &mut Reader<N>, stamp: Stamp<N>, key: Key) -> Result<Look, Closed>
     ensures look { IfOk result (IsLookIn N.config key reader.new) }
     ensures learnt { BeginsWith reader.new stamp }
 {
