@@ -2,6 +2,7 @@
 use Rattle.std.proofs.Common.{◌≡◌, ℕ, zero, suc, ◌<◌, List, [], ◌∷◌, ◌++◌, length, get_or, Option, Some, Ok, Err, refl, ap, sym, ◌∙◌, map, arith}
 use Rattle.bw_step.specs.declared.receipt.Receipt.{Receipt}
 use Rattle.bw_step.specs.declared.receipt.Receipt.TheVariants.{Inserted, Deleted, Looked, Shaped}
+use Rattle.std.specs.Prelude.{IfOk, Result}
 use Rattle.bw_procedures.specs.declared.fault.Fault.{Fault}
 use Rattle.bw_procedures.specs.declared.reply.Del.{Del}
 use Rattle.bw_procedures.specs.declared.reply.Del.TheVariants as dels
@@ -75,10 +76,11 @@ get_tells key found old new more =
 pub get_none : (key : ℕ) (fault : Fault) (old new : List Receipt) → AddsLook key (Err fault) old new → tellings new ≡ tellings old
 get_none key fault old new same = ap tellings same
 
-pub read_tells : (reads : Look → Type 0) (key : ℕ) (old new : List Receipt) (reply : Reply) → IsReadBy reads key old new reply
-    → map Some (tellings new) ≡ map Some (tellings old) ++ told_of (acts.Get key) reply ∷ []
-read_tells reads key old new reply is =
-    rw is.2.0 (get_tells key is.0.found old new (is.0.at, is.2.1))
+-- a row that a reader answered
+pub reads_tell : {E : Type 0} → (result : Result Reply E) (reads : Look → Type 0) (key : ℕ) (act : Act) (old new : List Receipt) → act ≡ acts.Get key → IfOk result (IsReadBy reads key old new)
+    → IfOk result (λ reply. map Some (tellings new) ≡ map Some (tellings old) ++ told_of act reply ∷ [])
+reads_tell (Ok reply) reads key act old new asked is = rw (asked, is.2) (get_tells key is.0.found old new (is.0.at, is.3))
+reads_tell (Err fault) reads key act old new asked is = tt
 
 -- one more reply
 pub answers_more : (acts : List Act) (replies : List Reply) (reply : Reply) (place : ℕ) (d : Act) → length replies ≡ place → place < length acts

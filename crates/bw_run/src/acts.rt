@@ -65,7 +65,6 @@ pub(crate) fn do_acts<T: RunTree, G: Gate>(
 }
 
 /// Does a row: a look by the reader, if there is one, and all else by the hand.
-#[tactic(auto, using(crate::proofs::Receipts::read_tells))]
 fn do_row<T: RunTree, G: Gate>(
     tree: &T,
     hand: &mut Hand<'_, Global, T, G>,

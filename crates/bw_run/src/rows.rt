@@ -27,7 +27,7 @@ pub(crate) fn do_rows<
     I: Ledger + Send + Sync,
     D: Ledger + Send + Sync,
     L: Drop + Send,
-    C: Drop + Send,
+    C: Copy + Send,
     T: RunTree<Insertions = I, Removals = D, Reader = L, Closed = C> + Sync,
     R: Threads + Wait + Sync + Send + Copy,
     G: Gate + Sync,

@@ -25,7 +25,7 @@ pub(crate) trait RunTree: Shared<Global, Step<Global>> {
     type Reader: Drop;
 
     /// Why a reader found nothing to read.
-    type Closed: Drop;
+    type Closed: Copy;
 
     // the look is what the reader found at the key
     ghost reads: { Self.Reader → ℕ → Look → Type 0 };

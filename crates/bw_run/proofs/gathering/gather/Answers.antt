@@ -14,6 +14,12 @@ fault_of-requires g c =
     let number = ap (λ k. length (acts_of k c.args.rows.now)) worker in
     omega (arith, stopped, c.len.ensures, w.replies.ok.0, ap length first, number)
 
+pub returns-in-Some-stop-clause-fault : goal.returns-in-Some-stop-clause-fault
+returns-in-Some-stop-clause-fault g c =
+    let split : c.loop-worked.worked-iterator.rest.items ≡ c.in-Some.worked ∷ c.next.new.self.rest.items = search rules in
+    let worker = c.len-worker.ensures ∙ c.loop-worked.trails.ok.0 in
+    c.fault_of.ensures (length c.args.all.items) (omega (arith, worker, ap length split, c.loop-worked.invariant.count))
+
 pub loop-worked-preserved : goal.loop-worked-preserved
 loop-worked-preserved g c =
     let inv = c.loop-worked.invariant in
