@@ -6,3 +6,4 @@ pub mod Verdicts
 pub mod Numbers
 pub mod Runs
 pub mod Readers
+pub mod Crossing
