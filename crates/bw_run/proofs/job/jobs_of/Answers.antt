@@ -1,8 +1,7 @@
-use Rattle.std.proofs.Common.{rules, ◌≡◌, ◌∷◌, ◌++◌, ◌+◌, ℕ, suc, List, [], Option, None, Some, length, map, ap, sym, subst, ◌∙◌, arith}
+use Rattle.std.proofs.Common.{rules, ◌≡◌, ◌∷◌, suc, length, ap, sym, ◌∙◌, arith}
 use Rattle.std.proofs.lemmas.List.{nil_from_length}
 use Rattle.std.proofs.lemmas.List.Elements.{All-take}
 use Rattle.bw_tree.specs.Shares.{no_changes}
-use Rattle.bw_run.specs.Reads.{handed_out}
 use Rattle.bw_run.proofs.Readers.{handed_next, none_left, one_more_has}
 use Rattle.bw_run.proofs.job.jobs_of.Goals as goal
 
