@@ -14,6 +14,8 @@ pub(crate) struct Case<'a> {
     /// The line in which it begins, counted from 1.
     pub(crate) line: usize,
     words: &'a str,
+    /// Words that are given behind these once more, with the same answer.
+    more: Option<&'a str>,
     input: String,
     has_failure: bool,
     wanted: Answer,
@@ -25,6 +27,7 @@ impl<'a> Case<'a> {
         Case {
             line,
             words,
+            more: None,
             input: String::new(alloc),
             has_failure: false,
             wanted: Answer::silent(alloc),
@@ -32,8 +35,9 @@ impl<'a> Case<'a> {
     }
 
     /// Adds what a line of this mark says.
-    pub(crate) fn add(&mut self, mark: &str, text: &str) -> Result<()> {
+    pub(crate) fn add(&mut self, mark: &str, text: &'a str) -> Result<()> {
         match mark {
+            "+" => self.more = Some(text),
             "<!" => self.has_failure = true,
             "=" => self.wanted.status = text.parse::<u8>()?,
             "<" | "<-" => add_line(&mut self.input, mark, text)?,
@@ -50,7 +54,23 @@ impl<'a> Case<'a> {
         rt: R,
         alloc: Global,
     ) -> Result<Option<Difference>> {
-        let words: Vec<&str> = self.words.split_whitespace().collect(alloc)?;
+        match (self.difference_with(rt, alloc, "")?, self.more) {
+            (None, Some(more)) => self.difference_with(rt, alloc, more),
+            (difference, _) => Ok(difference),
+        }
+    }
+
+    /// Where it first doesn't, with more words behind the case's own.
+    fn difference_with<R: Threads + Wait + Sync + Send + Copy>(
+        &self,
+        rt: R,
+        alloc: Global,
+        more: &str,
+    ) -> Result<Option<Difference>> {
+        let mut words: Vec<&str> = self.words.split_whitespace().collect(alloc)?;
+        for word in more.split_whitespace() {
+            words.push(word)?;
+        }
         let mut output = Vec::new(alloc);
         let mut faults = Vec::new(alloc);
         let input = Input {

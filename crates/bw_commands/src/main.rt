@@ -5,6 +5,7 @@
 //! | Mark | The line says |
 //! |---|---|
 //! | `$` | a case begins, and these are its words |
+//! | `+` | with these words behind its own the answer is the same |
 //! | `<` | a line of the input |
 //! | `<-` | a line of the input, without its line feed |
 //! | `<!` | from here on the input can't be read |
@@ -30,7 +31,15 @@ use std::sync::Wait;
 use std::thread::Threads;
 
 /// The files of cases.
-const NAMES: [&str; 6] = ["cuts", "histories", "options", "runs", "seeds", "traces"];
+const NAMES: [&str; 7] = [
+    "cuts",
+    "histories",
+    "options",
+    "readers",
+    "runs",
+    "seeds",
+    "traces",
+];
 
 fn main(rt: HostRuntime) -> Result<ExitCode> {
     let mut status = ExitCode::SUCCESS;

@@ -5,3 +5,5 @@ pub mod Gatherings
 pub mod Verdicts
 pub mod Numbers
 pub mod Runs
+pub mod Readers
+pub mod Crossing

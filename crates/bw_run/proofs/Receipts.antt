@@ -2,6 +2,7 @@
 use Rattle.std.proofs.Common.{◌≡◌, ℕ, zero, suc, ◌<◌, List, [], ◌∷◌, ◌++◌, length, get_or, Option, Some, Ok, Err, refl, ap, sym, ◌∙◌, map, arith}
 use Rattle.bw_step.specs.declared.receipt.Receipt.{Receipt}
 use Rattle.bw_step.specs.declared.receipt.Receipt.TheVariants.{Inserted, Deleted, Looked, Shaped}
+use Rattle.std.specs.Prelude.{IfOk, Result}
 use Rattle.bw_procedures.specs.declared.fault.Fault.{Fault}
 use Rattle.bw_procedures.specs.declared.reply.Del.{Del}
 use Rattle.bw_procedures.specs.declared.reply.Del.TheVariants as dels
@@ -10,8 +11,11 @@ use Rattle.bw_procedures.specs.declared.reply.Put.TheVariants as puts
 use Rattle.bw_procedures.specs.Calls.{AddsLook, plain}
 use Rattle.bw_procedures.specs.Seen.{Seen}
 use Rattle.bw_procedures.specs.Writing.{AddsReceipt, IsReceiptOfPut, IsReceiptOfDelete}
+use Rattle.bw_step.specs.declared.view.Look.{Look}
 use Rattle.bw_run.specs.declared.reply.Reply.{Reply}
+use Rattle.bw_run.specs.Reads.{IsReadBy}
 use Rattle.bw_texts.specs.declared.row.Act.{Act}
+use Rattle.bw_texts.specs.declared.row.Act.TheVariants as acts
 use Rattle.bw_run.specs.Told.{Told, inserted, removed, looked, tellings, told_of, told_of_put, told_of_delete, answers}
 
 tellings-append : (xs ys : List Receipt) → tellings (xs ++ ys) ≡ tellings xs ++ tellings ys
@@ -71,6 +75,12 @@ get_tells key found old new more =
 
 pub get_none : (key : ℕ) (fault : Fault) (old new : List Receipt) → AddsLook key (Err fault) old new → tellings new ≡ tellings old
 get_none key fault old new same = ap tellings same
+
+-- a row that a reader answered
+pub reads_tell : {E : Type 0} → (result : Result Reply E) (reads : Look → Type 0) (key : ℕ) (act : Act) (old new : List Receipt) → act ≡ acts.Get key → IfOk result (IsReadBy reads key old new)
+    → IfOk result (λ reply. map Some (tellings new) ≡ map Some (tellings old) ++ told_of act reply ∷ [])
+reads_tell (Ok reply) reads key act old new asked is = rw (asked, is.2) (get_tells key is.0.found old new (is.0.at, is.3))
+reads_tell (Err fault) reads key act old new asked is = tt
 
 -- one more reply
 pub answers_more : (acts : List Act) (replies : List Reply) (reply : Reply) (place : ℕ) (d : Act) → length replies ≡ place → place < length acts

@@ -1,34 +1,47 @@
 -- What the parts of a run say of the whole.
-use Rattle.std.proofs.Common.{◌≡◌, ℕ, ◌<◌, List, length, map, refl, ap, sym, subst, ◌∙◌}
+use Rattle.std.proofs.Common.{◌≡◌, ℕ, ◌<◌, Bool, true, List, length, map, refl, ap, sym, subst, ◌∙◌}
 use Rattle.std.proofs.lemmas.List.{length-map}
 use Rattle.bw_keys.specs.declared.config.Config.{Config}
 use Rattle.bw_step.specs.declared.receipt.Receipt.{Receipt}
 use Rattle.bw_law.specs.Tables.{TableValue, joined_pairs}
 use Rattle.bw_table.specs.Views.{ArePairsOf}
-use Rattle.bw_tree.specs.Trees.{IsTree, MayBeMade}
+use Rattle.bw_tree.specs.Trees.{IsTree}
 use Rattle.bw_run.specs.declared.fault.RunFault.{RunFault}
-use Rattle.bw_run.specs.declared.fault.RunFault.TheVariants.{Memory, Stopped, Audit}
+use Rattle.bw_run.specs.declared.fault.RunFault.TheVariants.{NoReader, Threads, Memory, Stopped, Audit}
 use Rattle.bw_texts.specs.declared.row.Row.{Row}
-use Rattle.bw_run.specs.Faults.{IsRunFault, IsVerdictOn, StopsWithin}
+use Rattle.bw_run.specs.Faults.{EndsBadly, IsRunFault, IsVerdictOn, MayRun, StopsWithin}
 
 pub same_length : {X Y Z : Type 0} → (f : X → Z) (g : Y → Z) (xs : List X) (ys : List Y) → map f xs ≡ map g ys → length xs ≡ length ys
 same_length f g xs ys same = sym (length-map xs f) ∙ (ap length same ∙ length-map ys g)
 
--- a worker that stopped is one of the run's
-pub stops_run : (config : Config) (workers n : ℕ) (rows : List Row) (fault : RunFault) → n ≡ workers → MayBeMade config workers → StopsWithin n rows fault → IsRunFault config workers 0 rows fault
-stops_run config workers n rows Memory many made stops = (made, refl)
-stops_run config workers n rows (Stopped worker number fault) many made stops = ((made, refl), subst (λ k. worker < k) many stops.0, stops.1)
-stops_run config workers n rows fault many made stops = absurd stops
+-- as many workers are as many, whatever their number is called
+pub stops_same : (may_close : Bool) (n workers : ℕ) (rows : List Row) (fault : RunFault) → n ≡ workers → StopsWithin may_close n rows fault → StopsWithin may_close workers rows fault
+stops_same may_close n workers rows fault many stops = subst (λ (k : ℕ). StopsWithin may_close k rows fault) many stops
 
-verdict_ends : (config : Config) (workers : ℕ) (rows : List Row) (trails : List (List Receipt)) (pairs : List (ℕ × ℕ)) (fault : RunFault) → length trails ≡ workers → MayBeMade config workers → IsVerdictOn trails pairs fault
-    → IsRunFault config workers 0 rows fault
-verdict_ends config workers rows trails pairs Memory many made verdict = (made, refl)
-verdict_ends config workers rows trails pairs (Audit worker receipt) many made verdict = ((made, refl), record { trails = trails; pairs = pairs; count = many; verdict = verdict })
-verdict_ends config workers rows trails pairs fault many made verdict = absurd verdict
+-- a worker that stopped is one of the run's, and a reader is one
+pub stops_run : (config : Config) (workers readers n : ℕ) (rows : List Row) (may_close : Bool) (fault : RunFault) → n ≡ workers → MayRun config workers readers → (may_close ≡ true → 0 < readers)
+    → StopsWithin may_close n rows fault → IsRunFault config workers readers rows fault
+stops_run config workers readers n rows may_close NoReader many made some stops = (made, some stops)
+stops_run config workers readers n rows may_close Threads many made some stops = made
+stops_run config workers readers n rows may_close Memory many made some stops = made
+stops_run config workers readers n rows may_close (Stopped worker number fault) many made some stops = (made, subst (λ k. worker < k) many stops.0, stops.1)
+stops_run config workers readers n rows may_close fault many made some stops = absurd stops
 
 -- the history that was found bad is that of the run's workers
-pub verdict_run : (config : Config) (workers : ℕ) (rows : List Row) (table : TableValue) (trails : List (List Receipt)) (fault : RunFault) → length trails ≡ workers → MayBeMade config workers → IsTree table
-    → ((pairs : List (ℕ × ℕ)) → ArePairsOf table pairs → IsVerdictOn trails pairs fault) → IsRunFault config workers 0 rows fault
-verdict_run config workers rows table trails fault many made tree verdict =
+pub ends_run : (config : Config) (workers readers n : ℕ) (rows : List Row) (fault : RunFault) → n ≡ workers → MayRun config workers readers → EndsBadly n fault → IsRunFault config workers readers rows fault
+ends_run config workers readers n rows Memory many made ends = made
+ends_run config workers readers n rows (Audit worker receipt) many made ends =
+    (made, record { trails = ends.trails; pairs = ends.pairs; count = ends.count ∙ many; verdict = ends.verdict })
+ends_run config workers readers n rows fault many made ends = absurd ends
+
+verdict_ends : (workers : ℕ) (trails : List (List Receipt)) (pairs : List (ℕ × ℕ)) (fault : RunFault) → length trails ≡ workers → IsVerdictOn trails pairs fault → EndsBadly workers fault
+verdict_ends workers trails pairs Memory many verdict = tt
+verdict_ends workers trails pairs (Audit worker receipt) many verdict = record { trails = trails; pairs = pairs; count = many; verdict = verdict }
+verdict_ends workers trails pairs fault many verdict = absurd verdict
+
+-- a verdict on the pairs of the table is one on some pairs
+pub verdict_found : (workers : ℕ) (table : TableValue) (trails : List (List Receipt)) (fault : RunFault) → length trails ≡ workers → IsTree table
+    → ((pairs : List (ℕ × ℕ)) → ArePairsOf table pairs → IsVerdictOn trails pairs fault) → EndsBadly workers fault
+verdict_found workers table trails fault many tree verdict =
     let pairs = joined_pairs table.slots tree.leaves.row in
-    verdict_ends config workers rows trails pairs fault many made (verdict pairs (record { row = tree.leaves.row; is_row = tree.leaves.is_row; joined = refl }))
+    verdict_ends workers trails pairs fault many (verdict pairs (record { row = tree.leaves.row; is_row = tree.leaves.is_row; joined = refl }))

@@ -1,5 +1,5 @@
 -- When a run may begin, and which fault says what.
-use Rattle.std.specs.Prelude.{◌≡◌, ℕ, ◌<◌, true, List, length, None, Some}
+use Rattle.std.specs.Prelude.{◌≡◌, ℕ, ◌<◌, ◌≤◌, min, Bool, true, List, length, None, Some}
 use Rattle.bw_keys.specs.declared.config.Config.{Config}
 use Rattle.bw_keys.specs.Limits.{first_bad_field}
 use Rattle.bw_step.specs.declared.receipt.Receipt.{Receipt}
@@ -11,9 +11,13 @@ use Rattle.bw_run.specs.declared.fault.RunFault.TheVariants.{Config as BadConfig
 use Rattle.bw_texts.specs.declared.row.Row.{Row}
 use Rattle.bw_run.specs.Rows.{IsRowOf}
 
--- the configuration and the number of workers are good, and there are no readers
+-- the most readers of so many workers
+abbrev pub most_readers : ℕ → ℕ
+most_readers workers = min workers 16
+
+-- the configuration and the numbers of workers and of readers are good
 abbrev pub MayRun : Config → ℕ → ℕ → Type 0
-MayRun config workers readers = MayBeMade config workers × (readers ≡ 0)
+MayRun config workers readers = MayBeMade config workers × (readers ≤ most_readers workers)
 
 -- so many trails were audited, with some pairs, and this is what the verdict says
 pub record IsBadHistory (workers worker receipt : ℕ) : Type 0 where
@@ -22,22 +26,31 @@ pub record IsBadHistory (workers worker receipt : ℕ) : Type 0 where
   pub count : length trails ≡ workers
   pub verdict : verdict_of trails pairs ≡ No worker receipt
 
--- the first bad field; bad workers where there is none; readers where the workers are good; and all else in a run that may begin
+-- the first bad field; bad workers where there is none; bad readers where the workers are good; and all else in a run that may begin, a
+-- reader that isn't there, or reads nothing, only where there are readers
 abbrev pub IsRunFault : Config → ℕ → ℕ → List Row → RunFault → Type 0
 IsRunFault config workers readers rows (BadConfig bad) = first_bad_field config ≡ Some bad.0
 IsRunFault config workers readers rows Workers = (first_bad_field config ≡ None) × (is_bad_number workers ≡ true)
-IsRunFault config workers readers rows Readers = MayBeMade config workers × (0 < readers)
-IsRunFault config workers readers rows NoReader = ⊥
+IsRunFault config workers readers rows Readers = MayBeMade config workers × (most_readers workers < readers)
+IsRunFault config workers readers rows NoReader = MayRun config workers readers × (0 < readers)
 IsRunFault config workers readers rows Threads = MayRun config workers readers
 IsRunFault config workers readers rows Memory = MayRun config workers readers
 IsRunFault config workers readers rows (Stopped worker number fault) = MayRun config workers readers × (worker < workers) × IsRowOf rows worker number
 IsRunFault config workers readers rows (Audit worker receipt) = MayRun config workers readers × IsBadHistory workers worker receipt
 
--- one of so many workers stopped at a row of its own, or memory was wanting
-abbrev pub StopsWithin : ℕ → List Row → RunFault → Type 0
-StopsWithin workers rows Memory = Unit {0}
-StopsWithin workers rows (Stopped worker number fault) = (worker < workers) × IsRowOf rows worker number
-StopsWithin workers rows _ = ⊥
+-- one of so many workers stopped at a row of its own, or found nothing to read where a reader may; or a thread or memory was wanting
+abbrev pub StopsWithin : Bool → ℕ → List Row → RunFault → Type 0
+StopsWithin may_close workers rows NoReader = may_close ≡ true
+StopsWithin may_close workers rows Threads = Unit {0}
+StopsWithin may_close workers rows Memory = Unit {0}
+StopsWithin may_close workers rows (Stopped worker number fault) = (worker < workers) × IsRowOf rows worker number
+StopsWithin may_close workers rows _ = ⊥
+
+-- the history of so many workers was found bad, or memory was wanting
+abbrev pub EndsBadly : ℕ → RunFault → Type 0
+EndsBadly workers Memory = Unit {0}
+EndsBadly workers (Audit worker receipt) = IsBadHistory workers worker receipt
+EndsBadly workers _ = ⊥
 
 -- the verdict on the history, or memory was wanting
 abbrev pub IsVerdictOn : List (List Receipt) → List (ℕ × ℕ) → RunFault → Type 0

@@ -2,12 +2,17 @@
 
 ghost use Rattle.std.specs.Prelude.{◌≡◌, ◌≤◌, ◌<◌, ◌++◌, [], ◌∷◌, Some, IfOk, IfErr, OnOk, OnErr, length, map, vec_capacity};
 ghost use Rattle.bw_procedures.specs.Calls.{IsFair, limit_of};
+ghost use Rattle.bw_work.specs.Hands.{Sums};
 ghost use Rattle.bw_run.specs.Told.{answers, tellings, told_of};
+ghost use Rattle.bw_run.specs.Reads.{IsReadBy, IsReadByOwn};
 
 use crate::reply::Reply;
+use crate::run_tree::RunTree;
+use crate::stop::Stop;
+use bw_keys::Key;
 use bw_step::Step;
 use bw_texts::Act;
-use bw_work::{Fault, Steps, delete, get, put};
+use bw_work::{Fault, Gate, Hand, Steps, delete, get, put};
 use std::alloc::Global;
 
 /// Does the act by the worker's steps, and answers what the worker was told.
@@ -34,25 +39,64 @@ pub fn do_act<S: Steps<Global, Step<Global>>>(steps: &mut S, act: Act) -> Result
     }
 }
 
-/// Does the acts in their order, as long as none is answered with a fault, and adds the reply to
-/// each.
+/// Does the acts in their order, as long as none is given up, and adds the reply to each. The worker
+/// looks keys up by its reader, if it has one.
 #[tactic(auto, using(crate::proofs::Receipts::answers_more))]
-pub(crate) fn do_acts<S: Steps<Global, Step<Global>>>(
-    steps: &mut S,
+pub(crate) fn do_acts<T: RunTree, G: Gate>(
+    tree: &T,
+    hand: &mut Hand<'_, Global, T, G>,
+    reader: &mut Option<T::Reader>,
     acts: &[Act],
     replies: &mut Vec<Reply>,
-) -> Result<(), Fault>
-    requires new { (S.seen steps.old).trail ≡ [] }
+) -> Result<(), Stop<T::Closed>>
+    requires new { hand.old.trail.items ≡ [] }
     requires empty { replies.old.items ≡ [] }
     requires room { length acts.now ≤ vec_capacity replies.old }
-    ensures follows { S.follows steps.old steps.new }
-    ensures told { map Some (tellings (S.seen steps.new).trail) ≡ answers acts.now replies.new.items }
+    ensures follows { Sums hand.old.trail.items hand.old.share hand.new.trail.items hand.new.share }
+    ensures told { map Some (tellings hand.new.trail.items) ≡ answers acts.now replies.new.items }
     ensures all { OnOk result (length replies.new.items ≡ length acts.now) }
     ensures stopped { OnErr result (length replies.new.items < length acts.now) }
 {
     for act in acts {
-        let reply = do_act(steps, *act)?;
+        let reply = do_row(tree, hand, reader, *act)?;
         replies.push_reserved(reply);
     }
     Ok(())
+}
+
+/// Does a row: a look by the reader, if there is one, and all else by the hand.
+fn do_row<T: RunTree, G: Gate>(
+    tree: &T,
+    hand: &mut Hand<'_, Global, T, G>,
+    reader: &mut Option<T::Reader>,
+    act: Act,
+) -> Result<Reply, Stop<T::Closed>>
+    ensures follows { Sums hand.old.trail.items hand.old.share hand.new.trail.items hand.new.share }
+    ensures told { IfOk result (λ reply. map Some (tellings hand.new.trail.items) ≡ map Some (tellings hand.old.trail.items) ++ told_of act reply ∷ []) }
+    ensures nothing { OnErr result (tellings hand.new.trail.items ≡ tellings hand.old.trail.items) }
+    ensures read { IfOk result (IsReadByOwn T.reads reader.new act hand.old.trail.items hand.new.trail.items) }
+{
+    match act {
+        Act::Get { key } => match reader {
+            Some(reader) => read(tree, hand, reader, key),
+            None => Ok(do_act(hand, act)?),
+        },
+        Act::Put { .. } | Act::Delete { .. } => Ok(do_act(hand, act)?),
+    }
+}
+
+/// Looks the key up by the reader, and keeps the look as a receipt.
+fn read<T: RunTree, G: Gate>(
+    tree: &T,
+    hand: &mut Hand<'_, Global, T, G>,
+    reader: &mut T::Reader,
+    key: Key,
+) -> Result<Reply, Stop<T::Closed>>
+    ensures follows { Sums hand.old.trail.items hand.old.share hand.new.trail.items hand.new.share }
+    ensures read { IfOk result (IsReadBy (T.reads reader.new key) key hand.old.trail.items hand.new.trail.items) }
+    ensures nothing { OnErr result (hand.new.trail.items ≡ hand.old.trail.items) }
+{
+    let look = tree.read(reader, key)?;
+    hand.note(key, look)?;
+    Ok(Reply::Get(look.found))
 }

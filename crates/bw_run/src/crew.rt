@@ -5,8 +5,8 @@ ghost use Rattle.bw_run.specs.declared.fault.RunFault.TheVariants as fault;
 
 use crate::fault::RunFault;
 use crate::job::{Job, Worked, work};
+use crate::run_tree::RunTree;
 use bw_texts::Act;
-use bw_tree::{MadeBy, Tree};
 use bw_work::Gate;
 use std::alloc::Global;
 use std::snapshot::Snapshot;
@@ -21,7 +21,7 @@ struct WorkOn {
     acts: Snapshot<Vec<Act>>,
 }
 
-impl<I: Ledger, D: Ledger> Promise<Worked<I, D>> for WorkOn {
+impl<I: Ledger, D: Ledger, C> Promise<Worked<I, D, C>> for WorkOn {
     ghost kept_by = { λ promise worked. worked.acts.items ≡ promise.acts.value.items };
 }
 
@@ -29,24 +29,27 @@ impl<I: Ledger, D: Ledger> Promise<Worked<I, D>> for WorkOn {
 /// the jobs. Where a thread can't be started, those that were do their jobs to the end, and all is
 /// given up.
 pub(crate) fn work_all<
-    I: MadeBy + Send + Sync,
+    I: Ledger + Send + Sync,
     D: Ledger + Send + Sync,
+    L: Drop + Send,
+    C: Copy + Send,
+    T: RunTree<Insertions = I, Removals = D, Reader = L, Closed = C> + Sync,
     R: Threads + Wait + Sync + Send + Copy,
     G: Gate + Sync,
 >(
     rt: R,
     machine: Global,
-    tree: &Tree<R, Global, I, D>,
+    tree: &T,
     gate: &G,
-    jobs: Vec<Job<I, D>>,
-) -> Result<Vec<Worked<I, D>>, RunFault>
+    jobs: Vec<Job<I, D, L>>,
+) -> Result<Vec<Worked<I, D, C>>, RunFault>
     ensures acts { IfOk result (λ all. map (λ worked. worked.acts.items) all.items ≡ map (λ job. job.acts.items) jobs.items) }
     ensures fault { IfErr result (λ f. (f ≡ fault.Threads) ⊎ (f ≡ fault.Memory)) }
 {
     thread::scope(
         thread::scope_env(),
         &rt,
-        |scope| -> Result<Vec<Worked<I, D>>, RunFault>
+        |scope| -> Result<Vec<Worked<I, D, C>>, RunFault>
             ensures acts { IfOk result (λ all. map (λ worked. worked.acts.items) all.items ≡ map (λ job. job.acts.items) jobs.items) }
             ensures fault { IfErr result (λ f. (f ≡ fault.Threads) ⊎ (f ≡ fault.Memory)) }
         {
@@ -57,7 +60,7 @@ pub(crate) fn work_all<
                 };
                 let Ok(handle) = scope.spawn_with(
                     promise,
-                    move || -> Worked<I, D>
+                    move || -> Worked<I, D, C>
                         ensures { result.acts.items ≡ job.acts.items }
                     { work(machine, tree, gate, job) },
                 ) else {

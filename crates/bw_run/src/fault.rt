@@ -18,10 +18,10 @@ pub enum RunFault {
     /// There are no workers, or more than `MAX_WORKERS`.
     #[error("bad workers")]
     Workers,
-    /// There are more readers than there can be, which is none so far.
+    /// There are more readers than workers, or more than `MAX_READERS`.
     #[error("bad readers")]
     Readers,
-    /// A reader found no way in.
+    /// There was no place for a reader, or a reader found no table to read.
     #[error("reader")]
     NoReader,
     /// A worker's thread couldn't be started.

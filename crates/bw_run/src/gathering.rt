@@ -9,6 +9,8 @@ ghost use Rattle.bw_run.specs.Rows.{ArePlanned, AreAnswered, IsRowOf, acts_of};
 use crate::fault::RunFault;
 use crate::job::Worked;
 use crate::reply::Reply;
+use crate::run_tree::RunTree;
+use crate::stop::Stop;
 use bw_step::Receipt;
 use bw_texts::Row;
 use bw_tree::Share;
@@ -24,18 +26,18 @@ pub(crate) struct Gathered<I: Ledger, D: Ledger> {
 }
 
 /// Gathers what all workers did. Where some of them stopped, the fault is that of the least number.
-pub(crate) fn gather<I: Ledger, D: Ledger>(
+pub(crate) fn gather<T: RunTree>(
     machine: Global,
     rows: &[Row],
-    all: Vec<Worked<I, D>>,
-) -> Result<Gathered<I, D>, RunFault>
+    all: Vec<Worked<T::Insertions, T::Removals, T::Closed>>,
+) -> Result<Gathered<T::Insertions, T::Removals>, RunFault>
     requires { ArePlanned (map (λ worked. worked.acts.items) all.items) rows.now }
     ensures shares { IfOk result (λ gathered. length gathered.shares.items ≡ length all.items) }
     ensures replies { IfOk result (λ gathered. length gathered.replies.items ≡ length all.items) }
     ensures trails { IfOk result (λ gathered. length gathered.trails.items ≡ length all.items) }
     ensures answered { IfOk result (λ gathered. AreAnswered rows.now (map (λ column. column.items) gathered.replies.items) (map (λ trail. trail.items) gathered.trails.items)) }
     ensures sums { IfOk result (λ gathered. sum_of gathered.shares.items ≡ book_of (sum_by insertions (map (λ trail. trail.items) gathered.trails.items)) (sum_by removals (map (λ trail. trail.items) gathered.trails.items))) }
-    ensures fault { IfErr result (StopsWithin (length all.items) rows.now) }
+    ensures fault { IfErr result (StopsWithin T.may_close (length all.items) rows.now) }
 {
     let mut shares = Vec::new(machine);
     let mut columns = Vec::new(machine);
@@ -48,10 +50,9 @@ pub(crate) fn gather<I: Ledger, D: Ledger>(
             stop,
             ..
         } = worked;
-        if let Some(fault) = stop {
+        if let Some(stop) = stop {
             let worker = trails.len();
-            let number = row_number(rows, worker, replies.len());
-            return Err(RunFault::Stopped(worker, number, fault));
+            return Err(fault_of::<T>(rows, worker, replies.len(), stop));
         }
         shares.push(share)?;
         columns.push(replies)?;
@@ -62,6 +63,23 @@ pub(crate) fn gather<I: Ledger, D: Ledger>(
         replies: columns,
         trails,
     })
+}
+
+/// The fault of a run in which the worker stopped at its row that comes after so many others of its
+/// rows.
+fn fault_of<T: RunTree>(
+    rows: &[Row],
+    worker: usize,
+    before: usize,
+    stop: Stop<T::Closed>,
+) -> RunFault
+    requires { before < length (acts_of worker rows.now) }
+    ensures { (workers : ℕ) → worker < workers → StopsWithin T.may_close workers rows.now result }
+{
+    match stop {
+        Stop::Fault(fault) => RunFault::Stopped(worker, row_number(rows, worker, before), fault),
+        Stop::Closed(closed) => T::closed(closed),
+    }
 }
 
 /// The number, counted from 1, of the worker's row that comes after so many others of its rows.

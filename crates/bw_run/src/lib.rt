@@ -4,6 +4,7 @@
 
 mod acts;
 mod crew;
+mod ending;
 mod fault;
 mod gathering;
 mod job;
@@ -11,10 +12,14 @@ mod judgement;
 mod merging;
 mod plan;
 mod reply;
+mod rows;
+mod run_tree;
 mod runner;
+mod stop;
 
 pub use acts::do_act;
 pub use bw_texts::{Act, Row, is_trace_for};
+pub use ending::Finished;
 pub use fault::RunFault;
 pub use reply::Reply;
-pub use runner::{Finished, run};
+pub use runner::run;

@@ -1,6 +1,6 @@
 //! Runs of a trace by worker threads.
 
-ghost use Rattle.std.specs.Prelude.{◌≡◌, ◌<◌, ℕ, [], List, Some, IsOk, IfOk, IfErr, OnOk, length, map, slice_index_or};
+ghost use Rattle.std.specs.Prelude.{◌≡◌, ◌≤◌, ◌<◌, ℕ, [], List, Some, IsOk, IfOk, IfErr, OnOk, length, map, slice_index_or};
 ghost use Rattle.std.specs.List.{AllByRecursion};
 ghost use Rattle.bw_table.specs.Views.{ArePairsOf};
 ghost use Rattle.bw_tree.specs.Shares.{Opens};
@@ -12,17 +12,12 @@ ghost use Rattle.bw_run.specs.Rows.{told_to};
 ghost use Rattle.bw_run.specs.Runs.{IsRunOf};
 ghost use Rattle.bw_run.specs.Told.{tellings};
 
-use crate::crew::work_all;
+use crate::ending::{Finished, finish};
 use crate::fault::RunFault;
-use crate::gathering::{Gathered, gather};
-use crate::job::jobs_of;
-use crate::judgement::judge;
-use crate::merging::merge;
-use crate::plan::share_out;
-use crate::reply::Reply;
+use crate::gathering::Gathered;
+use crate::rows::do_rows;
 use bw_keys::{Config, MAX_WORKERS};
-use bw_step::Receipt;
-use bw_table::Table;
+use bw_snap::{BlankBook, MAX_READERS, Naming, ReadTree, SnapFault};
 use bw_texts::Row;
 use bw_tree::{Blanks, MadeBy, Tree};
 use bw_work::Gate;
@@ -32,22 +27,15 @@ use std::sync::Wait;
 use std::sync::ledger::Ledger;
 use std::thread::Threads;
 
-/// A run that came to its end, and that the audit found legal.
-#[derive(Drop)]
-pub struct Finished {
-    pub table: Table<Global>,
-    /// The reply to each row of the trace, at the row's place.
-    pub replies: Vec<Reply>,
-    /// Each worker's receipts, in their order.
-    pub trails: Vec<Vec<Receipt>>,
-}
-
 /// Runs a trace on a new table: so many workers, 1 to `MAX_WORKERS`, each in a thread of its own, do
 /// their rows in the order of the trace, side by side on one tree, and call the gate. Then the trails
 /// of their receipts are audited with the pairs that the table has.
 ///
-/// Where a worker gives up a row, it does no more, and the others do all of theirs. There are no
-/// readers yet, so a number above 0 is a fault.
+/// Each of the first `readers` workers, which are at most all of them and at most `MAX_READERS`, has
+/// a reader: at a row that gets a key it publishes what was changed, lets its reader learn of that,
+/// and answers what the reader finds, without the lock. With no readers nothing is published.
+///
+/// Where a worker gives up a row, it does no more, and the others do all of theirs.
 pub fn run<R: Threads + Wait + Sync + Send + Copy, G: Gate + Sync>(
     rt: R,
     machine: Global,
@@ -69,12 +57,17 @@ pub fn run<R: Threads + Wait + Sync + Send + Copy, G: Gate + Sync>(
     ensures fault { IfErr result (IsRunFault config workers readers rows.now) }
 {
     check(config, workers, readers)?;
-    run_over::<Brand, Brand, R, G>(
+    let blanks = Blanks::new(workers);
+    if readers == 0 {
+        return run_locked::<Brand, Brand, R, G>(rt, machine, config, blanks, rows, gate);
+    }
+    run_read::<Brand, Brand, R, G>(
         rt,
         machine,
         config,
-        workers,
-        Blanks::new(workers),
+        blanks,
+        BlankBook::new(),
+        readers,
         rows,
         gate,
     )
@@ -91,14 +84,14 @@ fn check(config: Config, workers: u32, readers: u32) -> Result<(), RunFault>
     if !(1..=MAX_WORKERS).contains(&workers) {
         return Err(RunFault::Workers);
     }
-    if readers > 0 {
+    if readers > workers.min(MAX_READERS) {
         return Err(RunFault::Readers);
     }
     Ok(())
 }
 
-/// A run over a tree with these blank ledgers.
-fn run_over<
+/// A run over a tree of which all reads take the lock, with these blank ledgers.
+fn run_locked<
     I: MadeBy + Send + Sync,
     D: Ledger + Send + Sync,
     R: Threads + Wait + Sync + Send + Copy,
@@ -107,7 +100,6 @@ fn run_over<
     rt: R,
     machine: Global,
     config: Config,
-    workers: u32,
     blanks: Blanks,
     rows: &[Row],
     gate: &G,
@@ -115,33 +107,67 @@ fn run_over<
     requires insertions { Opens I.name I.parts blanks.insertions }
     requires removals { Opens D.name D.parts blanks.removals }
     requires config { I.config ≡ config }
-    requires parts { blanks.workers ≡ workers }
-    requires made { MayBeMade config workers }
-    requires workers { AllByRecursion (λ row. row.worker < workers) rows.now }
-    ensures finished { IfOk result (λ finished. IsRunOf workers rows.now finished.table finished.replies.items (map (λ trail. trail.items) finished.trails.items)) }
+    requires made { MayBeMade config blanks.workers }
+    requires workers { AllByRecursion (λ row. row.worker < blanks.workers) rows.now }
+    ensures finished { IfOk result (λ finished. IsRunOf blanks.workers rows.now finished.table finished.replies.items (map (λ trail. trail.items) finished.trails.items)) }
     ensures config { IfOk result (λ finished. finished.table.config ≡ config) }
-    ensures fault { IfErr result (IsRunFault config workers 0 rows.now) }
+    ensures fault { IfErr result (IsRunFault config blanks.workers 0 rows.now) }
 {
     let Ok((tree, shares)) = Tree::<R, Global, I, D>::new(rt, machine, machine, config, blanks)
     else {
         return Err(RunFault::Memory);
     };
-    let plan = share_out(machine, workers, rows)?;
-    let jobs = jobs_of(machine, workers, plan, shares)?;
-    let all = work_all(rt, machine, &tree, gate, jobs)?;
     let Gathered {
         shares,
         replies,
         trails,
-    } = gather(machine, rows, all)?;
+    } = do_rows(rt, machine, &tree, shares, Vec::new(machine), rows, gate)?;
     let Ok(table) = tree.close(shares) else {
         unreachable!()
     };
-    judge(machine, &table, &trails)?;
-    let replies = merge(machine, rows, replies)?;
-    Ok(Finished {
-        table,
+    finish(machine, rows, table, replies, trails)
+}
+
+/// A run over a tree with so many readers, with these blank ledgers and this blank book.
+fn run_read<
+    N: Naming + Send + Sync,
+    D: Ledger + Send + Sync,
+    R: Threads + Wait + Sync + Send + Copy,
+    G: Gate + Sync,
+>(
+    rt: R,
+    machine: Global,
+    config: Config,
+    blanks: Blanks,
+    book: BlankBook,
+    readers: u32,
+    rows: &[Row],
+    gate: &G,
+) -> Result<Finished, RunFault>
+    requires insertions { Opens N.name N.parts blanks.insertions }
+    requires removals { Opens D.name D.parts blanks.removals }
+    requires book { book.seen.book ≡ N.book }
+    requires config { N.config ≡ config }
+    requires made { MayRun config blanks.workers readers }
+    requires some { 0 < readers }
+    requires workers { AllByRecursion (λ row. row.worker < blanks.workers) rows.now }
+    ensures finished { IfOk result (λ finished. IsRunOf blanks.workers rows.now finished.table finished.replies.items (map (λ trail. trail.items) finished.trails.items)) }
+    ensures config { IfOk result (λ finished. finished.table.config ≡ config) }
+    ensures fault { IfErr result (IsRunFault config blanks.workers readers rows.now) }
+{
+    let made = ReadTree::<R, N, D>::with_readers(rt, machine, config, blanks, book, readers);
+    let (tree, shares, readers) = match made {
+        Ok(made) => made,
+        Err(SnapFault::NoReader) => return Err(RunFault::NoReader),
+        Err(_) => return Err(RunFault::Memory),
+    };
+    let Gathered {
+        shares,
         replies,
         trails,
-    })
+    } = do_rows(rt, machine, &tree, shares, readers, rows, gate)?;
+    let Ok(table) = tree.close(shares) else {
+        unreachable!()
+    };
+    finish(machine, rows, table, replies, trails)
 }

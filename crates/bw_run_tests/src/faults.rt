@@ -27,11 +27,15 @@ const WORN: Config = Config {
 const BAD_PAGES: RunFault = RunFault::Config(BadConfig(Field::Pages));
 
 /// A configuration, workers and readers, and the fault of a run of them that has no rows.
-static BEFORE: [(Config, u32, u32, Option<RunFault>); 5] = [
-    (BAD, 0, 1, Some(BAD_PAGES)),
-    (SMALL, 0, 1, Some(RunFault::Workers)),
-    (SMALL, 65, 1, Some(RunFault::Workers)),
-    (SMALL, 64, 1, Some(RunFault::Readers)),
+static BEFORE: [(Config, u32, u32, Option<RunFault>); 9] = [
+    (BAD, 0, 17, Some(BAD_PAGES)),
+    (SMALL, 0, 17, Some(RunFault::Workers)),
+    (SMALL, 65, 17, Some(RunFault::Workers)),
+    (SMALL, 64, 17, Some(RunFault::Readers)),
+    (SMALL, 2, 3, Some(RunFault::Readers)),
+    (SMALL, 1, u32::MAX, Some(RunFault::Readers)),
+    (SMALL, 64, 16, None),
+    (SMALL, 1, 1, None),
     (SMALL, 64, 0, None),
 ];
 
@@ -74,8 +78,10 @@ const BOTH_STOP: [Row; 5] = [
 
 #[test]
 fn of_two_workers_that_stop_the_first_is_named(rt: HostRuntime) {
-    let fault = finish(rt, rt.alloc(), WORN, 2, &BOTH_STOP, &Open).err();
-    assert_eq!(rt; fault, Some(RunFault::Stopped(0, 4, Fault::Worn)));
+    for readers in 0..=2 {
+        let fault = finish(rt, rt.alloc(), WORN, 2, readers, &BOTH_STOP, &Open).err();
+        assert_eq!(rt; fault, Some(RunFault::Stopped(0, 4, Fault::Worn)));
+    }
 }
 
 // Worker 1 stops at its first row. That worker 0 does all of its rows shows in the row that is named: its
@@ -90,7 +96,7 @@ fn where_one_stops_the_other_does_all_its_rows(rt: HostRuntime) -> Result<(), Fa
     }
     rows.push(row!(0 put 1 => 1))?;
     for number in 0..20 {
-        let fault = finish(rt, machine, WORN, 2, &rows, &Open).err();
+        let fault = finish(rt, machine, WORN, 2, 0, &rows, &Open).err();
         assert_eq!(rt;
             fault,
             Some(RunFault::Stopped(0, 102, Fault::Worn)),

@@ -145,8 +145,10 @@ fn runs_end_as_foretold(rt: HostRuntime) -> Result<(), Fail> {
     let machine = rt.alloc();
     for case in CASES.iter() {
         let trace = trace_of(machine, case.puts, case.rows)?;
-        let ran = finish(rt, machine, SMALL, case.workers, &trace, &Open)?;
-        assert!(rt; is_as_foretold(machine, case, &ran)?, "{:?}", case.leaves);
+        for readers in 0..=case.workers {
+            let ran = finish(rt, machine, SMALL, case.workers, readers, &trace, &Open)?;
+            assert!(rt; is_as_foretold(machine, case, &ran)?, "{:?}", case.leaves);
+        }
     }
     Ok(())
 }
@@ -156,11 +158,54 @@ fn two_workers_put_a_hundred_keys_each(rt: HostRuntime) -> Result<(), Fail> {
     let machine = rt.alloc();
     let trace = trace_of(machine, TWO_HUNDRED.puts, &[])?;
     for number in 0..20 {
-        let ran = finish(rt, machine, LARGE, 2, &trace, &Open)?;
+        let ran = finish(rt, machine, LARGE, 2, 0, &trace, &Open)?;
         assert!(rt;
             is_as_foretold(machine, &TWO_HUNDRED, &ran)?,
             "run {number}"
         );
+    }
+    Ok(())
+}
+
+/// The puts, with a look for its key behind every tenth of them.
+fn looking_trace(machine: Global, puts: &[Row]) -> Result<Vec<Row>, NoMemory> {
+    let mut trace = Vec::new(machine);
+    for row in puts {
+        trace.push(*row)?;
+        match row.act {
+            Act::Put { key, .. } if key % 10 == 0 => trace.push(Row {
+                worker: row.worker,
+                act: Act::Get { key },
+            })?,
+            _ => {}
+        }
+    }
+    Ok(trace)
+}
+
+/// Whether each put inserted its pair, and each look found the value that its own worker had put.
+fn are_answered(rows: &[Row], replies: &[Reply]) -> bool {
+    rows.len() == replies.len()
+        && rows.iter().zip(replies).all(|(row, reply)| match row.act {
+            Act::Get { key } => *reply == Reply::Get(Some(key)),
+            _ => *reply == INSERTED,
+        })
+}
+
+#[test]
+fn workers_with_readers_see_what_they_put(rt: HostRuntime) -> Result<(), Fail> {
+    let machine = rt.alloc();
+    let puts = trace_of(machine, TWO_HUNDRED.puts, &[])?;
+    let trace = looking_trace(machine, &puts)?;
+    assert_eq!(rt; trace.len(), 220);
+    for readers in 0..=2 {
+        for number in 0..20 {
+            let ran = finish(rt, machine, LARGE, 2, readers, &trace, &Open)?;
+            assert!(rt;
+                are_answered(&trace, &ran.replies),
+                "{readers} readers, run {number}"
+            );
+        }
     }
     Ok(())
 }
@@ -182,13 +227,15 @@ impl Gate for FirstCalls {
 #[test]
 fn workers_run_side_by_side(rt: HostRuntime) -> Result<(), Fail> {
     let machine = rt.alloc();
-    let gate = FirstCalls {
-        meeting: Meeting::new(),
-    };
     let short = Config { chain: 1, ..LARGE };
     let trace = trace_of(machine, TWO_HUNDRED.puts, &[])?;
-    let ran = finish(rt, machine, short, 2, &trace, &gate)?;
-    assert!(rt; gate.meeting.came_about());
-    assert!(rt; is_as_foretold(machine, &TWO_HUNDRED, &ran)?);
+    for readers in 0..=1 {
+        let gate = FirstCalls {
+            meeting: Meeting::new(),
+        };
+        let ran = finish(rt, machine, short, 2, readers, &trace, &gate)?;
+        assert!(rt; gate.meeting.came_about(), "{readers} readers");
+        assert!(rt; is_as_foretold(machine, &TWO_HUNDRED, &ran)?);
+    }
     Ok(())
 }

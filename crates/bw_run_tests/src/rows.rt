@@ -67,17 +67,18 @@ pub(crate) fn trace_of(machine: Global, puts: &[Puts], rows: &[Row]) -> Result<V
     Ok(trace)
 }
 
-/// Runs a trace without readers.
+/// Runs a trace, if it is one for so many workers.
 pub(crate) fn finish<R: Threads + Wait + Sync + Send + Copy, G: Gate + Sync>(
     rt: R,
     machine: Global,
     config: Config,
     workers: u32,
+    readers: u32,
     rows: &[Row],
     gate: &G,
 ) -> Result<Finished, RunFault> {
     if !is_trace_for(rows, workers) {
         return Err(RunFault::Workers);
     }
-    run(rt, machine, config, workers, 0, rows, gate)
+    run(rt, machine, config, workers, readers, rows, gate)
 }

@@ -22,5 +22,6 @@ pub record IsAskedFor (found : Found) (options : RunOptions) : Type 0 where
   pub pages : IsNumberFor found (codes "pages") options.config.pages
   pub tries : IsNumberFor found (codes "tries") options.config.tries
   pub workers : IsNumberFor found (codes "workers") options.workers
+  pub readers : IsNumberFor found (codes "readers") options.readers
   pub replies : IsFlagFor found (codes "replies") options.replies
   pub history : IsFlagFor found (codes "history") options.history

@@ -13,4 +13,4 @@ pub use bw_texts::{
     Act, History, MOST_HISTORY_ROWS, MOST_TRACE_ROWS, OutFault, Part, Row, TextFault, is_trace_for,
     make, read_history, read_trace, write_history, write_trace,
 };
-pub use program::command;
+pub use program::{command, tell_run_fault};

@@ -3,7 +3,7 @@
 ghost use Rattle.std.specs.Prelude.{◌≡◌, ◌≤◌, ◌⊎◌, IfOk, List, OnOk, Some, ℕ};
 ghost use Rattle.std.specs.Io.KnownBytes.{Appends};
 ghost use Rattle.bw_trace.specs.declared.program.Fault.TheVariants as program_fault;
-ghost use Rattle.bw_trace.specs.Statuses.{fault_of, status_of, verdict_status};
+ghost use Rattle.bw_trace.specs.Statuses.{fault_of, run_status, status_of, verdict_status};
 ghost use Rattle.bw_trace.specs.Verdicts.{IsVerdictOn, verdict_line};
 
 use crate::options::{Field, commands, ranged};
@@ -217,8 +217,14 @@ fn do_run<T: Threads + Wait + Sync + Send + Copy, R: Read + Drop, W: Write>(
 ) -> Result<u8, Fault>
     ensures { IfOk result (λ status. status ≤ 4) }
 {
-    let rows = read_trace(alloc, input, options.workers)?;
-    match run(rt, alloc, options.config, options.workers, 0, &rows, &Open) {
+    let RunOptions {
+        config,
+        workers,
+        readers,
+        ..
+    } = options;
+    let rows = read_trace(alloc, input, workers)?;
+    match run(rt, alloc, config, workers, readers, &rows, &Open) {
         Ok(finished) => print_run(alloc, options, output, &finished),
         Err(RunFault::Audit(worker, receipt)) => {
             print_verdict(output, Verdict::No(worker, receipt))
@@ -314,6 +320,13 @@ fn tell_usage<W: Write, E: Write>(output: &mut W, faults: &mut E, error: &clap::
 fn write_help<W: Write>(output: &mut W, help: &clap::Error) -> io::Result<()> {
     write!(output, "{help}")?;
     output.flush()
+}
+
+/// Tells why a run has no end to show, in the words of the program, and answers its exit status.
+pub fn tell_run_fault<E: Write>(faults: &mut E, fault: RunFault) -> u8
+    ensures { result ≡ run_status fault }
+{
+    tell(faults, &Fault::Run(fault))
 }
 
 fn tell<E: Write>(faults: &mut E, fault: &Fault) -> u8

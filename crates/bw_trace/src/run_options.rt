@@ -3,10 +3,12 @@
 ghost use Rattle.std.specs.Prelude.{◌≡◌, ◌≤◌, IfOk, None};
 ghost use Rattle.clap.specs.Words.{found_of};
 ghost use Rattle.bw_keys.specs.Limits.{first_bad_field};
+ghost use Rattle.bw_run.specs.Faults.{most_readers};
 ghost use Rattle.bw_trace.specs.Options.{IsAskedFor};
 
 use crate::options::{Field, option, ranged};
 use bw_keys::{Config, MAX_WORKERS};
+use bw_snap::MAX_READERS;
 use clap::{Arg, ArgAction, ArgMatches, Command};
 use std::alloc::{AllocError, Global};
 
@@ -16,6 +18,8 @@ pub(crate) struct RunOptions {
     pub config: Config,
     /// How many workers do the rows, 1 to 64.
     pub workers: u32,
+    /// How many of the workers have a reader, 0 to all of them and at most 16.
+    pub readers: u32,
     /// Whether the replies are printed, before the leaves.
     pub replies: bool,
     /// Whether the history is printed, in place of all else.
@@ -29,6 +33,7 @@ impl RunOptions {
         ensures config { IfOk result (λ options. first_bad_field options.config ≡ None) }
         ensures version { IfOk result (λ options. options.config.first_version ≡ 0) }
         ensures workers { IfOk result (λ options. (1 ≤ options.workers) × (options.workers ≤ MAX_WORKERS)) }
+        ensures readers { IfOk result (λ options. options.readers ≤ most_readers options.workers) }
     {
         let fanout = ranged(matches, "fanout", 4, 64, Field::Fanout)?;
         let chain = ranged(matches, "chain", 1, 32, Field::Chain)?;
@@ -36,8 +41,8 @@ impl RunOptions {
         let tries = ranged(matches, "tries", 1, 1000, Field::Tries)?;
         let most = u64::from(MAX_WORKERS);
         let workers = ranged(matches, "workers", 1, most, Field::Workers)?;
-        // There are no readers without the lock yet.
-        ranged(matches, "readers", 0, 0, Field::Readers)?;
+        let most = workers.min(u64::from(MAX_READERS));
+        let readers = ranged(matches, "readers", 0, most, Field::Readers)?;
         Ok(RunOptions {
             config: Config {
                 fanout: fanout as u32,
@@ -47,6 +52,7 @@ impl RunOptions {
                 first_version: 0,
             },
             workers: workers as u32,
+            readers: readers as u32,
             replies: matches.get_flag("replies"),
             history: matches.get_flag("history"),
         })
@@ -60,7 +66,7 @@ const NUMBERS: [(&str, &str, &str); 6] = [
     ("pages", "4096", "Pages at most, 8 to 65536"),
     ("tries", "1000", "Effort of one call at most, 1 to 1000"),
     ("workers", "1", "Workers who do the rows, 1 to 64"),
-    ("readers", "0", "Readers without the lock, none yet"),
+    ("readers", "0", "Workers who read without the lock, 0 to 16"),
 ];
 
 /// The command `run` with its options and defaults.

@@ -5,6 +5,8 @@
 #[cfg(test)]
 mod failing;
 #[cfg(test)]
+mod faults;
+#[cfg(test)]
 mod histories;
 #[cfg(test)]
 mod lines;

@@ -10,9 +10,11 @@ fn each_of_a_hundred_drawn_traces_ends_with_a_legal_history(rt: HostRuntime) -> 
         let seed = format!(in alloc; "--seed={seed}")?;
         let words = ["make", seed.as_str(), "--rows=1000", "--workers=4"];
         let trace = printed(&rt, &words, "")?;
-        let words = ["run", "--workers=4", "--fanout=4", "--chain=2"];
-        let output = printed(&rt, &words, trace.as_str())?;
-        assert!(rt; output.as_str().ends_with("audit yes\n"));
+        for readers in ["--readers=0", "--readers=4"] {
+            let words = ["run", "--workers=4", "--fanout=4", "--chain=2", readers];
+            let output = printed(&rt, &words, trace.as_str())?;
+            assert!(rt; output.as_str().ends_with("audit yes\n"));
+        }
     }
     Ok(())
 }
@@ -23,15 +25,21 @@ fn two_workers_put_a_hundred_keys_each(rt: HostRuntime) -> Result<(), Fail> {
     for key in 1..=100u32 {
         writeln!(trace, "0,put,{key},{key}")?;
         writeln!(trace, "1,put,{},{}", 100 + key, 100 + key)?;
+        if key % 10 == 0 {
+            writeln!(trace, "0,get,{key},\n1,get,{},", 100 + key)?;
+        }
     }
-    for _ in 0..20u32 {
-        let words = ["run", "--workers=2", "--fanout=4", "--chain=4"];
-        let output = printed(&rt, &words, trace.as_str())?;
-        let end = "inserted 200 removed 0 pairs 200\naudit yes\n";
-        assert!(rt; output.as_str().ends_with(end));
-        let history = printed(&rt, &["run", "--workers=2", "--history"], trace.as_str())?;
-        let verdict = printed(&rt, &["check"], history.as_str())?;
-        assert_eq!(rt; verdict.as_str(), "audit yes\n");
+    for readers in ["--readers=0", "--readers=1", "--readers=2"] {
+        for _ in 0..20u32 {
+            let words = ["run", "--workers=2", "--fanout=4", "--chain=4", readers];
+            let output = printed(&rt, &words, trace.as_str())?;
+            let end = "inserted 200 removed 0 pairs 200\naudit yes\n";
+            assert!(rt; output.as_str().ends_with(end));
+            let words = ["run", "--workers=2", "--history", readers];
+            let history = printed(&rt, &words, trace.as_str())?;
+            let verdict = printed(&rt, &["check"], history.as_str())?;
+            assert_eq!(rt; verdict.as_str(), "audit yes\n");
+        }
     }
     Ok(())
 }

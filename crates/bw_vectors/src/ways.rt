@@ -29,6 +29,8 @@ pub(crate) enum Way {
     Hand,
     /// The program's command.
     Program,
+    /// The program's command, with a reader.
+    Reader,
 }
 
 impl fmt::Display for Way {
@@ -37,12 +39,13 @@ impl fmt::Display for Way {
             Way::Alone => "alone",
             Way::Hand => "by hand",
             Way::Program => "by the program",
+            Way::Reader => "by the program with a reader",
         })
     }
 }
 
 impl Way {
-    pub(crate) const ALL: [Way; 3] = [Way::Alone, Way::Hand, Way::Program];
+    pub(crate) const ALL: [Way; 4] = [Way::Alone, Way::Hand, Way::Program, Way::Reader];
 
     /// Runs a trace in this way.
     pub(crate) fn run<R: Threads + Wait + Sync + Send + Copy>(
@@ -57,7 +60,8 @@ impl Way {
                 let config = vector.config()?;
                 run_by_hand::<Brand, Brand, _>(rt, alloc, config, Blanks::new(1), vector)
             }
-            Way::Program => run_by_program(rt, alloc, vector),
+            Way::Program => run_by_program(rt, alloc, vector, "--readers=0"),
+            Way::Reader => run_by_program(rt, alloc, vector, "--readers=1"),
         }
     }
 }
@@ -107,19 +111,21 @@ fn run_by_hand<I: MadeBy, D: Ledger, R: Wait + Drop>(
     Texts::new(alloc, replies, trail, &table)
 }
 
-/// What the program prints of the trace, under its options and one more word.
+/// What the program prints of the trace, under its options and two more words.
 fn printed<R: Threads + Wait + Sync + Send + Copy>(
     rt: R,
     alloc: Global,
     vector: &Vector,
-    word: &str,
+    readers: &str,
+    wanted: &str,
 ) -> Result<String> {
     let mut words = Vec::new(alloc);
     words.push("run")?;
     for option in vector.options.split_whitespace() {
         words.push(option)?;
     }
-    words.push(word)?;
+    words.push(readers)?;
+    words.push(wanted)?;
     let mut output = Vec::new(alloc);
     let mut faults = Vec::new(alloc);
     let status = command(
@@ -141,9 +147,10 @@ fn run_by_program<R: Threads + Wait + Sync + Send + Copy>(
     rt: R,
     alloc: Global,
     vector: &Vector,
+    readers: &str,
 ) -> Result<Texts> {
     Ok(Texts {
-        replies: printed(rt, alloc, vector, "--replies")?,
-        history: printed(rt, alloc, vector, "--history")?,
+        replies: printed(rt, alloc, vector, readers, "--replies")?,
+        history: printed(rt, alloc, vector, readers, "--history")?,
     })
 }

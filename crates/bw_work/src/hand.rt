@@ -1,8 +1,9 @@
 //! One worker's hand on a tree that others share.
 
-ghost use Rattle.std.specs.Prelude.{◌≡◌, []};
+ghost use Rattle.std.specs.Prelude.{◌≡◌, [], Some, Ok, OnOk, OnErr};
 ghost use Rattle.bw_step.specs.ProposalView.{proposal_of};
-ghost use Rattle.bw_procedures.specs.Seen.{Installed};
+ghost use Rattle.bw_procedures.specs.declared.steps.Keep.TheVariants as keeps;
+ghost use Rattle.bw_procedures.specs.Seen.{Installed, Looked};
 ghost use Rattle.bw_work.specs.Hands.{no_counts, seen_of, Sums};
 
 use crate::counts::Counts;
@@ -55,6 +56,24 @@ impl<'t, A: Allocator + Copy, S: Shared<A, Step<A>>, G: Gate> Hand<'t, A, S, G> 
             trail: Vec::new(machine),
             counts: Counts::default(),
         }
+    }
+
+    /// Puts a look that the worker had elsewhere behind the trail, as a receipt. For want of memory
+    /// the worker is as before.
+    pub fn note(&mut self, key: Key, look: Look) -> Result<(), NoMemory>
+        ensures share { Sums self.old.trail.items self.old.share self.new.trail.items self.new.share }
+        ensures seen { OnOk result (Looked keeps.Always key (Ok (Some look)) (seen_of self.old.config self.old.trail.items self.old.counts) (seen_of self.new.config self.new.trail.items self.new.counts)) }
+        ensures unseen { OnErr result (seen_of self.new.config self.new.trail.items self.new.counts ≡ seen_of self.old.config self.old.trail.items self.old.counts) }
+    {
+        if self.trail.reserve(1).is_err() {
+            return Err(NoMemory);
+        }
+        self.trail.push_reserved(Receipt::Looked {
+            at: look.at,
+            key,
+            found: look.found,
+        });
+        Ok(())
     }
 
     /// Gives the share and the trail out.

@@ -4,15 +4,21 @@ use Rattle.bw_run.specs.Told.{answers}
 use Rattle.bw_run.proofs.Gatherings.{answered_next, planned_first, planned_rest, sums_next}
 use Rattle.bw_run.proofs.gathering.gather.Goals as goal
 
-pub row_number-number-requires : goal.row_number-number-requires
-row_number-number-requires g c =
+pub fault_of-requires : goal.fault_of-requires
+fault_of-requires g c =
     let w = c.in-Some.worked in
     let split : c.loop-worked.worked-iterator.rest.items ≡ w ∷ c.next.new.self.rest.items = search rules in
     let first = planned_first (λ worked. worked.acts.items) c.loop-worked.worked-iterator.rest.items c.next.new.self.rest.items w (length c.loop-worked.trails.items) c.args.rows.now split c.loop-worked.invariant.planned in
-    let stopped : length w.replies.items < length w.acts.items = w.stopped c.in-Some-stop.fault c.in-Some-stop.is in
+    let stopped : length w.replies.items < length w.acts.items = w.stopped c.in-Some-stop.stop c.in-Some-stop.is in
     let worker = c.len-worker.ensures ∙ c.loop-worked.trails.ok.0 in
     let number = ap (λ k. length (acts_of k c.args.rows.now)) worker in
     omega (arith, stopped, c.len.ensures, w.replies.ok.0, ap length first, number)
+
+pub returns-in-Some-stop-clause-fault : goal.returns-in-Some-stop-clause-fault
+returns-in-Some-stop-clause-fault g c =
+    let split : c.loop-worked.worked-iterator.rest.items ≡ c.in-Some.worked ∷ c.next.new.self.rest.items = search rules in
+    let worker = c.len-worker.ensures ∙ c.loop-worked.trails.ok.0 in
+    c.fault_of.ensures (length c.args.all.items) (omega (arith, worker, ap length split, c.loop-worked.invariant.count))
 
 pub loop-worked-preserved : goal.loop-worked-preserved
 loop-worked-preserved g c =
