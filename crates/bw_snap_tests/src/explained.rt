@@ -30,6 +30,9 @@ const MORE_CALLS: u32 = 41;
 /// How often a reader looks at most while the writers write.
 const MOST_LOOKS: u32 = 10_000;
 
+/// How often it turns at most until they have ended, where they take longer.
+const MOST_TURNS: u64 = 1_000_000_000;
+
 /// What a thread was told: its receipts, those of a reader for its looks, and how many of its calls gave
 /// no answer.
 #[derive(Debug, Drop)]
@@ -39,6 +42,13 @@ struct Trail {
 }
 
 impl Trail {
+    fn new(machine: Global) -> Trail {
+        Trail {
+            receipts: Vec::new(machine),
+            unanswered: 0,
+        }
+    }
+
     fn count(&mut self, is_answered: bool) {
         if !is_answered {
             self.unanswered = self.unanswered.saturating_add(1);
@@ -57,6 +67,20 @@ struct Drawn {
 }
 
 impl Drawn {
+    fn have_ended(&self) -> bool {
+        self.ended.load(Ordering::SeqCst) == 2
+    }
+
+    /// Waits for the writers to end.
+    fn wait(&self) {
+        for _ in 0..MOST_TURNS {
+            if self.have_ended() {
+                break;
+            }
+            thread::yield_now();
+        }
+    }
+
     /// The generator of one of a run's four threads.
     fn dice(&self, thread: u32) -> Pcg32 {
         Pcg32::seed_from_u64(self.run.wrapping_mul(4).wrapping_add(u64::from(thread)))
@@ -77,10 +101,7 @@ impl Crew<Trail, Trail> for Drawn {
         let machine = self.machine;
         let mut rng = self.dice(worker);
         let mut hand = Hand::new(machine, machine, tree, share, worker, &Open);
-        let mut trail = Trail {
-            receipts: Vec::new(machine),
-            unanswered: 0,
-        };
+        let mut trail = Trail::new(machine);
         let calls = FEWEST_CALLS + rng.next_u32() % MORE_CALLS;
         for _ in 0..calls {
             let key = drawn_key(&mut rng);
@@ -103,32 +124,34 @@ impl Crew<Trail, Trail> for Drawn {
     fn read<N: Naming>(&self, reader: Reader<N>, number: u32) -> Trail {
         let mut reader = reader;
         let mut rng = self.dice(2u32.saturating_add(number));
-        let mut trail = Trail {
-            receipts: Vec::new(self.machine),
-            unanswered: 0,
-        };
+        let mut trail = Trail::new(self.machine);
         for _ in 0..MOST_LOOKS {
-            let is_last = self.ended.load(Ordering::SeqCst) == 2;
-            let key = drawn_key(&mut rng);
-            let is_told = match reader.look(key) {
-                Ok(look) => trail
-                    .receipts
-                    .push(Receipt::Looked {
-                        at: look.at,
-                        key,
-                        found: look.found,
-                    })
-                    .is_ok(),
-                Err(_) => false,
-            };
-            trail.count(is_told);
-            if is_last {
+            if self.have_ended() {
                 break;
             }
+            look(&mut reader, drawn_key(&mut rng), &mut trail);
             thread::yield_now();
         }
+        self.wait();
+        look(&mut reader, drawn_key(&mut rng), &mut trail);
         trail
     }
+}
+
+/// Looks the key up, and keeps what was found.
+fn look<N: Naming>(reader: &mut Reader<N>, key: Key, trail: &mut Trail) {
+    let is_told = match reader.look(key) {
+        Ok(look) => trail
+            .receipts
+            .push(Receipt::Looked {
+                at: look.at,
+                key,
+                found: look.found,
+            })
+            .is_ok(),
+        Err(_) => false,
+    };
+    trail.count(is_told);
 }
 
 /// A change: its number, its key, and what the key has after it.
