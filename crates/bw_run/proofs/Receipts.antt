@@ -1,5 +1,5 @@
 -- What one more receipt tells.
-use Rattle.std.proofs.Common.{◌≡◌, ℕ, zero, suc, ◌<◌, List, [], ◌∷◌, ◌++◌, length, get_or, Option, Some, Ok, Err, refl, ap, sym, ◌∙◌, map, arith}
+use Rattle.std.proofs.Common.{◌≡◌, ℕ, zero, suc, ◌<◌, List, [], ◌∷◌, ◌++◌, length, get_or, Option, Some, None, Ok, Err, refl, ap, sym, subst, ◌∙◌, map, arith}
 use Rattle.bw_step.specs.declared.receipt.Receipt.{Receipt}
 use Rattle.bw_step.specs.declared.receipt.Receipt.TheVariants.{Inserted, Deleted, Looked, Shaped}
 use Rattle.std.specs.Prelude.{IfOk, Result}
@@ -13,7 +13,7 @@ use Rattle.bw_procedures.specs.Seen.{Seen}
 use Rattle.bw_procedures.specs.Writing.{AddsReceipt, IsReceiptOfPut, IsReceiptOfDelete}
 use Rattle.bw_step.specs.declared.view.Look.{Look}
 use Rattle.bw_run.specs.declared.reply.Reply.{Reply}
-use Rattle.bw_run.specs.Reads.{IsReadBy}
+use Rattle.bw_run.specs.Reads.{IsReadBy, IsReadByOwn, IsFoundBy}
 use Rattle.bw_texts.specs.declared.row.Act.{Act}
 use Rattle.bw_texts.specs.declared.row.Act.TheVariants as acts
 use Rattle.bw_run.specs.Told.{Told, inserted, removed, looked, tellings, told_of, told_of_put, told_of_delete, answers}
@@ -81,6 +81,19 @@ pub reads_tell : {E : Type 0} → (result : Result Reply E) (reads : Look → Ty
     → IfOk result (λ reply. map Some (tellings new) ≡ map Some (tellings old) ++ told_of act reply ∷ [])
 reads_tell (Ok reply) reads key act old new asked is = rw (asked, is.2) (get_tells key is.0.found old new (is.0.at, is.3))
 reads_tell (Err fault) reads key act old new asked is = tt
+
+-- what was found by the reader there is, and kept, is read by it
+pub read_by_own : {R E : Type 0} → (result : Result Reply E) (reads : R → ℕ → Look → Type 0) (reader : Option R) (key : ℕ) (look : Look) (act : Act) (old new : List Receipt) → act ≡ acts.Get key → IsFoundBy reads reader key (Some look)
+    → IfOk result (IsReadBy (λ (it : Look). it ≡ look) key old new) → IfOk result (IsReadByOwn reads reader act old new)
+read_by_own (Ok reply) reads (Some reader) key look act old new asked found is =
+    rw asked (is.0, subst (λ (it : Look). reads reader key it) (sym is.1) found, is.2, is.3)
+read_by_own (Ok reply) reads None key look act old new asked found is = absurd found
+read_by_own (Err fault) reads reader key look act old new asked found is = tt
+
+-- where there is no reader, none answered
+pub read_by_none : {R : Type 0} → (reads : R → ℕ → Look → Type 0) (reader : Option R) (key : ℕ) (act : Act) (old new : List Receipt) (reply : Reply) → act ≡ acts.Get key → IsFoundBy reads reader key None → IsReadByOwn reads reader act old new reply
+read_by_none reads (Some reader) key act old new reply asked found = absurd found
+read_by_none reads None key act old new reply asked found = tt
 
 -- one more reply
 pub answers_more : (acts : List Act) (replies : List Reply) (reply : Reply) (place : ℕ) (d : Act) → length replies ≡ place → place < length acts

@@ -14,6 +14,12 @@ handed_out zero readers = []
 handed_out (suc n) [] = None ∷ handed_out n []
 handed_out (suc n) (reader ∷ readers) = Some reader ∷ handed_out n readers
 
+-- what a reader found at the key, if there is a reader
+abbrev pub IsFoundBy : {R : Type 0} → (R → ℕ → Look → Type 0) → Option R → ℕ → Option Look → Type 0
+IsFoundBy reads (Some reader) key (Some look) = reads reader key look
+IsFoundBy reads None key None = Unit {0}
+IsFoundBy reads reader key look = ⊥
+
 -- the reply tells what the reader found, and the receipt of that look is the one that was added
 abbrev pub IsReadBy : (Look → Type 0) → ℕ → List Receipt → List Receipt → Reply → Type 0
 IsReadBy reads key old new reply = (look : Look) × reads look × (reply ≡ replies.Get look.found) × (new ≡ old ++ Looked look.at key look.found ∷ [])

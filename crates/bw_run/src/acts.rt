@@ -10,7 +10,7 @@ use crate::reply::Reply;
 use crate::run_tree::RunTree;
 use crate::stop::Stop;
 use bw_keys::Key;
-use bw_step::Step;
+use bw_step::{Look, Step};
 use bw_texts::Act;
 use bw_work::{Fault, Gate, Hand, Steps, delete, get, put};
 use std::alloc::Global;
@@ -77,26 +77,24 @@ fn do_row<T: RunTree, G: Gate>(
     ensures read { IfOk result (IsReadByOwn T.reads reader.new act hand.old.trail.items hand.new.trail.items) }
 {
     match act {
-        Act::Get { key } => match reader {
-            Some(reader) => read(tree, hand, reader, key),
+        Act::Get { key } => match tree.read(reader, key)? {
+            Some(look) => keep::<T, G>(hand, key, look),
             None => Ok(do_act(hand, act)?),
         },
         Act::Put { .. } | Act::Delete { .. } => Ok(do_act(hand, act)?),
     }
 }
 
-/// Looks the key up by the reader, and keeps the look as a receipt.
-fn read<T: RunTree, G: Gate>(
-    tree: &T,
+/// Keeps a reader's look as a receipt, and replies it.
+fn keep<T: RunTree, G: Gate>(
     hand: &mut Hand<'_, Global, T, G>,
-    reader: &mut T::Reader,
     key: Key,
+    look: Look,
 ) -> Result<Reply, Stop<T::Closed>>
     ensures follows { Sums hand.old.trail.items hand.old.share hand.new.trail.items hand.new.share }
-    ensures read { IfOk result (IsReadBy (T.reads reader.new key) key hand.old.trail.items hand.new.trail.items) }
+    ensures kept { IfOk result (IsReadBy (λ it. it ≡ look) key hand.old.trail.items hand.new.trail.items) }
     ensures nothing { OnErr result (hand.new.trail.items ≡ hand.old.trail.items) }
 {
-    let look = tree.read(reader, key)?;
     hand.note(key, look)?;
     Ok(Reply::Get(look.found))
 }

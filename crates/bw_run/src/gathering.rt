@@ -76,9 +76,9 @@ fn fault_of<T: RunTree>(
     requires { before < length (acts_of worker rows.now) }
     ensures { (workers : ℕ) → worker < workers → StopsWithin T.may_close workers rows.now result }
 {
-    match stop {
-        Stop::Fault(fault) => RunFault::Stopped(worker, row_number(rows, worker, before), fault),
-        Stop::Closed(closed) => T::closed(closed),
+    match T::call_fault(stop) {
+        Some(fault) => RunFault::Stopped(worker, row_number(rows, worker, before), fault),
+        None => RunFault::NoReader,
     }
 }
 

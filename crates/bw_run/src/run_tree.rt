@@ -1,15 +1,15 @@
 //! The trees that a run may work on, and how their readers are answered.
 
-ghost use Rattle.std.specs.Prelude.{◌≡◌, IfOk};
+ghost use Rattle.std.specs.Prelude.{◌≡◌, true, false, IfOk, IfNone};
 ghost use Rattle.bw_snap.specs.Answers.{IsLookIn};
 ghost use Rattle.bw_snap.specs.Snapshots.{BeginsWith};
 
-use crate::fault::RunFault;
 use crate::stop::Stop;
 use bw_keys::Key;
 use bw_snap::{Closed, Naming, ReadTree, Reader, Stamp};
 use bw_step::{Look, Step};
 use bw_tree::{MadeBy, Shared, Tree};
+use bw_work::Fault;
 use std::alloc::Global;
 use std::convert::Infallible;
 use std::sync::Wait;
@@ -17,9 +17,9 @@ use std::sync::ledger::Ledger;
 
 /// A tree that the workers of a run share, and what reads it without its lock.
 pub(crate) trait RunTree: Shared<Global, Step<Global>> {
-    ghost use Rattle.std.specs.Prelude.{◌≡◌, ℕ, Bool, true, IfOk};
+    ghost use Rattle.std.specs.Prelude.{◌≡◌, ℕ, Bool, true, IfOk, IfNone};
     ghost use Rattle.bw_step.specs.declared.view.Look.{Look};
-    ghost use Rattle.bw_run.specs.declared.fault.RunFault.TheVariants as run_fault;
+    ghost use Rattle.bw_run.specs.Reads.{IsFoundBy};
 
     /// What reads the tree without its lock.
     type Reader: Drop;
@@ -33,15 +33,18 @@ pub(crate) trait RunTree: Shared<Global, Step<Global>> {
     // a reader may find nothing to read
     ghost may_close: { Bool };
 
-    /// What the map has at the key, after all that the calling thread has changed, and how many
-    /// changes that is after.
-    fn read(&self, reader: &mut Self::Reader, key: Key) -> Result<Look, Stop<Self::Closed>>
-        ensures { IfOk result (reads reader.new key) };
+    /// What the reader, if there is one, finds at the key, after all that the calling thread has
+    /// changed.
+    fn read(
+        &self,
+        reader: &mut Option<Self::Reader>,
+        key: Key,
+    ) -> Result<Option<Look>, Stop<Self::Closed>>
+        ensures { IfOk result (IsFoundBy reads reader.new key) };
 
-    /// The fault of a run whose reader found nothing to read.
-    fn closed(closed: Self::Closed) -> RunFault
-        ensures fault { result ≡ run_fault.NoReader }
-        ensures may { may_close ≡ true };
+    /// The fault that a worker's call ended with. None where its reader found nothing to read.
+    fn call_fault(stop: Stop<Self::Closed>) -> Option<Fault>
+        ensures { IfNone result (may_close ≡ true) };
 }
 
 /// All reads of this tree take its lock: it has no readers.
@@ -56,12 +59,24 @@ impl<R: Wait + Drop, I: MadeBy, D: Ledger> RunTree for Tree<R, Global, I, D> {
 
     ghost may_close = { false };
 
-    fn read(&self, reader: &mut Infallible, _key: Key) -> Result<Look, Stop<Infallible>> {
-        match *reader {}
+    fn read(
+        &self,
+        reader: &mut Option<Infallible>,
+        _key: Key,
+    ) -> Result<Option<Look>, Stop<Infallible>> {
+        match reader {
+            Some(never) => match *never {},
+            None => Ok(None),
+        }
     }
 
-    fn closed(closed: Infallible) -> RunFault {
-        match closed {}
+    fn call_fault(stop: Stop<Infallible>) -> Option<Fault>
+        ensures { IfNone result (false ≡ true) }
+    {
+        match stop {
+            Stop::Fault(fault) => Some(fault),
+            Stop::Closed(never) => match never {},
+        }
     }
 }
 
@@ -78,16 +93,24 @@ impl<R: Wait + Copy, N: Naming, D: Ledger> RunTree for ReadTree<R, N, D> {
 
     ghost may_close = { true };
 
-    fn read(&self, reader: &mut Reader<N>, key: Key) -> Result<Look, Stop<Closed>> {
+    fn read(&self, reader: &mut Option<Reader<N>>, key: Key) -> Result<Option<Look>, Stop<Closed>> {
+        let Some(reader) = reader else {
+            return Ok(None);
+        };
         let stamp = self.publish()?;
         match look_after(reader, stamp, key) {
-            Ok(look) => Ok(look),
+            Ok(look) => Ok(Some(look)),
             Err(closed) => Err(Stop::Closed(closed)),
         }
     }
 
-    fn closed(_closed: Closed) -> RunFault {
-        RunFault::NoReader
+    fn call_fault(stop: Stop<Closed>) -> Option<Fault>
+        ensures { IfNone result (true ≡ true) }
+    {
+        match stop {
+            Stop::Fault(fault) => Some(fault),
+            Stop::Closed(_) => None,
+        }
     }
 }
 
