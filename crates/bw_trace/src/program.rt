@@ -297,10 +297,7 @@ fn check<R: Read + Drop>(alloc: Global, input: R) -> Result<Verdict, Fault>
 fn write_verdict<W: Write>(output: &mut W, verdict: Verdict) -> io::Result<()>
     ensures { OnOk result (Appends (W.contents output.old) (W.contents output.new) (verdict_line verdict)) }
 {
-    match verdict {
-        Verdict::Yes => writeln!(output, "audit yes"),
-        Verdict::No(worker, place) => writeln!(output, "audit no {worker} {place}"),
-    }
+    writeln!(output, "audit {verdict}")
 }
 
 /// Where the words ask for help it is the result, and otherwise the usage is the fault.

@@ -1,7 +1,6 @@
 //! What the program prints of a run that came to its end.
 
 use bw_run::{Finished, Reply};
-use bw_step::Survey;
 use bw_texts::OutFault;
 use std::alloc::Global;
 use std::io;
@@ -22,7 +21,7 @@ pub(crate) fn write_report<W: Write>(
     if has_replies {
         write_replies(&mut lines, &finished.replies)?;
     }
-    write_survey(&mut lines, &survey)?;
+    writeln!(lines, "{survey}")?;
     lines.flush()?;
     Ok(())
 }
@@ -33,18 +32,4 @@ fn write_replies<W: Write>(output: &mut W, replies: &[Reply]) -> io::Result<()> 
         writeln!(output, "{reply}")?;
     }
     Ok(())
-}
-
-fn write_survey<W: Write>(output: &mut W, survey: &Survey) -> io::Result<()> {
-    let mut pairs = 0u64;
-    for leaf in &survey.leaves {
-        let (low, high, count) = (leaf.range.low, leaf.range.high, leaf.count);
-        writeln!(output, "{low} {high} {count}")?;
-        pairs = pairs.saturating_add(count);
-    }
-    let (inserted, removed) = (survey.book.inserted, survey.book.removed);
-    writeln!(
-        output,
-        "inserted {inserted} removed {removed} pairs {pairs}"
-    )
 }
