@@ -7,12 +7,12 @@ use Rattle.bw_step.specs.declared.receipt.Receipt.{Receipt}
 use Rattle.bw_step.specs.declared.receipt.Receipt.TheVariants.{Inserted, Deleted, Looked, Shaped}
 use Rattle.bw_step.specs.declared.survey.Book.{Book}
 use Rattle.bw_tree.specs.Shares.{book_of, counted, no_changes, sum_of}
-use Rattle.bw_run.specs.declared.reply.Reply.{Reply}
-use Rattle.bw_texts.specs.declared.row.Act.{Act}
+use Rattle.bw_procedures.specs.declared.reply.Reply.{Reply}
+use Rattle.bw_procedures.specs.declared.act.Act.{Act}
 use Rattle.bw_texts.specs.declared.row.Row.{Row}
 use Rattle.bw_run.specs.Counts.{insertions, removals}
 use Rattle.bw_run.specs.Rows.{AreAnswered, acts_of}
-use Rattle.bw_run.specs.Told.{answers, tellings}
+use Rattle.bw_procedures.specs.Told.{answers, tellings}
 
 each_more : {S T : Type 0} → (P : ℕ → List S → List T → Type 0) (xs : List (List S)) (ys : List (List T)) (x : List S) (y : List T) → length ys ≡ length xs
     → ((place : ℕ) → place < length xs → P place (get_or xs place []) (get_or ys place [])) → P (length xs) x y

@@ -2,11 +2,11 @@
 use Rattle.std.proofs.Common.{◌≡◌, ℕ, ◌<◌, ◌==◌, Bool, true, false, List, [], ◌∷◌, ◌++◌, length, Option, refl, ap, sym, ◌∙◌, append_assoc, append-nil, arith}
 use Rattle.std.specs.Prelude.{if◌then◌else◌}
 use Rattle.std.proofs.lemmas.Bool.Decides.{nat_tests}
-use Rattle.bw_run.specs.declared.reply.Reply.{Reply}
-use Rattle.bw_texts.specs.declared.row.Act.{Act}
+use Rattle.bw_procedures.specs.declared.reply.Reply.{Reply}
+use Rattle.bw_procedures.specs.declared.act.Act.{Act}
 use Rattle.bw_texts.specs.declared.row.Row.{Row}
 use Rattle.bw_run.specs.Rows.{acts_of, told_to}
-use Rattle.bw_run.specs.Told.{Told, told_of, answers}
+use Rattle.bw_procedures.specs.Told.{Told, told_of, answers}
 
 -- an item that stands there or doesn't
 joined_if : {T : Type 0} → (own : Bool) (x : T) (xs ys : List T) → (if own then x ∷ (xs ++ ys) else xs ++ ys) ≡ (if own then x ∷ xs else xs) ++ ys

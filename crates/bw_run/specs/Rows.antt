@@ -1,10 +1,10 @@
 -- A trace as its workers see it.
 use Rattle.std.specs.Prelude.{◌≡◌, ℕ, ◌-◌, ◌<◌, ◌≤◌, ◌==◌, if◌then◌else◌, List, [], ◌∷◌, ◌++◌, Option, Some, length, map, slice_index_or}
 use Rattle.bw_step.specs.declared.receipt.Receipt.{Receipt}
-use Rattle.bw_run.specs.declared.reply.Reply.{Reply}
-use Rattle.bw_texts.specs.declared.row.Act.{Act}
+use Rattle.bw_procedures.specs.declared.reply.Reply.{Reply}
+use Rattle.bw_procedures.specs.declared.act.Act.{Act}
 use Rattle.bw_texts.specs.declared.row.Row.{Row}
-use Rattle.bw_run.specs.Told.{Told, told_of, tellings, answers}
+use Rattle.bw_procedures.specs.Told.{Told, told_of, tellings, answers}
 
 -- the acts of a worker's rows, in their order
 abbrev pub acts_of : ℕ → List Row → List Act

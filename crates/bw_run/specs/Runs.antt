@@ -5,11 +5,11 @@ use Rattle.bw_law.specs.Tables.{TableValue}
 use Rattle.bw_table.specs.Views.{ArePairsOf}
 use Rattle.bw_tree.specs.Trees.{IsTree}
 use Rattle.bw_audit.specs.Legal.{IsLegal}
-use Rattle.bw_run.specs.declared.reply.Reply.{Reply}
+use Rattle.bw_procedures.specs.declared.reply.Reply.{Reply}
 use Rattle.bw_texts.specs.declared.row.Row.{Row}
 use Rattle.bw_run.specs.Counts.{CountsChanges}
 use Rattle.bw_run.specs.Rows.{told_to}
-use Rattle.bw_run.specs.Told.{tellings}
+use Rattle.bw_procedures.specs.Told.{tellings}
 
 -- the replies and the trails are of the rows, and the trails explain the table
 pub record IsRunOf (workers : ℕ) (rows : List Row) (table : TableValue) (replies : List Reply) (trails : List (List Receipt)) : Type 0 where

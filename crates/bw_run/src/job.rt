@@ -4,15 +4,14 @@ ghost use Rattle.std.specs.Prelude.{◌≡◌, ◌+◌, ◌<◌, ◌≤◌, ◌^
 ghost use Rattle.std.specs.Option.{ForNone, ForSome};
 ghost use Rattle.bw_tree.specs.Shares.{no_changes, counted};
 ghost use Rattle.bw_run.specs.Reads.{handed_out};
-ghost use Rattle.bw_run.specs.Told.{answers, tellings};
+ghost use Rattle.bw_procedures.specs.Told.{answers, tellings};
 
 use crate::acts::do_acts;
-use crate::reply::Reply;
 use crate::run_tree::RunTree;
 use crate::stop::Stop;
 use bw_delta::NoMemory;
+use bw_procedures::{Act, Reply};
 use bw_step::Receipt;
-use bw_texts::Act;
 use bw_tree::Share;
 use bw_work::{Gate, Hand};
 use std::alloc::Global;

@@ -10,7 +10,7 @@ ghost use Rattle.bw_run.specs.Counts.{CountsChanges};
 ghost use Rattle.bw_run.specs.Faults.{IsRunFault, MayRun};
 ghost use Rattle.bw_run.specs.Rows.{told_to};
 ghost use Rattle.bw_run.specs.Runs.{IsRunOf};
-ghost use Rattle.bw_run.specs.Told.{tellings};
+ghost use Rattle.bw_procedures.specs.Told.{tellings};
 
 use crate::ending::{Finished, finish};
 use crate::fault::RunFault;

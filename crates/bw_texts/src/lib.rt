@@ -15,10 +15,11 @@ mod text;
 mod trace;
 mod trace_row;
 
+pub use bw_procedures::Act;
 pub use fault::{OutFault, TextFault};
 pub use history::{History, MOST_HISTORY_ROWS, read_history};
 pub use made::make;
 pub use part::Part;
 pub use record::write_history;
-pub use row::{Act, Row, is_trace_for};
+pub use row::{Row, is_trace_for};
 pub use trace::{MOST_TRACE_ROWS, read_trace, write_trace};

@@ -5,8 +5,9 @@ ghost use Rattle.rand_core.specs.Pcg32Seed.{pcg32_seed};
 ghost use Rattle.rand_pcg.specs.Pcg.{pcg32, pcg32_of_seed};
 ghost use Rattle.bw_texts.specs.Made.{row_drawn, rows_drawn};
 
-use crate::row::{Act, Row};
+use crate::row::Row;
 use bw_delta::NoMemory;
+use bw_procedures::Act;
 use rand_core::SeedableRng;
 use rand_core::utils::NextWord;
 use rand_pcg::Pcg32;

@@ -3,18 +3,7 @@
 ghost use Rattle.std.specs.Prelude.{◌≡◌, ◌<◌, ◌↔◌, true};
 ghost use Rattle.std.specs.List.{AllByRecursion};
 
-use bw_keys::Key;
-
-/// What a row of a trace asks a worker to do.
-#[derive(Clone, Copy, Debug, PartialEq, Eq, Hash)]
-pub enum Act {
-    /// Give the key the value, if it has none.
-    Put { key: Key, value: u64 },
-    /// Say what the key has.
-    Get { key: Key },
-    /// Take the key out.
-    Delete { key: Key },
-}
+use bw_procedures::Act;
 
 /// A row of a trace: what one worker is to do.
 #[derive(Clone, Copy, Debug, PartialEq, Eq, Hash)]

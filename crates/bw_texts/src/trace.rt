@@ -10,9 +10,10 @@ ghost use Rattle.bw_texts.specs.Written.{IsBetween, fields_of_row, flexible_writ
 
 use crate::fault::{OutFault, TextFault};
 use crate::output::{finish, put_record, start};
-use crate::row::{Act, Row};
+use crate::row::Row;
 use crate::text::{next_record, open};
 use crate::trace_row::read_row;
+use bw_procedures::Act;
 use csv::{ByteRecord, Writer};
 use itoa::Buffer;
 use std::alloc::Global;

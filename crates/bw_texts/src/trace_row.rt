@@ -6,8 +6,9 @@ ghost use Rattle.bw_texts.specs.Rows.{act_of, op_of, row_of, row_of_fields};
 
 use crate::number::{field, number, worker};
 use crate::part::Part;
-use crate::row::{Act, Row};
+use crate::row::Row;
 use bw_keys::Key;
+use bw_procedures::Act;
 use csv::ByteRecord;
 
 /// The row that a record of four fields writes, or its first faulty part.

@@ -1,8 +1,8 @@
 use Rattle.std.proofs.Common.{◌≡◌, ◌∷◌, ◌++◌, [], ◌∙◌, ap, sym, List, Option, length, get_or, arith}
-use Rattle.bw_texts.specs.declared.row.Act.{Act}
-use Rattle.bw_texts.specs.declared.row.Act.TheVariants as acts
+use Rattle.bw_procedures.specs.declared.act.Act.{Act}
+use Rattle.bw_procedures.specs.declared.act.Act.TheVariants as acts
 use Rattle.bw_work.specs.Hands.{sums_join}
-use Rattle.bw_run.specs.Told.{Told, answers, told_of}
+use Rattle.bw_procedures.specs.Told.{Told, answers, told_of}
 use Rattle.bw_run.proofs.Receipts.{answers_more}
 use Rattle.bw_run.proofs.acts.do_acts.Goals as goal
 

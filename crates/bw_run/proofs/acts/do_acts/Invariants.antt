@@ -1,7 +1,7 @@
 use Rattle.std.proofs.Common.{◌≡◌, ◌≤◌, Some, length, map, vec_len}
 use Rattle.std.specs.Prelude.{vec_capacity}
 use Rattle.bw_work.specs.Hands.{Sums}
-use Rattle.bw_run.specs.Told.{answers, tellings}
+use Rattle.bw_procedures.specs.Told.{answers, tellings}
 use Rattle.bw_run.proofs.acts.do_acts.Given as goal
 
 abbrev pub invariant-loop-act : goal.invariant-loop-act

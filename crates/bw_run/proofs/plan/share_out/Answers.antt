@@ -1,6 +1,6 @@
 use Rattle.std.proofs.Common.{◌≡◌, ◌∷◌, ◌++◌, ◌+◌, List, [], ◌∙◌, ap, sym, drop, get_or, map}
 use Rattle.std.proofs.lemmas.List.{drop_more}
-use Rattle.bw_texts.specs.declared.row.Act.TheVariants as acts
+use Rattle.bw_procedures.specs.declared.act.Act.TheVariants as acts
 use Rattle.bw_texts.specs.declared.row.Row.{Row}
 use Rattle.bw_run.specs.Rows.{acts_of}
 use Rattle.bw_run.proofs.Plans.{plan_step}

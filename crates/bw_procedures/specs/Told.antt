@@ -6,10 +6,10 @@ use Rattle.bw_procedures.specs.declared.reply.Del.{Del}
 use Rattle.bw_procedures.specs.declared.reply.Del.TheVariants as dels
 use Rattle.bw_procedures.specs.declared.reply.Put.{Put}
 use Rattle.bw_procedures.specs.declared.reply.Put.TheVariants as puts
-use Rattle.bw_run.specs.declared.reply.Reply.{Reply}
-use Rattle.bw_run.specs.declared.reply.Reply.TheVariants as replies
-use Rattle.bw_texts.specs.declared.row.Act.{Act}
-use Rattle.bw_texts.specs.declared.row.Act.TheVariants as acts
+use Rattle.bw_procedures.specs.declared.reply.Reply.{Reply}
+use Rattle.bw_procedures.specs.declared.reply.Reply.TheVariants as replies
+use Rattle.bw_procedures.specs.declared.act.Act.{Act}
+use Rattle.bw_procedures.specs.declared.act.Act.TheVariants as acts
 
 -- a receipt without its place among the changes: the pair that was inserted, the pair that was taken out, or what a key was found to have
 pub data Told : Type 0 where

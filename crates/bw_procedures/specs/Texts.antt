@@ -5,8 +5,8 @@ use Rattle.bw_procedures.specs.declared.reply.Del.{Del}
 use Rattle.bw_procedures.specs.declared.reply.Del.TheVariants as dels
 use Rattle.bw_procedures.specs.declared.reply.Put.{Put}
 use Rattle.bw_procedures.specs.declared.reply.Put.TheVariants as puts
-use Rattle.bw_run.specs.declared.reply.Reply.{Reply}
-use Rattle.bw_run.specs.declared.reply.Reply.TheVariants as replies
+use Rattle.bw_procedures.specs.declared.reply.Reply.{Reply}
+use Rattle.bw_procedures.specs.declared.reply.Reply.TheVariants as replies
 
 abbrev pub put_text : Put → List ℕ
 put_text puts.Inserted = codes "inserted"
