@@ -1,5 +1,5 @@
 -- What one more receipt tells.
-use Rattle.std.proofs.Common.{◌≡◌, ℕ, zero, suc, ◌<◌, List, [], ◌∷◌, ◌++◌, length, get_or, Option, Some, Ok, Err, refl, ap, sym, ◌∙◌, map, arith}
+use Rattle.std.proofs.Common.{◌≡◌, ℕ, zero, suc, ◌<◌, List, [], ◌∷◌, ◌++◌, length, get_or, Option, Some, Ok, Err, refl, ap, sym, ◌∙◌, append_assoc, append-nil, arith}
 use Rattle.bw_step.specs.declared.receipt.Receipt.{Receipt}
 use Rattle.bw_step.specs.declared.receipt.Receipt.TheVariants.{Inserted, Deleted, Looked, Shaped}
 use Rattle.bw_procedures.specs.declared.fault.Fault.{Fault}
@@ -36,14 +36,9 @@ one_told : (old new : List Receipt) (receipt : Receipt) → plain new ≡ plain 
 one_told old new receipt more =
     sym (tellings-plain new) ∙ (ap tellings more ∙ (tellings-append (plain old) (receipt ∷ []) ∙ ap (λ (l : List Told). l ++ tellings (receipt ∷ [])) (tellings-plain old)))
 
-map_some-snoc : (xs : List Told) (x : Told) → map Some (xs ++ x ∷ []) ≡ map Some xs ++ Some x ∷ []
-map_some-snoc [] x = refl
-map_some-snoc (y ∷ ys) x = ap (λ (l : List (Option Told)). Some y ∷ l) (map_some-snoc ys x)
-
 adds : (old new : List Receipt) (receipt : Receipt) (told : Told) → plain new ≡ plain old ++ receipt ∷ [] → tellings (receipt ∷ []) ≡ told ∷ []
-    → map Some (tellings new) ≡ map Some (tellings old) ++ Some told ∷ []
-adds old new receipt told more is =
-    ap (map Some) (one_told old new receipt more ∙ ap (λ (l : List Told). tellings old ++ l) is) ∙ map_some-snoc (tellings old) told
+    → tellings new ≡ tellings old ++ told ∷ []
+adds old new receipt told more is = one_told old new receipt more ∙ ap (λ (l : List Told). tellings old ++ l) is
 
 put_told : (key value : ℕ) (reply : Put) (receipt : Receipt) → IsReceiptOfPut key value reply receipt → tellings (receipt ∷ []) ≡ told_of_put key value reply ∷ []
 put_told key value puts.Inserted (Inserted number k v) is = rw (is.0, is.1) refl
@@ -56,28 +51,25 @@ delete_told key dels.NoKey (Looked seen k found) is = rw (is.0, is.1) refl
 delete_told key reply receipt is = absurd is
 
 pub put_tells : (key value : ℕ) (reply : Put) (old new : Seen) → AddsReceipt (IsReceiptOfPut key value) reply old new
-    → map Some (tellings new.trail) ≡ map Some (tellings old.trail) ++ Some (told_of_put key value reply) ∷ []
+    → tellings new.trail ≡ tellings old.trail ++ told_of_put key value reply ∷ []
 put_tells key value reply old new more = adds old.trail new.trail more.0 (told_of_put key value reply) more.1 (put_told key value reply more.0 more.2)
 
-pub delete_tells : (key : ℕ) (reply : Del) (old new : Seen) → AddsReceipt (IsReceiptOfDelete key) reply old new
-    → map Some (tellings new.trail) ≡ map Some (tellings old.trail) ++ Some (told_of_delete key reply) ∷ []
+pub delete_tells : (key : ℕ) (reply : Del) (old new : Seen) → AddsReceipt (IsReceiptOfDelete key) reply old new → tellings new.trail ≡ tellings old.trail ++ told_of_delete key reply ∷ []
 delete_tells key reply old new more = adds old.trail new.trail more.0 (told_of_delete key reply) more.1 (delete_told key reply more.0 more.2)
 
-pub get_tells : (key : ℕ) (found : Option ℕ) (old new : List Receipt) → AddsLook key (Ok found) old new
-    → map Some (tellings new) ≡ map Some (tellings old) ++ Some (looked key found) ∷ []
-get_tells key found old new more =
-    ap (λ (l : List Receipt). map Some (tellings l)) more.1
-    ∙ (ap (map Some) (tellings-append old (Looked more.0 key found ∷ [])) ∙ map_some-snoc (tellings old) (looked key found))
+pub get_tells : (key : ℕ) (found : Option ℕ) (old new : List Receipt) → AddsLook key (Ok found) old new → tellings new ≡ tellings old ++ looked key found ∷ []
+get_tells key found old new more = ap tellings more.1 ∙ tellings-append old (Looked more.0 key found ∷ [])
 
 pub get_none : (key : ℕ) (fault : Fault) (old new : List Receipt) → AddsLook key (Err fault) old new → tellings new ≡ tellings old
 get_none key fault old new same = ap tellings same
 
 -- one more reply
 pub answers_more : (acts : List Act) (replies : List Reply) (reply : Reply) (place : ℕ) (d : Act) → length replies ≡ place → place < length acts
-    → answers acts (replies ++ reply ∷ []) ≡ answers acts replies ++ told_of (get_or acts place d) reply ∷ []
+    → answers acts (replies ++ reply ∷ []) ≡ answers acts replies ++ told_of (get_or acts place d) reply
 answers_more [] replies reply place d at inside = absurd (omega arith)
-answers_more (act ∷ acts) [] reply zero d at inside = refl
+answers_more (act ∷ acts) [] reply zero d at inside = append-nil (told_of act reply)
 answers_more (act ∷ acts) [] reply (suc place) d at inside = absurd (omega arith)
 answers_more (act ∷ acts) (first ∷ replies) reply zero d at inside = absurd (omega arith)
 answers_more (act ∷ acts) (first ∷ replies) reply (suc place) d at inside =
-    ap (λ (l : List (Option Told)). told_of act first ∷ l) (answers_more acts replies reply place d (omega arith) (omega arith))
+    ap (λ (l : List Told). told_of act first ++ l) (answers_more acts replies reply place d (omega arith) (omega arith))
+    ∙ sym (append_assoc (told_of act first) (answers acts replies) (told_of (get_or acts place d) reply))

@@ -1,5 +1,5 @@
 -- What receipts tell, and what goes with the acts and their replies.
-use Rattle.std.specs.Prelude.{ℕ, List, [], ◌∷◌, Option, Some, None}
+use Rattle.std.specs.Prelude.{ℕ, List, [], ◌∷◌, ◌++◌, Option, Some, None}
 use Rattle.bw_step.specs.declared.receipt.Receipt.{Receipt}
 use Rattle.bw_step.specs.declared.receipt.Receipt.TheVariants.{Inserted, Deleted, Looked, Shaped}
 use Rattle.bw_procedures.specs.declared.reply.Del.{Del}
@@ -11,11 +11,13 @@ use Rattle.bw_procedures.specs.declared.reply.Reply.TheVariants as replies
 use Rattle.bw_procedures.specs.declared.act.Act.{Act}
 use Rattle.bw_procedures.specs.declared.act.Act.TheVariants as acts
 
--- a receipt without its place among the changes: the pair that was inserted, the pair that was taken out, or what a key was found to have
+-- a receipt without its place among the changes: the pair that was inserted, the pair that was taken out, or what a key was found to have.
+-- No receipt tells the last one, which goes with a reply to another kind of act
 pub data Told : Type 0 where
   inserted : ℕ → ℕ → Told
   removed : ℕ → ℕ → Told
   looked : ℕ → Option ℕ → Told
+  mismatched : Told
 
 -- what the receipts of a trail tell, in their order; those of changed shape tell nothing
 abbrev pub tellings : List Receipt → List Told
@@ -35,15 +37,15 @@ abbrev pub told_of_delete : ℕ → Del → Told
 told_of_delete key (dels.Removed value) = removed key value
 told_of_delete key dels.NoKey = looked key None
 
--- what the receipt of an act with this reply tells; none goes with a reply to another kind of act
-abbrev pub told_of : Act → Reply → Option Told
-told_of (acts.Put key value) (replies.Put done) = Some (told_of_put key value done.reply)
-told_of (acts.Delete key) (replies.Delete done) = Some (told_of_delete key done.reply)
-told_of (acts.Get key) (replies.Get found) = Some (looked key found)
-told_of act reply = None
+-- what the receipts of an act with this reply tell, in their order
+abbrev pub told_of : Act → Reply → List Told
+told_of (acts.Put key value) (replies.Put done) = told_of_put key value done.reply ∷ []
+told_of (acts.Delete key) (replies.Delete done) = told_of_delete key done.reply ∷ []
+told_of (acts.Get key) (replies.Get found) = looked key found ∷ []
+told_of act reply = mismatched ∷ []
 
 -- what goes with the acts that have a reply, in their order
-abbrev pub answers : List Act → List Reply → List (Option Told)
+abbrev pub answers : List Act → List Reply → List Told
 answers acts [] = []
 answers [] (reply ∷ replies) = []
-answers (act ∷ acts) (reply ∷ replies) = told_of act reply ∷ answers acts replies
+answers (act ∷ acts) (reply ∷ replies) = told_of act reply ++ answers acts replies
