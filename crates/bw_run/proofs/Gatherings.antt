@@ -9,7 +9,7 @@ use Rattle.bw_step.specs.declared.survey.Book.{Book}
 use Rattle.bw_tree.specs.Shares.{book_of, counted, no_changes, sum_of}
 use Rattle.bw_procedures.specs.declared.reply.Reply.{Reply}
 use Rattle.bw_procedures.specs.declared.act.Act.{Act}
-use Rattle.bw_texts.specs.declared.row.Row.{Row}
+use Rattle.bw_texts.specs.declared.trace.row.Row.{Row}
 use Rattle.bw_run.specs.Counts.{insertions, removals}
 use Rattle.bw_run.specs.Rows.{AreAnswered, acts_of}
 use Rattle.bw_procedures.specs.Told.{answers, tellings}

@@ -6,7 +6,7 @@ use Rattle.bw_table.specs.Views.{ArePairsOf}
 use Rattle.bw_tree.specs.Trees.{IsTree}
 use Rattle.bw_audit.specs.Legal.{IsLegal}
 use Rattle.bw_procedures.specs.declared.reply.Reply.{Reply}
-use Rattle.bw_texts.specs.declared.row.Row.{Row}
+use Rattle.bw_texts.specs.declared.trace.row.Row.{Row}
 use Rattle.bw_run.specs.Counts.{CountsChanges}
 use Rattle.bw_run.specs.Rows.{told_to}
 use Rattle.bw_procedures.specs.Told.{tellings}
