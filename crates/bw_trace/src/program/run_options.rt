@@ -6,7 +6,7 @@ ghost use Rattle.bw_keys.specs.Limits.{first_bad_field};
 ghost use Rattle.bw_run.specs.Faults.{most_readers};
 ghost use Rattle.bw_trace.specs.Options.{IsAskedFor};
 
-use crate::options::{Field, option, ranged};
+use crate::program::options::{Field, option, ranged};
 use bw_keys::{Config, MAX_WORKERS};
 use bw_snap::MAX_READERS;
 use clap::{Arg, ArgAction, ArgMatches, Command};
