@@ -3,12 +3,12 @@ use Rattle.bw_work.proofs.Calming.{look_is_calm}
 use Rattle.bw_work.proofs.Following.{looks_lead}
 use Rattle.bw_work.proofs.alone.AloneStepsStep.look.Goals as goal
 
-pub returns-in_ok-reserve-clause-follows : goal.returns-in_ok-reserve-clause-follows
-returns-in_ok-reserve-clause-follows g c =
+pub returns-clause-follows : goal.returns-clause-follows
+returns-clause-follows g c =
     (refl, refl, rw (c.looked.ensures, c.reserve.ensures.seen) (looks_lead c.args.self.now.table.now c.args.pid.0 c.args.key c.args.keep c.look-look.result c.args.self.now.account.seen.trail c.config-config.ensures.lawful (sym c.look-look.ensures.look)))
 
-pub returns-in_ok-reserve-clause-seen : goal.returns-in_ok-reserve-clause-seen
-returns-in_ok-reserve-clause-seen g c = rw (c.looked.ensures, c.reserve.ensures.seen) (record { config = refl; full = refl; tall = refl; worn = refl }, refl, refl)
+pub returns-clause-seen : goal.returns-clause-seen
+returns-clause-seen g c = rw (c.looked.ensures, c.reserve.ensures.seen) (record { config = refl; full = refl; tall = refl; worn = refl }, refl, refl)
 
-pub returns-in_ok-reserve-clause-calm : goal.returns-in_ok-reserve-clause-calm
-returns-in_ok-reserve-clause-calm g c has = look_is_calm c.args.self.now.table.now c.args.key c.args.pid.0 c.look-look.result (sym c.look-look.ensures.look) has
+pub returns-clause-calm : goal.returns-clause-calm
+returns-clause-calm g c has = look_is_calm c.args.self.now.table.now c.args.key c.args.pid.0 c.look-look.result (sym c.look-look.ensures.look) has
