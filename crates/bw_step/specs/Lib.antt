@@ -2,3 +2,4 @@ pub mod Stages
 pub mod Proposals
 pub mod ProposalView
 pub mod Steps
+pub mod Tellings

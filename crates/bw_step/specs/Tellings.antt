@@ -1,0 +1,44 @@
+-- What a receipt tells, by which trails, shares, histories and runs have it.
+use Rattle.std.specs.Prelude.{ℕ, List, [], ◌∷◌, ◌++◌, Option, Some, None}
+use Rattle.bw_step.specs.declared.receipt.Receipt.{Receipt}
+use Rattle.bw_step.specs.declared.receipt.Receipt.TheVariants.{Inserted, Deleted, Looked, Shaped}
+
+-- A receipt tells of the change of a key, with its number and with what the key had before it and has after it; or of a look, with the
+-- number of the changes that it saw and with what it found; or of a step of the tree's shape.
+pub data Telling : Type 0 where
+  change : (number key : ℕ) (before after : Option ℕ) → Telling
+  look : (at key : ℕ) (found : Option ℕ) → Telling
+  shape : Telling
+
+abbrev pub telling_of : Receipt → Telling
+telling_of (Inserted number key value) = change number key None (Some value)
+telling_of (Deleted number key value) = change number key (Some value) None
+telling_of (Looked at key found) = look at key found
+telling_of (Shaped kind page other) = shape
+
+-- what a caller is told: how a key changed, or what it was found to have
+pub data Told : Type 0 where
+  changed : (key : ℕ) (before after : Option ℕ) → Told
+  found : (key : ℕ) (value : Option ℕ) → Told
+
+-- a change of the shape tells a caller nothing
+abbrev pub told_by : Telling → List Told
+told_by (change number key before after) = changed key before after ∷ []
+told_by (look at key value) = found key value ∷ []
+told_by shape = []
+
+-- what callers are told by the receipts, in their order
+abbrev pub told_in : List Receipt → List Told
+told_in [] = []
+told_in (receipt ∷ rest) = told_by (telling_of receipt) ++ told_in rest
+
+-- the receipt, unless it is of a change of the shape
+abbrev pub unless_shape : Receipt → Telling → List Receipt
+unless_shape receipt (change number key before after) = receipt ∷ []
+unless_shape receipt (look at key value) = receipt ∷ []
+unless_shape receipt shape = []
+
+-- the receipts that tell of more than the tree's shape, in their order
+abbrev pub without_shapes : List Receipt → List Receipt
+without_shapes [] = []
+without_shapes (receipt ∷ rest) = unless_shape receipt (telling_of receipt) ++ without_shapes rest
