@@ -1,7 +1,7 @@
 -- Delete keeps the law and the book, and takes its one key out of the map.
-use Rattle.std.proofs.Common.{◌≡◌, ◌≢◌, ◌↔◌, ℕ, suc, ◌-◌, cond, eqb, length, set, Some, None, refl, sym, ◌∙◌, ap, subst, ⊎_elim, arith}
+use Rattle.std.proofs.Common.{◌≡◌, ◌≢◌, ◌↔◌, ℕ, suc, ◌+◌, ◌-◌, cond, eqb, length, set, Some, None, refl, sym, ◌∙◌, ap, arith}
 use Rattle.std.specs.Prelude.{unwrap_or}
-use Rattle.std.proofs.lemmas.Bool.{cases_eq, eq-eqb, ne_eqb}
+use Rattle.std.proofs.lemmas.Bool.{eq-eqb, ne_eqb}
 use Rattle.bw_keys.specs.Ranges.{end_of}
 use Rattle.bw_delta.specs.declared.chain.Delta.TheVariants.{Delete}
 use Rattle.bw_delta.specs.Entries.{at, without}
@@ -47,22 +47,22 @@ module _ (table : TableValue) (page seen key : ℕ) (law : Lawful table) (may : 
   others : (k v : ℕ) → k ≢ key → Maps (set table.slots page new) k v ↔ Maps table.slots k v
   others k v other = change.elsewhere k v (here k ∙ ap (λ b. cond b None (at k (leaf_pairs slot))) (ne_eqb k key other))
 
-  -- the key was there
-  there : Maps table.slots key (unwrap_or (at key (pairs_in slot)) 0)
-  there = (page, ap (at key) change.was ∙ may.present ∙ ap (λ o. Some (unwrap_or o 0)) (sym may.present))
+  -- the key had the value that is given back, and no other
+  given : at key (leaf_pairs slot) ≡ Some (unwrap_or (at key (pairs_in slot)) 0)
+  given = ap (at key) change.was ∙ may.present ∙ ap (λ o. Some (unwrap_or o 0)) (sym may.present)
 
-  -- the map has what it had but the key, and no more
-  to : (k v : ℕ) → Maps (set table.slots page new) k v → (k ≢ key) × Maps table.slots k v
-  to k v maps = ⊎_elim
-      (λ (same : k ≡ key). let found = (change.map_after v).0 (subst (λ x. Maps (set table.slots page new) x v) same maps) in absurd (cc (found, at_key)))
-      (λ (other : k ≢ key). (other, (others k v other).0 maps))
-      (cases_eq k key)
+  had : (v : ℕ) → (Some (unwrap_or (at key (pairs_in slot)) 0) ≡ Some v) ↔ Maps table.slots key v
+  had v = ((λ same. (page, given ∙ same)), (λ maps. sym given ∙ change.map_before v maps))
+
+  -- and has none
+  has : (v : ℕ) → (None ≡ Some v) ↔ Maps (set table.slots page new) key v
+  has v = ((λ none. absurd (cc none)), (λ maps. sym at_key ∙ (change.map_after v).0 maps))
 
   pub delete_keeps : Booked table → KeptBy table (delete page seen key)
   delete_keeps booked = record {
-    lawful = change.lawful (record table.book { removed = suc table.book.removed }) (omega (arith, law.bounds.number, may.change.number));
+    lawful = change.lawful (record table.book { removed = table.book.removed + 1 }) (omega (arith, law.bounds.number, may.change.number));
     booked =
         let own = law.pages page may.change.open_page.in_row in
         omega (arith, booked, count-set table.slots page new change.inside, ap length change.was, ap length change.is, length_less own.0 own.1, ap length (pairs_are slot own.0 own.1), ap (λ es. length (without key es)) (pairs_are slot own.0 own.1));
-    map = record { was_there = there; is_taken = λ k v. (to k v, (λ old. (others k v old.0).1 old.1)) };
+    map = record { had = had; has = has; others = others };
   }

@@ -1,6 +1,6 @@
 -- Insert keeps the law and the book, and adds its one pair to the map.
-use Rattle.std.proofs.Common.{◌≡◌, ◌≢◌, ◌⊎◌, ◌↔◌, ℕ, suc, cond, eqb, length, set, Some, refl, sym, ◌∙◌, ap, subst, inl, inr, ⊎_elim, arith}
-use Rattle.std.proofs.lemmas.Bool.{cases_eq, eq-eqb, ne_eqb}
+use Rattle.std.proofs.Common.{◌≡◌, ◌≢◌, ◌↔◌, ℕ, suc, ◌+◌, cond, eqb, length, set, Some, refl, sym, ◌∙◌, ap, arith}
+use Rattle.std.proofs.lemmas.Bool.{eq-eqb, ne_eqb}
 use Rattle.bw_delta.specs.declared.chain.Delta.TheVariants.{Insert}
 use Rattle.bw_delta.specs.Entries.{at}
 use Rattle.bw_delta.specs.Pairs.{pairs}
@@ -42,25 +42,13 @@ module _ (table : TableValue) (page seen key value : ℕ) (law : Lawful table) (
   others : (k v : ℕ) → k ≢ key → Maps (set table.slots page new) k v ↔ Maps table.slots k v
   others k v other = change.elsewhere k v (here k ∙ ap (λ b. cond b (Some value) (at k (leaf_pairs slot))) (ne_eqb k key other))
 
-  -- the map has what it had and the new pair, and no more
-  to : (k v : ℕ) → Maps (set table.slots page new) k v → ((k ≡ key) × (v ≡ value)) ⊎ Maps table.slots k v
-  to k v maps = ⊎_elim
-      (λ (same : k ≡ key). let found = (change.map_after v).0 (subst (λ x. Maps (set table.slots page new) x v) same maps) in inl (same, cc (found, at_key)))
-      (λ (other : k ≢ key). inr ((others k v other).0 maps))
-      (cases_eq k key)
-
-  back : (k v : ℕ) → ((k ≡ key) × (v ≡ value)) ⊎ Maps table.slots k v → Maps (set table.slots page new) k v
-  back k v either = ⊎_elim
-      (λ (pair : (k ≡ key) × (v ≡ value)). subst (λ (x : ℕ × ℕ). Maps (set table.slots page new) x.0 x.1) (λ i. (sym pair.0 i, sym pair.1 i)) ((change.map_after value).1 at_key))
-      (λ (old : Maps table.slots k v). ⊎_elim
-      (λ (same : k ≡ key). absurd (absent v (subst (λ x. Maps table.slots x v) same old)))
-      (λ (other : k ≢ key). (others k v other).1 old)
-      (cases_eq k key))
-      either
+  -- the key has the value, and no other
+  has : (v : ℕ) → (Some value ≡ Some v) ↔ Maps (set table.slots page new) key v
+  has v = ((λ same. (change.map_after v).1 (at_key ∙ same)), (λ maps. sym at_key ∙ (change.map_after v).0 maps))
 
   pub insert_keeps : Booked table → KeptBy table (insert page seen key value)
   insert_keeps booked = record {
-    lawful = change.lawful (record table.book { inserted = suc table.book.inserted }) (omega (arith, law.bounds.number, may.change.number));
+    lawful = change.lawful (record table.book { inserted = table.book.inserted + 1 }) (omega (arith, law.bounds.number, may.change.number));
     booked = omega (arith, booked, count-set table.slots page new change.inside, ap length change.was, ap length change.is, length-put key value (pairs_in slot) may.absent);
-    map = record { was_absent = absent; is_added = λ k v. (to k v, back k v) };
+    map = record { had = λ v. ((λ none. absurd (cc none)), (λ maps. absurd (absent v maps))); has = has; others = others };
   }

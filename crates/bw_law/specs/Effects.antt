@@ -14,8 +14,9 @@ use Rattle.bw_step.specs.declared.receipt.Receipt.TheVariants.{Inserted, Deleted
 use Rattle.bw_step.specs.declared.view.Stage.{Stage}
 use Rattle.bw_step.specs.declared.view.Stage.TheVariants.{Unposted, Posted, Marked, Merged}
 use Rattle.bw_step.specs.Proposals.{Proposal, insert, delete, consolidate, split, term_add, grow, mark, merge, term_delete}
+use Rattle.bw_step.specs.Tellings.{telling_of}
 use Rattle.bw_law.specs.Slots.{SlotValue, free_slot, pairs_in, last_number}
-use Rattle.bw_law.specs.Tables.{TableValue, slot_at, number_of}
+use Rattle.bw_law.specs.Tables.{TableValue, slot_at, number_of, book_with}
 use Rattle.bw_law.specs.Refusals.{new_id, all_but_last}
 
 -- the slot with a record more on its chain, and the count that this makes
@@ -86,46 +87,48 @@ freed free page version = if version == last_number then free else free ++ page 
 abbrev pub pid : ℕ → Pid
 pid page = record { 0 = page }
 
--- the table after an accepted step
-abbrev pub after : TableValue → Proposal → TableValue
-after table (insert page seen key value) =
+-- the slots after an accepted step
+abbrev pub slots_after : TableValue → Proposal → List SlotValue
+slots_after table (insert page seen key value) =
     let slot = slot_at table page in
-    record table { slots = slice_set table.slots page (with_record (Insert key value) (suc slot.count) slot); book = record table.book { inserted = suc table.book.inserted } }
-after table (delete page seen key) =
+    slice_set table.slots page (with_record (Insert key value) (suc slot.count) slot)
+slots_after table (delete page seen key) =
     let slot = slot_at table page in
-    record table { slots = slice_set table.slots page (with_record (Delete key) (slot.count - 1) slot); book = record table.book { removed = suc table.book.removed } }
-after table (consolidate page seen base) = record table { slots = slice_set table.slots page (consolidated base (slot_at table page)) }
-after table (split page seen separator base) =
+    slice_set table.slots page (with_record (Delete key) (slot.count - 1) slot)
+slots_after table (consolidate page seen base) = slice_set table.slots page (consolidated base (slot_at table page))
+slots_after table (split page seen separator base) =
     let slot = slot_at table page in
     let new = new_id table in
-    record table {
-      slots = slice_set (slice_set table.slots page (lower_half separator (pid new) base slot)) new (upper_half (slot_at table new).version separator base slot);
-      free = all_but_last table.free;
-    }
-after table (term_add parent parent_seen child child_seen) =
+    slice_set (slice_set table.slots page (lower_half separator (pid new) base slot)) new (upper_half (slot_at table new).version separator base slot)
+slots_after table (term_add parent parent_seen child child_seen) =
     let over = slot_at table parent in
     let under = slot_at table child in
-    record table { slots = slice_set (slice_set table.slots parent (with_record (TermAdd under.low (pid child)) (suc over.count) over)) child (with_stage Posted under) }
-after table (grow child seen base) =
+    slice_set (slice_set table.slots parent (with_record (TermAdd under.low (pid child)) (suc over.count) over)) child (with_stage Posted under)
+slots_after table (grow child seen base) =
     let new = new_id table in
-    record table {
-      slots = slice_set (slice_set table.slots child (with_stage Posted (slot_at table child))) new
-          (grown_root (slot_at table new).version (slot_at table table.root).level base);
-      root = new;
-      free = all_but_last table.free;
-    }
-after table (mark page seen parent) = record table { slots = slice_set table.slots page (marked (slot_at table page)) }
-after table (merge left left_seen page seen) =
+    slice_set (slice_set table.slots child (with_stage Posted (slot_at table child))) new
+    (grown_root (slot_at table new).version (slot_at table table.root).level base)
+slots_after table (mark page seen parent) = slice_set table.slots page (marked (slot_at table page))
+slots_after table (merge left left_seen page seen) =
     let into = slot_at table left in
     let slot = slot_at table page in
-    record table { slots = slice_set (slice_set table.slots left (joined into slot)) page (taken_in slot) }
-after table (term_delete parent parent_seen child child_seen) =
+    slice_set (slice_set table.slots left (joined into slot)) page (taken_in slot)
+slots_after table (term_delete parent parent_seen child child_seen) =
     let over = slot_at table parent in
     let under = slot_at table child in
-    record table {
-      slots = slice_set (slice_set table.slots parent (with_record (TermDelete under.low) (over.count - 1) over)) child (free_slot (suc under.version));
-      free = freed table.free child (suc under.version);
-    }
+    slice_set (slice_set table.slots parent (with_record (TermDelete under.low) (over.count - 1) over)) child (free_slot (suc under.version))
+
+-- a split and a grow take a free id, and a page whose term is taken out gives its own back
+abbrev pub free_after : TableValue → Proposal → List ℕ
+free_after table (split page seen separator base) = all_but_last table.free
+free_after table (grow child seen base) = all_but_last table.free
+free_after table (term_delete parent parent_seen child child_seen) = freed table.free child (suc (slot_at table child).version)
+free_after table step = table.free
+
+-- a grow makes a new root
+abbrev pub root_after : TableValue → Proposal → ℕ
+root_after table (grow child seen base) = new_id table
+root_after table step = table.root
 
 abbrev pub receipt_of : TableValue → Proposal → Receipt
 receipt_of table (insert page seen key value) = Inserted (suc (number_of table.book)) key value
@@ -137,6 +140,16 @@ receipt_of table (grow child seen base) = Shaped kinds.Grow (pid (new_id table))
 receipt_of table (mark page seen parent) = Shaped kinds.Mark (pid page) None
 receipt_of table (merge left left_seen page seen) = Shaped kinds.Merge (pid left) (Some (pid page))
 receipt_of table (term_delete parent parent_seen child child_seen) = Shaped kinds.TermDelete (pid parent) (Some (pid child))
+
+-- the table after an accepted step: its book counts what the receipt tells, and its configuration stays
+abbrev pub after : TableValue → Proposal → TableValue
+after table step = record {
+  slots = slots_after table step;
+  free = free_after table step;
+  root = root_after table step;
+  book = book_with table.book (telling_of (receipt_of table step));
+  config = table.config;
+}
 
 -- the accepted step leads from the old table to the new one, and this is its receipt
 pub record TakesStep (old : TableValue) (step : Proposal) (receipt : Receipt) (new : TableValue) : Type 0 where

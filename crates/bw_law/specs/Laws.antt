@@ -1,5 +1,5 @@
 -- The laws of the mapping table, as statements that contracts name.
-use Rattle.std.specs.Prelude.{◌≡◌, ◌≢◌, ◌⊎◌, ◌↔◌, ℕ, ◌+◌, ◌<◌, ◌≤◌, ◌^◌, true, List, [], ◌∷◌, ◌++◌, length, Some, None, option_map, unwrap_or}
+use Rattle.std.specs.Prelude.{◌≡◌, ◌↔◌, ℕ, ◌+◌, ◌<◌, ◌≤◌, ◌^◌, true, List, [], ◌∷◌, ◌++◌, length, Some, None, option_map}
 use Rattle.bw_keys.specs.declared.config.Config.{Config}
 use Rattle.bw_keys.specs.Limits.{first_bad_field}
 use Rattle.bw_keys.specs.declared.page.Pid.{Pid}
@@ -8,38 +8,20 @@ use Rattle.bw_keys.specs.Ranges.{key_count}
 use Rattle.bw_delta.specs.Entries.{at, rises}
 use Rattle.bw_delta.specs.Pages.{Page}
 use Rattle.bw_step.specs.Stages.{is_posted}
-use Rattle.bw_step.specs.Proposals.{Proposal, insert, delete, consolidate, split, term_add, grow, mark, merge, term_delete}
+use Rattle.bw_step.specs.Proposals.{Proposal}
+use Rattle.bw_step.specs.Tellings.{telling_of}
 use Rattle.bw_law.specs.Slots.{SlotValue, slot_in, pairs_in, routes_in}
 use Rattle.bw_law.specs.Rows.{Spans, InRow}
 use Rattle.bw_law.specs.Walks.{IsRow, IsRowOf, IsWalkFrom, last_of}
-use Rattle.bw_law.specs.Tables.{TableValue, slot_at, id_of, outlines, Lawful, Booked, Maps, SameMap, joined_pairs, new_table}
+use Rattle.bw_law.specs.Tables.{TableValue, slot_at, id_of, outlines, Lawful, Booked, Maps, TellsMap, joined_pairs, new_table}
 use Rattle.bw_law.specs.Same.{is_same_page}
 use Rattle.bw_law.specs.Refusals.{refusal}
-use Rattle.bw_law.specs.Effects.{after}
+use Rattle.bw_law.specs.Effects.{after, slots_after, receipt_of}
 use Rattle.bw_law.specs.Runs.{run}
 
--- the key had no value, and the new pair is the one that is more
-pub record AddsPair (old new : List SlotValue) (key value : ℕ) : Type 0 where
-  pub was_absent : (v : ℕ) → Maps old key v → ⊥
-  pub is_added : (k v : ℕ) → Maps new k v ↔ (((k ≡ key) × (v ≡ value)) ⊎ Maps old k v)
-
--- the key had the value, and the other keys stay
-pub record TakesKey (old new : List SlotValue) (key value : ℕ) : Type 0 where
-  pub was_there : Maps old key value
-  pub is_taken : (k v : ℕ) → Maps new k v ↔ ((k ≢ key) × Maps old k v)
-
--- what a step makes of the map: Insert adds its one pair, Delete takes its one key out, and the other seven change no pair
+-- what a step makes of the map: what its receipt tells
 abbrev pub MapAfter : TableValue → Proposal → Type 0
-MapAfter table (insert page seen key value) = AddsPair table.slots (after table (insert page seen key value)).slots key value
-MapAfter table (delete page seen key) =
-    TakesKey table.slots (after table (delete page seen key)).slots key (unwrap_or (at key (pairs_in (slot_at table page))) 0)
-MapAfter table (consolidate page seen base) = SameMap table.slots (after table (consolidate page seen base)).slots
-MapAfter table (split page seen separator base) = SameMap table.slots (after table (split page seen separator base)).slots
-MapAfter table (term_add parent parent_seen child child_seen) = SameMap table.slots (after table (term_add parent parent_seen child child_seen)).slots
-MapAfter table (grow child seen base) = SameMap table.slots (after table (grow child seen base)).slots
-MapAfter table (mark page seen parent) = SameMap table.slots (after table (mark page seen parent)).slots
-MapAfter table (merge left left_seen page seen) = SameMap table.slots (after table (merge left left_seen page seen)).slots
-MapAfter table (term_delete parent parent_seen child child_seen) = SameMap table.slots (after table (term_delete parent parent_seen child child_seen)).slots
+MapAfter table step = TellsMap (telling_of (receipt_of table step)) table.slots (slots_after table step)
 
 -- a lawful and booked table is lawful and booked after each accepted step, and its map is as the step says
 pub record KeptBy (table : TableValue) (step : Proposal) : Type 0 where

@@ -1,5 +1,5 @@
 -- A mapping table as contracts see it, its law, its map and its book.
-use Rattle.std.specs.Prelude.{◌≡◌, ◌↔◌, ℕ, zero, suc, ◌+◌, ◌-◌, ◌<◌, ◌≤◌, ◌^◌, Bool, true, ◌&&◌, ◌==◌, if◌then◌else◌, List, [], ◌∷◌, ◌++◌, length, Option, Some, None, option_map, sum_by, replicate}
+use Rattle.std.specs.Prelude.{◌≡◌, ◌≢◌, ◌↔◌, ℕ, zero, suc, ◌+◌, ◌-◌, ◌<◌, ◌≤◌, ◌^◌, Bool, true, ◌&&◌, ◌==◌, if◌then◌else◌, List, [], ◌∷◌, ◌++◌, length, Option, Some, None, option_map, sum_by, replicate}
 use Rattle.bw_keys.specs.declared.config.Config.{Config}
 use Rattle.bw_keys.specs.declared.page.Pid.{Pid}
 use Rattle.bw_keys.specs.declared.range.Fence.{Fence}
@@ -15,6 +15,7 @@ use Rattle.bw_delta.specs.Sound.{IsSound, entry_count}
 use Rattle.bw_step.specs.declared.survey.Book.{Book}
 use Rattle.bw_step.specs.declared.view.Stage.TheVariants.{Free, Posted, Merged}
 use Rattle.bw_step.specs.Stages.{is_in_row}
+use Rattle.bw_step.specs.Tellings.{Telling, change, look, shape}
 use Rattle.bw_law.specs.Slots.{SlotValue, slot_in, free_slot, empty_page, pairs_in, routes_in}
 use Rattle.bw_law.specs.Rows.{Outline, Rows}
 use Rattle.bw_law.specs.Walks.{IsAmong, RepeatsNone}
@@ -33,6 +34,12 @@ slot_at table page = slot_in table.slots page
 -- how many changes of the map there were
 abbrev pub number_of : Book → ℕ
 number_of book = book.inserted + book.removed
+
+-- the book with what a receipt tells: a key that got a value was inserted, and one that lost its value was removed
+abbrev pub book_with : Book → Telling → Book
+book_with book (change number key None (Some value)) = record book { inserted = book.inserted + 1 }
+book_with book (change number key (Some value) None) = record book { removed = book.removed + 1 }
+book_with book told = book
 
 abbrev pub id_of : Pid → ℕ
 id_of pid = pid.0
@@ -113,6 +120,22 @@ Maps slots key value = (page : ℕ) × (at key (leaf_pairs (slot_in slots page))
 
 abbrev pub SameMap : List SlotValue → List SlotValue → Type 0
 SameMap old new = (key value : ℕ) → Maps new key value ↔ Maps old key value
+
+-- the value that the map has at the key, or none
+abbrev pub IsValueAt : List SlotValue → ℕ → Option ℕ → Type 0
+IsValueAt slots key found = (value : ℕ) → (found ≡ Some value) ↔ Maps slots key value
+
+-- the key had the one value, or none, and has the other; the other keys stay
+pub record ChangesKey (old new : List SlotValue) (key : ℕ) (before after : Option ℕ) : Type 0 where
+  pub had : IsValueAt old key before
+  pub has : IsValueAt new key after
+  pub others : (k value : ℕ) → k ≢ key → Maps new k value ↔ Maps old k value
+
+-- what a receipt tells of the map before it and after it
+abbrev pub TellsMap : Telling → List SlotValue → List SlotValue → Type 0
+TellsMap (change number key before after) old new = ChangesKey old new key before after
+TellsMap (look at key found) old new = IsValueAt old key found × SameMap old new
+TellsMap shape old new = SameMap old new
 
 -- the map as a list: the pairs of the pages of the leaf row, one page after the other
 abbrev pub joined_pairs : List SlotValue → List ℕ → List (ℕ × ℕ)
