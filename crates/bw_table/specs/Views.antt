@@ -1,5 +1,5 @@
 -- What the table answers of its pages.
-use Rattle.std.specs.Prelude.{◌≡◌, ◌↔◌, ℕ, ◌+◌, ◌&&◌, if◌then◌else◌, List, Option, Some, None, map}
+use Rattle.std.specs.Prelude.{◌≡◌, ℕ, ◌+◌, ◌&&◌, if◌then◌else◌, List, Option, Some, None, map}
 use Rattle.bw_keys.specs.declared.page.Pid.{Pid}
 use Rattle.bw_keys.specs.Ranges.{is_within, key_count}
 use Rattle.bw_delta.specs.Entries.{at}
@@ -12,7 +12,7 @@ use Rattle.bw_step.specs.declared.survey.Survey.{Survey}
 use Rattle.bw_law.specs.Slots.{SlotValue, slot_in, pairs_in, is_free}
 use Rattle.bw_law.specs.Walks.{IsRowOf}
 use Rattle.bw_table.specs.SlotFacts.{summary_of}
-use Rattle.bw_law.specs.Tables.{TableValue, Maps, slot_at, number_of, outlines, is_leaf_in_row, joined_pairs}
+use Rattle.bw_law.specs.Tables.{TableValue, slot_at, number_of, outlines, is_leaf_in_row, joined_pairs}
 
 abbrev pub view_of : Pid → SlotValue → View
 view_of pid slot = record {
@@ -46,10 +46,6 @@ look_at table page key =
     if is_leaf_in_row slot && is_within slot.low slot.high key
     then Some (record { found = at key (pairs_in slot); at = number_of table.book })
     else None
-
--- the map has the value at the key, or nothing
-abbrev pub IsValueAt : TableValue → ℕ → Option ℕ → Type 0
-IsValueAt table key found = (value : ℕ) → Maps table.slots key value ↔ (found ≡ Some value)
 
 abbrev pub leaf_of : Pid → SlotValue → Leaf
 leaf_of pid slot = record { pid = pid; range = record { low = slot.low; high = slot.high }; count = slot.count; stage = slot.stage }

@@ -2,11 +2,11 @@ ghost use Rattle.std.specs.Prelude.{◌≡◌, ◌≤◌, ℕ, None, IsOk, IfOk,
 ghost use Rattle.bw_keys.specs.Limits.{first_bad_field};
 ghost use Rattle.bw_step.specs.declared.view.Stage.TheVariants.{Merged};
 ghost use Rattle.bw_law.specs.Slots.{free_slot};
-ghost use Rattle.bw_law.specs.Tables.{Lawful, Booked, HasNothing, slot_at, number_of, new_table};
+ghost use Rattle.bw_law.specs.Tables.{Lawful, Booked, HasNothing, IsValueAt, slot_at, number_of, new_table};
 ghost use Rattle.bw_law.specs.Refusals.{last_id};
 ghost use Rattle.bw_table.specs.Answers.{IsNewFault};
 ghost use Rattle.bw_table.specs.SlotFacts.{HasSoundChain};
-ghost use Rattle.bw_table.specs.Views.{view_at, summary_at, look_at, root_place, IsValueAt};
+ghost use Rattle.bw_table.specs.Views.{view_at, summary_at, look_at, root_place};
 ghost use Rattle.bw_table.specs.Visits.{IsOnTheWay};
 
 use crate::fault::NewFault;
@@ -127,7 +127,7 @@ impl<A: Allocator + Copy> Table<A> {
     /// What the map has at the key, if the page is a leaf in its row whose range holds the key.
     pub fn look(&self, pid: Pid, key: Key) -> Option<Look>
         ensures look { result ≡ look_at self.now pid.0 key }
-        ensures map { IfSome result (λ look. IsValueAt self.now key look.found) }
+        ensures map { IfSome result (λ look. IsValueAt self.now.slots key look.found) }
     {
         let slot = self.slot(pid)?;
         if !slot.is_leaf_in_row() || !slot.holds(key) {

@@ -1,4 +1,4 @@
-use Rattle.std.proofs.Common.{arith, add-one}
+use Rattle.std.proofs.Common.{arith}
 use Rattle.bw_step.specs.Proposals.{delete}
 use Rattle.bw_table.proofs.Doing.{does_delete}
 use Rattle.bw_table.proofs.Whole.{whole_after}
@@ -15,4 +15,4 @@ overflow_add-result g c = omega (arith, (does_delete _ _ c.self.invariant c.args
 
 pub invariant_of-self : goal.invariant_of-self
 invariant_of-self g c =
-    rw (c.delete_at-value.ensures.slots, add-one c.self.inside.book.removed) (whole_after _ (delete c.args.step.page.0 c.args.step.seen.0 c.args.step.key) _ c.self.invariant (rw (← c.self.view_is) at c.requires))
+    rw c.delete_at-value.ensures.slots (whole_after _ (delete c.args.step.page.0 c.args.step.seen.0 c.args.step.key) _ c.self.invariant (rw (← c.self.view_is) at c.requires))

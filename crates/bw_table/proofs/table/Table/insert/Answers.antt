@@ -1,4 +1,4 @@
-use Rattle.std.proofs.Common.{arith, add-one}
+use Rattle.std.proofs.Common.{arith}
 use Rattle.bw_step.specs.Proposals.{insert}
 use Rattle.bw_table.proofs.Doing.{does_insert}
 use Rattle.bw_table.proofs.Whole.{whole_after}
@@ -18,4 +18,4 @@ overflow_add-result g c = omega (arith, (does_insert _ _ c.self.invariant c.args
 
 pub invariant_of-self : goal.invariant_of-self
 invariant_of-self g c =
-    rw (c.insert_at.ensures, add-one c.self.inside.book.inserted) (whole_after _ (insert c.args.step.page.0 c.args.step.seen.0 c.args.step.key c.args.step.value) _ c.self.invariant (rw (← c.self.view_is) at c.requires))
+    rw c.insert_at.ensures (whole_after _ (insert c.args.step.page.0 c.args.step.seen.0 c.args.step.key c.args.step.value) _ c.self.invariant (rw (← c.self.view_is) at c.requires))
