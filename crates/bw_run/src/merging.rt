@@ -4,8 +4,8 @@ ghost use Rattle.std.specs.Prelude.{◌≡◌, ◌<◌, [], IfOk, length, map, s
 ghost use Rattle.std.specs.List.{AllByRecursion};
 ghost use Rattle.bw_run.specs.Rows.{AreFull, IsMerged, TakesReply};
 
-use crate::reply::Reply;
 use bw_delta::NoMemory;
+use bw_procedures::Reply;
 use bw_texts::Row;
 use std::alloc::Global;
 use std::vec::IntoIter;

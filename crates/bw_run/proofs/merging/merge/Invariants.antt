@@ -1,7 +1,7 @@
 use Rattle.std.proofs.Common.{◌≡◌, ◌<◌, ◌++◌, ℕ, [], drop, get_or, length, map, take}
 use Rattle.std.specs.List.{AllByRecursion}
 use Rattle.bw_run.specs.Rows.{acts_of, told_to}
-use Rattle.bw_run.specs.Told.{answers}
+use Rattle.bw_procedures.specs.Told.{answers}
 use Rattle.bw_run.proofs.merging.merge.Given as goal
 
 abbrev pub invariant-loop-row : goal.invariant-loop-row
