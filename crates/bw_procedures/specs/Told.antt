@@ -11,13 +11,11 @@ use Rattle.bw_procedures.specs.declared.reply.Reply.TheVariants as replies
 use Rattle.bw_procedures.specs.declared.act.Act.{Act}
 use Rattle.bw_procedures.specs.declared.act.Act.TheVariants as acts
 
--- a receipt without its place among the changes: the pair that was inserted, the pair that was taken out, or what a key was found to have.
--- No receipt tells the last one, which goes with a reply to another kind of act
+-- a receipt without its place among the changes: the pair that was inserted, the pair that was taken out, or what a key was found to have
 pub data Told : Type 0 where
   inserted : ℕ → ℕ → Told
   removed : ℕ → ℕ → Told
   looked : ℕ → Option ℕ → Told
-  mismatched : Told
 
 -- what the receipts of a trail tell, in their order; those of changed shape tell nothing
 abbrev pub tellings : List Receipt → List Told
@@ -37,15 +35,21 @@ abbrev pub told_of_delete : ℕ → Del → Told
 told_of_delete key (dels.Removed value) = removed key value
 told_of_delete key dels.NoKey = looked key None
 
--- what the receipts of an act with this reply tell, in their order
-abbrev pub told_of : Act → Reply → List Told
-told_of (acts.Put key value) (replies.Put done) = told_of_put key value done.reply ∷ []
-told_of (acts.Delete key) (replies.Delete done) = told_of_delete key done.reply ∷ []
-told_of (acts.Get key) (replies.Get found) = looked key found ∷ []
-told_of act reply = mismatched ∷ []
+-- what the receipts of an act with this reply tell, in their order; nothing goes with a reply to another kind of act
+abbrev pub told_of : Act → Reply → Option (List Told)
+told_of (acts.Put key value) (replies.Put done) = Some (told_of_put key value done.reply ∷ [])
+told_of (acts.Delete key) (replies.Delete done) = Some (told_of_delete key done.reply ∷ [])
+told_of (acts.Get key) (replies.Get found) = Some (looked key found ∷ [])
+told_of act reply = None
+
+-- the one list and then the other, where there are both
+abbrev pub joined : Option (List Told) → Option (List Told) → Option (List Told)
+joined (Some told) (Some more) = Some (told ++ more)
+joined (Some told) None = None
+joined None more = None
 
 -- what goes with the acts that have a reply, in their order
-abbrev pub answers : List Act → List Reply → List Told
-answers acts [] = []
-answers [] (reply ∷ replies) = []
-answers (act ∷ acts) (reply ∷ replies) = told_of act reply ++ answers acts replies
+abbrev pub answers : List Act → List Reply → Option (List Told)
+answers acts [] = Some []
+answers [] (reply ∷ replies) = Some []
+answers (act ∷ acts) (reply ∷ replies) = joined (told_of act reply) (answers acts replies)

@@ -1,8 +1,8 @@
 //! Calls as values.
 
-ghost use Rattle.std.specs.Prelude.{◌≡◌, ◌++◌, IfOk, IfErr, OnErr};
+ghost use Rattle.std.specs.Prelude.{◌≡◌, Some, IfOk, IfErr, OnErr};
 ghost use Rattle.bw_procedures.specs.Calls.{IsFair, limit_of};
-ghost use Rattle.bw_procedures.specs.Told.{tellings, told_of};
+ghost use Rattle.bw_procedures.specs.Told.{joined, tellings, told_of};
 
 use crate::deletion::delete;
 use crate::fault::Fault;
@@ -32,7 +32,7 @@ pub fn do_act<A: Allocator + Copy, S: Steps<A, Step<A>>>(
     act: Act,
 ) -> Result<Reply, Fault>
     ensures follows { S.follows steps.old steps.new }
-    ensures told { IfOk result (λ reply. tellings (S.seen steps.new).trail ≡ tellings (S.seen steps.old).trail ++ told_of act reply) }
+    ensures told { IfOk result (λ reply. Some (tellings (S.seen steps.new).trail) ≡ joined (Some (tellings (S.seen steps.old).trail)) (told_of act reply)) }
     ensures nothing { OnErr result (tellings (S.seen steps.new).trail ≡ tellings (S.seen steps.old).trail) }
     ensures fault { IfErr result (IsFair (limit_of (S.seen steps.old)) (S.seen steps.old) (S.seen steps.new)) }
 {

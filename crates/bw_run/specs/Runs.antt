@@ -1,5 +1,5 @@
 -- What a run that came to its end leaves.
-use Rattle.std.specs.Prelude.{◌≡◌, ℕ, ◌<◌, List, [], length, slice_index_or}
+use Rattle.std.specs.Prelude.{◌≡◌, ℕ, ◌<◌, List, [], length, slice_index_or, Some}
 use Rattle.bw_step.specs.declared.receipt.Receipt.{Receipt}
 use Rattle.bw_law.specs.Tables.{TableValue}
 use Rattle.bw_table.specs.Views.{ArePairsOf}
@@ -15,7 +15,7 @@ use Rattle.bw_procedures.specs.Told.{tellings}
 pub record IsRunOf (workers : ℕ) (rows : List Row) (table : TableValue) (replies : List Reply) (trails : List (List Receipt)) : Type 0 where
   pub replied : length replies ≡ length rows
   pub trailed : length trails ≡ workers
-  pub told : (worker : ℕ) → worker < workers → tellings (slice_index_or trails worker []) ≡ told_to worker rows replies
+  pub told : (worker : ℕ) → worker < workers → Some (tellings (slice_index_or trails worker [])) ≡ told_to worker rows replies
   pub tree : IsTree table
   pub legal : (pairs : List (ℕ × ℕ)) → ArePairsOf table pairs → IsLegal trails pairs
   pub count : (pairs : List (ℕ × ℕ)) → ArePairsOf table pairs → CountsChanges trails pairs

@@ -1,7 +1,7 @@
 //! A worker's acts, one after the other.
 
-ghost use Rattle.std.specs.Prelude.{◌≡◌, ◌≤◌, ◌<◌, ◌++◌, [], IfOk, OnOk, OnErr, length, vec_capacity};
-ghost use Rattle.bw_procedures.specs.Told.{answers, tellings, told_of};
+ghost use Rattle.std.specs.Prelude.{◌≡◌, ◌≤◌, ◌<◌, [], Some, IfOk, OnOk, OnErr, length, vec_capacity};
+ghost use Rattle.bw_procedures.specs.Told.{answers, joined, tellings, told_of};
 ghost use Rattle.bw_work.specs.Hands.{Sums};
 ghost use Rattle.bw_run.specs.Reads.{IsReadBy, IsReadByOwn};
 
@@ -27,7 +27,7 @@ pub(crate) fn do_acts<T: RunTree, G: Gate>(
     requires empty { replies.old.items ≡ [] }
     requires room { length acts.now ≤ vec_capacity replies.old }
     ensures follows { Sums hand.old.trail.items hand.old.share hand.new.trail.items hand.new.share }
-    ensures told { tellings hand.new.trail.items ≡ answers acts.now replies.new.items }
+    ensures told { Some (tellings hand.new.trail.items) ≡ answers acts.now replies.new.items }
     ensures all { OnOk result (length replies.new.items ≡ length acts.now) }
     ensures stopped { OnErr result (length replies.new.items < length acts.now) }
 {
@@ -46,7 +46,7 @@ fn do_row<T: RunTree, G: Gate>(
     act: Act,
 ) -> Result<Reply, Stop<T::Closed>>
     ensures follows { Sums hand.old.trail.items hand.old.share hand.new.trail.items hand.new.share }
-    ensures told { IfOk result (λ reply. tellings hand.new.trail.items ≡ tellings hand.old.trail.items ++ told_of act reply) }
+    ensures told { IfOk result (λ reply. Some (tellings hand.new.trail.items) ≡ joined (Some (tellings hand.old.trail.items)) (told_of act reply)) }
     ensures nothing { OnErr result (tellings hand.new.trail.items ≡ tellings hand.old.trail.items) }
     ensures read { IfOk result (IsReadByOwn T.reads reader.new act hand.old.trail.items hand.new.trail.items) }
 {

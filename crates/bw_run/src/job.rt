@@ -1,6 +1,6 @@
 //! What a worker is given, and what it brings back.
 
-ghost use Rattle.std.specs.Prelude.{◌≡◌, ◌+◌, ◌<◌, ◌≤◌, ◌^◌, [], IfOk, All, fold, length, map, vec_len, vec_capacity};
+ghost use Rattle.std.specs.Prelude.{◌≡◌, ◌+◌, ◌<◌, ◌≤◌, ◌^◌, [], Some, IfOk, All, fold, length, map, vec_len, vec_capacity};
 ghost use Rattle.std.specs.Option.{ForNone, ForSome};
 ghost use Rattle.bw_procedures.specs.Told.{answers, tellings};
 ghost use Rattle.bw_tree.specs.Shares.{no_changes, counted};
@@ -41,7 +41,7 @@ pub(crate) struct Worked<I: Ledger, D: Ledger, C> {
     pub trail: Vec<Receipt>,
     pub stop: Option<Stop<C>>,
     ghost counted: { share ≡ fold counted no_changes trail.items },
-    ghost told: { tellings trail.items ≡ answers acts.items replies.items },
+    ghost told: { Some (tellings trail.items) ≡ answers acts.items replies.items },
     ghost all: { ForNone stop (length replies.items ≡ length acts.items) },
     ghost stopped: { ForSome stop (λ _. length replies.items < length acts.items) },
 }
