@@ -1,5 +1,5 @@
--- The first bad receipt of a history, by worker and then by place, and the verdict.
-use Rattle.std.specs.Prelude.{ℕ, ◌+◌, ◌-◌, ◌==◌, ◌||◌, ◌&&◌, not, Bool, true, false, cond, List, [], ◌∷◌, length, take, Option, Some, None, nat_lt, is_some}
+-- The first bad receipt of a history, by worker and then by place, and the verdict with its text.
+use Rattle.std.specs.Prelude.{ℕ, ◌+◌, ◌-◌, ◌==◌, ◌||◌, ◌&&◌, not, Bool, true, false, cond, List, [], ◌∷◌, ◌++◌, length, take, Option, Some, None, nat_lt, is_some, codes, decimal}
 use Rattle.std.specs.Option.{option_eq}
 use Rattle.std.specs.Bool.{nat_eq}
 use Rattle.bw_delta.specs.Entries.{at}
@@ -66,3 +66,7 @@ verdict_at cs pairs workers None = cond (leaves cs pairs) Yes (No workers 0)
 -- the first bad receipt; where there is none, whether the changes leave the pairs
 abbrev pub verdict_of : List (List Receipt) → List (ℕ × ℕ) → Verdict
 verdict_of trails pairs = verdict_at (all_changes trails) pairs (length trails) (first_fault (all_changes trails) 0 0 trails)
+
+abbrev pub verdict_text : Verdict → List ℕ
+verdict_text Yes = codes "yes"
+verdict_text (No worker place) = codes "no " ++ decimal worker ++ codes " " ++ decimal place

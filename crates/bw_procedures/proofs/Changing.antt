@@ -14,24 +14,24 @@ use Rattle.bw_procedures.specs.declared.writing.Tried.TheVariants.{Reply, Tend, 
 use Rattle.bw_procedures.specs.Seen.{Seen, SameCounts, IsAccepted, is_kept}
 use Rattle.bw_procedures.specs.Seen.{Looked as LookTaken}
 use Rattle.bw_procedures.specs.Writing.{Attempts, LookAdds, FoundBy, IsReceiptOfPut, IsDeletionOf}
-use Rattle.bw_procedures.specs.Calls.{Offered, OnlyReshapes, ChangesShape, plain}
-use Rattle.bw_procedures.proofs.Reshaping.{plain-append, counts_grow}
+use Rattle.bw_procedures.specs.Calls.{Offered, OnlyReshapes, ChangesShape, without_shapes}
+use Rattle.bw_procedures.proofs.Reshaping.{without_shapes-append, counts_grow}
 
-pub adds_plain : (a b : Seen) (r : Receipt) → plain (r ∷ []) ≡ r ∷ [] → b.trail ≡ a.trail ++ r ∷ [] → plain b.trail ≡ plain a.trail ++ r ∷ []
-adds_plain a b r is e = ap plain e ∙ (plain-append a.trail (r ∷ []) ∙ ap (λ (l : List Receipt). plain a.trail ++ l) is)
+pub adds_without_shapes : (a b : Seen) (r : Receipt) → without_shapes (r ∷ []) ≡ r ∷ [] → b.trail ≡ a.trail ++ r ∷ [] → without_shapes b.trail ≡ without_shapes a.trail ++ r ∷ []
+adds_without_shapes a b r is e = ap without_shapes e ∙ (without_shapes-append a.trail (r ∷ []) ∙ ap (λ (l : List Receipt). without_shapes a.trail ++ l) is)
 
 pub change_accepted : (step : Proposal) (limit : ℕ) (receipt : Receipt) (a b : Seen) → (ChangesShape step → ⊥) → IsAccepted step receipt a b → Offered step limit (Ok (answers.Accepted receipt)) a b
 change_accepted (insert page seen key value) limit (Inserted n k v) a b change h =
-    (h.told, adds_plain a b (Inserted n k v) refl h.trail, counts_grow a b h.counts (omega (arith, h.effort)))
+    (h.told, adds_without_shapes a b (Inserted n k v) refl h.trail, counts_grow a b h.counts (omega (arith, h.effort)))
 change_accepted (delete page seen key) limit (Deleted n k v) a b change h =
-    (h.told, adds_plain a b (Deleted n k v) refl h.trail, counts_grow a b h.counts (omega (arith, h.effort)))
+    (h.told, adds_without_shapes a b (Deleted n k v) refl h.trail, counts_grow a b h.counts (omega (arith, h.effort)))
 change_accepted (insert page seen key value) limit receipt a b change h = absurd h.told
 change_accepted (delete page seen key) limit receipt a b change h = absurd h.told
 change_accepted step limit receipt a b change h = absurd (change tt)
 
 look_adds : (kept : Bool) (key at : ℕ) (found : Option ℕ) (a b : Seen) → SameCounts a b → b.trail ≡ (if kept then a.trail ++ Looked at key found ∷ [] else a.trail) → a.effort ≤ b.effort → LookAdds kept key found a b
-look_adds true key at found a b counts trail effort = ((at, adds_plain a b (Looked at key found) refl trail), counts_grow a b counts effort)
-look_adds false key at found a b counts trail effort = record { plain = ap plain trail; grows = counts_grow a b counts effort }
+look_adds true key at found a b counts trail effort = ((at, adds_without_shapes a b (Looked at key found) refl trail), counts_grow a b counts effort)
+look_adds false key at found a b counts trail effort = record { without_shapes = ap without_shapes trail; grows = counts_grow a b counts effort }
 
 pub found_by : (keep : Keep) (key : ℕ) (look : Look) (a b : Seen) → LookTaken keep key (Ok (Some look)) a b → FoundBy keep key (Ok (Some look)) a b
 found_by keep key look a b h = look_adds (is_kept keep look.found) key look.at look.found a b h.0 h.1 (omega (arith, h.2))

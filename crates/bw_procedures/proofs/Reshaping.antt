@@ -5,14 +5,14 @@ use Rattle.bw_step.specs.declared.receipt.Receipt.{Receipt}
 use Rattle.bw_step.specs.declared.receipt.Receipt.TheVariants.{Inserted, Deleted, Looked, Shaped}
 use Rattle.bw_procedures.specs.Seen.{Seen, SameCounts, Grows, IsAccepted}
 use Rattle.bw_procedures.specs.declared.fault.Fault.{Fault}
-use Rattle.bw_procedures.specs.Calls.{OnlyReshapes, Works, IsFair, RoseBy, ChangesShape, plain}
+use Rattle.bw_procedures.specs.Calls.{OnlyReshapes, Works, IsFair, RoseBy, ChangesShape, without_shapes}
 
-pub plain-append : (xs ys : List Receipt) → plain (xs ++ ys) ≡ plain xs ++ plain ys
-plain-append [] ys = refl
-plain-append (Inserted number key value ∷ xs) ys = ap (λ (l : List Receipt). Inserted number key value ∷ l) (plain-append xs ys)
-plain-append (Deleted number key value ∷ xs) ys = ap (λ (l : List Receipt). Deleted number key value ∷ l) (plain-append xs ys)
-plain-append (Looked at key found ∷ xs) ys = ap (λ (l : List Receipt). Looked at key found ∷ l) (plain-append xs ys)
-plain-append (Shaped kind page other ∷ xs) ys = plain-append xs ys
+pub without_shapes-append : (xs ys : List Receipt) → without_shapes (xs ++ ys) ≡ without_shapes xs ++ without_shapes ys
+without_shapes-append [] ys = refl
+without_shapes-append (Inserted number key value ∷ xs) ys = ap (λ (l : List Receipt). Inserted number key value ∷ l) (without_shapes-append xs ys)
+without_shapes-append (Deleted number key value ∷ xs) ys = ap (λ (l : List Receipt). Deleted number key value ∷ l) (without_shapes-append xs ys)
+without_shapes-append (Looked at key found ∷ xs) ys = ap (λ (l : List Receipt). Looked at key found ∷ l) (without_shapes-append xs ys)
+without_shapes-append (Shaped kind page other ∷ xs) ys = without_shapes-append xs ys
 
 pub counts_grow : (a b : Seen) → SameCounts a b → a.effort ≤ b.effort → Grows a b
 counts_grow a b p q = record { config = p.config; effort = q; full = omega arith; tall = omega arith; worn = omega arith }
@@ -22,7 +22,7 @@ shape_accepted (insert page seen key value) receipt a b shape h = absurd shape
 shape_accepted (delete page seen key) receipt a b shape h = absurd shape
 shape_accepted step (Shaped kind page other) a b shape h = (
   record {
-    plain = ap plain h.trail ∙ (plain-append a.trail (Shaped kind page other ∷ []) ∙ append-nil (plain a.trail));
+    without_shapes = ap without_shapes h.trail ∙ (without_shapes-append a.trail (Shaped kind page other ∷ []) ∙ append-nil (without_shapes a.trail));
     grows = counts_grow a b h.counts (omega (arith, h.effort));
   },
   omega (arith, h.effort),

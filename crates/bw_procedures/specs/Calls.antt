@@ -17,12 +17,12 @@ use Rattle.bw_procedures.specs.Seen.{Seen, SameButEffort, SameCounts, Grows}
 use Rattle.bw_procedures.specs.Sights.{Sight, holds, fresh}
 
 -- the receipts that aren't Shaped, in their order
-abbrev pub plain : List Receipt → List Receipt
-plain [] = []
-plain (receipts.Inserted number key value ∷ rs) = receipts.Inserted number key value ∷ plain rs
-plain (receipts.Deleted number key value ∷ rs) = receipts.Deleted number key value ∷ plain rs
-plain (receipts.Looked at key found ∷ rs) = receipts.Looked at key found ∷ plain rs
-plain (receipts.Shaped kind page other ∷ rs) = plain rs
+abbrev pub without_shapes : List Receipt → List Receipt
+without_shapes [] = []
+without_shapes (receipts.Inserted number key value ∷ rs) = receipts.Inserted number key value ∷ without_shapes rs
+without_shapes (receipts.Deleted number key value ∷ rs) = receipts.Deleted number key value ∷ without_shapes rs
+without_shapes (receipts.Looked at key found ∷ rs) = receipts.Looked at key found ∷ without_shapes rs
+without_shapes (receipts.Shaped kind page other ∷ rs) = without_shapes rs
 
 -- a count rose by so much, or is at its end
 abbrev pub RoseBy : ℕ → ℕ → ℕ → Type 0
@@ -47,7 +47,7 @@ pub record Waits (old new : Seen) : Type 0 where
 
 -- only Shaped receipts were added, and nothing fell
 pub record OnlyReshapes (old new : Seen) : Type 0 where
-  pub plain : plain new.trail ≡ plain old.trail
+  pub without_shapes : without_shapes new.trail ≡ without_shapes old.trail
   pub grows : Grows old new
 
 -- a part of a call that changes nothing but the tree's shape: answered, it cost so much, and otherwise the fault is fair
@@ -123,6 +123,6 @@ fault_in _ = None
 
 -- a proposal of a step that changes the map: accepted, it adds its one receipt
 abbrev pub Offered : Proposal → ℕ → Result Answer Fault → Seen → Seen → Type 0
-Offered step limit (Ok (answers.Accepted receipt)) old new = IsReceiptOf step receipt × (plain new.trail ≡ plain old.trail ++ receipt ∷ []) × Grows old new
+Offered step limit (Ok (answers.Accepted receipt)) old new = IsReceiptOf step receipt × (without_shapes new.trail ≡ without_shapes old.trail ++ receipt ∷ []) × Grows old new
 Offered step limit (Ok (answers.Refused reason)) old new = OnlyReshapes old new × RoseBy 1 old.effort new.effort × CountRose reason old new
 Offered step limit (Err fault) old new = OnlyReshapes old new × IsFair limit old new fault

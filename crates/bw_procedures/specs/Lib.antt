@@ -5,3 +5,5 @@ pub mod Slices
 pub mod Rounds
 pub mod Tending
 pub mod Writing
+pub mod Told
+pub mod Texts

@@ -15,7 +15,7 @@ use Rattle.bw_procedures.specs.declared.writing.Arrival.TheVariants.{Gone, Here,
 use Rattle.bw_procedures.specs.declared.writing.Tried.{Tried}
 use Rattle.bw_procedures.specs.declared.writing.Tried.TheVariants.{Reply, Tend, Again, Kept}
 use Rattle.bw_procedures.specs.Seen.{Seen, Grows, is_kept}
-use Rattle.bw_procedures.specs.Calls.{OnlyReshapes, IsFair, RoseBy, plain}
+use Rattle.bw_procedures.specs.Calls.{OnlyReshapes, IsFair, RoseBy, without_shapes}
 
 -- the receipt that goes with a put's reply: the insertion of the pair, or the look that found the key's value
 abbrev pub IsReceiptOfPut : ℕ → ℕ → Put → Receipt → Type 0
@@ -36,7 +36,7 @@ IsDeletionOf key receipt = ⊥
 
 -- one receipt that isn't Shaped was added, and it is this reply's
 abbrev pub AddsReceipt : {T : Type 0} → (T → Receipt → Type 0) → T → Seen → Seen → Type 0
-AddsReceipt is_of reply old new = (receipt : Receipt) × (plain new.trail ≡ plain old.trail ++ receipt ∷ []) × is_of reply receipt
+AddsReceipt is_of reply old new = (receipt : Receipt) × (without_shapes new.trail ≡ without_shapes old.trail ++ receipt ∷ []) × is_of reply receipt
 
 -- a fault that is kept beside a reply is fair
 abbrev pub IsFairKept : ℕ → Seen → Seen → Option Fault → Type 0
@@ -72,7 +72,7 @@ EndsFairly limit kept (Some fault) old new = (kept ≡ Some fault) ⊎ IsFair li
 
 -- a look that is kept adds its receipt, and one that isn't adds none
 abbrev pub LookAdds : Bool → ℕ → Option ℕ → Seen → Seen → Type 0
-LookAdds true key found old new = ((at : ℕ) × (plain new.trail ≡ plain old.trail ++ receipts.Looked at key found ∷ [])) × Grows old new
+LookAdds true key found old new = ((at : ℕ) × (without_shapes new.trail ≡ without_shapes old.trail ++ receipts.Looked at key found ∷ [])) × Grows old new
 LookAdds false key found old new = OnlyReshapes old new
 
 -- one look at a page

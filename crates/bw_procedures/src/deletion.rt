@@ -1,7 +1,7 @@
 //! Taking a key out.
 
 ghost use Rattle.std.specs.Prelude.{◌≡◌, IfOk, IfErr, IfSome, OnErr};
-ghost use Rattle.bw_procedures.specs.Calls.{limit_of, IsFair, plain};
+ghost use Rattle.bw_procedures.specs.Calls.{limit_of, IsFair, without_shapes};
 ghost use Rattle.bw_procedures.specs.Seen.{Grows};
 ghost use Rattle.bw_procedures.specs.Writing.{AddsReceipt, IsReceiptOfDelete};
 
@@ -29,7 +29,7 @@ pub fn delete<A: Allocator + Copy, S: Steps<A, Step<A>>>(
     ensures follows { S.follows steps.old steps.new }
     ensures grows { Grows (S.seen steps.old) (S.seen steps.new) }
     ensures receipt { IfOk result (λ done. AddsReceipt (IsReceiptOfDelete key) done.reply (S.seen steps.old) (S.seen steps.new)) }
-    ensures no_receipt { OnErr result (plain (S.seen steps.new).trail ≡ plain (S.seen steps.old).trail) }
+    ensures no_receipt { OnErr result (without_shapes (S.seen steps.new).trail ≡ without_shapes (S.seen steps.old).trail) }
     ensures fault { IfErr result (IsFair (limit_of (S.seen steps.old)) (S.seen steps.old) (S.seen steps.new)) }
     ensures kept { IfOk result (λ done. IfSome done.fault (IsFair (limit_of (S.seen steps.old)) (S.seen steps.old) (S.seen steps.new))) }
 {

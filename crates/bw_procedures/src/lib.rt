@@ -3,6 +3,7 @@
 //! modifications").
 #![tactic(auto)]
 
+mod act;
 mod consolidation;
 mod cursor;
 mod deletion;
@@ -20,12 +21,13 @@ mod walk;
 mod wish;
 mod writing;
 
+pub use act::{Act, do_act};
 pub use cursor::page_from;
 pub use deletion::delete;
 pub use fault::Fault;
 pub use helping::help;
 pub use insertion::put;
 pub use lookup::get;
-pub use reply::{Del, Done, Put, Slice};
+pub use reply::{Del, Done, Put, Reply, Slice};
 pub use steps::{Ends, Keep, Steps};
 pub use tending::tend;

@@ -3,7 +3,7 @@
 
 ghost use Rattle.std.specs.Prelude.{◌≡◌, true, IfOk, IfErr, IfSome, OnErr};
 ghost use Rattle.bw_procedures.specs.Seen.{Grows};
-ghost use Rattle.bw_procedures.specs.Calls.{Waits, OnlyReshapes, limit_of, IsFair, plain};
+ghost use Rattle.bw_procedures.specs.Calls.{Waits, OnlyReshapes, limit_of, IsFair, without_shapes};
 ghost use Rattle.bw_procedures.specs.Writing.{AddsReceipt, ArrivalCosts, Attempts, Helped, EndsFairly, FoundBy};
 
 use crate::consolidation::consolidate;
@@ -52,7 +52,7 @@ pub(crate) fn write<A: Allocator + Copy, S: Steps<A, Step<A>>, W: Wish>(
     ensures follows { S.follows steps.old steps.new }
     ensures grows { Grows (S.seen steps.old) (S.seen steps.new) }
     ensures receipt { IfOk result (λ done. AddsReceipt (W.is_receipt_of wish) done.reply (S.seen steps.old) (S.seen steps.new)) }
-    ensures no_receipt { OnErr result (plain (S.seen steps.new).trail ≡ plain (S.seen steps.old).trail) }
+    ensures no_receipt { OnErr result (without_shapes (S.seen steps.new).trail ≡ without_shapes (S.seen steps.old).trail) }
     ensures fault { IfErr result (IsFair (limit_of (S.seen steps.old)) (S.seen steps.old) (S.seen steps.new)) }
     ensures kept { IfOk result (λ done. IfSome done.fault (IsFair (limit_of (S.seen steps.old)) (S.seen steps.old) (S.seen steps.new))) }
 {

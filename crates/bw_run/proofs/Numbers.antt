@@ -3,8 +3,8 @@ use Rattle.std.proofs.Common.{◌≡◌, ◌≢◌, ℕ, ◌+◌, ◌<◌, ◌==
 use Rattle.std.specs.Prelude.{if◌then◌else◌}
 use Rattle.std.proofs.lemmas.Bool.Decides.{nat_tests}
 use Rattle.std.proofs.lemmas.List.{drop_more, take_more}
-use Rattle.bw_texts.specs.declared.row.Act.{Act}
-use Rattle.bw_texts.specs.declared.row.Row.{Row}
+use Rattle.bw_procedures.specs.declared.act.Act.{Act}
+use Rattle.bw_texts.specs.declared.trace.row.Row.{Row}
 use Rattle.bw_run.specs.Rows.{acts_of}
 
 -- one row more or none

@@ -2,8 +2,8 @@
 use Rattle.std.proofs.Common.{◌≡◌, ℕ, zero, suc, ◌<◌, ◌==◌, Bool, true, false, List, [], ◌∷◌, ◌++◌, length, get_or, map, refl, ap, sym, ◌∙◌, append_assoc, append-nil, arith}
 use Rattle.std.specs.Prelude.{slice_set, replicate, if◌then◌else◌}
 use Rattle.std.proofs.lemmas.Bool.Decides.{nat_tests}
-use Rattle.bw_texts.specs.declared.row.Act.{Act}
-use Rattle.bw_texts.specs.declared.row.Row.{Row}
+use Rattle.bw_procedures.specs.declared.act.Act.{Act}
+use Rattle.bw_texts.specs.declared.trace.row.Row.{Row}
 use Rattle.bw_run.specs.Rows.{AddsAct, acts_of}
 
 next_test : (a b : ℕ) → (suc a == suc b) ≡ (a == b)

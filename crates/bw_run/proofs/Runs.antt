@@ -8,7 +8,7 @@ use Rattle.bw_table.specs.Views.{ArePairsOf}
 use Rattle.bw_tree.specs.Trees.{IsTree}
 use Rattle.bw_run.specs.declared.fault.RunFault.{RunFault}
 use Rattle.bw_run.specs.declared.fault.RunFault.TheVariants.{NoReader, Threads, Memory, Stopped, Audit}
-use Rattle.bw_texts.specs.declared.row.Row.{Row}
+use Rattle.bw_texts.specs.declared.trace.row.Row.{Row}
 use Rattle.bw_run.specs.Faults.{EndsBadly, IsRunFault, IsVerdictOn, MayRun, StopsWithin}
 
 pub same_length : {X Y Z : Type 0} → (f : X → Z) (g : Y → Z) (xs : List X) (ys : List Y) → map f xs ≡ map g ys → length xs ≡ length ys

@@ -8,7 +8,7 @@ use Rattle.bw_audit.specs.declared.verdict.Verdict.TheVariants.{No}
 use Rattle.bw_tree.specs.Trees.{MayBeMade, is_bad_number}
 use Rattle.bw_run.specs.declared.fault.RunFault.{RunFault}
 use Rattle.bw_run.specs.declared.fault.RunFault.TheVariants.{Config as BadConfig, Workers, Readers, NoReader, Threads, Memory, Stopped, Audit}
-use Rattle.bw_texts.specs.declared.row.Row.{Row}
+use Rattle.bw_texts.specs.declared.trace.row.Row.{Row}
 use Rattle.bw_run.specs.Rows.{IsRowOf}
 
 -- the most readers of so many workers

@@ -1,7 +1,5 @@
-pub mod Told
 pub mod Reads
 pub mod Rows
 pub mod Counts
 pub mod Faults
 pub mod Runs
-pub mod Texts

@@ -3,10 +3,10 @@ use Rattle.std.specs.Prelude.{◌≡◌, ℕ, zero, suc, List, [], ◌∷◌, �
 use Rattle.bw_step.specs.declared.receipt.Receipt.{Receipt}
 use Rattle.bw_step.specs.declared.receipt.Receipt.TheVariants.{Looked}
 use Rattle.bw_step.specs.declared.view.Look.{Look}
-use Rattle.bw_run.specs.declared.reply.Reply.{Reply}
-use Rattle.bw_run.specs.declared.reply.Reply.TheVariants as replies
-use Rattle.bw_texts.specs.declared.row.Act.{Act}
-use Rattle.bw_texts.specs.declared.row.Act.TheVariants as acts
+use Rattle.bw_procedures.specs.declared.reply.Reply.{Reply}
+use Rattle.bw_procedures.specs.declared.reply.Reply.TheVariants as replies
+use Rattle.bw_procedures.specs.declared.act.Act.{Act}
+use Rattle.bw_procedures.specs.declared.act.Act.TheVariants as acts
 
 -- so many workers' readers: the first workers have one each, as long as there are any
 abbrev pub handed_out : {R : Type 0} → ℕ → List R → List (Option R)

@@ -1,10 +1,10 @@
 -- A trace as its workers see it.
-use Rattle.std.specs.Prelude.{◌≡◌, ℕ, ◌-◌, ◌<◌, ◌≤◌, ◌==◌, if◌then◌else◌, List, [], ◌∷◌, ◌++◌, Option, Some, length, map, slice_index_or}
+use Rattle.std.specs.Prelude.{◌≡◌, ℕ, ◌-◌, ◌<◌, ◌≤◌, ◌==◌, if◌then◌else◌, List, [], ◌∷◌, ◌++◌, length, slice_index_or, Option, Some}
 use Rattle.bw_step.specs.declared.receipt.Receipt.{Receipt}
-use Rattle.bw_run.specs.declared.reply.Reply.{Reply}
-use Rattle.bw_texts.specs.declared.row.Act.{Act}
-use Rattle.bw_texts.specs.declared.row.Row.{Row}
-use Rattle.bw_run.specs.Told.{Told, told_of, tellings, answers}
+use Rattle.bw_procedures.specs.declared.reply.Reply.{Reply}
+use Rattle.bw_procedures.specs.declared.act.Act.{Act}
+use Rattle.bw_texts.specs.declared.trace.row.Row.{Row}
+use Rattle.bw_procedures.specs.Told.{Told, told_of, joined, tellings, answers}
 
 -- the acts of a worker's rows, in their order
 abbrev pub acts_of : ℕ → List Row → List Act
@@ -12,11 +12,11 @@ acts_of worker [] = []
 acts_of worker (row ∷ rows) = if row.worker == worker then row.act ∷ acts_of worker rows else acts_of worker rows
 
 -- what goes with a worker's rows and the replies that stand at their places, in their order
-abbrev pub told_to : ℕ → List Row → List Reply → List (Option Told)
-told_to worker [] replies = []
-told_to worker (row ∷ rows) [] = []
+abbrev pub told_to : ℕ → List Row → List Reply → Option (List Told)
+told_to worker [] replies = Some []
+told_to worker (row ∷ rows) [] = Some []
 told_to worker (row ∷ rows) (reply ∷ replies) =
-    if row.worker == worker then told_of row.act reply ∷ told_to worker rows replies else told_to worker rows replies
+    if row.worker == worker then joined (told_of row.act reply) (told_to worker rows replies) else told_to worker rows replies
 
 -- the row with this number, counted from 1, is the worker's
 pub record IsRowOf (rows : List Row) (worker number : ℕ) : Type 0 where
@@ -43,7 +43,7 @@ AreFull rows columns = (worker : ℕ) → worker < length columns → length (sl
 -- each worker's trail tells what goes with its rows and its replies, of which there are as many
 pub record AreAnswered (rows : List Row) (columns : List (List Reply)) (trails : List (List Receipt)) : Type 0 where
   pub full : AreFull rows columns
-  pub told : (worker : ℕ) → worker < length columns → map Some (tellings (slice_index_or trails worker [])) ≡ answers (acts_of worker rows) (slice_index_or columns worker [])
+  pub told : (worker : ℕ) → worker < length columns → Some (tellings (slice_index_or trails worker [])) ≡ answers (acts_of worker rows) (slice_index_or columns worker [])
 
 -- the replies stand in the order of the rows, and each worker is told the same
 pub record IsMerged (rows : List Row) (columns : List (List Reply)) (merged : List Reply) : Type 0 where

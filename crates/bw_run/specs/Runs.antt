@@ -1,21 +1,21 @@
 -- What a run that came to its end leaves.
-use Rattle.std.specs.Prelude.{◌≡◌, ℕ, ◌<◌, List, [], Some, length, map, slice_index_or}
+use Rattle.std.specs.Prelude.{◌≡◌, ℕ, ◌<◌, List, [], length, slice_index_or, Some}
 use Rattle.bw_step.specs.declared.receipt.Receipt.{Receipt}
 use Rattle.bw_law.specs.Tables.{TableValue}
 use Rattle.bw_table.specs.Views.{ArePairsOf}
 use Rattle.bw_tree.specs.Trees.{IsTree}
 use Rattle.bw_audit.specs.Legal.{IsLegal}
-use Rattle.bw_run.specs.declared.reply.Reply.{Reply}
-use Rattle.bw_texts.specs.declared.row.Row.{Row}
+use Rattle.bw_procedures.specs.declared.reply.Reply.{Reply}
+use Rattle.bw_texts.specs.declared.trace.row.Row.{Row}
 use Rattle.bw_run.specs.Counts.{CountsChanges}
 use Rattle.bw_run.specs.Rows.{told_to}
-use Rattle.bw_run.specs.Told.{tellings}
+use Rattle.bw_procedures.specs.Told.{tellings}
 
 -- the replies and the trails are of the rows, and the trails explain the table
 pub record IsRunOf (workers : ℕ) (rows : List Row) (table : TableValue) (replies : List Reply) (trails : List (List Receipt)) : Type 0 where
   pub replied : length replies ≡ length rows
   pub trailed : length trails ≡ workers
-  pub told : (worker : ℕ) → worker < workers → map Some (tellings (slice_index_or trails worker [])) ≡ told_to worker rows replies
+  pub told : (worker : ℕ) → worker < workers → Some (tellings (slice_index_or trails worker [])) ≡ told_to worker rows replies
   pub tree : IsTree table
   pub legal : (pairs : List (ℕ × ℕ)) → ArePairsOf table pairs → IsLegal trails pairs
   pub count : (pairs : List (ℕ × ℕ)) → ArePairsOf table pairs → CountsChanges trails pairs

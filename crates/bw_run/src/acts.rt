@@ -1,47 +1,21 @@
 //! A worker's acts, one after the other.
 
-ghost use Rattle.std.specs.Prelude.{◌≡◌, ◌≤◌, ◌<◌, ◌++◌, [], ◌∷◌, Some, IfOk, IfErr, OnOk, OnErr, length, map, vec_capacity};
-ghost use Rattle.bw_procedures.specs.Calls.{IsFair, limit_of};
+ghost use Rattle.std.specs.Prelude.{◌≡◌, ◌≤◌, ◌<◌, [], Some, IfOk, OnOk, OnErr, length, vec_capacity};
+ghost use Rattle.bw_procedures.specs.Told.{answers, joined, tellings, told_of};
 ghost use Rattle.bw_work.specs.Hands.{Sums};
-ghost use Rattle.bw_run.specs.Told.{answers, tellings, told_of};
 ghost use Rattle.bw_run.specs.Reads.{IsReadBy, IsReadByOwn};
 
-use crate::reply::Reply;
 use crate::run_tree::RunTree;
 use crate::stop::Stop;
 use bw_keys::Key;
-use bw_step::{Look, Step};
-use bw_texts::Act;
-use bw_work::{Fault, Gate, Hand, Steps, delete, get, put};
+use bw_procedures::{Act, Reply, do_act};
+use bw_step::Look;
+use bw_work::{Gate, Hand};
 use std::alloc::Global;
-
-/// Does the act by the worker's steps, and answers what the worker was told.
-#[tactic(auto, using(crate::proofs::Receipts::put_tells, crate::proofs::Receipts::delete_tells, crate::proofs::Receipts::get_tells, crate::proofs::Receipts::none_told))]
-pub fn do_act<S: Steps<Global, Step<Global>>>(steps: &mut S, act: Act) -> Result<Reply, Fault>
-    ensures follows { S.follows steps.old steps.new }
-    ensures told { IfOk result (λ reply. map Some (tellings (S.seen steps.new).trail) ≡ map Some (tellings (S.seen steps.old).trail) ++ told_of act reply ∷ []) }
-    ensures nothing { OnErr result (tellings (S.seen steps.new).trail ≡ tellings (S.seen steps.old).trail) }
-    ensures fault { IfErr result (IsFair (limit_of (S.seen steps.old)) (S.seen steps.old) (S.seen steps.new)) }
-{
-    match act {
-        Act::Put { key, value } => match put(steps, key, value) {
-            Ok(done) => Ok(Reply::Put(done)),
-            Err(fault) => Err(fault),
-        },
-        Act::Delete { key } => match delete(steps, key) {
-            Ok(done) => Ok(Reply::Delete(done)),
-            Err(fault) => Err(fault),
-        },
-        Act::Get { key } => match get(steps, key) {
-            Ok(found) => Ok(Reply::Get(found)),
-            Err(fault) => Err(fault),
-        },
-    }
-}
 
 /// Does the acts in their order, as long as none is given up, and adds the reply to each. The worker
 /// looks keys up by its reader, if it has one.
-#[tactic(auto, using(crate::proofs::Receipts::answers_more))]
+#[tactic(auto, using(bw_procedures::proofs::Receipts::answers_more))]
 pub(crate) fn do_acts<T: RunTree, G: Gate>(
     tree: &T,
     hand: &mut Hand<'_, Global, T, G>,
@@ -53,7 +27,7 @@ pub(crate) fn do_acts<T: RunTree, G: Gate>(
     requires empty { replies.old.items ≡ [] }
     requires room { length acts.now ≤ vec_capacity replies.old }
     ensures follows { Sums hand.old.trail.items hand.old.share hand.new.trail.items hand.new.share }
-    ensures told { map Some (tellings hand.new.trail.items) ≡ answers acts.now replies.new.items }
+    ensures told { Some (tellings hand.new.trail.items) ≡ answers acts.now replies.new.items }
     ensures all { OnOk result (length replies.new.items ≡ length acts.now) }
     ensures stopped { OnErr result (length replies.new.items < length acts.now) }
 {
@@ -72,7 +46,7 @@ fn do_row<T: RunTree, G: Gate>(
     act: Act,
 ) -> Result<Reply, Stop<T::Closed>>
     ensures follows { Sums hand.old.trail.items hand.old.share hand.new.trail.items hand.new.share }
-    ensures told { IfOk result (λ reply. map Some (tellings hand.new.trail.items) ≡ map Some (tellings hand.old.trail.items) ++ told_of act reply ∷ []) }
+    ensures told { IfOk result (λ reply. Some (tellings hand.new.trail.items) ≡ joined (Some (tellings hand.old.trail.items)) (told_of act reply)) }
     ensures nothing { OnErr result (tellings hand.new.trail.items ≡ tellings hand.old.trail.items) }
     ensures read { IfOk result (IsReadByOwn T.reads reader.new act hand.old.trail.items hand.new.trail.items) }
 {

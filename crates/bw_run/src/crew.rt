@@ -6,7 +6,7 @@ ghost use Rattle.bw_run.specs.declared.fault.RunFault.TheVariants as fault;
 use crate::fault::RunFault;
 use crate::job::{Job, Worked, work};
 use crate::run_tree::RunTree;
-use bw_texts::Act;
+use bw_procedures::Act;
 use bw_work::Gate;
 use std::alloc::Global;
 use std::snapshot::Snapshot;

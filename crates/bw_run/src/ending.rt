@@ -12,7 +12,7 @@ ghost use Rattle.bw_run.specs.Runs.{IsRunOf};
 use crate::fault::RunFault;
 use crate::judgement::judge;
 use crate::merging::merge;
-use crate::reply::Reply;
+use bw_procedures::Reply;
 use bw_step::Receipt;
 use bw_table::Table;
 use bw_texts::Row;

@@ -8,9 +8,9 @@ ghost use Rattle.bw_run.specs.Rows.{ArePlanned, AreAnswered, IsRowOf, acts_of};
 
 use crate::fault::RunFault;
 use crate::job::Worked;
-use crate::reply::Reply;
 use crate::run_tree::RunTree;
 use crate::stop::Stop;
+use bw_procedures::Reply;
 use bw_step::Receipt;
 use bw_texts::Row;
 use bw_tree::Share;

@@ -2,17 +2,16 @@
 
 ghost use Rattle.std.specs.Prelude.{◌≡◌, ◌+◌, ◌<◌, ◌≤◌, ◌^◌, [], Some, IfOk, All, fold, length, map, vec_len, vec_capacity};
 ghost use Rattle.std.specs.Option.{ForNone, ForSome};
+ghost use Rattle.bw_procedures.specs.Told.{answers, tellings};
 ghost use Rattle.bw_tree.specs.Shares.{no_changes, counted};
 ghost use Rattle.bw_run.specs.Reads.{handed_out};
-ghost use Rattle.bw_run.specs.Told.{answers, tellings};
 
 use crate::acts::do_acts;
-use crate::reply::Reply;
 use crate::run_tree::RunTree;
 use crate::stop::Stop;
 use bw_delta::NoMemory;
+use bw_procedures::{Act, Reply};
 use bw_step::Receipt;
-use bw_texts::Act;
 use bw_tree::Share;
 use bw_work::{Gate, Hand};
 use std::alloc::Global;
@@ -42,7 +41,7 @@ pub(crate) struct Worked<I: Ledger, D: Ledger, C> {
     pub trail: Vec<Receipt>,
     pub stop: Option<Stop<C>>,
     ghost counted: { share ≡ fold counted no_changes trail.items },
-    ghost told: { map Some (tellings trail.items) ≡ answers acts.items replies.items },
+    ghost told: { Some (tellings trail.items) ≡ answers acts.items replies.items },
     ghost all: { ForNone stop (length replies.items ≡ length acts.items) },
     ghost stopped: { ForSome stop (λ _. length replies.items < length acts.items) },
 }

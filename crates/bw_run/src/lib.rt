@@ -11,15 +11,13 @@ mod job;
 mod judgement;
 mod merging;
 mod plan;
-mod reply;
 mod rows;
 mod run_tree;
 mod runner;
 mod stop;
 
-pub use acts::do_act;
-pub use bw_texts::{Act, Row, is_trace_for};
+pub use bw_procedures::{Act, Reply, do_act};
+pub use bw_texts::{Row, is_trace_for};
 pub use ending::Finished;
 pub use fault::RunFault;
-pub use reply::Reply;
 pub use runner::run;

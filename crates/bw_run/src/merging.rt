@@ -4,13 +4,14 @@ ghost use Rattle.std.specs.Prelude.{◌≡◌, ◌<◌, [], IfOk, length, map, s
 ghost use Rattle.std.specs.List.{AllByRecursion};
 ghost use Rattle.bw_run.specs.Rows.{AreFull, IsMerged, TakesReply};
 
-use crate::reply::Reply;
 use bw_delta::NoMemory;
+use bw_procedures::Reply;
 use bw_texts::Row;
 use std::alloc::Global;
 use std::vec::IntoIter;
 
 /// The replies, each at its row's place. Each worker has as many replies as rows.
+#[tactic(auto, using(bw_procedures::proofs::Receipts::told_end))]
 pub(crate) fn merge(
     machine: Global,
     rows: &[Row],

@@ -5,7 +5,8 @@ ghost use Rattle.std.specs.List.{AllByRecursion};
 ghost use Rattle.bw_run.specs.Rows.{AddsAct, ArePlanned};
 
 use bw_delta::NoMemory;
-use bw_texts::{Act, Row};
+use bw_procedures::Act;
+use bw_texts::Row;
 use std::alloc::Global;
 
 /// Each worker's acts, in the order of its rows.

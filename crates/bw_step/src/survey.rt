@@ -1,5 +1,6 @@
 use crate::view::Stage;
 use bw_keys::{Fence, Key, Pid, Range};
+use std::fmt;
 
 /// How many changes of the map there were.
 #[derive(Clone, Copy, Debug, PartialEq, Eq, Hash)]
@@ -35,6 +36,13 @@ pub struct Leaf {
     pub stage: Stage,
 }
 
+/// The range and the number of pairs: `LOW HIGH COUNT`.
+impl fmt::Display for Leaf {
+    fn fmt<W: fmt::Write>(&self, f: &mut fmt::Formatter<W>) -> fmt::Result {
+        write!(f, "{} {} {}", self.range.low, self.range.high, self.count)
+    }
+}
+
 /// What the whole tree looks like.
 #[derive(Debug, Drop)]
 pub struct Survey {
@@ -43,4 +51,22 @@ pub struct Survey {
     /// The leaves, from the least key to the greatest.
     pub leaves: Vec<Leaf>,
     pub book: Book,
+}
+
+/// A line for each leaf, and one that says how many pairs were inserted, were removed and are there.
+/// No line feed ends the last one.
+impl fmt::Display for Survey {
+    fn fmt<W: fmt::Write>(&self, f: &mut fmt::Formatter<W>) -> fmt::Result {
+        let mut pairs = 0u64;
+        for leaf in self.leaves.iter() {
+            writeln!(f, "{leaf}")?;
+            pairs = pairs.saturating_add(leaf.count);
+        }
+        let book = self.book;
+        write!(
+            f,
+            "inserted {} removed {} pairs {pairs}",
+            book.inserted, book.removed
+        )
+    }
 }

@@ -169,9 +169,7 @@ fn write_survey<W: fmt::Write>(f: &mut fmt::Formatter<W>, survey: &Survey) -> fm
     write!(f, "levels {}", survey.levels)?;
     write!(f, " inserted {} removed {}", book.inserted, book.removed)?;
     for leaf in survey.leaves.iter() {
-        let range = leaf.range;
-        write!(f, " | {} {} {}", leaf.pid, range.low, range.high)?;
-        write!(f, " {} {:?}", leaf.count, leaf.stage)?;
+        write!(f, " | {} {leaf} {:?}", leaf.pid, leaf.stage)?;
     }
     Ok(())
 }

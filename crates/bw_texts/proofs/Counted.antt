@@ -5,8 +5,8 @@ use Rattle.std.proofs.lemmas.Bool.Decides.{nat_tests}
 use Rattle.std.proofs.lemmas.List.{append-nil}
 use Rattle.std.proofs.lemmas.List.Sums.{sum_by-cons}
 use Rattle.bw_step.specs.declared.receipt.Receipt.{Receipt}
-use Rattle.bw_texts.specs.declared.line.Line.{Line}
-use Rattle.bw_texts.specs.declared.line.Line.TheVariants.{Reply, Pair}
+use Rattle.bw_texts.specs.declared.history.line.Line.{Line}
+use Rattle.bw_texts.specs.declared.history.line.Line.TheVariants.{Reply, Pair}
 use Rattle.bw_texts.specs.Histories.{AddsLine, AddsReceipt, added, row_count}
 
 -- lists that are the same at each place have the same sum

@@ -5,9 +5,9 @@ use Rattle.std.proofs.lemmas.List.{append-nil, map-set, get_or-map, length-map}
 use Rattle.std.specs.List.{slice_get}
 use Rattle.bw_delta.specs.Entries.{last_entry, rises}
 use Rattle.bw_step.specs.declared.receipt.Receipt.{Receipt}
-use Rattle.bw_texts.specs.declared.line.Line.{Line}
+use Rattle.bw_texts.specs.declared.history.line.Line.{Line}
 use Rattle.bw_texts.specs.declared.part.Part.{Part}
-use Rattle.bw_texts.specs.declared.line.Line.TheVariants.{Reply, Pair}
+use Rattle.bw_texts.specs.declared.history.line.Line.TheVariants.{Reply, Pair}
 use Rattle.bw_texts.specs.Lines.{history_line, is_above, last_key, line_of, pairs_of, trail_of, workers_named}
 use Rattle.bw_texts.specs.Histories.{AddsLine, AddsReceipt, AreTrailsOf, added}
 

@@ -3,8 +3,8 @@ use Rattle.std.specs.Prelude.{ℕ, ◌+◌, ◌==◌, ◌≡◌, ⊤, true, cond
 use Rattle.bw_keys.specs.Ranges.{key_count}
 use Rattle.bw_delta.specs.Entries.{rises}
 use Rattle.bw_step.specs.declared.receipt.Receipt.{Receipt}
-use Rattle.bw_texts.specs.declared.line.Line.{Line}
-use Rattle.bw_texts.specs.declared.line.Line.TheVariants.{Reply, Pair}
+use Rattle.bw_texts.specs.declared.history.line.Line.{Line}
+use Rattle.bw_texts.specs.declared.history.line.Line.TheVariants.{Reply, Pair}
 use Rattle.bw_texts.specs.Lines.{history_line, is_above, pairs_of, trail_of, workers_named}
 use Rattle.bw_texts.specs.Reading.{IsReadAs}
 

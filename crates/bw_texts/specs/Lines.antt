@@ -5,10 +5,10 @@ use Rattle.std.specs.Bool.{nat_eq}
 use Rattle.bw_delta.specs.Entries.{last_entry}
 use Rattle.bw_step.specs.declared.receipt.Receipt.{Receipt}
 use Rattle.bw_step.specs.declared.receipt.Receipt.TheVariants.{Inserted, Deleted, Looked}
-use Rattle.bw_texts.specs.declared.line.Line.{Line}
-use Rattle.bw_texts.specs.declared.line.Line.TheVariants.{Reply, Pair}
-use Rattle.bw_texts.specs.declared.line.Form.{Form}
-use Rattle.bw_texts.specs.declared.line.Form.TheVariants as form
+use Rattle.bw_texts.specs.declared.history.line.Line.{Line}
+use Rattle.bw_texts.specs.declared.history.line.Line.TheVariants.{Reply, Pair}
+use Rattle.bw_texts.specs.declared.history.line.Form.{Form}
+use Rattle.bw_texts.specs.declared.history.line.Form.TheVariants as form
 use Rattle.bw_texts.specs.declared.part.Part.{Part}
 use Rattle.bw_texts.specs.declared.part.Part.TheVariants as part
 use Rattle.bw_texts.specs.Numbers.{number_of, worker_of, is_text}

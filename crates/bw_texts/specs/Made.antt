@@ -2,9 +2,9 @@
 use Rattle.std.specs.Prelude.{ℕ, zero, suc, ◌+◌, ◌%◌, ◌==◌, List, [], ◌∷◌, cond, nat_lt}
 use Rattle.rand_pcg.specs.Lcg.{Lcg}
 use Rattle.rand_pcg.specs.Pcg.{pcg32}
-use Rattle.bw_texts.specs.declared.row.Row.{Row}
-use Rattle.bw_texts.specs.declared.row.Act.{Act}
-use Rattle.bw_texts.specs.declared.row.Act.TheVariants.{Put, Get, Delete}
+use Rattle.bw_texts.specs.declared.trace.row.Row.{Row}
+use Rattle.bw_procedures.specs.declared.act.Act.{Act}
+use Rattle.bw_procedures.specs.declared.act.Act.TheVariants.{Put, Get, Delete}
 
 -- half of the rows are puts, a quarter deletes and a quarter gets
 abbrev pub act_drawn : ℕ → ℕ → ℕ → Act

@@ -1,10 +1,10 @@
 -- How a record of a trace reads.
 use Rattle.std.specs.Prelude.{ℕ, ◌==◌, cond, List, [], length, codes, Option, Some, None, Result, Ok, Err, ok_or, option_map, slice_index_or}
-use Rattle.bw_texts.specs.declared.row.Row.{Row}
-use Rattle.bw_texts.specs.declared.row.Act.{Act}
-use Rattle.bw_texts.specs.declared.row.Act.TheVariants.{Put, Get, Delete}
-use Rattle.bw_texts.specs.declared.trace_row.Op.{Op}
-use Rattle.bw_texts.specs.declared.trace_row.Op.TheVariants as ops
+use Rattle.bw_texts.specs.declared.trace.row.Row.{Row}
+use Rattle.bw_procedures.specs.declared.act.Act.{Act}
+use Rattle.bw_procedures.specs.declared.act.Act.TheVariants.{Put, Get, Delete}
+use Rattle.bw_texts.specs.declared.trace.row.Op.{Op}
+use Rattle.bw_texts.specs.declared.trace.row.Op.TheVariants as ops
 use Rattle.bw_texts.specs.declared.part.Part.{Part}
 use Rattle.bw_texts.specs.declared.part.Part.TheVariants as part
 use Rattle.bw_texts.specs.Numbers.{number_of, worker_of, is_text}

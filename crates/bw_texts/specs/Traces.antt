@@ -1,6 +1,6 @@
 -- How a row of a trace reads among the others.
 use Rattle.std.specs.Prelude.{ℕ, List, Result}
-use Rattle.bw_texts.specs.declared.row.Row.{Row}
+use Rattle.bw_texts.specs.declared.trace.row.Row.{Row}
 use Rattle.bw_texts.specs.declared.part.Part.{Part}
 use Rattle.bw_texts.specs.Reading.{Fields}
 use Rattle.bw_texts.specs.Rows.{row_of}

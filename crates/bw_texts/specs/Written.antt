@@ -3,9 +3,9 @@ use Rattle.std.specs.Prelude.{ℕ, ◌≡◌, ◌∷◌, [], List, codes, decima
 use Rattle.csv.specs.Writing.{default_writer, fields_written, has_written, row_text, with_flexible, writer_setup}
 use Rattle.csv.specs.declared.writer.Writer.{Writer}
 use Rattle.csv.specs.declared.writer.WriterBuilder.{WriterBuilder}
-use Rattle.bw_texts.specs.declared.row.Row.{Row}
-use Rattle.bw_texts.specs.declared.row.Act.{Act}
-use Rattle.bw_texts.specs.declared.row.Act.TheVariants.{Put, Get, Delete}
+use Rattle.bw_texts.specs.declared.trace.row.Row.{Row}
+use Rattle.bw_procedures.specs.declared.act.Act.{Act}
+use Rattle.bw_procedures.specs.declared.act.Act.TheVariants.{Put, Get, Delete}
 
 -- how records are written: by the defaults, but of any length
 abbrev pub flexible_writer : WriterBuilder

@@ -3,7 +3,7 @@ use Rattle.std.specs.Prelude.{◌≡◌, ℕ, List, Bool, true, false, Some, cod
 use Rattle.std.specs.Str.Parse.{digits_value, without_leading_plus}
 use Rattle.clap.specs.Words.{one_text}
 use Rattle.clap.specs.declared.parser.matches.Found.{Found}
-use Rattle.bw_trace.specs.declared.run_options.RunOptions.{RunOptions}
+use Rattle.bw_trace.specs.declared.program.run_options.RunOptions.{RunOptions}
 
 -- the digits that were found for the name write the number
 abbrev pub IsNumberFor : Found → List ℕ → ℕ → Type 0

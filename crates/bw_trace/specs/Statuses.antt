@@ -8,8 +8,8 @@ use Rattle.bw_texts.specs.declared.fault.OutFault.{OutFault}
 use Rattle.bw_texts.specs.declared.fault.OutFault.TheVariants as outs
 use Rattle.bw_texts.specs.declared.fault.TextFault.{TextFault}
 use Rattle.bw_texts.specs.declared.fault.TextFault.TheVariants as texts
-use Rattle.bw_trace.specs.declared.program.Fault.{Fault}
-use Rattle.bw_trace.specs.declared.program.Fault.TheVariants as faults
+use Rattle.bw_trace.specs.declared.program.fault.Fault.{Fault}
+use Rattle.bw_trace.specs.declared.program.fault.Fault.TheVariants as faults
 
 -- a text that can't be read is bad input, and one that is too long meets a limit, as want of memory does
 abbrev pub text_status : TextFault → ℕ

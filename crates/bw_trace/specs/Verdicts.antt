@@ -1,10 +1,10 @@
 -- What the program says of a history.
-use Rattle.std.specs.Prelude.{ℕ, ◌≡◌, ◌↔◌, ◌++◌, List, codes, decimal}
+use Rattle.std.specs.Prelude.{ℕ, ◌≡◌, ◌↔◌, ◌++◌, List, codes}
 use Rattle.bw_step.specs.declared.receipt.Receipt.{Receipt}
 use Rattle.bw_audit.specs.declared.verdict.Verdict.{Verdict}
-use Rattle.bw_audit.specs.declared.verdict.Verdict.TheVariants.{Yes, No}
+use Rattle.bw_audit.specs.declared.verdict.Verdict.TheVariants.{Yes}
 use Rattle.bw_audit.specs.Legal.{IsLegal}
-use Rattle.bw_audit.specs.Verdicts.{verdict_of}
+use Rattle.bw_audit.specs.Verdicts.{verdict_of, verdict_text}
 use Rattle.bw_texts.specs.Histories.{IsHistory}
 
 -- the verdict on the history that a text has: Yes exactly where it is legal
@@ -15,5 +15,4 @@ IsVerdictOn bytes verdict =
 
 -- the line that tells a verdict
 abbrev pub verdict_line : Verdict → List ℕ
-verdict_line Yes = codes "audit yes\n"
-verdict_line (No worker place) = (codes "audit no " ++ decimal worker) ++ (codes " " ++ decimal place) ++ codes "\n"
+verdict_line verdict = (codes "audit " ++ verdict_text verdict) ++ codes "\n"

@@ -2,10 +2,7 @@
 //! those of runs.
 #![tactic(auto)]
 
-mod options;
 mod program;
-mod report;
-mod run_options;
 
 pub use bw_audit::Verdict;
 pub use bw_run::{Finished, Reply, RunFault, run};

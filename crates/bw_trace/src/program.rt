@@ -1,157 +1,33 @@
 //! What the program does, over a reader and two writers.
 
-ghost use Rattle.std.specs.Prelude.{◌≡◌, ◌≤◌, ◌⊎◌, IfOk, List, OnOk, Some, ℕ};
+ghost use Rattle.std.specs.Prelude.{◌≡◌, ◌≤◌, IfOk, List, OnOk, Some, ℕ};
 ghost use Rattle.std.specs.Io.KnownBytes.{Appends};
-ghost use Rattle.bw_trace.specs.declared.program.Fault.TheVariants as program_fault;
-ghost use Rattle.bw_trace.specs.Statuses.{fault_of, run_status, status_of, verdict_status};
+ghost use Rattle.bw_trace.specs.Statuses.{run_status, status_of, verdict_status};
 ghost use Rattle.bw_trace.specs.Verdicts.{IsVerdictOn, verdict_line};
 
-use crate::options::{Field, commands, ranged};
-use crate::report::write_report;
-use crate::run_options::RunOptions;
-use bw_audit::{AuditFault, Verdict, audit};
-use bw_delta::NoMemory;
+mod fault;
+mod options;
+mod report;
+mod run_options;
+
+use crate::program::fault::{AUDIT_NO, BAD_USAGE, DONE, Fault};
+use crate::program::options::{Field, commands, ranged};
+use crate::program::report::write_report;
+use crate::program::run_options::RunOptions;
+use bw_audit::{Verdict, audit};
 use bw_keys::MAX_WORKERS;
 use bw_run::{Finished, RunFault, run};
-use bw_texts::{
-    MOST_TRACE_ROWS, OutFault, TextFault, make, read_history, read_trace, write_history,
-    write_trace,
-};
+use bw_texts::{MOST_TRACE_ROWS, make, read_history, read_trace, write_history, write_trace};
 use bw_work::Open;
 use clap::ArgMatches;
-use clap::error::ErrorKind;
-use std::alloc::{AllocError, Global};
+use std::alloc::Global;
 use std::io;
 use std::io::{Read, Write};
 use std::sync::Wait;
 use std::thread::Threads;
-use thiserror::Error;
-
-const DONE: u8 = 0;
-
-const BAD_INPUT: u8 = 1;
-
-const BAD_USAGE: u8 = 2;
-
-const AT_A_LIMIT: u8 = 3;
-
-const AUDIT_NO: u8 = 4;
 
 /// The words that no words stand for.
 static USUAL: [&str; 1] = ["run"];
-
-/// Why the program ends without its result.
-#[derive(Debug, Drop, Error)]
-enum Fault {
-    /// The words ask for help, or are none of the program's.
-    #[error(transparent)]
-    Usage(clap::Error),
-    #[error("bad {0}")]
-    Bad(Field),
-    #[error(transparent)]
-    Text(TextFault),
-    #[error(transparent)]
-    Run(RunFault),
-    #[error("write")]
-    Write,
-    #[error("memory")]
-    Memory,
-}
-
-impl Fault {
-    fn status(&self) -> u8
-        ensures { result ≡ status_of self.now }
-    {
-        match self {
-            Fault::Text(TextFault::Row(_, _) | TextFault::Read) | Fault::Write => BAD_INPUT,
-            Fault::Usage(_)
-            | Fault::Bad(_)
-            | Fault::Run(RunFault::Config(_) | RunFault::Workers | RunFault::Readers) => BAD_USAGE,
-            Fault::Run(RunFault::Audit(_, _)) => AUDIT_NO,
-            Fault::Text(TextFault::Rows | TextFault::Memory) | Fault::Run(_) | Fault::Memory => {
-                AT_A_LIMIT
-            }
-        }
-    }
-}
-
-impl From<clap::Error> for Fault {
-    ghost from_gives = { λ error fault. (fault ≡ program_fault.Memory) ⊎ (fault ≡ program_fault.Usage error) };
-
-    fn from(error: clap::Error) -> Fault {
-        match error.kind() {
-            ErrorKind::OutOfMemory => Fault::Memory,
-            _ => Fault::Usage(error),
-        }
-    }
-}
-
-impl From<Field> for Fault {
-    ghost from_gives = { λ field fault. fault ≡ program_fault.Bad field };
-
-    fn from(field: Field) -> Fault {
-        Fault::Bad(field)
-    }
-}
-
-impl From<TextFault> for Fault {
-    ghost from_gives = { λ text fault. fault ≡ program_fault.Text text };
-
-    fn from(fault: TextFault) -> Fault {
-        Fault::Text(fault)
-    }
-}
-
-impl From<OutFault> for Fault {
-    ghost from_gives = { λ out fault. fault ≡ fault_of out };
-
-    fn from(fault: OutFault) -> Fault {
-        match fault {
-            OutFault::Write => Fault::Write,
-            OutFault::Memory => Fault::Memory,
-        }
-    }
-}
-
-impl From<RunFault> for Fault {
-    ghost from_gives = { λ run fault. fault ≡ program_fault.Run run };
-
-    fn from(fault: RunFault) -> Fault {
-        Fault::Run(fault)
-    }
-}
-
-impl From<NoMemory> for Fault {
-    ghost from_gives = { λ _ fault. fault ≡ program_fault.Memory };
-
-    fn from(_: NoMemory) -> Fault {
-        Fault::Memory
-    }
-}
-
-impl From<AllocError> for Fault {
-    ghost from_gives = { λ _ fault. fault ≡ program_fault.Memory };
-
-    fn from(_: AllocError) -> Fault {
-        Fault::Memory
-    }
-}
-
-impl From<AuditFault> for Fault {
-    ghost from_gives = { λ _ fault. fault ≡ program_fault.Memory };
-
-    fn from(_: AuditFault) -> Fault {
-        Fault::Memory
-    }
-}
-
-impl From<io::Error> for Fault {
-    ghost from_gives = { λ _ fault. fault ≡ program_fault.Write };
-
-    fn from(_: io::Error) -> Fault {
-        Fault::Write
-    }
-}
 
 /// Does what the words say, without the program's own name, and answers the exit status; no words
 /// stand for `run` alone. Results and help go to the output, fault lines and the usage text to
@@ -297,10 +173,7 @@ fn check<R: Read + Drop>(alloc: Global, input: R) -> Result<Verdict, Fault>
 fn write_verdict<W: Write>(output: &mut W, verdict: Verdict) -> io::Result<()>
     ensures { OnOk result (Appends (W.contents output.old) (W.contents output.new) (verdict_line verdict)) }
 {
-    match verdict {
-        Verdict::Yes => writeln!(output, "audit yes"),
-        Verdict::No(worker, place) => writeln!(output, "audit no {worker} {place}"),
-    }
+    writeln!(output, "audit {verdict}")
 }
 
 /// Where the words ask for help it is the result, and otherwise the usage is the fault.

@@ -1,7 +1,7 @@
 //! What comes of a trace, as texts.
 
 use anyhow::Result;
-use bw_audit::{Verdict, audit};
+use bw_audit::audit;
 use bw_step::Receipt;
 use bw_table::Table;
 use bw_trace::write_history;
@@ -59,24 +59,11 @@ impl Texts {
     ) -> Result<Texts> {
         let mut replies = replies;
         let survey = table.survey(alloc)?;
-        for leaf in survey.leaves.iter() {
-            let range = leaf.range;
-            writeln!(replies, "{} {} {}", range.low, range.high, leaf.count)?;
-        }
+        writeln!(replies, "{survey}")?;
         let pairs = table.pairs(alloc)?;
-        let book = survey.book;
-        writeln!(
-            replies,
-            "inserted {} removed {} pairs {}",
-            book.inserted,
-            book.removed,
-            pairs.len()
-        )?;
         let trails = [trail];
-        match audit(alloc, &trails, &pairs)? {
-            Verdict::Yes => writeln!(replies, "audit yes")?,
-            Verdict::No(worker, place) => writeln!(replies, "audit no {worker} {place}")?,
-        }
+        let verdict = audit(alloc, &trails, &pairs)?;
+        writeln!(replies, "audit {verdict}")?;
         let history = write_history(Vec::new(alloc), &trails, &pairs)?;
         Ok(Texts {
             replies,

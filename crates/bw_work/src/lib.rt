@@ -11,7 +11,8 @@ mod hand;
 
 pub use alone::Alone;
 pub use bw_procedures::{
-    Del, Done, Ends, Fault, Keep, Put, Slice, Steps, delete, get, help, page_from, put, tend,
+    Act, Del, Done, Ends, Fault, Keep, Put, Reply, Slice, Steps, delete, do_act, get, help,
+    page_from, put, tend,
 };
 pub use gate::{Gate, Open};
 pub use hand::Hand;

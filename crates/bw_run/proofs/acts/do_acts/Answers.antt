@@ -1,9 +1,9 @@
-use Rattle.std.proofs.Common.{◌≡◌, ◌∷◌, ◌++◌, [], ◌∙◌, ap, sym, List, Option, length, get_or, arith}
-use Rattle.bw_texts.specs.declared.row.Act.{Act}
-use Rattle.bw_texts.specs.declared.row.Act.TheVariants as acts
+use Rattle.std.proofs.Common.{◌≡◌, ◌∙◌, ap, sym, List, Option, length, get_or, arith}
+use Rattle.bw_procedures.specs.declared.act.Act.{Act}
+use Rattle.bw_procedures.specs.declared.act.Act.TheVariants as acts
 use Rattle.bw_work.specs.Hands.{sums_join}
-use Rattle.bw_run.specs.Told.{Told, answers, told_of}
-use Rattle.bw_run.proofs.Receipts.{answers_more}
+use Rattle.bw_procedures.specs.Told.{Told, answers, joined, told_of}
+use Rattle.bw_procedures.proofs.Receipts.{answers_more}
 use Rattle.bw_run.proofs.acts.do_acts.Goals as goal
 
 pub loop-act-preserved : goal.loop-act-preserved
@@ -16,7 +16,7 @@ loop-act-preserved g c =
     record {
       follows =
           sums_join c.args.hand.now.trail.items c.loop-act.hand.trail.items c.do_row.new.hand.trail.items c.args.hand.now.share c.loop-act.hand.share c.do_row.new.hand.share c.loop-act.invariant.follows c.do_row.ensures.follows;
-      told = c.in_ok-reply.ensures.told ∙ (ap (λ (l : List (Option Told)). l ++ told_of act reply ∷ []) c.loop-act.invariant.told ∙ (sym more ∙ ap (answers c.args.acts.now) (sym c.push_reserved.ensures.items)));
+      told = c.in_ok-reply.ensures.told ∙ (ap (λ (l : Option (List Told)). joined l (told_of act reply)) c.loop-act.invariant.told ∙ (sym more ∙ ap (answers c.args.acts.now) (sym c.push_reserved.ensures.items)));
       count = omega (arith, c.push_reserved.ensures.len, c.loop-act.invariant.count);
       room = omega (arith, c.push_reserved.ensures.capacity, c.loop-act.invariant.room);
     }

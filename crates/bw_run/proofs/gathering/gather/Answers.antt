@@ -1,6 +1,6 @@
 use Rattle.std.proofs.Common.{rules, ◌≡◌, ◌∷◌, ◌+◌, ◌<◌, [], length, ap, refl, ◌∙◌, arith, length-append}
 use Rattle.bw_run.specs.Rows.{acts_of}
-use Rattle.bw_run.specs.Told.{answers}
+use Rattle.bw_procedures.specs.Told.{answers}
 use Rattle.bw_run.proofs.Gatherings.{answered_next, planned_first, planned_rest, sums_next}
 use Rattle.bw_run.proofs.gathering.gather.Goals as goal
 

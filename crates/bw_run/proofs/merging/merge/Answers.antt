@@ -1,9 +1,9 @@
 use Rattle.std.proofs.Common.{◌≡◌, ◌∷◌, ◌++◌, ◌+◌, ℕ, List, [], ◌∙◌, ap, sym, drop, take, get_or, length, map, arith, length-take-le, length-append}
 use Rattle.std.proofs.lemmas.List.{drop_more, take_more}
-use Rattle.bw_texts.specs.declared.row.Act.TheVariants as acts
-use Rattle.bw_texts.specs.declared.row.Row.{Row}
+use Rattle.bw_procedures.specs.declared.act.Act.TheVariants as acts
+use Rattle.bw_texts.specs.declared.trace.row.Row.{Row}
 use Rattle.bw_run.specs.Rows.{acts_of, told_to}
-use Rattle.bw_run.specs.Told.{answers}
+use Rattle.bw_procedures.specs.Told.{answers, joined}
 use Rattle.bw_run.proofs.Merges.{told_step, full_step, own_act}
 use Rattle.bw_run.proofs.merging.merge.Goals as goal
 
@@ -42,5 +42,5 @@ loop-row-preserved c =
       told = λ worker inside.
           rw (more, c.in_ok-push.ensures.items)
           (told_step worker (take place rows) row rest c.loop-row.merged.items c.take_reply.result (here worker) (left worker) same (c.take_reply.ensures.taken worker)
-          ∙ (ap (λ (rs : List Row). told_to worker (take place rows) c.loop-row.merged.items ++ answers (acts_of worker rs) (here worker)) (sym split) ∙ inv.told worker (omega (arith, inside, count))));
+          ∙ (ap (λ (rs : List Row). joined (told_to worker (take place rows) c.loop-row.merged.items) (answers (acts_of worker rs) (here worker))) (sym split) ∙ inv.told worker (omega (arith, inside, count))));
     }

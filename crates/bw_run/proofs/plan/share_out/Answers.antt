@@ -1,7 +1,7 @@
 use Rattle.std.proofs.Common.{◌≡◌, ◌∷◌, ◌++◌, ◌+◌, List, [], ◌∙◌, ap, sym, drop, get_or, map}
 use Rattle.std.proofs.lemmas.List.{drop_more}
-use Rattle.bw_texts.specs.declared.row.Act.TheVariants as acts
-use Rattle.bw_texts.specs.declared.row.Row.{Row}
+use Rattle.bw_procedures.specs.declared.act.Act.TheVariants as acts
+use Rattle.bw_texts.specs.declared.trace.row.Row.{Row}
 use Rattle.bw_run.specs.Rows.{acts_of}
 use Rattle.bw_run.proofs.Plans.{plan_step}
 use Rattle.bw_run.proofs.plan.share_out.Goals as goal

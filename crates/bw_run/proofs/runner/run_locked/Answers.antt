@@ -2,7 +2,7 @@ use denote.Param.Send.{sendable}
 use Rattle.std.proofs.Common.{◌<◌, ℕ, subst, sym, ◌∙◌}
 use Rattle.std.proofs.Crossing.{crosses}
 use Rattle.std.specs.List.{AllByRecursion}
-use Rattle.bw_texts.specs.declared.row.Row.{Row}
+use Rattle.bw_texts.specs.declared.trace.row.Row.{Row}
 use Rattle.bw_run.proofs.Crossing.{Tree-sync}
 use Rattle.bw_run.proofs.runner.run_locked.Goals as goal
 

@@ -3,7 +3,7 @@ use Rattle.std.proofs.Common.{◌<◌, ℕ, subst, sym, ◌∙◌}
 use Rattle.std.proofs.Crossing.{crosses}
 use Rattle.std.specs.List.{AllByRecursion}
 use Rattle.bw_snap.proofs.Crossing.{Reader-send, ReadTree-sync}
-use Rattle.bw_texts.specs.declared.row.Row.{Row}
+use Rattle.bw_texts.specs.declared.trace.row.Row.{Row}
 use Rattle.bw_run.proofs.runner.run_read.Goals as goal
 
 pub do_rows-requires-send-L : goal.do_rows-requires-send-L

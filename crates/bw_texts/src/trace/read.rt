@@ -1,0 +1,47 @@
+//! Reading of traces.
+
+ghost use Rattle.std.specs.Prelude.{◌≡◌, ◌<◌, ◌≤◌, IfErr, IfOk, List, Some, length, ℕ};
+ghost use Rattle.std.specs.List.{AllByRecursion};
+ghost use Rattle.bw_texts.specs.Reading.{ExplainsFault, IsReadAs};
+ghost use Rattle.bw_texts.specs.Traces.{trace_row};
+
+use crate::fault::TextFault;
+use crate::text::{next_record, open};
+use crate::trace::row::{Row, read_row};
+use csv::ByteRecord;
+use std::alloc::Global;
+use std::io::Read;
+
+/// The most rows that a trace may have.
+pub const MOST_TRACE_ROWS: u64 = 1_000_000;
+
+/// Reads a trace for so many workers. A row has four fields: the worker, counted from 0; `put`,
+/// `get` or `del`; the key; and the value of a put, empty for the others. A number is one to twenty
+/// decimal digits, and below 2^64. After a fault nothing of the trace is handed out.
+pub fn read_trace<R: Read + Drop>(
+    alloc: Global,
+    input: R,
+    workers: u32,
+) -> Result<Vec<Row>, TextFault>
+    ensures rows { IfOk result (λ rows. (bytes : List ℕ) → R.remaining input ≡ Some bytes → IsReadAs (trace_row workers) bytes rows.items) }
+    ensures workers { IfOk result (λ rows. AllByRecursion (λ row. row.worker < workers) rows.items) }
+    ensures few { IfOk result (λ rows. length rows.items ≤ MOST_TRACE_ROWS) }
+    ensures fault { IfErr result (λ fault. (bytes : List ℕ) → R.remaining input ≡ Some bytes → ExplainsFault (trace_row workers) MOST_TRACE_ROWS bytes fault) }
+{
+    let mut reader = open(alloc, input);
+    let mut record = ByteRecord::new(alloc);
+    let mut rows = Vec::new(alloc);
+    for done in 0..MOST_TRACE_ROWS {
+        if !next_record(&mut reader, &mut record)? {
+            return Ok(rows);
+        }
+        match read_row(&record, workers) {
+            Ok(row) => rows.push(row)?,
+            Err(part) => return Err(TextFault::Row(done + 1, part)),
+        }
+    }
+    if next_record(&mut reader, &mut record)? {
+        return Err(TextFault::Rows);
+    }
+    Ok(rows)
+}

@@ -1,0 +1,86 @@
+//! The words that the program takes.
+
+ghost use Rattle.std.specs.Prelude.{◌≤◌, IfOk};
+ghost use Rattle.clap.specs.Words.{found_of};
+ghost use Rattle.bw_trace.specs.Options.{IsNumberFor};
+
+use crate::program::run_options::run_command;
+use clap::{Arg, ArgMatches, Command};
+use std::alloc::{AllocError, Global};
+use thiserror::Error;
+
+/// The options that have a range, by their names.
+#[derive(Clone, Copy, Debug, Drop, PartialEq, Eq, Error)]
+pub(crate) enum Field {
+    #[error("fanout")]
+    Fanout,
+    #[error("chain")]
+    Chain,
+    #[error("pages")]
+    Pages,
+    #[error("tries")]
+    Tries,
+    #[error("workers")]
+    Workers,
+    #[error("readers")]
+    Readers,
+    #[error("rows")]
+    Rows,
+    #[error("span")]
+    Span,
+}
+
+/// The program's commands, with their options and defaults.
+pub(crate) fn commands<'a>(alloc: Global) -> Result<Command<'a>, AllocError> {
+    Command::new(alloc, "bwtree")
+        .about("A Bw-tree in memory: traces, and histories of workers")
+        .no_binary_name(true)
+        .subcommand_required(true)
+        .subcommand(run_command(alloc)?)?
+        .subcommand(make_command(alloc)?)?
+        .subcommand(check_command(alloc))
+}
+
+fn make_command<'a>(alloc: Global) -> Result<Command<'a>, AllocError> {
+    Command::new(alloc, "make")
+        .about("Prints a seeded trace")
+        .arg(option(alloc, "seed", "0", "The seed of the generator"))?
+        .arg(option(alloc, "rows", "100", "How many rows, at most 1000000"))?
+        .arg(option(
+            alloc,
+            "workers",
+            "1",
+            "How many workers take turns, 1 to 64",
+        ))?
+        .arg(option(alloc, "span", "1000", "Keys are below it, 1 to 4294967295"))
+}
+
+fn check_command<'a>(alloc: Global) -> Command<'a> {
+    Command::new(alloc, "check").about("Says whether the history on standard input is legal")
+}
+
+/// An option whose value is a number.
+pub(crate) fn option<'a>(alloc: Global, name: &'a str, default: &'a str, help: &'a str) -> Arg<'a> {
+    Arg::new(alloc, name)
+        .long(name)
+        .help(help)
+        .value_parser(clap::value_parser!(u64))
+        .default_value(default)
+}
+
+/// The value of an option that has a range, or its name where it lies outside.
+pub(crate) fn ranged(
+    matches: &ArgMatches,
+    name: &str,
+    low: u64,
+    high: u64,
+    field: Field,
+) -> Result<u64, Field>
+    ensures inside { IfOk result (λ value. (low ≤ value) × (value ≤ high)) }
+    ensures named { IfOk result (IsNumberFor (found_of matches.now) name.now) }
+{
+    match matches.get_one::<u64>(name) {
+        Some(value) if low <= value && value <= high => Ok(value),
+        _ => Err(field),
+    }
+}
