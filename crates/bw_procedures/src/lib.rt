@@ -3,6 +3,7 @@
 //! modifications").
 #![tactic(auto)]
 
+mod account;
 mod consolidation;
 mod cursor;
 mod deletion;
@@ -20,6 +21,7 @@ mod walk;
 mod wish;
 mod writing;
 
+pub use account::Account;
 pub use cursor::page_from;
 pub use deletion::delete;
 pub use fault::Fault;
