@@ -34,6 +34,7 @@ impl Model for Account {
 
 impl Account {
     /// The account of a worker that has taken no step. Its trail will lie in the machine's memory.
+    #[inline(always)]
     pub fn new(machine: Global, config: Config) -> Account
         ensures config { result.seen.config ≡ config }
         ensures trail { result.seen.trail ≡ [] }
@@ -49,6 +50,7 @@ impl Account {
     }
 
     /// The configuration that the table was made by.
+    #[inline(always)]
     pub fn config(&self) -> Config
         ensures { result ≡ self.now.seen.config }
     {
@@ -56,6 +58,7 @@ impl Account {
     }
 
     /// How much effort the worker has spent.
+    #[inline(always)]
     pub fn effort(&self) -> u64
         ensures { result ≡ self.now.seen.effort }
     {
@@ -63,6 +66,7 @@ impl Account {
     }
 
     /// How often a refusal ended a call.
+    #[inline(always)]
     pub fn ends(&self) -> Ends
         ensures { result ≡ ends_of self.now.seen }
     {
@@ -70,6 +74,7 @@ impl Account {
     }
 
     /// The receipts of the steps that were taken, in their order.
+    #[inline(always)]
     pub fn trail(&self) -> &[Receipt]
         ensures { result.now ≡ self.now.seen.trail }
     {
@@ -77,6 +82,7 @@ impl Account {
     }
 
     /// Gives the trail out.
+    #[inline(always)]
     pub fn into_trail(self) -> Vec<Receipt>
         ensures trail { result.items ≡ self.seen.trail }
         ensures room { vec_capacity result ≡ self.room }
@@ -86,6 +92,7 @@ impl Account {
     }
 
     /// Makes room for one more receipt.
+    #[inline(always)]
     pub fn reserve(&mut self) -> Result<(), NoMemory>
         ensures seen { self.new.seen ≡ self.old.seen }
         ensures room { OnOk result (length self.new.seen.trail < self.new.room) }
@@ -95,6 +102,7 @@ impl Account {
     }
 
     /// No step was taken, at the cost of one effort.
+    #[inline(always)]
     pub fn idled(&mut self)
         ensures { self.new.seen ≡ record self.old.seen { effort = one_more self.old.seen.effort } }
     {
@@ -102,6 +110,7 @@ impl Account {
     }
 
     /// A place was visited, which costs effort where it was gone.
+    #[inline(always)]
     pub fn visited(&mut self, go: Go)
         ensures { self.new.seen ≡ record self.old.seen { effort = visit_effort go self.old.seen.effort } }
     {
@@ -113,6 +122,7 @@ impl Account {
 
     /// A page was asked for the key, which costs effort where it wasn't the key's leaf. `keep` says
     /// when the look is added to the trail.
+    #[inline(always)]
     pub fn looked(&mut self, key: Key, keep: Keep, look: Option<Look>)
         requires { length self.old.seen.trail < self.old.room }
         ensures { self.new.seen ≡ record self.old.seen { trail = trail_after_look keep key look self.old.seen.trail; effort = look_effort look self.old.seen.effort } }
@@ -131,6 +141,7 @@ impl Account {
     }
 
     /// A page was copied, which costs effort where it was absent or has changed.
+    #[inline(always)]
     pub fn copied<A: Allocator + Copy>(&mut self, copy: &Result<Chain<A>, CopyFault>)
         ensures { self.new.seen ≡ record self.old.seen { effort = copy_effort copy.now self.old.seen.effort } }
     {
@@ -143,6 +154,7 @@ impl Account {
 
     /// A step was accepted, which costs effort where it changes the tree's shape. Its receipt is
     /// added to the trail.
+    #[inline(always)]
     pub fn accepted(&mut self, receipt: Receipt)
         requires { length self.old.seen.trail < self.old.room }
         ensures { self.new.seen ≡ record self.old.seen { trail = self.old.seen.trail ++ receipt ∷ []; effort = receipt_effort receipt self.old.seen.effort } }
@@ -154,6 +166,7 @@ impl Account {
     }
 
     /// A step was refused, which costs effort. Some refusals are counted.
+    #[inline(always)]
     pub fn refused(&mut self, reason: Refused)
         ensures { self.new.seen ≡ record self.old.seen { effort = one_more self.old.seen.effort; full = full_after reason self.old.seen.full; tall = tall_after reason self.old.seen.tall; worn = worn_after reason self.old.seen.worn } }
     {
