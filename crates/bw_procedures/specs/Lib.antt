@@ -1,4 +1,5 @@
 pub mod Seen
+pub mod Accounts
 pub mod Sights
 pub mod Calls
 pub mod Slices

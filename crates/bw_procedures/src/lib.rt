@@ -3,6 +3,7 @@
 //! modifications").
 #![tactic(auto)]
 
+mod account;
 mod act;
 mod consolidation;
 mod cursor;
@@ -21,6 +22,7 @@ mod walk;
 mod wish;
 mod writing;
 
+pub use account::Account;
 pub use act::{Act, do_act};
 pub use cursor::page_from;
 pub use deletion::delete;

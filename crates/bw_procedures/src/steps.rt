@@ -34,7 +34,7 @@ impl Keep {
 
 /// How often a worker's step was refused for a reason that ends a call. Each count stays at 2^64 - 1
 /// once there.
-#[derive(Clone, Copy, Debug, PartialEq, Eq, Hash)]
+#[derive(Clone, Copy, Debug, Default, PartialEq, Eq, Hash)]
 pub struct Ends {
     /// Because no slot was free.
     pub full: u64,

@@ -23,11 +23,11 @@ pub(crate) fn do_acts<T: RunTree, G: Gate>(
     acts: &[Act],
     replies: &mut Vec<Reply>,
 ) -> Result<(), Stop<T::Closed>>
-    requires new { hand.old.trail.items ≡ [] }
+    requires new { hand.old.account.seen.trail ≡ [] }
     requires empty { replies.old.items ≡ [] }
     requires room { length acts.now ≤ vec_capacity replies.old }
-    ensures follows { Sums hand.old.trail.items hand.old.share hand.new.trail.items hand.new.share }
-    ensures told { Some (tellings hand.new.trail.items) ≡ answers acts.now replies.new.items }
+    ensures follows { Sums hand.old.account.seen.trail hand.old.share hand.new.account.seen.trail hand.new.share }
+    ensures told { Some (tellings hand.new.account.seen.trail) ≡ answers acts.now replies.new.items }
     ensures all { OnOk result (length replies.new.items ≡ length acts.now) }
     ensures stopped { OnErr result (length replies.new.items < length acts.now) }
 {
@@ -45,10 +45,10 @@ fn do_row<T: RunTree, G: Gate>(
     reader: &mut Option<T::Reader>,
     act: Act,
 ) -> Result<Reply, Stop<T::Closed>>
-    ensures follows { Sums hand.old.trail.items hand.old.share hand.new.trail.items hand.new.share }
-    ensures told { IfOk result (λ reply. Some (tellings hand.new.trail.items) ≡ joined (Some (tellings hand.old.trail.items)) (told_of act reply)) }
-    ensures nothing { OnErr result (tellings hand.new.trail.items ≡ tellings hand.old.trail.items) }
-    ensures read { IfOk result (IsReadByOwn T.reads reader.new act hand.old.trail.items hand.new.trail.items) }
+    ensures follows { Sums hand.old.account.seen.trail hand.old.share hand.new.account.seen.trail hand.new.share }
+    ensures told { IfOk result (λ reply. Some (tellings hand.new.account.seen.trail) ≡ joined (Some (tellings hand.old.account.seen.trail)) (told_of act reply)) }
+    ensures nothing { OnErr result (tellings hand.new.account.seen.trail ≡ tellings hand.old.account.seen.trail) }
+    ensures read { IfOk result (IsReadByOwn T.reads reader.new act hand.old.account.seen.trail hand.new.account.seen.trail) }
 {
     match act {
         Act::Get { key } => match tree.read(reader, key)? {
@@ -65,9 +65,9 @@ fn keep<T: RunTree, G: Gate>(
     key: Key,
     look: Look,
 ) -> Result<Reply, Stop<T::Closed>>
-    ensures follows { Sums hand.old.trail.items hand.old.share hand.new.trail.items hand.new.share }
-    ensures kept { IfOk result (IsReadBy (λ it. it ≡ look) key hand.old.trail.items hand.new.trail.items) }
-    ensures nothing { OnErr result (hand.new.trail.items ≡ hand.old.trail.items) }
+    ensures follows { Sums hand.old.account.seen.trail hand.old.share hand.new.account.seen.trail hand.new.share }
+    ensures kept { IfOk result (IsReadBy (λ it. it ≡ look) key hand.old.account.seen.trail hand.new.account.seen.trail) }
+    ensures nothing { OnErr result (hand.new.account.seen.trail ≡ hand.old.account.seen.trail) }
 {
     hand.note(key, look)?;
     Ok(Reply::Get(look.found))

@@ -1,5 +1,5 @@
 -- A worker that has the table for itself isn't lost: its next place is on the way, and its page is there.
-use Rattle.std.proofs.Common.{◌≡◌, ◌<◌, ◌≤◌, ℕ, true, Some, None, refl, subst, arith}
+use Rattle.std.proofs.Common.{◌≡◌, ◌<◌, ◌≤◌, ℕ, true, Option, Some, None, Ok, refl, subst, arith}
 use Rattle.std.specs.Prelude.{nat_le, nat_lt, ◌==◌}
 use Rattle.std.proofs.lemmas.Bool.Decides.{nat_tests}
 use Rattle.bw_keys.specs.Ranges.{end_of}
@@ -7,13 +7,14 @@ use Rattle.bw_delta.specs.Entries.{at}
 use Rattle.bw_step.specs.declared.place.Place.{Place}
 use Rattle.bw_step.specs.declared.place.Go.{Go}
 use Rattle.bw_step.specs.declared.place.Go.TheVariants.{Gone, Right, Down, Here}
+use Rattle.bw_step.specs.declared.view.Look.{Look}
 use Rattle.bw_step.specs.declared.view.View.{View}
 use Rattle.bw_step.specs.Stages.{is_in_row}
 use Rattle.bw_law.specs.Slots.{pairs_in}
 use Rattle.bw_law.specs.Tables.{TableValue, slot_at, number_of}
 use Rattle.bw_table.specs.Views.{look_at}
 use Rattle.bw_table.specs.Visits.{IsOnTheWay, IsFound, TellsWhetherOnTheWay, StaysOnTheWay, FindsPage}
-use Rattle.bw_procedures.specs.Sights.{CalmNext}
+use Rattle.bw_procedures.specs.Sights.{CalmNext, IsLooked}
 use Rattle.bw_work.specs.Calm.{HoldsKey, IsTrueOf}
 
 -- the page that a search found holds the key, and has the version of its view
@@ -41,5 +42,9 @@ look_is_answered table key page has =
     let high : nat_lt key (end_of (slot_at table page).high) ≡ true = grind (arith, nat_tests, has.below_high) in
     rw (has.in_row, level, low, high) refl
 
-pub not_nothing : (table : TableValue) (key page : ℕ) → look_at table page key ≡ None → HoldsKey table key 0 page → ⊥
+not_nothing : (table : TableValue) (key page : ℕ) → look_at table page key ≡ None → HoldsKey table key 0 page → ⊥
 not_nothing table key page none has = cc (none, look_is_answered table key page has)
+
+pub look_is_calm : (table : TableValue) (key page : ℕ) (look : Option Look) → look_at table page key ≡ look → HoldsKey table key 0 page → IsLooked (Ok look)
+look_is_calm table key page None seen has = not_nothing table key page seen has
+look_is_calm table key page (Some look) seen has = tt

@@ -1,5 +1,6 @@
 -- A copy of a leaf's chain shows the map in the leaf's range.
-use Rattle.std.proofs.Common.{◌≡◌, ℕ, Bool, true, false, Some, refl, sym, ◌∙◌, ap, subst, arith}
+use Rattle.std.proofs.Common.{◌≡◌, ℕ, Bool, true, false, Some, Result, Ok, Err, refl, sym, ◌∙◌, ap, subst, arith}
+use Rattle.std.specs.Prelude.{◌↔◌, ◌≢◌, IfOk}
 use Rattle.std.proofs.lemmas.Bool.Decides.{nat_tests}
 use Rattle.bw_keys.specs.Ranges.{end_of}
 use Rattle.bw_delta.specs.Entries.{at}
@@ -7,12 +8,14 @@ use Rattle.bw_delta.specs.Records.{Records}
 use Rattle.bw_delta.specs.Fence.{fences, is_leaf}
 use Rattle.bw_delta.specs.Pairs.{pairs}
 use Rattle.bw_delta.proofs.Stands.{pairs_rise}
+use Rattle.bw_step.specs.declared.fault.CopyFault.{CopyFault}
+use Rattle.bw_step.specs.declared.fault.CopyFault.TheVariants.{Absent, Stale, NoMemory}
 use Rattle.bw_step.specs.Stages.{is_in_row}
 use Rattle.bw_law.specs.Tables.{TableValue, slot_at, Lawful, IsPageOf}
 use Rattle.bw_law.proofs.Accepted.{Holds}
 use Rattle.bw_law.proofs.Chains.{low_is, high_is, pairs_are, leaf_chain}
 use Rattle.bw_law.proofs.Facts.{leaf_decides}
-use Rattle.bw_procedures.specs.Sights.{IsLeafAround}
+use Rattle.bw_procedures.specs.Sights.{IsLeafAround, IsCopied, ShowsCopy}
 use Rattle.bw_work.specs.Calm.{HoldsKey}
 use Rattle.bw_work.specs.Showing.{Shows}
 
@@ -48,6 +51,23 @@ module _ (table : TableValue) (law : Lawful table) (page : ℕ) (chain : Records
       }
 
 -- a page that was copied is in a row
-pub not_outside : (here : Bool) → (here ≡ false → ⊥) → here ≡ true
+not_outside : (here : Bool) → (here ≡ false → ⊥) → here ≡ true
 not_outside true never = refl
 not_outside false never = absurd (never refl)
+
+-- what is copied shows the map
+pub copies_show : (table : TableValue) (page : ℕ) (copy : Result Records CopyFault) → Lawful table → ((copy ≡ Err Absent) ↔ (is_in_row (slot_at table page).stage ≡ false))
+    → IfOk copy (λ chain. (slot_at table page).chain ≡ Some chain) → IfOk copy (ShowsCopy (Shows table))
+copies_show table page (Ok chain) law absent copied =
+    let here : is_in_row (slot_at table page).stage ≡ true = not_outside _ (λ outside. cc (absent.1 outside)) in
+    λ leaf. copy_shows table law page chain here copied leaf
+copies_show table page (Err fault) law absent copied = tt
+
+-- the leaf that holds a key is copied, unless it has changed or memory is wanting
+pub copy_is_calm : (table : TableValue) (page version : ℕ) (copy : Result Records CopyFault) → Lawful table → ((copy ≡ Err Absent) ↔ (is_in_row (slot_at table page).stage ≡ false))
+    → ((copy ≡ Err Stale) ↔ ((is_in_row (slot_at table page).stage ≡ true) × ((slot_at table page).version ≢ version))) → IfOk copy (λ chain. (slot_at table page).chain ≡ Some chain)
+    → (key : ℕ) → HoldsKey table key 0 page → (slot_at table page).version ≡ version → IsCopied key copy
+copy_is_calm table page version (Ok chain) law absent stale copied key has fresh = copy_is_around table law page chain has.in_row copied key has
+copy_is_calm table page version (Err Absent) law absent stale copied key has fresh = absurd (cc (absent.0 refl, has.in_row))
+copy_is_calm table page version (Err Stale) law absent stale copied key has fresh = absurd ((stale.0 refl).1 fresh)
+copy_is_calm table page version (Err NoMemory) law absent stale copied key has fresh = refl

@@ -1,5 +1,5 @@
 -- Each step that a table takes leads by its receipt from the map before it to the map after it, and so does each look.
-use Rattle.std.proofs.Common.{◌≡◌, ℕ, true, false, List, [], ◌∷◌, ◌++◌, Some, None, refl, sym, ◌∙◌, ap, subst, arith}
+use Rattle.std.proofs.Common.{◌≡◌, ℕ, true, false, if◌then◌else◌, List, [], ◌∷◌, ◌++◌, Option, Some, None, refl, sym, ◌∙◌, ap, subst, arith}
 use Rattle.std.specs.Prelude.{◌&&◌, Bool}
 use Rattle.std.proofs.lemmas.Bool.Decides.{nat_tests}
 use Rattle.bw_keys.specs.Ranges.{is_within}
@@ -19,7 +19,9 @@ use Rattle.bw_law.proofs.Accepted.{Holds}
 use Rattle.bw_law.proofs.Facts.{leaf_decides}
 use Rattle.bw_table.specs.Views.{look_at}
 use Rattle.bw_tree.proofs.Trees.{book_after}
-use Rattle.bw_work.specs.Leading.{Tells, Leads}
+use Rattle.bw_procedures.specs.declared.steps.Keep.{Keep}
+use Rattle.bw_procedures.specs.Seen.{is_kept, trail_after_look}
+use Rattle.bw_work.specs.Leading.{Tells, Leads, leads_stay}
 
 -- what an accepted step makes of the table is what its receipt tells
 step_tells : (table : TableValue) (step : Proposal) → KeptBy table step → Tells (receipt_of table step) table (after table step)
@@ -89,6 +91,17 @@ look_leads table page key look trail law seen =
       book = refl;
       number = opened.number;
     })
+
+kept_leads : (kept : Bool) (table : TableValue) (page key : ℕ) (look : Look) (trail : List Receipt) → Lawful table → look_at table page key ≡ Some look
+    → Leads table trail table (if kept then trail ++ Looked look.at key look.found ∷ [] else trail)
+kept_leads true table page key look trail law seen = look_leads table page key look trail law seen
+kept_leads false table page key look trail law seen = leads_stay table trail
+
+-- the trail after a look leads there, whether or not the look is kept
+pub looks_lead : (table : TableValue) (page key : ℕ) (keep : Keep) (look : Option Look) (trail : List Receipt) → Lawful table → look_at table page key ≡ look
+    → Leads table trail table (trail_after_look keep key look trail)
+looks_lead table page key keep None trail law seen = leads_stay table trail
+looks_lead table page key keep (Some look) trail law seen = kept_leads (is_kept keep look.found) table page key look trail law seen
 
 -- no step changes the configuration
 config_stays : (table : TableValue) (step : Proposal) → (after table step).config ≡ table.config

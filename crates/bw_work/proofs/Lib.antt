@@ -1,3 +1,4 @@
 pub mod Calming
 pub mod Copies
 pub mod Following
+pub mod Sharing

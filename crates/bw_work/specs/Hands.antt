@@ -1,19 +1,9 @@
 -- A worker's hand on a tree: its share of the book is the sum of its trail.
 use Rattle.std.specs.Prelude.{◌≡◌, List, [], ◌∷◌, ◌++◌, fold, refl}
 use Rattle.std.proofs.Common.{◌∙◌, ap, sym, append_assoc, append-nil}
-use Rattle.bw_keys.specs.declared.config.Config.{Config}
 use Rattle.bw_step.specs.declared.receipt.Receipt.{Receipt}
 use Rattle.bw_step.specs.declared.survey.Book.{Book}
 use Rattle.bw_tree.specs.Shares.{counted}
-use Rattle.bw_procedures.specs.Seen.{Seen}
-use Rattle.bw_work.specs.declared.counts.Counts.{Counts}
-
--- nothing was counted
-abbrev pub no_counts : Counts
-no_counts = record { effort = 0; full = 0; tall = 0; worn = 0 }
-
-abbrev pub seen_of : Config → List Receipt → Counts → Seen
-seen_of config trail counts = record { config = config; trail = trail; effort = counts.effort; full = counts.full; tall = counts.tall; worn = counts.worn }
 
 -- the share rose by the receipts that were added to the trail: by one insertion with each Inserted, by one removal with each Deleted, and by
 -- nothing else

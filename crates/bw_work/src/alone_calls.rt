@@ -5,7 +5,6 @@ ghost use Rattle.bw_procedures.specs.Seen.{Grows};
 ghost use Rattle.bw_procedures.specs.Calls.{limit_of, IsFair, Waits, OnlyReshapes, RoseBy, AddsLook, plain};
 ghost use Rattle.bw_procedures.specs.Slices.{end_of_slice, IsSliceFrom};
 ghost use Rattle.bw_procedures.specs.Writing.{AddsReceipt, IsReceiptOfPut, IsReceiptOfDelete};
-ghost use Rattle.bw_work.specs.Hands.{seen_of};
 ghost use Rattle.bw_work.specs.Leading.{Leads};
 ghost use Rattle.bw_work.specs.Showing.{Shows};
 
@@ -21,12 +20,13 @@ impl<'t, A: Allocator + Copy> Alone<'t, A> {
     /// had in between.
     pub fn put(&mut self, key: Key, value: u64) -> Result<Done<Put>, Fault>
         ensures same_reference { self.new.table.ghost_name ≡ self.old.table.ghost_name }
-        ensures follows { Leads self.old.table.now self.old.trail.items self.new.table.now self.new.trail.items }
-        ensures grows { Grows (seen_of self.old.table.now.config self.old.trail.items self.old.counts) (seen_of self.new.table.now.config self.new.trail.items self.new.counts) }
-        ensures receipt { IfOk result (λ done. AddsReceipt (IsReceiptOfPut key value) done.reply (seen_of self.old.table.now.config self.old.trail.items self.old.counts) (seen_of self.new.table.now.config self.new.trail.items self.new.counts)) }
-        ensures no_receipt { OnErr result (plain self.new.trail.items ≡ plain self.old.trail.items) }
-        ensures fault { IfErr result (IsFair (limit_of (seen_of self.old.table.now.config self.old.trail.items self.old.counts)) (seen_of self.old.table.now.config self.old.trail.items self.old.counts) (seen_of self.new.table.now.config self.new.trail.items self.new.counts)) }
-        ensures kept { IfOk result (λ done. IfSome done.fault (IsFair (limit_of (seen_of self.old.table.now.config self.old.trail.items self.old.counts)) (seen_of self.old.table.now.config self.old.trail.items self.old.counts) (seen_of self.new.table.now.config self.new.trail.items self.new.counts))) }
+        ensures config { self.new.table.now.config ≡ self.old.table.now.config }
+        ensures follows { Leads self.old.table.now self.old.account.seen.trail self.new.table.now self.new.account.seen.trail }
+        ensures grows { Grows self.old.account.seen self.new.account.seen }
+        ensures receipt { IfOk result (λ done. AddsReceipt (IsReceiptOfPut key value) done.reply self.old.account.seen self.new.account.seen) }
+        ensures no_receipt { OnErr result (plain self.new.account.seen.trail ≡ plain self.old.account.seen.trail) }
+        ensures fault { IfErr result (IsFair (limit_of self.old.account.seen) self.old.account.seen self.new.account.seen) }
+        ensures kept { IfOk result (λ done. IfSome done.fault (IsFair (limit_of self.old.account.seen) self.old.account.seen self.new.account.seen)) }
     {
         put(self, key, value)
     }
@@ -34,12 +34,13 @@ impl<'t, A: Allocator + Copy> Alone<'t, A> {
     /// Takes the key out, if it is there: see `delete`. Its receipts are as those of `put`.
     pub fn delete(&mut self, key: Key) -> Result<Done<Del>, Fault>
         ensures same_reference { self.new.table.ghost_name ≡ self.old.table.ghost_name }
-        ensures follows { Leads self.old.table.now self.old.trail.items self.new.table.now self.new.trail.items }
-        ensures grows { Grows (seen_of self.old.table.now.config self.old.trail.items self.old.counts) (seen_of self.new.table.now.config self.new.trail.items self.new.counts) }
-        ensures receipt { IfOk result (λ done. AddsReceipt (IsReceiptOfDelete key) done.reply (seen_of self.old.table.now.config self.old.trail.items self.old.counts) (seen_of self.new.table.now.config self.new.trail.items self.new.counts)) }
-        ensures no_receipt { OnErr result (plain self.new.trail.items ≡ plain self.old.trail.items) }
-        ensures fault { IfErr result (IsFair (limit_of (seen_of self.old.table.now.config self.old.trail.items self.old.counts)) (seen_of self.old.table.now.config self.old.trail.items self.old.counts) (seen_of self.new.table.now.config self.new.trail.items self.new.counts)) }
-        ensures kept { IfOk result (λ done. IfSome done.fault (IsFair (limit_of (seen_of self.old.table.now.config self.old.trail.items self.old.counts)) (seen_of self.old.table.now.config self.old.trail.items self.old.counts) (seen_of self.new.table.now.config self.new.trail.items self.new.counts))) }
+        ensures config { self.new.table.now.config ≡ self.old.table.now.config }
+        ensures follows { Leads self.old.table.now self.old.account.seen.trail self.new.table.now self.new.account.seen.trail }
+        ensures grows { Grows self.old.account.seen self.new.account.seen }
+        ensures receipt { IfOk result (λ done. AddsReceipt (IsReceiptOfDelete key) done.reply self.old.account.seen self.new.account.seen) }
+        ensures no_receipt { OnErr result (plain self.new.account.seen.trail ≡ plain self.old.account.seen.trail) }
+        ensures fault { IfErr result (IsFair (limit_of self.old.account.seen) self.old.account.seen self.new.account.seen) }
+        ensures kept { IfOk result (λ done. IfSome done.fault (IsFair (limit_of self.old.account.seen) self.old.account.seen self.new.account.seen)) }
     {
         delete(self, key)
     }
@@ -48,10 +49,11 @@ impl<'t, A: Allocator + Copy> Alone<'t, A> {
     /// and it costs no effort.
     pub fn get(&mut self, key: Key) -> Result<Option<u64>, Fault>
         ensures same_reference { self.new.table.ghost_name ≡ self.old.table.ghost_name }
-        ensures follows { Leads self.old.table.now self.old.trail.items self.new.table.now self.new.trail.items }
-        ensures grows { Grows (seen_of self.old.table.now.config self.old.trail.items self.old.counts) (seen_of self.new.table.now.config self.new.trail.items self.new.counts) }
-        ensures no_effort { self.new.counts.effort ≡ self.old.counts.effort }
-        ensures receipt { AddsLook key result self.old.trail.items self.new.trail.items }
+        ensures config { self.new.table.now.config ≡ self.old.table.now.config }
+        ensures follows { Leads self.old.table.now self.old.account.seen.trail self.new.table.now self.new.account.seen.trail }
+        ensures grows { Grows self.old.account.seen self.new.account.seen }
+        ensures no_effort { self.new.account.seen.effort ≡ self.old.account.seen.effort }
+        ensures receipt { AddsLook key result self.old.account.seen.trail self.new.account.seen.trail }
         ensures answered { IfErr result (λ fault. fault ≡ Fault.NoMemory) }
     {
         get(self, key)
@@ -61,9 +63,10 @@ impl<'t, A: Allocator + Copy> Alone<'t, A> {
     /// the key on and below the slice's end; memory apart there is an answer, and it costs no effort.
     pub fn page_from(&mut self, machine: Global, key: Key) -> Result<Slice, Fault>
         ensures same_reference { self.new.table.ghost_name ≡ self.old.table.ghost_name }
-        ensures follows { Leads self.old.table.now self.old.trail.items self.new.table.now self.new.trail.items }
-        ensures seen { Waits (seen_of self.old.table.now.config self.old.trail.items self.old.counts) (seen_of self.new.table.now.config self.new.trail.items self.new.counts) }
-        ensures no_effort { self.new.counts.effort ≡ self.old.counts.effort }
+        ensures config { self.new.table.now.config ≡ self.old.table.now.config }
+        ensures follows { Leads self.old.table.now self.old.account.seen.trail self.new.table.now self.new.account.seen.trail }
+        ensures seen { Waits self.old.account.seen self.new.account.seen }
+        ensures no_effort { self.new.account.seen.effort ≡ self.old.account.seen.effort }
         ensures slice { IfOk result (IsSliceFrom key) }
         ensures shows { IfOk result (λ slice. Shows self.new.table.now key (end_of_slice slice.next) slice.pairs.items) }
         ensures answered { IfErr result (λ fault. fault ≡ Fault.NoMemory) }
@@ -74,9 +77,10 @@ impl<'t, A: Allocator + Copy> Alone<'t, A> {
     /// Brings a page back to its size: see `tend`. The map stays as it is.
     pub fn tend(&mut self, page: Pid) -> Result<(), Fault>
         ensures same_reference { self.new.table.ghost_name ≡ self.old.table.ghost_name }
-        ensures follows { Leads self.old.table.now self.old.trail.items self.new.table.now self.new.trail.items }
-        ensures reshapes { OnlyReshapes (seen_of self.old.table.now.config self.old.trail.items self.old.counts) (seen_of self.new.table.now.config self.new.trail.items self.new.counts) }
-        ensures fault { IfErr result (IsFair (limit_of (seen_of self.old.table.now.config self.old.trail.items self.old.counts)) (seen_of self.old.table.now.config self.old.trail.items self.old.counts) (seen_of self.new.table.now.config self.new.trail.items self.new.counts)) }
+        ensures config { self.new.table.now.config ≡ self.old.table.now.config }
+        ensures follows { Leads self.old.table.now self.old.account.seen.trail self.new.table.now self.new.account.seen.trail }
+        ensures reshapes { OnlyReshapes self.old.account.seen self.new.account.seen }
+        ensures fault { IfErr result (IsFair (limit_of self.old.account.seen) self.old.account.seen self.new.account.seen) }
     {
         tend(self, page)
     }
@@ -84,10 +88,11 @@ impl<'t, A: Allocator + Copy> Alone<'t, A> {
     /// Does one round of what is unfinished: see `help`. The map stays as it is.
     pub fn help(&mut self, todo: Todo) -> Result<(), Fault>
         ensures same_reference { self.new.table.ghost_name ≡ self.old.table.ghost_name }
-        ensures follows { Leads self.old.table.now self.old.trail.items self.new.table.now self.new.trail.items }
-        ensures reshapes { OnlyReshapes (seen_of self.old.table.now.config self.old.trail.items self.old.counts) (seen_of self.new.table.now.config self.new.trail.items self.new.counts) }
-        ensures cost { OnOk result (RoseBy 1 self.old.counts.effort self.new.counts.effort) }
-        ensures fault { IfErr result (IsFair (limit_of (seen_of self.old.table.now.config self.old.trail.items self.old.counts)) (seen_of self.old.table.now.config self.old.trail.items self.old.counts) (seen_of self.new.table.now.config self.new.trail.items self.new.counts)) }
+        ensures config { self.new.table.now.config ≡ self.old.table.now.config }
+        ensures follows { Leads self.old.table.now self.old.account.seen.trail self.new.table.now self.new.account.seen.trail }
+        ensures reshapes { OnlyReshapes self.old.account.seen self.new.account.seen }
+        ensures cost { OnOk result (RoseBy 1 self.old.account.seen.effort self.new.account.seen.effort) }
+        ensures fault { IfErr result (IsFair (limit_of self.old.account.seen) self.old.account.seen self.new.account.seen) }
     {
         help(self, todo)
     }

@@ -5,7 +5,7 @@ ghost use Rattle.bw_procedures.specs.Seen.{Grows};
 ghost use Rattle.bw_procedures.specs.Calls.{limit_of, IsFair, Waits, OnlyReshapes, RoseBy, AddsLook, plain};
 ghost use Rattle.bw_procedures.specs.Slices.{IsSliceFrom};
 ghost use Rattle.bw_procedures.specs.Writing.{AddsReceipt, IsReceiptOfPut, IsReceiptOfDelete};
-ghost use Rattle.bw_work.specs.Hands.{Sums, seen_of};
+ghost use Rattle.bw_work.specs.Hands.{Sums};
 
 use crate::gate::Gate;
 use crate::hand::Hand;
@@ -18,63 +18,63 @@ use std::alloc::{Allocator, Global};
 impl<'t, A: Allocator + Copy, S: Shared<A, Step<A>>, G: Gate> Hand<'t, A, S, G> {
     /// Gives the key the value, unless the key is there: see `put`.
     pub fn put(&mut self, key: Key, value: u64) -> Result<Done<Put>, Fault>
-        ensures share { Sums self.old.trail.items self.old.share self.new.trail.items self.new.share }
-        ensures grows { Grows (seen_of self.old.config self.old.trail.items self.old.counts) (seen_of self.new.config self.new.trail.items self.new.counts) }
-        ensures receipt { IfOk result (λ done. AddsReceipt (IsReceiptOfPut key value) done.reply (seen_of self.old.config self.old.trail.items self.old.counts) (seen_of self.new.config self.new.trail.items self.new.counts)) }
-        ensures no_receipt { OnErr result (plain self.new.trail.items ≡ plain self.old.trail.items) }
-        ensures fault { IfErr result (IsFair (limit_of (seen_of self.old.config self.old.trail.items self.old.counts)) (seen_of self.old.config self.old.trail.items self.old.counts) (seen_of self.new.config self.new.trail.items self.new.counts)) }
-        ensures kept { IfOk result (λ done. IfSome done.fault (IsFair (limit_of (seen_of self.old.config self.old.trail.items self.old.counts)) (seen_of self.old.config self.old.trail.items self.old.counts) (seen_of self.new.config self.new.trail.items self.new.counts))) }
+        ensures share { Sums self.old.account.seen.trail self.old.share self.new.account.seen.trail self.new.share }
+        ensures grows { Grows self.old.account.seen self.new.account.seen }
+        ensures receipt { IfOk result (λ done. AddsReceipt (IsReceiptOfPut key value) done.reply self.old.account.seen self.new.account.seen) }
+        ensures no_receipt { OnErr result (plain self.new.account.seen.trail ≡ plain self.old.account.seen.trail) }
+        ensures fault { IfErr result (IsFair (limit_of self.old.account.seen) self.old.account.seen self.new.account.seen) }
+        ensures kept { IfOk result (λ done. IfSome done.fault (IsFair (limit_of self.old.account.seen) self.old.account.seen self.new.account.seen)) }
     {
         put(self, key, value)
     }
 
     /// Takes the key out, if it is there: see `delete`.
     pub fn delete(&mut self, key: Key) -> Result<Done<Del>, Fault>
-        ensures share { Sums self.old.trail.items self.old.share self.new.trail.items self.new.share }
-        ensures grows { Grows (seen_of self.old.config self.old.trail.items self.old.counts) (seen_of self.new.config self.new.trail.items self.new.counts) }
-        ensures receipt { IfOk result (λ done. AddsReceipt (IsReceiptOfDelete key) done.reply (seen_of self.old.config self.old.trail.items self.old.counts) (seen_of self.new.config self.new.trail.items self.new.counts)) }
-        ensures no_receipt { OnErr result (plain self.new.trail.items ≡ plain self.old.trail.items) }
-        ensures fault { IfErr result (IsFair (limit_of (seen_of self.old.config self.old.trail.items self.old.counts)) (seen_of self.old.config self.old.trail.items self.old.counts) (seen_of self.new.config self.new.trail.items self.new.counts)) }
-        ensures kept { IfOk result (λ done. IfSome done.fault (IsFair (limit_of (seen_of self.old.config self.old.trail.items self.old.counts)) (seen_of self.old.config self.old.trail.items self.old.counts) (seen_of self.new.config self.new.trail.items self.new.counts))) }
+        ensures share { Sums self.old.account.seen.trail self.old.share self.new.account.seen.trail self.new.share }
+        ensures grows { Grows self.old.account.seen self.new.account.seen }
+        ensures receipt { IfOk result (λ done. AddsReceipt (IsReceiptOfDelete key) done.reply self.old.account.seen self.new.account.seen) }
+        ensures no_receipt { OnErr result (plain self.new.account.seen.trail ≡ plain self.old.account.seen.trail) }
+        ensures fault { IfErr result (IsFair (limit_of self.old.account.seen) self.old.account.seen self.new.account.seen) }
+        ensures kept { IfOk result (λ done. IfSome done.fault (IsFair (limit_of self.old.account.seen) self.old.account.seen self.new.account.seen)) }
     {
         delete(self, key)
     }
 
     /// The value at the key, if it is there: see `get`.
     pub fn get(&mut self, key: Key) -> Result<Option<u64>, Fault>
-        ensures share { Sums self.old.trail.items self.old.share self.new.trail.items self.new.share }
-        ensures grows { Grows (seen_of self.old.config self.old.trail.items self.old.counts) (seen_of self.new.config self.new.trail.items self.new.counts) }
-        ensures receipt { AddsLook key result self.old.trail.items self.new.trail.items }
-        ensures fault { IfErr result (IsFair (limit_of (seen_of self.old.config self.old.trail.items self.old.counts)) (seen_of self.old.config self.old.trail.items self.old.counts) (seen_of self.new.config self.new.trail.items self.new.counts)) }
+        ensures share { Sums self.old.account.seen.trail self.old.share self.new.account.seen.trail self.new.share }
+        ensures grows { Grows self.old.account.seen self.new.account.seen }
+        ensures receipt { AddsLook key result self.old.account.seen.trail self.new.account.seen.trail }
+        ensures fault { IfErr result (IsFair (limit_of self.old.account.seen) self.old.account.seen self.new.account.seen) }
     {
         get(self, key)
     }
 
     /// The pairs of one leaf, from the key on: see `page_from`.
     pub fn page_from(&mut self, machine: Global, key: Key) -> Result<Slice, Fault>
-        ensures share { Sums self.old.trail.items self.old.share self.new.trail.items self.new.share }
-        ensures seen { Waits (seen_of self.old.config self.old.trail.items self.old.counts) (seen_of self.new.config self.new.trail.items self.new.counts) }
+        ensures share { Sums self.old.account.seen.trail self.old.share self.new.account.seen.trail self.new.share }
+        ensures seen { Waits self.old.account.seen self.new.account.seen }
         ensures slice { IfOk result (IsSliceFrom key) }
-        ensures fault { IfErr result (IsFair (limit_of (seen_of self.old.config self.old.trail.items self.old.counts)) (seen_of self.old.config self.old.trail.items self.old.counts) (seen_of self.new.config self.new.trail.items self.new.counts)) }
+        ensures fault { IfErr result (IsFair (limit_of self.old.account.seen) self.old.account.seen self.new.account.seen) }
     {
         page_from(self, machine, key)
     }
 
     /// Keeps the page short, and neither full nor empty: see `tend`.
     pub fn tend(&mut self, page: Pid) -> Result<(), Fault>
-        ensures share { Sums self.old.trail.items self.old.share self.new.trail.items self.new.share }
-        ensures reshapes { OnlyReshapes (seen_of self.old.config self.old.trail.items self.old.counts) (seen_of self.new.config self.new.trail.items self.new.counts) }
-        ensures fault { IfErr result (IsFair (limit_of (seen_of self.old.config self.old.trail.items self.old.counts)) (seen_of self.old.config self.old.trail.items self.old.counts) (seen_of self.new.config self.new.trail.items self.new.counts)) }
+        ensures share { Sums self.old.account.seen.trail self.old.share self.new.account.seen.trail self.new.share }
+        ensures reshapes { OnlyReshapes self.old.account.seen self.new.account.seen }
+        ensures fault { IfErr result (IsFair (limit_of self.old.account.seen) self.old.account.seen self.new.account.seen) }
     {
         tend(self, page)
     }
 
     /// Brings what is unfinished on by one round: see `help`.
     pub fn help(&mut self, todo: Todo) -> Result<(), Fault>
-        ensures share { Sums self.old.trail.items self.old.share self.new.trail.items self.new.share }
-        ensures reshapes { OnlyReshapes (seen_of self.old.config self.old.trail.items self.old.counts) (seen_of self.new.config self.new.trail.items self.new.counts) }
-        ensures cost { OnOk result (RoseBy 1 self.old.counts.effort self.new.counts.effort) }
-        ensures fault { IfErr result (IsFair (limit_of (seen_of self.old.config self.old.trail.items self.old.counts)) (seen_of self.old.config self.old.trail.items self.old.counts) (seen_of self.new.config self.new.trail.items self.new.counts)) }
+        ensures share { Sums self.old.account.seen.trail self.old.share self.new.account.seen.trail self.new.share }
+        ensures reshapes { OnlyReshapes self.old.account.seen self.new.account.seen }
+        ensures cost { OnOk result (RoseBy 1 self.old.account.seen.effort self.new.account.seen.effort) }
+        ensures fault { IfErr result (IsFair (limit_of self.old.account.seen) self.old.account.seen self.new.account.seen) }
     {
         help(self, todo)
     }

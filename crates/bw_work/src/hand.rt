@@ -1,32 +1,29 @@
 //! One worker's hand on a tree that others share.
 
-ghost use Rattle.std.specs.Prelude.{◌≡◌, [], Some, Ok, OnOk, OnErr};
+ghost use Rattle.std.specs.Prelude.{◌≡◌, [], Some, Ok, OnOk, OnErr, vec_capacity};
 ghost use Rattle.bw_step.specs.ProposalView.{proposal_of};
 ghost use Rattle.bw_procedures.specs.declared.steps.Keep.TheVariants as keeps;
-ghost use Rattle.bw_procedures.specs.Seen.{Installed, Looked};
-ghost use Rattle.bw_work.specs.Hands.{no_counts, seen_of, Sums};
+ghost use Rattle.bw_procedures.specs.Seen.{Installed, Looked, ends_of};
+ghost use Rattle.bw_work.specs.Hands.{Sums};
 
-use crate::counts::Counts;
 use crate::gate::Gate;
 use bw_delta::{Chain, NoMemory};
 use bw_keys::{Config, Key, Pid, Version};
-use bw_procedures::{Ends, Keep, Steps};
-use bw_step::{CopyFault, Denied, Go, Look, Next, Place, Receipt, Step, View};
+use bw_procedures::{Account, Ends, Keep, Steps};
+use bw_step::{CopyFault, Denied, Look, Next, Place, Receipt, Step, View};
 use bw_tree::{Share, Shared};
 use std::alloc::{Allocator, Global};
 
-/// A worker: a tree that it shares with others, its share of the tree's book, its gate, and the trail
-/// of its receipts.
+/// A worker: a tree that it shares with others, its share of the tree's book, its gate, and its
+/// account.
 #[derive(Drop)]
 pub struct Hand<'t, A: Allocator + Copy, S: Shared<A, Step<A>>, G: Gate> {
     tree: &'t S,
     gate: &'t G,
     alloc: A,
     worker: u32,
-    config: Config,
     share: Share<S::Insertions, S::Removals>,
-    trail: Vec<Receipt>,
-    counts: Counts,
+    account: Account,
 }
 
 impl<'t, A: Allocator + Copy, S: Shared<A, Step<A>>, G: Gate> Hand<'t, A, S, G> {
@@ -42,72 +39,66 @@ impl<'t, A: Allocator + Copy, S: Shared<A, Step<A>>, G: Gate> Hand<'t, A, S, G> 
     ) -> Hand<'t, A, S, G>
         ensures share { result.share ≡ share }
         ensures worker { result.worker ≡ worker }
-        ensures config { result.config ≡ S.made_by tree.now }
-        ensures trail { result.trail.items ≡ [] }
-        ensures counts { result.counts ≡ no_counts }
+        ensures config { result.account.seen.config ≡ S.made_by tree.now }
+        ensures trail { result.account.seen.trail ≡ [] }
+        ensures effort { result.account.seen.effort ≡ 0 }
+        ensures ends { ends_of result.account.seen ≡ record { full = 0; tall = 0; worn = 0 } }
     {
         Hand {
             tree,
             gate,
             alloc,
             worker,
-            config: tree.config(),
             share,
-            trail: Vec::new(machine),
-            counts: Counts::default(),
+            account: Account::new(machine, tree.config()),
         }
     }
 
     /// Puts a look that the worker had elsewhere behind the trail, as a receipt. For want of memory
     /// the worker is as before.
     pub fn note(&mut self, key: Key, look: Look) -> Result<(), NoMemory>
-        ensures share { Sums self.old.trail.items self.old.share self.new.trail.items self.new.share }
-        ensures seen { OnOk result (Looked keeps.Always key (Ok (Some look)) (seen_of self.old.config self.old.trail.items self.old.counts) (seen_of self.new.config self.new.trail.items self.new.counts)) }
-        ensures unseen { OnErr result (seen_of self.new.config self.new.trail.items self.new.counts ≡ seen_of self.old.config self.old.trail.items self.old.counts) }
+        ensures share { Sums self.old.account.seen.trail self.old.share self.new.account.seen.trail self.new.share }
+        ensures seen { OnOk result (Looked keeps.Always key (Ok (Some look)) self.old.account.seen self.new.account.seen) }
+        ensures unseen { OnErr result (self.new.account.seen ≡ self.old.account.seen) }
     {
-        if self.trail.reserve(1).is_err() {
-            return Err(NoMemory);
-        }
-        self.trail.push_reserved(Receipt::Looked {
-            at: look.at,
-            key,
-            found: look.found,
-        });
+        self.account.reserve()?;
+        self.account.looked(key, Keep::Always, Some(look));
         Ok(())
     }
 
     /// Gives the share and the trail out.
     pub fn finish(self) -> (Share<S::Insertions, S::Removals>, Vec<Receipt>)
         ensures share { result.0 ≡ self.entry.share }
-        ensures trail { result.1 ≡ self.entry.trail }
+        ensures trail { result.1.items ≡ self.entry.account.seen.trail }
+        ensures room { vec_capacity result.1 ≡ self.entry.account.room }
     {
-        let Hand { share, trail, .. } = self;
-        (share, trail)
+        let Hand { share, account, .. } = self;
+        (share, account.into_trail())
     }
 }
 
 impl<'t, A: Allocator + Copy, S: Shared<A, Step<A>>, G: Gate> Steps<A, Step<A>>
     for Hand<'t, A, S, G> {
-    ghost use Rattle.bw_work.specs.Hands.{Sums, seen_of, sums_stay, sums_join};
+    ghost use Rattle.bw_work.specs.Hands.{Sums, sums_stay, sums_join};
 
-    ghost seen = { λ h. seen_of h.config h.trail.items h.counts };
+    ghost seen = { λ h. h.account.seen };
 
     // the share is raised by the receipts that were added
-    ghost follows = { λ a b. Sums a.trail.items a.share b.trail.items b.share };
+    ghost follows = { λ a b. Sums a.account.seen.trail a.share b.account.seen.trail b.share };
 
     ghost shows = { λ h low end pairs. Unit {0} };
 
     // others may take steps at any time
     ghost calm = { λ h sight. ⊥ };
 
-    ghost stays = { λ h. sums_stay h.trail.items h.share };
+    ghost stays = { λ h. sums_stay h.account.seen.trail h.share };
 
-    ghost joins = { λ a b c p q. sums_join a.trail.items b.trail.items c.trail.items a.share b.share c.share p q };
+    ghost joins = { λ a b c p q. sums_join a.account.seen.trail b.account.seen.trail c.account.seen.trail a.share b.share c.share p q };
 
     ghost narrows = { λ h low key end pairs le shown. tt };
 
     fn config(&self) -> Config {
-        self.config
+        self.account.config()
     }
 
     fn alloc(&self) -> A {
@@ -120,10 +111,7 @@ impl<'t, A: Allocator + Copy, S: Shared<A, Step<A>>, G: Gate> Steps<A, Step<A>>
 
     fn visit(&mut self, place: Place, key: Key, goal: u8) -> Next {
         let next = self.tree.visit(place, key, goal);
-        match next.go {
-            Go::Gone => self.counts.raise(),
-            Go::Right(_) | Go::Down(_) | Go::Here(_) => {}
-        }
+        self.account.visited(next.go);
         next
     }
 
@@ -132,70 +120,53 @@ impl<'t, A: Allocator + Copy, S: Shared<A, Step<A>>, G: Gate> Steps<A, Step<A>>
     }
 
     fn look(&mut self, pid: Pid, key: Key, keep: Keep) -> Result<Option<Look>, NoMemory> {
-        if self.trail.reserve(1).is_err() {
-            return Err(NoMemory);
-        }
-        let Some(look) = self.tree.look(pid, key) else {
-            self.counts.raise();
-            return Ok(None);
-        };
-        if keep.keeps(look.found) {
-            self.trail.push_reserved(Receipt::Looked {
-                at: look.at,
-                key,
-                found: look.found,
-            });
-        }
-        Ok(Some(look))
+        self.account.reserve()?;
+        let look = self.tree.look(pid, key);
+        self.account.looked(key, keep, look);
+        Ok(look)
     }
 
     fn copy_page(&mut self, pid: Pid, version: Version) -> Result<Chain<A>, CopyFault> {
-        match self.tree.copy_page(self.alloc, pid, version) {
-            Ok(chain) => Ok(chain),
-            Err(CopyFault::NoMemory) => Err(CopyFault::NoMemory),
-            Err(fault) => {
-                self.counts.raise();
-                Err(fault)
-            }
-        }
+        let copy = self.tree.copy_page(self.alloc, pid, version);
+        self.account.copied(&copy);
+        copy
     }
 
     fn install(&mut self, step: Step<A>) -> Result<Receipt, Denied>
-        ensures follows { Sums self.old.trail.items self.old.share self.new.trail.items self.new.share }
-        ensures seen { Installed (proposal_of step) result (seen_of self.old.config self.old.trail.items self.old.counts) (seen_of self.new.config self.new.trail.items self.new.counts) }
+        ensures follows { Sums self.old.account.seen.trail self.old.share self.new.account.seen.trail self.new.share }
+        ensures seen { Installed (proposal_of step) result self.old.account.seen self.new.account.seen }
     {
-        if self.trail.reserve(1).is_err() {
+        if self.account.reserve().is_err() {
             return Err(Denied::NoMemory);
         }
         match self.tree.install(&mut self.share, step) {
             Ok(receipt) => {
-                self.trail.push_reserved(receipt);
-                self.counts.accept(receipt);
+                self.account.accepted(receipt);
                 pass(self.gate, self.worker, receipt);
                 Ok(receipt)
             }
             Err(Denied::NoMemory) => Err(Denied::NoMemory),
             Err(Denied::Refused(reason)) => {
-                self.counts.refuse(reason);
+                self.account.refused(reason);
                 Err(Denied::Refused(reason))
             }
         }
     }
 
     fn idle(&mut self) {
-        self.counts.raise();
+        self.account.idled();
     }
 
     fn effort(&self) -> u64 {
-        self.counts.effort
+        self.account.effort()
     }
 
     fn ends(&self) -> Ends {
-        self.counts.ends()
+        self.account.ends()
     }
 
     fn trail(&self) -> &[Receipt] {
-        &self.trail
+        self.account.trail()
     }
 }
 

@@ -5,7 +5,6 @@
 mod alone;
 mod alone_calls;
 mod calls;
-mod counts;
 mod gate;
 mod hand;
 

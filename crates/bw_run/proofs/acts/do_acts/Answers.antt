@@ -15,7 +15,7 @@ loop-act-preserved g c =
     let more = answers_more c.args.acts.now c.loop-act.replies.items reply c.loop-act.act-index d at c.loop-act-test.true in
     record {
       follows =
-          sums_join c.args.hand.now.trail.items c.loop-act.hand.trail.items c.do_row.new.hand.trail.items c.args.hand.now.share c.loop-act.hand.share c.do_row.new.hand.share c.loop-act.invariant.follows c.do_row.ensures.follows;
+          sums_join c.args.hand.now.account.seen.trail c.loop-act.hand.account.seen.trail c.do_row.new.hand.account.seen.trail c.args.hand.now.share c.loop-act.hand.share c.do_row.new.hand.share c.loop-act.invariant.follows c.do_row.ensures.follows;
       told = c.in_ok-reply.ensures.told ∙ (ap (λ (l : Option (List Told)). joined l (told_of act reply)) c.loop-act.invariant.told ∙ (sym more ∙ ap (answers c.args.acts.now) (sym c.push_reserved.ensures.items)));
       count = omega (arith, c.push_reserved.ensures.len, c.loop-act.invariant.count);
       room = omega (arith, c.push_reserved.ensures.capacity, c.loop-act.invariant.room);

@@ -6,8 +6,8 @@ use Rattle.bw_run.proofs.acts.do_acts.Given as goal
 
 abbrev pub invariant-loop-act : goal.invariant-loop-act
 invariant-loop-act g l = record {
-  follows : Sums l.fn.hand.trail.items l.fn.hand.share l.hand.trail.items l.hand.share;
-  told : Some (tellings l.hand.trail.items) ≡ answers l.acts l.replies.items;
+  follows : Sums l.fn.hand.account.seen.trail l.fn.hand.share l.hand.account.seen.trail l.hand.share;
+  told : Some (tellings l.hand.account.seen.trail) ≡ answers l.acts l.replies.items;
   count : vec_len l.replies ≡ l.act-index;
   room : length l.acts ≤ vec_capacity l.replies;
 }

@@ -1,15 +1,18 @@
-use Rattle.std.proofs.Common.{◌≡◌, true}
-use Rattle.bw_step.specs.Stages.{is_in_row}
-use Rattle.bw_law.specs.Tables.{slot_at}
-use Rattle.bw_work.proofs.Copies.{copy_shows, copy_is_around, not_outside}
+use Rattle.std.proofs.Common.{refl}
+use Rattle.bw_work.proofs.Copies.{copies_show, copy_is_calm}
+use Rattle.bw_work.specs.Leading.{leads_stay}
 use Rattle.bw_work.proofs.alone.AloneStepsStep.copy_page.Goals as goal
 
-pub returns-in-Ok-clause-shows : goal.returns-in-Ok-clause-shows
-returns-in-Ok-clause-shows g c leaf =
-    let table = c.args.self.now.table.now in
-    let here : is_in_row (slot_at table c.args.pid.0).stage ≡ true = not_outside _ (λ outside. cc (c.copy_page.ensures.absent.1 outside, c.in-Ok.is)) in
-    copy_shows table c.config-config.ensures.lawful c.args.pid.0 c.in-Ok.chain here c.in-Ok.ensures.copied leaf
+pub returns-clause-follows : goal.returns-clause-follows
+returns-clause-follows g c = (refl, refl, rw c.copied.ensures (leads_stay c.args.self.now.table.now c.args.self.now.account.seen.trail))
 
-pub returns-in-Ok-clause-calm : goal.returns-in-Ok-clause-calm
-returns-in-Ok-clause-calm g c key has fresh =
-    copy_is_around c.args.self.now.table.now c.config-config.ensures.lawful c.args.pid.0 c.in-Ok.chain has.in_row c.in-Ok.ensures.copied key has
+pub returns-clause-seen : goal.returns-clause-seen
+returns-clause-seen g c = rw c.copied.ensures (record { config = refl; trail = refl; full = refl; tall = refl; worn = refl }, refl)
+
+pub returns-clause-shows : goal.returns-clause-shows
+returns-clause-shows g c =
+    copies_show c.args.self.now.table.now c.args.pid.0 c.copy_page-copy.result c.config-config.ensures.lawful c.copy_page-copy.ensures.absent c.copy_page-copy.ensures.copied
+
+pub returns-clause-calm : goal.returns-clause-calm
+returns-clause-calm g c key has fresh =
+    copy_is_calm c.args.self.now.table.now c.args.pid.0 c.args.version.0 c.copy_page-copy.result c.config-config.ensures.lawful c.copy_page-copy.ensures.absent c.copy_page-copy.ensures.stale c.copy_page-copy.ensures.copied key has fresh

@@ -1,5 +1,5 @@
 use Rattle.std.proofs.Common.{rules}
 use Rattle.bw_work.proofs.hand.Hand.new.Goals as goal
 
-pub returns-clause-counts : goal.returns-clause-counts
-returns-clause-counts g c = search rules
+pub returns-clause-effort : goal.returns-clause-effort
+returns-clause-effort g c = search rules

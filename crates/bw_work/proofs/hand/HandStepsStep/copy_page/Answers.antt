@@ -1,5 +1,5 @@
-use Rattle.std.proofs.Common.{rules}
+use Rattle.std.proofs.Common.{refl}
 use Rattle.bw_work.proofs.hand.HandStepsStep.copy_page.Goals as goal
 
-pub returns-in-Err : goal.returns-in-Err
-returns-in-Err g c = search rules
+pub returns-clause-seen : goal.returns-clause-seen
+returns-clause-seen g c = rw c.copied.ensures (record { config = refl; trail = refl; full = refl; tall = refl; worn = refl }, refl)

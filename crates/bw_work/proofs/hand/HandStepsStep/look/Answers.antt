@@ -1,9 +1,10 @@
-use Rattle.std.proofs.Common.{rules}
-use Rattle.bw_work.proofs.Calming.{not_nothing}
+use Rattle.std.proofs.Common.{refl}
+use Rattle.bw_work.proofs.Sharing.{looks_sum}
 use Rattle.bw_work.proofs.hand.HandStepsStep.look.Goals as goal
 
-pub returns-then-keeps-clause-seen : goal.returns-then-keeps-clause-seen
-returns-then-keeps-clause-seen g c = search (rules, not_nothing)
+pub returns-clause-follows : goal.returns-clause-follows
+returns-clause-follows g c =
+    rw (c.looked.ensures, c.reserve.ensures.seen) (looks_sum c.args.keep c.args.key c.look-look.result c.args.self.now.account.seen.trail c.args.self.now.share)
 
-pub returns-else-keeps-clause-seen : goal.returns-else-keeps-clause-seen
-returns-else-keeps-clause-seen g c = search (rules, not_nothing)
+pub returns-clause-seen : goal.returns-clause-seen
+returns-clause-seen g c = rw (c.looked.ensures, c.reserve.ensures.seen) (record { config = refl; full = refl; tall = refl; worn = refl }, refl, refl)

@@ -1,6 +1,5 @@
-use Rattle.std.proofs.Common.{rules}
-use Rattle.bw_work.proofs.Calming.{next_is_calm}
+use Rattle.std.proofs.Common.{refl}
 use Rattle.bw_work.proofs.hand.HandStepsStep.visit.Goals as goal
 
-pub returns-in-Gone-clause-seen : goal.returns-in-Gone-clause-seen
-returns-in-Gone-clause-seen g c = search (rules, next_is_calm)
+pub returns-clause-seen : goal.returns-clause-seen
+returns-clause-seen g c = rw c.visited.ensures (record { config = refl; trail = refl; full = refl; tall = refl; worn = refl }, refl)

@@ -1,5 +1,5 @@
 use Rattle.std.proofs.Common.{rules}
-use Rattle.bw_work.proofs.counts.Counts.accept.Goals as goal
+use Rattle.bw_procedures.proofs.account.Account.accepted.Goals as goal
 
 pub returns-in_default : goal.returns-in_default
 returns-in_default c = search rules
