@@ -5,6 +5,8 @@ use Rattle.bw_step.specs.Steps.{IsReceiptOf}
 use Rattle.bw_step.specs.declared.receipt.Receipt.{Receipt}
 use Rattle.bw_step.specs.declared.receipt.Receipt.TheVariants.{Inserted, Deleted, Looked, Shaped}
 use Rattle.bw_step.specs.declared.view.Look.{Look}
+use Rattle.bw_step.specs.Tellings.{without_shapes}
+use Rattle.bw_step.proofs.Tellings.{without_shapes-append}
 use Rattle.bw_procedures.specs.declared.steps.Keep.{Keep}
 use Rattle.bw_procedures.specs.declared.fault.Fault.{Fault}
 use Rattle.bw_procedures.specs.declared.offer.Answer.TheVariants as answers
@@ -14,8 +16,8 @@ use Rattle.bw_procedures.specs.declared.writing.Tried.TheVariants.{Reply, Tend, 
 use Rattle.bw_procedures.specs.Seen.{Seen, SameCounts, IsAccepted, is_kept}
 use Rattle.bw_procedures.specs.Seen.{Looked as LookTaken}
 use Rattle.bw_procedures.specs.Writing.{Attempts, LookAdds, FoundBy, IsReceiptOfPut, IsDeletionOf}
-use Rattle.bw_procedures.specs.Calls.{Offered, OnlyReshapes, ChangesShape, without_shapes}
-use Rattle.bw_procedures.proofs.Reshaping.{without_shapes-append, counts_grow}
+use Rattle.bw_procedures.specs.Calls.{Offered, OnlyReshapes, ChangesShape}
+use Rattle.bw_procedures.proofs.Reshaping.{counts_grow}
 
 pub adds_without_shapes : (a b : Seen) (r : Receipt) → without_shapes (r ∷ []) ≡ r ∷ [] → b.trail ≡ a.trail ++ r ∷ [] → without_shapes b.trail ≡ without_shapes a.trail ++ r ∷ []
 adds_without_shapes a b r is e = ap without_shapes e ∙ (without_shapes-append a.trail (r ∷ []) ∙ ap (λ (l : List Receipt). without_shapes a.trail ++ l) is)

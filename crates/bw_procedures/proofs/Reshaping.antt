@@ -3,16 +3,11 @@ use Rattle.std.proofs.Common.{◌≡◌, ℕ, ◌≤◌, List, [], ◌∷◌, �
 use Rattle.bw_step.specs.Proposals.{Proposal, insert, delete}
 use Rattle.bw_step.specs.declared.receipt.Receipt.{Receipt}
 use Rattle.bw_step.specs.declared.receipt.Receipt.TheVariants.{Inserted, Deleted, Looked, Shaped}
+use Rattle.bw_step.specs.Tellings.{without_shapes}
+use Rattle.bw_step.proofs.Tellings.{without_shapes-append}
 use Rattle.bw_procedures.specs.Seen.{Seen, SameCounts, Grows, IsAccepted}
 use Rattle.bw_procedures.specs.declared.fault.Fault.{Fault}
-use Rattle.bw_procedures.specs.Calls.{OnlyReshapes, Works, IsFair, RoseBy, ChangesShape, without_shapes}
-
-pub without_shapes-append : (xs ys : List Receipt) → without_shapes (xs ++ ys) ≡ without_shapes xs ++ without_shapes ys
-without_shapes-append [] ys = refl
-without_shapes-append (Inserted number key value ∷ xs) ys = ap (λ (l : List Receipt). Inserted number key value ∷ l) (without_shapes-append xs ys)
-without_shapes-append (Deleted number key value ∷ xs) ys = ap (λ (l : List Receipt). Deleted number key value ∷ l) (without_shapes-append xs ys)
-without_shapes-append (Looked at key found ∷ xs) ys = ap (λ (l : List Receipt). Looked at key found ∷ l) (without_shapes-append xs ys)
-without_shapes-append (Shaped kind page other ∷ xs) ys = without_shapes-append xs ys
+use Rattle.bw_procedures.specs.Calls.{OnlyReshapes, Works, IsFair, RoseBy, ChangesShape}
 
 pub counts_grow : (a b : Seen) → SameCounts a b → a.effort ≤ b.effort → Grows a b
 counts_grow a b p q = record { config = p.config; effort = q; full = omega arith; tall = omega arith; worn = omega arith }

@@ -9,20 +9,13 @@ use Rattle.bw_step.specs.declared.refused.Refused.TheVariants as reasons
 use Rattle.bw_step.specs.declared.view.Look.{Look}
 use Rattle.bw_step.specs.declared.view.View.{View}
 use Rattle.bw_step.specs.Steps.{IsReceiptOf}
+use Rattle.bw_step.specs.Tellings.{without_shapes}
 use Rattle.bw_procedures.specs.declared.fault.Fault.{Fault}
 use Rattle.bw_procedures.specs.declared.fault.Fault.TheVariants.{Contended, NoMemory as NoRoom, TableFull, TooTall, Worn}
 use Rattle.bw_procedures.specs.declared.offer.Answer.{Answer}
 use Rattle.bw_procedures.specs.declared.offer.Answer.TheVariants as answers
 use Rattle.bw_procedures.specs.Seen.{Seen, SameButEffort, SameCounts, Grows}
 use Rattle.bw_procedures.specs.Sights.{Sight, holds, fresh}
-
--- the receipts that aren't Shaped, in their order
-abbrev pub without_shapes : List Receipt → List Receipt
-without_shapes [] = []
-without_shapes (receipts.Inserted number key value ∷ rs) = receipts.Inserted number key value ∷ without_shapes rs
-without_shapes (receipts.Deleted number key value ∷ rs) = receipts.Deleted number key value ∷ without_shapes rs
-without_shapes (receipts.Looked at key found ∷ rs) = receipts.Looked at key found ∷ without_shapes rs
-without_shapes (receipts.Shaped kind page other ∷ rs) = without_shapes rs
 
 -- a count rose by so much, or is at its end
 abbrev pub RoseBy : ℕ → ℕ → ℕ → Type 0

@@ -1,7 +1,6 @@
--- What receipts tell, and what goes with the acts and their replies.
+-- What callers are told: what goes with the acts and their replies.
 use Rattle.std.specs.Prelude.{ℕ, List, [], ◌∷◌, ◌++◌, Option, Some, None}
-use Rattle.bw_step.specs.declared.receipt.Receipt.{Receipt}
-use Rattle.bw_step.specs.declared.receipt.Receipt.TheVariants.{Inserted, Deleted, Looked, Shaped}
+use Rattle.bw_step.specs.Tellings.{Told, changed, found}
 use Rattle.bw_procedures.specs.declared.reply.Del.{Del}
 use Rattle.bw_procedures.specs.declared.reply.Del.TheVariants as dels
 use Rattle.bw_procedures.specs.declared.reply.Put.{Put}
@@ -11,35 +10,21 @@ use Rattle.bw_procedures.specs.declared.reply.Reply.TheVariants as replies
 use Rattle.bw_procedures.specs.declared.act.Act.{Act}
 use Rattle.bw_procedures.specs.declared.act.Act.TheVariants as acts
 
--- a receipt without its place among the changes: the pair that was inserted, the pair that was taken out, or what a key was found to have
-pub data Told : Type 0 where
-  inserted : ℕ → ℕ → Told
-  removed : ℕ → ℕ → Told
-  looked : ℕ → Option ℕ → Told
-
--- what the receipts of a trail tell, in their order; those of changed shape tell nothing
-abbrev pub tellings : List Receipt → List Told
-tellings [] = []
-tellings (Inserted number key value ∷ rs) = inserted key value ∷ tellings rs
-tellings (Deleted number key value ∷ rs) = removed key value ∷ tellings rs
-tellings (Looked seen key found ∷ rs) = looked key found ∷ tellings rs
-tellings (Shaped kind page other ∷ rs) = tellings rs
-
 -- a put inserts its pair, or finds the key's value
 abbrev pub told_of_put : ℕ → ℕ → Put → Told
-told_of_put key value puts.Inserted = inserted key value
-told_of_put key value (puts.Present there) = looked key (Some there)
+told_of_put key value puts.Inserted = changed key None (Some value)
+told_of_put key value (puts.Present there) = found key (Some there)
 
 -- a delete takes the key out with its value, or finds none
 abbrev pub told_of_delete : ℕ → Del → Told
-told_of_delete key (dels.Removed value) = removed key value
-told_of_delete key dels.NoKey = looked key None
+told_of_delete key (dels.Removed value) = changed key (Some value) None
+told_of_delete key dels.NoKey = found key None
 
 -- what the receipts of an act with this reply tell, in their order; nothing goes with a reply to another kind of act
 abbrev pub told_of : Act → Reply → Option (List Told)
 told_of (acts.Put key value) (replies.Put done) = Some (told_of_put key value done.reply ∷ [])
 told_of (acts.Delete key) (replies.Delete done) = Some (told_of_delete key done.reply ∷ [])
-told_of (acts.Get key) (replies.Get found) = Some (looked key found ∷ [])
+told_of (acts.Get key) (replies.Get value) = Some (found key value ∷ [])
 told_of act reply = None
 
 -- the one list and then the other, where there are both

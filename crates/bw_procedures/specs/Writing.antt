@@ -3,6 +3,7 @@ use Rattle.std.specs.Prelude.{◌≡◌, ◌⊎◌, ℕ, Bool, true, false, [], 
 use Rattle.bw_step.specs.declared.receipt.Receipt.{Receipt}
 use Rattle.bw_step.specs.declared.receipt.Receipt.TheVariants as receipts
 use Rattle.bw_step.specs.declared.view.Look.{Look}
+use Rattle.bw_step.specs.Tellings.{without_shapes}
 use Rattle.bw_procedures.specs.declared.fault.Fault.{Fault}
 use Rattle.bw_procedures.specs.declared.fault.Fault.TheVariants as faults
 use Rattle.bw_procedures.specs.declared.reply.Del.{Del}
@@ -15,7 +16,7 @@ use Rattle.bw_procedures.specs.declared.writing.Arrival.TheVariants.{Gone, Here,
 use Rattle.bw_procedures.specs.declared.writing.Tried.{Tried}
 use Rattle.bw_procedures.specs.declared.writing.Tried.TheVariants.{Reply, Tend, Again, Kept}
 use Rattle.bw_procedures.specs.Seen.{Seen, Grows, is_kept}
-use Rattle.bw_procedures.specs.Calls.{OnlyReshapes, IsFair, RoseBy, without_shapes}
+use Rattle.bw_procedures.specs.Calls.{OnlyReshapes, IsFair, RoseBy}
 
 -- the receipt that goes with a put's reply: the insertion of the pair, or the look that found the key's value
 abbrev pub IsReceiptOfPut : ℕ → ℕ → Put → Receipt → Type 0

@@ -2,7 +2,8 @@
 
 ghost use Rattle.std.specs.Prelude.{◌≡◌, Some, IfOk, IfErr, OnErr};
 ghost use Rattle.bw_procedures.specs.Calls.{IsFair, limit_of};
-ghost use Rattle.bw_procedures.specs.Told.{joined, tellings, told_of};
+ghost use Rattle.bw_step.specs.Tellings.{told_in};
+ghost use Rattle.bw_procedures.specs.Told.{joined, told_of};
 
 use crate::deletion::delete;
 use crate::fault::Fault;
@@ -32,8 +33,8 @@ pub fn do_act<A: Allocator + Copy, S: Steps<A, Step<A>>>(
     act: Act,
 ) -> Result<Reply, Fault>
     ensures follows { S.follows steps.old steps.new }
-    ensures told { IfOk result (λ reply. Some (tellings (S.seen steps.new).trail) ≡ joined (Some (tellings (S.seen steps.old).trail)) (told_of act reply)) }
-    ensures nothing { OnErr result (tellings (S.seen steps.new).trail ≡ tellings (S.seen steps.old).trail) }
+    ensures told { IfOk result (λ reply. Some (told_in (S.seen steps.new).trail) ≡ joined (Some (told_in (S.seen steps.old).trail)) (told_of act reply)) }
+    ensures nothing { OnErr result (told_in (S.seen steps.new).trail ≡ told_in (S.seen steps.old).trail) }
     ensures fault { IfErr result (IsFair (limit_of (S.seen steps.old)) (S.seen steps.old) (S.seen steps.new)) }
 {
     match act {

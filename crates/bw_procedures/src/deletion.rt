@@ -1,7 +1,8 @@
 //! Taking a key out.
 
 ghost use Rattle.std.specs.Prelude.{◌≡◌, IfOk, IfErr, IfSome, OnErr};
-ghost use Rattle.bw_procedures.specs.Calls.{limit_of, IsFair, without_shapes};
+ghost use Rattle.bw_step.specs.Tellings.{without_shapes};
+ghost use Rattle.bw_procedures.specs.Calls.{limit_of, IsFair};
 ghost use Rattle.bw_procedures.specs.Seen.{Grows};
 ghost use Rattle.bw_procedures.specs.Writing.{AddsReceipt, IsReceiptOfDelete};
 

@@ -2,7 +2,8 @@
 
 ghost use Rattle.std.specs.Prelude.{◌≡◌, IfOk, IfErr, IfSome, OnErr};
 ghost use Rattle.bw_procedures.specs.Seen.{Grows};
-ghost use Rattle.bw_procedures.specs.Calls.{limit_of, IsFair, without_shapes};
+ghost use Rattle.bw_step.specs.Tellings.{without_shapes};
+ghost use Rattle.bw_procedures.specs.Calls.{limit_of, IsFair};
 ghost use Rattle.bw_procedures.specs.Writing.{AddsReceipt, IsReceiptOfPut};
 
 use crate::fault::Fault;

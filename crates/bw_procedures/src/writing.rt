@@ -3,7 +3,8 @@
 
 ghost use Rattle.std.specs.Prelude.{◌≡◌, true, IfOk, IfErr, IfSome, OnErr};
 ghost use Rattle.bw_procedures.specs.Seen.{Grows};
-ghost use Rattle.bw_procedures.specs.Calls.{Waits, OnlyReshapes, limit_of, IsFair, without_shapes};
+ghost use Rattle.bw_step.specs.Tellings.{without_shapes};
+ghost use Rattle.bw_procedures.specs.Calls.{Waits, OnlyReshapes, limit_of, IsFair};
 ghost use Rattle.bw_procedures.specs.Writing.{AddsReceipt, ArrivalCosts, Attempts, Helped, EndsFairly, FoundBy};
 
 use crate::consolidation::consolidate;

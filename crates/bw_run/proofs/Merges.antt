@@ -6,7 +6,8 @@ use Rattle.bw_procedures.specs.declared.reply.Reply.{Reply}
 use Rattle.bw_procedures.specs.declared.act.Act.{Act}
 use Rattle.bw_texts.specs.declared.trace.row.Row.{Row}
 use Rattle.bw_run.specs.Rows.{acts_of, told_to}
-use Rattle.bw_procedures.specs.Told.{Told, told_of, joined, answers}
+use Rattle.bw_step.specs.Tellings.{Told}
+use Rattle.bw_procedures.specs.Told.{told_of, joined, answers}
 use Rattle.bw_procedures.proofs.Receipts.{joined_assoc, joined_none, none_joined}
 
 -- lists that stand there or don't

@@ -6,12 +6,13 @@ use Rattle.bw_step.specs.declared.view.Look.{Look}
 use Rattle.bw_procedures.specs.declared.act.Act.{Act}
 use Rattle.bw_procedures.specs.declared.act.Act.TheVariants as acts
 use Rattle.bw_procedures.specs.declared.reply.Reply.{Reply}
-use Rattle.bw_procedures.specs.Told.{joined, tellings, told_of}
+use Rattle.bw_step.specs.Tellings.{told_in}
+use Rattle.bw_procedures.specs.Told.{joined, told_of}
 use Rattle.bw_procedures.proofs.Receipts.{get_tells}
 use Rattle.bw_run.specs.Reads.{IsReadBy, IsReadByOwn, IsFoundBy}
 
 pub reads_tell : {E : Type 0} → (result : Result Reply E) (reads : Look → Type 0) (key : ℕ) (act : Act) (old new : List Receipt) → act ≡ acts.Get key → IfOk result (IsReadBy reads key old new)
-    → IfOk result (λ reply. Some (tellings new) ≡ joined (Some (tellings old)) (told_of act reply))
+    → IfOk result (λ reply. Some (told_in new) ≡ joined (Some (told_in old)) (told_of act reply))
 reads_tell (Ok reply) reads key act old new asked is = rw (asked, is.2) (get_tells key is.0.found old new (is.0.at, is.3))
 reads_tell (Err fault) reads key act old new asked is = tt
 

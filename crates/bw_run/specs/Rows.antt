@@ -4,7 +4,8 @@ use Rattle.bw_step.specs.declared.receipt.Receipt.{Receipt}
 use Rattle.bw_procedures.specs.declared.reply.Reply.{Reply}
 use Rattle.bw_procedures.specs.declared.act.Act.{Act}
 use Rattle.bw_texts.specs.declared.trace.row.Row.{Row}
-use Rattle.bw_procedures.specs.Told.{Told, told_of, joined, tellings, answers}
+use Rattle.bw_step.specs.Tellings.{Told, told_in}
+use Rattle.bw_procedures.specs.Told.{told_of, joined, answers}
 
 -- the acts of a worker's rows, in their order
 abbrev pub acts_of : ℕ → List Row → List Act
@@ -43,7 +44,7 @@ AreFull rows columns = (worker : ℕ) → worker < length columns → length (sl
 -- each worker's trail tells what goes with its rows and its replies, of which there are as many
 pub record AreAnswered (rows : List Row) (columns : List (List Reply)) (trails : List (List Receipt)) : Type 0 where
   pub full : AreFull rows columns
-  pub told : (worker : ℕ) → worker < length columns → Some (tellings (slice_index_or trails worker [])) ≡ answers (acts_of worker rows) (slice_index_or columns worker [])
+  pub told : (worker : ℕ) → worker < length columns → Some (told_in (slice_index_or trails worker [])) ≡ answers (acts_of worker rows) (slice_index_or columns worker [])
 
 -- the replies stand in the order of the rows, and each worker is told the same
 pub record IsMerged (rows : List Row) (columns : List (List Reply)) (merged : List Reply) : Type 0 where

@@ -9,13 +9,13 @@ use Rattle.bw_procedures.specs.declared.reply.Reply.{Reply}
 use Rattle.bw_texts.specs.declared.trace.row.Row.{Row}
 use Rattle.bw_run.specs.Counts.{CountsChanges}
 use Rattle.bw_run.specs.Rows.{told_to}
-use Rattle.bw_procedures.specs.Told.{tellings}
+use Rattle.bw_step.specs.Tellings.{told_in}
 
 -- the replies and the trails are of the rows, and the trails explain the table
 pub record IsRunOf (workers : ℕ) (rows : List Row) (table : TableValue) (replies : List Reply) (trails : List (List Receipt)) : Type 0 where
   pub replied : length replies ≡ length rows
   pub trailed : length trails ≡ workers
-  pub told : (worker : ℕ) → worker < workers → Some (tellings (slice_index_or trails worker [])) ≡ told_to worker rows replies
+  pub told : (worker : ℕ) → worker < workers → Some (told_in (slice_index_or trails worker [])) ≡ told_to worker rows replies
   pub tree : IsTree table
   pub legal : (pairs : List (ℕ × ℕ)) → ArePairsOf table pairs → IsLegal trails pairs
   pub count : (pairs : List (ℕ × ℕ)) → ArePairsOf table pairs → CountsChanges trails pairs

@@ -1,7 +1,8 @@
 //! A worker's acts, one after the other.
 
 ghost use Rattle.std.specs.Prelude.{◌≡◌, ◌≤◌, ◌<◌, [], Some, IfOk, OnOk, OnErr, length, vec_capacity};
-ghost use Rattle.bw_procedures.specs.Told.{answers, joined, tellings, told_of};
+ghost use Rattle.bw_step.specs.Tellings.{told_in};
+ghost use Rattle.bw_procedures.specs.Told.{answers, joined, told_of};
 ghost use Rattle.bw_work.specs.Hands.{Sums};
 ghost use Rattle.bw_run.specs.Reads.{IsReadBy, IsReadByOwn};
 
@@ -27,7 +28,7 @@ pub(crate) fn do_acts<T: RunTree, G: Gate>(
     requires empty { replies.old.items ≡ [] }
     requires room { length acts.now ≤ vec_capacity replies.old }
     ensures follows { Sums hand.old.account.seen.trail hand.old.share hand.new.account.seen.trail hand.new.share }
-    ensures told { Some (tellings hand.new.account.seen.trail) ≡ answers acts.now replies.new.items }
+    ensures told { Some (told_in hand.new.account.seen.trail) ≡ answers acts.now replies.new.items }
     ensures all { OnOk result (length replies.new.items ≡ length acts.now) }
     ensures stopped { OnErr result (length replies.new.items < length acts.now) }
 {
@@ -46,8 +47,8 @@ fn do_row<T: RunTree, G: Gate>(
     act: Act,
 ) -> Result<Reply, Stop<T::Closed>>
     ensures follows { Sums hand.old.account.seen.trail hand.old.share hand.new.account.seen.trail hand.new.share }
-    ensures told { IfOk result (λ reply. Some (tellings hand.new.account.seen.trail) ≡ joined (Some (tellings hand.old.account.seen.trail)) (told_of act reply)) }
-    ensures nothing { OnErr result (tellings hand.new.account.seen.trail ≡ tellings hand.old.account.seen.trail) }
+    ensures told { IfOk result (λ reply. Some (told_in hand.new.account.seen.trail) ≡ joined (Some (told_in hand.old.account.seen.trail)) (told_of act reply)) }
+    ensures nothing { OnErr result (told_in hand.new.account.seen.trail ≡ told_in hand.old.account.seen.trail) }
     ensures read { IfOk result (IsReadByOwn T.reads reader.new act hand.old.account.seen.trail hand.new.account.seen.trail) }
 {
     match act {

@@ -2,7 +2,8 @@
 
 ghost use Rattle.std.specs.Prelude.{◌≡◌, ◌+◌, ◌<◌, ◌≤◌, ◌^◌, [], Some, IfOk, All, fold, length, map, vec_len, vec_capacity};
 ghost use Rattle.std.specs.Option.{ForNone, ForSome};
-ghost use Rattle.bw_procedures.specs.Told.{answers, tellings};
+ghost use Rattle.bw_step.specs.Tellings.{told_in};
+ghost use Rattle.bw_procedures.specs.Told.{answers};
 ghost use Rattle.bw_tree.specs.Shares.{no_changes, counted};
 ghost use Rattle.bw_run.specs.Reads.{handed_out};
 
@@ -41,7 +42,7 @@ pub(crate) struct Worked<I: Ledger, D: Ledger, C> {
     pub trail: Vec<Receipt>,
     pub stop: Option<Stop<C>>,
     ghost counted: { share ≡ fold counted no_changes trail.items },
-    ghost told: { Some (tellings trail.items) ≡ answers acts.items replies.items },
+    ghost told: { Some (told_in trail.items) ≡ answers acts.items replies.items },
     ghost all: { ForNone stop (length replies.items ≡ length acts.items) },
     ghost stopped: { ForSome stop (λ _. length replies.items < length acts.items) },
 }

@@ -2,7 +2,7 @@
 
 ghost use Rattle.std.specs.Prelude.{◌≡◌, ◌≤◌, ◌<◌, ℕ, [], List, Some, IsOk, IfOk, IfErr, OnOk, length, map, slice_index_or};
 ghost use Rattle.std.specs.List.{AllByRecursion};
-ghost use Rattle.bw_procedures.specs.Told.{tellings};
+ghost use Rattle.bw_step.specs.Tellings.{told_in};
 ghost use Rattle.bw_table.specs.Views.{ArePairsOf};
 ghost use Rattle.bw_tree.specs.Shares.{Opens};
 ghost use Rattle.bw_tree.specs.Trees.{IsTree, MayBeMade};
@@ -48,7 +48,7 @@ pub fn run<R: Threads + Wait + Sync + Send + Copy, G: Gate + Sync>(
     requires { AllByRecursion (λ row. row.worker < workers) rows.now }
     ensures replies { IfOk result (λ finished. length finished.replies.items ≡ length rows.now) }
     ensures trails { IfOk result (λ finished. length finished.trails.items ≡ workers) }
-    ensures told { IfOk result (λ finished. (worker : ℕ) → worker < workers → Some (tellings (slice_index_or (map (λ trail. trail.items) finished.trails.items) worker [])) ≡ told_to worker rows.now finished.replies.items) }
+    ensures told { IfOk result (λ finished. (worker : ℕ) → worker < workers → Some (told_in (slice_index_or (map (λ trail. trail.items) finished.trails.items) worker [])) ≡ told_to worker rows.now finished.replies.items) }
     ensures tree { IfOk result (λ finished. IsTree finished.table) }
     ensures config { IfOk result (λ finished. finished.table.config ≡ config) }
     ensures legal { IfOk result (λ finished. (pairs : List (ℕ × ℕ)) → ArePairsOf finished.table pairs → IsLegal (map (λ trail. trail.items) finished.trails.items) pairs) }

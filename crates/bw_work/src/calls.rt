@@ -1,8 +1,9 @@
 //! The calls of a worker that shares its tree.
 
 ghost use Rattle.std.specs.Prelude.{◌≡◌, ◌≤◌, IfOk, IfErr, IfSome, OnOk, OnErr};
+ghost use Rattle.bw_step.specs.Tellings.{without_shapes};
 ghost use Rattle.bw_procedures.specs.Seen.{Grows};
-ghost use Rattle.bw_procedures.specs.Calls.{limit_of, IsFair, Waits, OnlyReshapes, RoseBy, AddsLook, plain};
+ghost use Rattle.bw_procedures.specs.Calls.{limit_of, IsFair, Waits, OnlyReshapes, RoseBy, AddsLook};
 ghost use Rattle.bw_procedures.specs.Slices.{IsSliceFrom};
 ghost use Rattle.bw_procedures.specs.Writing.{AddsReceipt, IsReceiptOfPut, IsReceiptOfDelete};
 ghost use Rattle.bw_work.specs.Hands.{Sums};
@@ -21,7 +22,7 @@ impl<'t, A: Allocator + Copy, S: Shared<A, Step<A>>, G: Gate> Hand<'t, A, S, G> 
         ensures share { Sums self.old.account.seen.trail self.old.share self.new.account.seen.trail self.new.share }
         ensures grows { Grows self.old.account.seen self.new.account.seen }
         ensures receipt { IfOk result (λ done. AddsReceipt (IsReceiptOfPut key value) done.reply self.old.account.seen self.new.account.seen) }
-        ensures no_receipt { OnErr result (plain self.new.account.seen.trail ≡ plain self.old.account.seen.trail) }
+        ensures no_receipt { OnErr result (without_shapes self.new.account.seen.trail ≡ without_shapes self.old.account.seen.trail) }
         ensures fault { IfErr result (IsFair (limit_of self.old.account.seen) self.old.account.seen self.new.account.seen) }
         ensures kept { IfOk result (λ done. IfSome done.fault (IsFair (limit_of self.old.account.seen) self.old.account.seen self.new.account.seen)) }
     {
@@ -33,7 +34,7 @@ impl<'t, A: Allocator + Copy, S: Shared<A, Step<A>>, G: Gate> Hand<'t, A, S, G> 
         ensures share { Sums self.old.account.seen.trail self.old.share self.new.account.seen.trail self.new.share }
         ensures grows { Grows self.old.account.seen self.new.account.seen }
         ensures receipt { IfOk result (λ done. AddsReceipt (IsReceiptOfDelete key) done.reply self.old.account.seen self.new.account.seen) }
-        ensures no_receipt { OnErr result (plain self.new.account.seen.trail ≡ plain self.old.account.seen.trail) }
+        ensures no_receipt { OnErr result (without_shapes self.new.account.seen.trail ≡ without_shapes self.old.account.seen.trail) }
         ensures fault { IfErr result (IsFair (limit_of self.old.account.seen) self.old.account.seen self.new.account.seen) }
         ensures kept { IfOk result (λ done. IfSome done.fault (IsFair (limit_of self.old.account.seen) self.old.account.seen self.new.account.seen)) }
     {

@@ -2,7 +2,8 @@ use Rattle.std.proofs.Common.{◌≡◌, ◌∙◌, ap, sym, List, Option, lengt
 use Rattle.bw_procedures.specs.declared.act.Act.{Act}
 use Rattle.bw_procedures.specs.declared.act.Act.TheVariants as acts
 use Rattle.bw_work.specs.Hands.{sums_join}
-use Rattle.bw_procedures.specs.Told.{Told, answers, joined, told_of}
+use Rattle.bw_step.specs.Tellings.{Told}
+use Rattle.bw_procedures.specs.Told.{answers, joined, told_of}
 use Rattle.bw_procedures.proofs.Receipts.{answers_more}
 use Rattle.bw_run.proofs.acts.do_acts.Goals as goal
 
