@@ -1,18 +1,18 @@
 -- What steps that change only the tree's shape leave.
-use Rattle.std.proofs.Common.{◌≡◌, ℕ, ◌≤◌, List, [], ◌∷◌, ◌++◌, Result, Ok, Err, IfErr, OnOk, refl, ap, ◌∙◌, append-nil, arith}
+use Rattle.std.proofs.Common.{◌≡◌, ℕ, ◌≤◌, List, [], ◌∷◌, ◌++◌, Result, Ok, Err, IfErr, OnOk, refl, ap, sym, ◌∙◌, append_assoc, append-nil, arith}
 use Rattle.bw_step.specs.Proposals.{Proposal, insert, delete}
 use Rattle.bw_step.specs.declared.receipt.Receipt.{Receipt}
-use Rattle.bw_step.specs.declared.receipt.Receipt.TheVariants.{Inserted, Deleted, Looked, Shaped}
+use Rattle.bw_step.specs.declared.receipt.Receipt.TheVariants.{Shaped}
+use Rattle.bw_step.specs.Tellings.{telling_of, unless_shape}
 use Rattle.bw_procedures.specs.Seen.{Seen, SameCounts, Grows, IsAccepted}
 use Rattle.bw_procedures.specs.declared.fault.Fault.{Fault}
 use Rattle.bw_procedures.specs.Calls.{OnlyReshapes, Works, IsFair, RoseBy, ChangesShape, plain}
 
 pub plain-append : (xs ys : List Receipt) → plain (xs ++ ys) ≡ plain xs ++ plain ys
 plain-append [] ys = refl
-plain-append (Inserted number key value ∷ xs) ys = ap (λ (l : List Receipt). Inserted number key value ∷ l) (plain-append xs ys)
-plain-append (Deleted number key value ∷ xs) ys = ap (λ (l : List Receipt). Deleted number key value ∷ l) (plain-append xs ys)
-plain-append (Looked at key found ∷ xs) ys = ap (λ (l : List Receipt). Looked at key found ∷ l) (plain-append xs ys)
-plain-append (Shaped kind page other ∷ xs) ys = plain-append xs ys
+plain-append (x ∷ xs) ys =
+    ap (λ (l : List Receipt). unless_shape x (telling_of x) ++ l) (plain-append xs ys)
+    ∙ sym (append_assoc (unless_shape x (telling_of x)) (plain xs) (plain ys))
 
 pub counts_grow : (a b : Seen) → SameCounts a b → a.effort ≤ b.effort → Grows a b
 counts_grow a b p q = record { config = p.config; effort = q; full = omega arith; tall = omega arith; worn = omega arith }

@@ -9,6 +9,7 @@ use Rattle.bw_step.specs.declared.refused.Refused.TheVariants as reasons
 use Rattle.bw_step.specs.declared.view.Look.{Look}
 use Rattle.bw_step.specs.declared.view.View.{View}
 use Rattle.bw_step.specs.Steps.{IsReceiptOf}
+use Rattle.bw_step.specs.Tellings.{without_shapes}
 use Rattle.bw_procedures.specs.declared.fault.Fault.{Fault}
 use Rattle.bw_procedures.specs.declared.fault.Fault.TheVariants.{Contended, NoMemory as NoRoom, TableFull, TooTall, Worn}
 use Rattle.bw_procedures.specs.declared.offer.Answer.{Answer}
@@ -18,11 +19,7 @@ use Rattle.bw_procedures.specs.Sights.{Sight, holds, fresh}
 
 -- the receipts that aren't Shaped, in their order
 abbrev pub plain : List Receipt → List Receipt
-plain [] = []
-plain (receipts.Inserted number key value ∷ rs) = receipts.Inserted number key value ∷ plain rs
-plain (receipts.Deleted number key value ∷ rs) = receipts.Deleted number key value ∷ plain rs
-plain (receipts.Looked at key found ∷ rs) = receipts.Looked at key found ∷ plain rs
-plain (receipts.Shaped kind page other ∷ rs) = plain rs
+plain trail = without_shapes trail
 
 -- a count rose by so much, or is at its end
 abbrev pub RoseBy : ℕ → ℕ → ℕ → Type 0

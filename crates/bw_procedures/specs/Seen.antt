@@ -15,6 +15,7 @@ use Rattle.bw_step.specs.declared.fault.CopyFault.TheVariants as copy_faults
 use Rattle.bw_step.specs.declared.fault.Denied.{Denied}
 use Rattle.bw_step.specs.declared.fault.Denied.TheVariants as denied
 use Rattle.bw_step.specs.Steps.{IsReceiptOf}
+use Rattle.bw_step.specs.Tellings.{Telling, shape, telling_of}
 use Rattle.bw_procedures.specs.declared.steps.Keep.{Keep}
 use Rattle.bw_procedures.specs.declared.steps.Keep.TheVariants.{Always, IfFound, IfNone}
 use Rattle.bw_procedures.specs.declared.steps.Ends.{Ends}
@@ -102,11 +103,12 @@ abbrev pub Copied : {C : Type 0} → Result C CopyFault → Seen → Seen → Ty
 Copied result old new = SameButEffort old new × (new.effort ≡ copy_effort result old.effort)
 
 -- an accepted step costs effort where it changes the tree's shape
+abbrev pub told_effort : Telling → ℕ → ℕ
+told_effort shape n = one_more n
+told_effort told n = n
+
 abbrev pub receipt_effort : Receipt → ℕ → ℕ
-receipt_effort (receipts.Inserted number key value) n = n
-receipt_effort (receipts.Deleted number key value) n = n
-receipt_effort (receipts.Looked at key found) n = n
-receipt_effort (receipts.Shaped kind page other) n = one_more n
+receipt_effort receipt n = told_effort (telling_of receipt) n
 
 -- an accepted step adds its own receipt to the trail
 pub record IsAccepted (step : Proposal) (receipt : Receipt) (old new : Seen) : Type 0 where

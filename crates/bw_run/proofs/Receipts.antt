@@ -1,7 +1,8 @@
 -- What one more receipt tells.
-use Rattle.std.proofs.Common.{◌≡◌, ℕ, zero, suc, ◌<◌, List, [], ◌∷◌, ◌++◌, length, get_or, Option, Some, None, Ok, Err, refl, ap, sym, subst, ◌∙◌, map, arith}
+use Rattle.std.proofs.Common.{◌≡◌, ℕ, zero, suc, ◌<◌, List, [], ◌∷◌, ◌++◌, length, get_or, Option, Some, None, Ok, Err, refl, ap, sym, subst, ◌∙◌, map, append_assoc, arith}
 use Rattle.bw_step.specs.declared.receipt.Receipt.{Receipt}
-use Rattle.bw_step.specs.declared.receipt.Receipt.TheVariants.{Inserted, Deleted, Looked, Shaped}
+use Rattle.bw_step.specs.declared.receipt.Receipt.TheVariants.{Inserted, Deleted, Looked}
+use Rattle.bw_step.specs.Tellings.{Telling, shape, telling_of, Told, looked, told_by, unless_shape}
 use Rattle.std.specs.Prelude.{IfOk, Result}
 use Rattle.bw_procedures.specs.declared.fault.Fault.{Fault}
 use Rattle.bw_procedures.specs.declared.reply.Del.{Del}
@@ -16,22 +17,24 @@ use Rattle.bw_run.specs.declared.reply.Reply.{Reply}
 use Rattle.bw_run.specs.Reads.{IsReadBy, IsReadByOwn, IsFoundBy}
 use Rattle.bw_texts.specs.declared.row.Act.{Act}
 use Rattle.bw_texts.specs.declared.row.Act.TheVariants as acts
-use Rattle.bw_run.specs.Told.{Told, inserted, removed, looked, tellings, told_of, told_of_put, told_of_delete, answers}
+use Rattle.bw_run.specs.Told.{tellings, told_of, told_of_put, told_of_delete, answers}
 
 tellings-append : (xs ys : List Receipt) → tellings (xs ++ ys) ≡ tellings xs ++ tellings ys
 tellings-append [] ys = refl
-tellings-append (Inserted number key value ∷ xs) ys = ap (λ (l : List Told). inserted key value ∷ l) (tellings-append xs ys)
-tellings-append (Deleted number key value ∷ xs) ys = ap (λ (l : List Told). removed key value ∷ l) (tellings-append xs ys)
-tellings-append (Looked seen key found ∷ xs) ys = ap (λ (l : List Told). looked key found ∷ l) (tellings-append xs ys)
-tellings-append (Shaped kind page other ∷ xs) ys = tellings-append xs ys
+tellings-append (x ∷ xs) ys =
+    ap (λ (l : List Told). told_by (telling_of x) ++ l) (tellings-append xs ys)
+    ∙ sym (append_assoc (told_by (telling_of x)) (tellings xs) (tellings ys))
 
 -- receipts of changed shape tell nothing
+tells_unless_shape : (x : Receipt) (told : Telling) → telling_of x ≡ told → tellings (unless_shape x told) ≡ told_by told
+tells_unless_shape x shape is = refl
+tells_unless_shape x told is = ap (λ (t : Telling). told_by t ++ []) is
+
 tellings-plain : (xs : List Receipt) → tellings (plain xs) ≡ tellings xs
 tellings-plain [] = refl
-tellings-plain (Inserted number key value ∷ xs) = ap (λ (l : List Told). inserted key value ∷ l) (tellings-plain xs)
-tellings-plain (Deleted number key value ∷ xs) = ap (λ (l : List Told). removed key value ∷ l) (tellings-plain xs)
-tellings-plain (Looked seen key found ∷ xs) = ap (λ (l : List Told). looked key found ∷ l) (tellings-plain xs)
-tellings-plain (Shaped kind page other ∷ xs) = tellings-plain xs
+tellings-plain (x ∷ xs) =
+    tellings-append (unless_shape x (telling_of x)) (plain xs)
+    ∙ (ap (λ (l : List Told). l ++ tellings (plain xs)) (tells_unless_shape x (telling_of x) refl) ∙ ap (λ (l : List Told). told_by (telling_of x) ++ l) (tellings-plain xs))
 
 pub none_told : (old new : List Receipt) → plain new ≡ plain old → tellings new ≡ tellings old
 none_told old new same = sym (tellings-plain new) ∙ (ap tellings same ∙ tellings-plain old)
