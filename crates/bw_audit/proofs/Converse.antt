@@ -8,15 +8,15 @@ use Rattle.std.specs.Bool.{nat_eq}
 use Rattle.std.specs.List.{AllByRecursion}
 use Rattle.bw_audit.specs.declared.change.Change.{Change}
 use Rattle.bw_step.specs.declared.receipt.Receipt.{Receipt}
-use Rattle.bw_step.specs.declared.receipt.Receipt.TheVariants.{Inserted, Deleted, Looked, Shaped}
+use Rattle.bw_step.specs.Tellings.{Telling, change, look, shape, telling_of}
 use Rattle.bw_audit.specs.declared.verdict.Verdict.TheVariants.{Yes}
 use Rattle.bw_keys.specs.Ranges.{key_count}
 use Rattle.bw_delta.specs.Entries.{rises}
 use Rattle.bw_chain.specs.Ascends.{IsAscending}
 use Rattle.bw_chain.proofs.Firsts.{at-before}
-use Rattle.bw_audit.specs.Changes.{add_change, all_changes, bearer, change_of, changes_of, value_at}
+use Rattle.bw_audit.specs.Changes.{add_change, all_changes, bearer, change_of, change_told, changes_of, value_at}
 use Rattle.bw_delta.specs.Entries.{at}
-use Rattle.bw_audit.specs.Legal.{IsLegal, AllRise, IsTrueReply, position_after, rises_from, times_borne}
+use Rattle.bw_audit.specs.Legal.{IsLegal, AllRise, IsTrueOf, IsTrueReply, position_after, rises_from, times_borne}
 use Rattle.bw_audit.specs.Verdicts.{verdict_of, changes_hold, first_bad, first_fault, is_bad, is_bad_change, is_misnumbered, leaves, pairs_hold}
 use Rattle.bw_audit.proofs.Counting.{total, total-add, total-hit, hits}
 use Rattle.bw_audit.proofs.Laws.{AllNumbered, IsNumbered, legal_from_yes}
@@ -134,18 +134,15 @@ all_numbered cs once =
 fine_change : (cs : List Change) (before : ℕ) (c : Change) → is_misnumbered cs before c.number ≡ false → value_at cs (c.number - 1) c.key ≡ c.before → is_bad_change cs before c ≡ false
 fine_change cs before c h e = rw (h, alike (value_at cs (c.number - 1) c.key) c.before e) refl
 
-fine_receipt : (cs : List Change) (before last : ℕ) (r : Receipt) → rises_from last r ≡ true → IsTrueReply cs r → IsNumbered cs before (change_of r) → is_bad cs before last r ≡ false
-fine_receipt cs before last (Inserted number key value) up reply numbered =
-    let c : Change = record { number = number; key = key; before = None; after = Some value } in
+fine_telling : (cs : List Change) (before last : ℕ) (told : Telling) → rises_from last told ≡ true → IsTrueOf cs told → IsNumbered cs before (change_told told) → is_bad cs before last told ≡ false
+fine_telling cs before last (change number key had has) up reply numbered =
+    let c : Change = record { number = number; key = key; before = had; after = has } in
     rw (up, fine_change cs before c numbered reply) refl
-fine_receipt cs before last (Deleted number key value) up reply numbered =
-    let c : Change = record { number = number; key = key; before = Some value; after = None } in
-    rw (up, fine_change cs before c numbered reply) refl
-fine_receipt cs before last (Looked at key found) up reply numbered =
+fine_telling cs before last (look at key found) up reply numbered =
     let below : at ≤ length cs = reply.0 in
     let b : nat_lt (length cs) at ≡ false = grind (arith, nat_tests) in
     rw (up, b, alike (value_at cs at key) found reply.1) refl
-fine_receipt cs before last (Shaped kind page other) up reply numbered = refl
+fine_telling cs before last shape up reply numbered = refl
 
 uncons_numbered : (cs : List Change) (before : ℕ) (o : Option Change) (ds : List Change) → AllNumbered cs before (add_change o ds) → IsNumbered cs before o × AllNumbered cs (before + length (add_change o [])) ds
 uncons_numbered cs before None ds h = (tt, rw add-zero h)
@@ -156,8 +153,8 @@ fine_trail : (cs : List Change) (before last place : ℕ) (rs : List Receipt) �
 fine_trail cs before last place [] up replies numbered = refl
 fine_trail cs before last place (r ∷ rs) up replies numbered =
     let n = uncons_numbered cs before (change_of r) (changes_of rs) numbered in
-    let good = fine_receipt cs before last r up.0 replies.0 n.0 in
-    rw good (fine_trail cs (before + length (add_change (change_of r) [])) (position_after last r) (place + 1) rs up.1 replies.1 n.1)
+    let good = fine_telling cs before last (telling_of r) up.0 replies.0 n.0 in
+    rw good (fine_trail cs (before + length (add_change (change_of r) [])) (position_after last (telling_of r)) (place + 1) rs up.1 replies.1 n.1)
 
 split_numbered : (cs : List Change) (before : ℕ) (ds es : List Change) → AllNumbered cs before (ds ++ es) → AllNumbered cs before ds × AllNumbered cs (before + length ds) es
 split_numbered cs before [] es h = (tt, rw add-zero h)

@@ -1,27 +1,28 @@
 -- The trails of every interleaving explain its table: that holds of the new one, and each turn keeps it.
 use Rattle.std.proofs.Common.{◌≡◌, ◌≢◌, ◌↔◌, ◌⊎◌, inl, inr, ◌+◌, ◌-◌, ◌<◌, ◌≤◌, ◌==◌, ◌++◌, ◌^◌, ℕ, zero, suc, true, false, cond, List, [], ◌∷◌, length, Option, Some, None, refl, arith, sym, ◌∙◌, ap, subst}
-use Rattle.std.specs.Prelude.{is_none, if◌then◌else◌, replicate, unwrap_or}
+use Rattle.std.specs.Prelude.{nat_lt, unwrap_or}
 use Rattle.std.proofs.lemmas.Bool.Decides.{nat_tests}
 use Rattle.std.specs.List.{AllByRecursion}
 use Rattle.bw_keys.specs.declared.config.Config.{Config}
 use Rattle.bw_keys.specs.Limits.{first_bad_field}
 use Rattle.bw_delta.specs.Entries.{at}
 use Rattle.bw_step.specs.declared.receipt.Receipt.{Receipt}
-use Rattle.bw_step.specs.declared.receipt.Receipt.TheVariants.{Inserted, Deleted, Looked, Shaped}
-use Rattle.bw_step.specs.Proposals.{Proposal, insert, delete, consolidate, split, term_add, grow, mark, merge, term_delete}
+use Rattle.bw_step.specs.declared.receipt.Receipt.TheVariants.{Looked}
+use Rattle.bw_step.specs.Proposals.{Proposal, insert, delete}
+use Rattle.bw_step.specs.Tellings.{Telling, change, look, shape, telling_of}
 use Rattle.bw_law.specs.Slots.{SlotValue, pairs_in}
-use Rattle.bw_law.specs.Tables.{TableValue, slot_at, number_of, Lawful, Booked, Maps, SameMap, new_table}
-use Rattle.bw_law.specs.Laws.{AddsPair, TakesKey, KeptBy, IsTheMap}
+use Rattle.bw_law.specs.Tables.{TableValue, slot_at, number_of, book_with, Lawful, Booked, Maps, SameMap, ChangesKey, TellsMap}
+use Rattle.bw_law.specs.Laws.{KeptBy}
 use Rattle.bw_law.specs.Refusals.{refusal}
-use Rattle.bw_law.specs.Effects.{after, receipt_of}
+use Rattle.bw_law.specs.Effects.{after, slots_after, receipt_of}
 use Rattle.bw_law.specs.Runs.{next_table}
 use Rattle.bw_law.proofs.AllSteps.{step_law}
 use Rattle.bw_law.proofs.NewTable.{new_law}
 use Rattle.bw_audit.specs.declared.change.Change.{Change}
-use Rattle.bw_audit.specs.Changes.{add_change, all_changes, bearer, change_of, changed_by, changes_of, value_at}
-use Rattle.bw_audit.specs.Legal.{AllRise, IsLegal, IsTrueReply, position_after, rises_from, times_borne}
+use Rattle.bw_audit.specs.Changes.{add_change, all_changes, bearer, change_of, change_told, changed_by, changes_of, value_at}
+use Rattle.bw_audit.specs.Legal.{AllRise, IsTrueOf, position_after, rises_from, times_borne}
 use Rattle.bw_audit.specs.Explained.{IsWithin, IsFine, IsFineTrail, Explains}
-use Rattle.bw_audit.specs.Replays.{World, Deed, proposes, looks, Turn, IsValueAt, IsLookAt, step_receipts, Does, add_receipts, LeadsTo, IsInterleaving, first_world, IsTurnOf, InterleavingLaw}
+use Rattle.bw_audit.specs.Replays.{World, Deed, proposes, looks, Turn, IsLookAt, step_receipts, Does, add_receipts, LeadsTo, IsInterleaving, first_world, IsTurnOf, InterleavingLaw}
 use Rattle.bw_audit.proofs.Adding.{all-map, all-snoc, all_added, added_length, none_added, silent_changes, unborne, IsOneMore, one_more, value_before}
 
 pub same_options : (o p : Option ℕ) → ((v : ℕ) → (o ≡ Some v) ↔ (p ≡ Some v)) → o ≡ p
@@ -30,31 +31,32 @@ same_options None (Some v) h = (h v).1 refl
 same_options (Some v) p h = sym ((h v).0 refl)
 
 -- a receipt of a place not below any before it may stand at the end of a trail
-within_after : (n last : ℕ) (r : Receipt) → last ≤ n → IsWithin n r → position_after last r ≤ n
-within_after n last (Inserted number key value) below within = within
-within_after n last (Deleted number key value) below within = within
-within_after n last (Looked seen key found) below within = within
-within_after n last (Shaped kind page other) below within = below
+within_after : (n last : ℕ) (told : Telling) → last ≤ n → IsWithin n told → position_after last told ≤ n
+within_after n last (change number key had has) below within = within
+within_after n last (look seen key found) below within = within
+within_after n last shape below within = below
 
 rise-snoc : (cs : List Change) (last : ℕ) (t : List Receipt) (r : Receipt) → last ≤ length cs → AllByRecursion (IsFine cs) t → AllRise last t
-    → ((l : ℕ) → l ≤ length cs → rises_from l r ≡ true) → AllRise last (t ++ r ∷ [])
+    → ((l : ℕ) → l ≤ length cs → rises_from l (telling_of r) ≡ true) → AllRise last (t ++ r ∷ [])
 rise-snoc cs last [] r below fine rise up = (up last below, tt)
 rise-snoc cs last (q ∷ t) r below fine rise up =
-    (rise.0, rise-snoc cs (position_after last q) t r (within_after (length cs) last q below fine.0.0) fine.1 rise.1 up)
+    (rise.0, rise-snoc cs (position_after last (telling_of q)) t r (within_after (length cs) last (telling_of q) below fine.0.0) fine.1 rise.1 up)
 
 -- replies stay true where the map that they tell of stays
 module _ (old new : List Change) (more : length old ≤ length new) (same : (m key : ℕ) → m ≤ length old → value_at new m key ≡ value_at old m key) where
+  true_later : (told : Telling) → IsWithin (length old) told × IsTrueOf old told → IsWithin (length new) told × IsTrueOf new told
+  true_later (change number key had has) fine = (omega (arith, fine.0), same (number - 1) key (omega (arith, fine.0)) ∙ fine.1)
+  true_later (look seen key found) fine = (omega (arith, fine.0), (omega (arith, fine.0), same seen key fine.0 ∙ fine.1.1))
+  true_later shape fine = (tt, tt)
+
   fine_later : (r : Receipt) → IsFine old r → IsFine new r
-  fine_later (Inserted number key value) fine = (omega (arith, fine.0), same (number - 1) key (omega (arith, fine.0)) ∙ fine.1)
-  fine_later (Deleted number key value) fine = (omega (arith, fine.0), same (number - 1) key (omega (arith, fine.0)) ∙ fine.1)
-  fine_later (Looked seen key found) fine = (omega (arith, fine.0), (omega (arith, fine.0), same seen key fine.0 ∙ fine.1.1))
-  fine_later (Shaped kind page other) fine = (tt, tt)
+  fine_later r fine = true_later (telling_of r) fine
 
   trail_later : (t : List Receipt) → IsFineTrail old t → IsFineTrail new t
   trail_later t fine = (all-map (IsFine old) (IsFine new) t fine_later fine.0, fine.1)
 
   -- with one receipt more
-  trail_longer : (r : Receipt) → IsFine new r → ((l : ℕ) → l ≤ length old → rises_from l r ≡ true) → (t : List Receipt) → IsFineTrail old t → IsFineTrail new (t ++ r ∷ [])
+  trail_longer : (r : Receipt) → IsFine new r → ((l : ℕ) → l ≤ length old → rises_from l (telling_of r) ≡ true) → (t : List Receipt) → IsFineTrail old t → IsFineTrail new (t ++ r ∷ [])
   trail_longer r here up t fine =
       (all-snoc (IsFine new) t r (all-map (IsFine old) (IsFine new) t fine_later fine.0) here, rise-snoc old 0 t r (omega arith) fine.0 fine.1 up)
 
@@ -65,7 +67,7 @@ same_number : (a b : ℕ) → a ≡ b → (a == b) ≡ true
 same_number a b same = grind (arith, nat_tests)
 
 module _ (table : TableValue) (trails : List (List Receipt)) (is : Explains table trails) (worker : ℕ) (inside : worker < length trails) (next : TableValue) (lawful : Lawful next) (booked : Booked next) (r : Receipt)
-    (up : (last : ℕ) → last ≤ length (all_changes trails) → rises_from last r ≡ true) where
+    (up : (last : ℕ) → last ≤ length (all_changes trails) → rises_from last (telling_of r) ≡ true) where
   -- a receipt that tells of no change, of a table with the same map
   keeps_silent : number_of next.book ≡ number_of table.book → SameMap table.slots next.slots → change_of r ≡ None → IsFine (all_changes trails) r → Explains next (add_receipts trails worker (r ∷ []))
   keeps_silent number map none fine =
@@ -123,107 +125,56 @@ module _ (table : TableValue) (trails : List (List Receipt)) (is : Explains tabl
             subst (λ o. (o ≡ Some value) ↔ Maps next.slots key value) (sym latest) (left key value);
       }
 
-one_less : (n : ℕ) → suc n - 1 ≡ n
-one_less n = omega arith
-
 -- each accepted step
 module _ (table : TableValue) (trails : List (List Receipt)) (is : Explains table trails) (worker : ℕ) (inside : worker < length trails) where
-  none_there : (key : ℕ) → ((value : ℕ) → Maps table.slots key value → ⊥) → value_at (all_changes trails) (length (all_changes trails)) key ≡ None
-  none_there key absent =
-      elim (value_at (all_changes trails) (length (all_changes trails)) key) as (λ o. value_at (all_changes trails) (length (all_changes trails)) key ≡ o → o ≡ None) [
-        | None ↦ λ e. refl
-        | Some v ↦ λ e. absurd (absent v ((is.left key v).0 e))
-      ] refl
-
   abbrev Keeps : Proposal → Type 0
   Keeps step = Explains (after table step) (add_receipts trails worker (receipt_of table step ∷ []))
 
   -- a step that changes no pair
-  shaped : (step : Proposal) → KeptBy table step → number_of (after table step).book ≡ number_of table.book → SameMap table.slots (after table step).slots
-      → change_of (receipt_of table step) ≡ None → IsFine (all_changes trails) (receipt_of table step) → ((last : ℕ) → rises_from last (receipt_of table step) ≡ true) → Keeps step
-  shaped step kept number map silent fine up =
-      keeps_silent table trails is worker inside (after table step) kept.lawful kept.booked (receipt_of table step) (λ last within. up last) number map silent fine
+  shaped : (step : Proposal) → KeptBy table step → telling_of (receipt_of table step) ≡ shape → Keeps step
+  shaped step kept told =
+      keeps_silent table trails is worker inside (after table step) kept.lawful kept.booked (receipt_of table step) (λ last within. ap (rises_from last) told)
+      (ap (λ t. number_of (book_with table.book t)) told) (subst (λ t. TellsMap t table.slots (slots_after table step)) told kept.map) (ap change_told told)
+      (subst (λ t. IsWithin (length (all_changes trails)) t × IsTrueOf (all_changes trails) t) (sym told) (tt, tt))
 
-  inserted : (page seen key value : ℕ) → KeptBy table (insert page seen key value) → Keeps (insert page seen key value)
-  inserted page seen key value kept =
-      let step = insert page seen key value in
-      let c : Change = record { number = suc (number_of table.book); key = key; before = None; after = Some value } in
-      let none = none_there key kept.map.was_absent in
+  -- a step that changes a key
+  changed : (step : Proposal) (key : ℕ) (had has : Option ℕ) → KeptBy table step → telling_of (receipt_of table step) ≡ change (suc (number_of table.book)) key had has
+      → number_of (after table step).book ≡ suc (number_of table.book) → Keeps step
+  changed step key had has kept told number =
+      let n = length (all_changes trails) in
+      let c : Change = record { number = suc (number_of table.book); key = key; before = had; after = has } in
+      let map : ChangesKey table.slots (slots_after table step) key had has = subst (λ t. TellsMap t table.slots (slots_after table step)) told kept.map in
+      let was : value_at (all_changes trails) n key ≡ had =
+      same_options _ had (λ v. ((λ found. (map.had v).1 ((is.left key v).0 found)), (λ found. (is.left key v).1 ((map.had v).0 found)))) in
+      let rises : (last : ℕ) → last ≤ n → nat_lt last (suc (number_of table.book)) ≡ true = λ last within. grind (arith, nat_tests, is.counted) in
       keeps_change table trails is worker inside (after table step) kept.lawful kept.booked (receipt_of table step)
-      (λ last within. grind (arith, nat_tests, is.counted)) c refl (ap suc is.counted) (omega arith)
-      (λ new count same. (omega (arith, count, is.counted), rw (is.counted, one_less (length (all_changes trails))) (same ∙ none)))
-      (λ k v. elim (key == k) as (λ t. (key == k) ≡ t → (cond t (Some value) (value_at (all_changes trails) (length (all_changes trails)) k) ≡ Some v) ↔ Maps (after table step).slots k v) [
-        | true ↦ λ own.
-            let e : key ≡ k = grind (arith, nat_tests) in (
-              (λ found. (kept.map.is_added k v).1 (inl (sym e, cc))),
-              (λ maps. elim ((kept.map.is_added k v).0 maps) as (λ _. Some value ≡ Some v) [
-                | inl new ↦ ap Some (sym new.1)
-                | inr had ↦ absurd (kept.map.was_absent v (rw e had))
-              ]),
-            )
+      (λ last within. ap (rises_from last) told ∙ rises last within) c (ap change_told told) (ap suc is.counted) number
+      (λ new count same. subst (λ t. IsWithin (length new) t × IsTrueOf new t) (sym told)
+      (omega (arith, count, is.counted), ap (λ m. value_at new m key) (omega (arith, is.counted)) ∙ same ∙ was))
+      (λ k v. elim (key == k) as (λ t. (key == k) ≡ t → (cond t has (value_at (all_changes trails) n k) ≡ Some v) ↔ Maps (slots_after table step) k v) [
+        | true ↦ λ own. let e : key ≡ k = grind (arith, nat_tests) in subst (λ x. (has ≡ Some v) ↔ Maps (slots_after table step) x v) e (map.has v)
         | false ↦ λ other.
             let apart : k ≢ key = λ e. cc (same_number key k (sym e), other) in (
-              (λ found. (kept.map.is_added k v).1 (inr ((is.left k v).0 found))),
-              (λ maps. elim ((kept.map.is_added k v).0 maps) as (λ _. value_at (all_changes trails) (length (all_changes trails)) k ≡ Some v) [
-                | inl new ↦ absurd (apart new.0)
-                | inr had ↦ (is.left k v).1 had
-              ]),
-            )
-      ] refl)
-
-  deleted : (page seen key : ℕ) → KeptBy table (delete page seen key) → Keeps (delete page seen key)
-  deleted page seen key kept =
-      let step = delete page seen key in
-      let value = unwrap_or (at key (pairs_in (slot_at table page))) 0 in
-      let c : Change = record { number = suc (number_of table.book); key = key; before = Some value; after = None } in
-      let there : value_at (all_changes trails) (length (all_changes trails)) key ≡ Some value = (is.left key value).1 kept.map.was_there in
-      keeps_change table trails is worker inside (after table step) kept.lawful kept.booked (receipt_of table step)
-      (λ last within. grind (arith, nat_tests, is.counted)) c refl (ap suc is.counted) (omega arith)
-      (λ new count same. (omega (arith, count, is.counted), rw (is.counted, one_less (length (all_changes trails))) (same ∙ there)))
-      (λ k v. elim (key == k) as (λ t. (key == k) ≡ t → (cond t None (value_at (all_changes trails) (length (all_changes trails)) k) ≡ Some v) ↔ Maps (after table step).slots k v) [
-        | true ↦ λ own.
-            let e : key ≡ k = grind (arith, nat_tests) in
-            ((λ found. cc found), (λ maps. absurd (((kept.map.is_taken k v).0 maps).0 (sym e))))
-        | false ↦ λ other.
-            let apart : k ≢ key = λ e. cc (same_number key k (sym e), other) in (
-              (λ found. (kept.map.is_taken k v).1 (apart, (is.left k v).0 found)),
-              (λ maps. (is.left k v).1 ((kept.map.is_taken k v).0 maps).1),
+              (λ found. (map.others k v apart).1 ((is.left k v).0 found)),
+              (λ maps. (is.left k v).1 ((map.others k v apart).0 maps)),
             )
       ] refl)
 
   pub step_keeps : (step : Proposal) → refusal table step ≡ None → Keeps step
-  step_keeps (insert page seen key value) accepted = inserted page seen key value (step_law table (insert page seen key value) is.lawful is.booked accepted)
-  step_keeps (delete page seen key) accepted = deleted page seen key (step_law table (delete page seen key) is.lawful is.booked accepted)
-  step_keeps (consolidate page seen base) accepted =
-      let kept = step_law table (consolidate page seen base) is.lawful is.booked accepted in
-      shaped (consolidate page seen base) kept refl kept.map refl (tt, tt) (λ last. refl)
-  step_keeps (split page seen separator base) accepted =
-      let kept = step_law table (split page seen separator base) is.lawful is.booked accepted in
-      shaped (split page seen separator base) kept refl kept.map refl (tt, tt) (λ last. refl)
-  step_keeps (term_add parent parent_seen child child_seen) accepted =
-      let kept = step_law table (term_add parent parent_seen child child_seen) is.lawful is.booked accepted in
-      shaped (term_add parent parent_seen child child_seen) kept refl kept.map refl (tt, tt) (λ last. refl)
-  step_keeps (grow child seen base) accepted =
-      let kept = step_law table (grow child seen base) is.lawful is.booked accepted in
-      shaped (grow child seen base) kept refl kept.map refl (tt, tt) (λ last. refl)
-  step_keeps (mark page seen parent) accepted =
-      let kept = step_law table (mark page seen parent) is.lawful is.booked accepted in
-      shaped (mark page seen parent) kept refl kept.map refl (tt, tt) (λ last. refl)
-  step_keeps (merge left left_seen page seen) accepted =
-      let kept = step_law table (merge left left_seen page seen) is.lawful is.booked accepted in
-      shaped (merge left left_seen page seen) kept refl kept.map refl (tt, tt) (λ last. refl)
-  step_keeps (term_delete parent parent_seen child child_seen) accepted =
-      let kept = step_law table (term_delete parent parent_seen child child_seen) is.lawful is.booked accepted in
-      shaped (term_delete parent parent_seen child child_seen) kept refl kept.map refl (tt, tt) (λ last. refl)
+  step_keeps (insert page seen key value) accepted =
+      changed (insert page seen key value) key None (Some value) (step_law table (insert page seen key value) is.lawful is.booked accepted) refl (omega arith)
+  step_keeps (delete page seen key) accepted =
+      changed (delete page seen key) key (Some (unwrap_or (at key (pairs_in (slot_at table page))) 0)) None (step_law table (delete page seen key) is.lawful is.booked accepted) refl (omega arith)
+  step_keeps step accepted = shaped step (step_law table step is.lawful is.booked accepted) refl
 
   -- a look sees what the changes so far leave
   pub look_keeps : (key : ℕ) (r : Receipt) → IsLookAt table key r → Explains table (add_receipts trails worker (r ∷ []))
-  look_keeps key r look =
-      let told = look.told in
-      let seen : value_at (all_changes trails) (length (all_changes trails)) key ≡ look.found =
-      same_options _ look.found (λ v. ((λ found. (look.is_there v).1 ((is.left key v).0 found)), (λ found. (is.left key v).1 ((look.is_there v).0 found)))) in
-      let fine : IsFine (all_changes trails) (Looked (number_of table.book) key look.found) =
+  look_keeps key r saw =
+      let told = saw.told in
+      let seen : value_at (all_changes trails) (length (all_changes trails)) key ≡ saw.found =
+      same_options _ saw.found (λ v. ((λ found. (saw.is_there v).1 ((is.left key v).0 found)), (λ found. (is.left key v).1 ((saw.is_there v).0 found)))) in
+      let fine : IsFine (all_changes trails) (Looked (number_of table.book) key saw.found) =
       (omega (arith, is.counted), (omega (arith, is.counted), rw is.counted seen)) in
       subst (λ q. Explains table (add_receipts trails worker (q ∷ []))) (sym told)
-      (keeps_silent table trails is worker inside table is.lawful is.booked (Looked (number_of table.book) key look.found) (λ last within. grind (arith, nat_tests, is.counted))
+      (keeps_silent table trails is worker inside table is.lawful is.booked (Looked (number_of table.book) key saw.found) (λ last within. grind (arith, nat_tests, is.counted))
       refl (λ k v. ((λ maps. maps), (λ maps. maps))) refl fine)

@@ -7,14 +7,14 @@ use Rattle.std.specs.Bool.{nat_eq}
 use Rattle.std.specs.List.{AllByRecursion}
 use Rattle.bw_audit.specs.declared.change.Change.{Change}
 use Rattle.bw_step.specs.declared.receipt.Receipt.{Receipt}
-use Rattle.bw_step.specs.declared.receipt.Receipt.TheVariants.{Inserted, Deleted, Looked, Shaped}
-use Rattle.bw_audit.specs.Changes.{add_change, all_changes, bearer, change_of, changed_by, changes_of, value_at}
+use Rattle.bw_step.specs.Tellings.{Telling, change, look, shape, telling_of}
+use Rattle.bw_audit.specs.Changes.{add_change, all_changes, bearer, change_of, change_told, changed_by, changes_of, value_at}
 use Rattle.std.proofs.lemmas.List.{append-nil}
 use Rattle.std.proofs.Math.Seq.{take-append_seam}
 use Rattle.bw_audit.proofs.Counting.{each_one, total-times}
 use Rattle.bw_audit.specs.declared.verdict.Verdict.TheVariants.{Yes, No}
 use Rattle.bw_delta.specs.Entries.{at}
-use Rattle.bw_audit.specs.Legal.{IsLegal, AllRise, IsTrueReply, position_after, rises_from, times_borne}
+use Rattle.bw_audit.specs.Legal.{IsLegal, AllRise, IsTrueOf, IsTrueReply, position_after, rises_from, times_borne}
 use Rattle.bw_audit.specs.Verdicts.{verdict_at, verdict_of, at_worker, changes_hold, first_bad, first_fault, is_bad, is_bad_change, is_misnumbered, leaves, pairs_hold}
 
 same_option : (x y : Option ℕ) → option_eq nat_eq x y ≡ true → x ≡ y
@@ -49,24 +49,19 @@ good_change cs before c e =
     let p = or_parts (is_misnumbered cs before c.number) (not (option_eq nat_eq (value_at cs (c.number - 1) c.key) c.before)) e in
     (p.0, same_option (value_at cs (c.number - 1) c.key) c.before (not_part (option_eq nat_eq (value_at cs (c.number - 1) c.key) c.before) p.1))
 
-good_receipt : (cs : List Change) (before last : ℕ) (r : Receipt) → is_bad cs before last r ≡ false → (rises_from last r ≡ true) × IsTrueReply cs r × IsNumbered cs before (change_of r)
-good_receipt cs before last (Inserted number key value) e =
-    let c : Change = record { number = number; key = key; before = None; after = Some value } in
+good_telling : (cs : List Change) (before last : ℕ) (told : Telling) → is_bad cs before last told ≡ false → (rises_from last told ≡ true) × IsTrueOf cs told × IsNumbered cs before (change_told told)
+good_telling cs before last (change number key had has) e =
+    let c : Change = record { number = number; key = key; before = had; after = has } in
     let p = or_parts (not (nat_lt last number)) (is_bad_change cs before c) e in
     let q = good_change cs before c p.1 in
     (not_part (nat_lt last number) p.0, q.1, q.0)
-good_receipt cs before last (Deleted number key value) e =
-    let c : Change = record { number = number; key = key; before = Some value; after = None } in
-    let p = or_parts (not (nat_lt last number)) (is_bad_change cs before c) e in
-    let q = good_change cs before c p.1 in
-    (not_part (nat_lt last number) p.0, q.1, q.0)
-good_receipt cs before last (Looked at key found) e =
+good_telling cs before last (look at key found) e =
     let p = or_parts (not (not (nat_lt at last))) (nat_lt (length cs) at || not (option_eq nat_eq (value_at cs at key) found)) e in
     let q = or_parts (nat_lt (length cs) at) (not (option_eq nat_eq (value_at cs at key) found)) p.1 in
     let below : nat_lt (length cs) at ≡ false = q.0 in
     let within : at ≤ length cs = grind (arith, nat_tests) in
     (not_part (not (nat_lt at last)) p.0, (within, same_option (value_at cs at key) found (not_part (option_eq nat_eq (value_at cs at key) found) q.1)), tt)
-good_receipt cs before last (Shaped kind page other) e = (refl, tt, tt)
+good_telling cs before last shape e = (refl, tt, tt)
 
 none_parts : (b : Bool) (place : ℕ) (o : Option ℕ) → cond b (Some place) o ≡ None → (b ≡ false) × (o ≡ None)
 none_parts true place o e = cc
@@ -80,10 +75,10 @@ good_trail : (cs : List Change) (before last place : ℕ) (rs : List Receipt) �
     → AllRise last rs × AllByRecursion (IsTrueReply cs) rs × AllNumbered cs before (changes_of rs)
 good_trail cs before last place [] e = (tt, tt, tt)
 good_trail cs before last place (r ∷ rs) e =
-    let later = first_bad cs (before + length (add_change (change_of r) [])) (position_after last r) (place + 1) rs in
-    let s = none_parts (is_bad cs before last r) place later e in
-    let g = good_receipt cs before last r s.0 in
-    let more = good_trail cs (before + length (add_change (change_of r) [])) (position_after last r) (place + 1) rs s.1 in
+    let later = first_bad cs (before + length (add_change (change_of r) [])) (position_after last (telling_of r)) (place + 1) rs in
+    let s = none_parts (is_bad cs before last (telling_of r)) place later e in
+    let g = good_telling cs before last (telling_of r) s.0 in
+    let more = good_trail cs (before + length (add_change (change_of r) [])) (position_after last (telling_of r)) (place + 1) rs s.1 in
     ((g.0, more.0), (g.1, more.1), numbered_cons cs before (change_of r) (changes_of rs) g.2 more.2)
 
 numbered_append : (cs : List Change) (before : ℕ) (ds es : List Change) → AllNumbered cs before ds → AllNumbered cs (before + length ds) es → AllNumbered cs before (ds ++ es)

@@ -1,15 +1,16 @@
 -- The changes that receipts tell of, and the map after some of them.
 use Rattle.std.specs.Prelude.{ℕ, zero, suc, ◌==◌, cond, List, [], ◌∷◌, ◌++◌, Option, Some, None}
 use Rattle.bw_step.specs.declared.receipt.Receipt.{Receipt}
-use Rattle.bw_step.specs.declared.receipt.Receipt.TheVariants.{Inserted, Deleted, Looked, Shaped}
+use Rattle.bw_step.specs.Tellings.{Telling, change, telling_of}
 use Rattle.bw_audit.specs.declared.change.Change.{Change}
 
--- the change that a receipt tells of
+-- the change that is told of, if a change is
+abbrev pub change_told : Telling → Option Change
+change_told (change number key before after) = Some (record { number = number; key = key; before = before; after = after })
+change_told told = None
+
 abbrev pub change_of : Receipt → Option Change
-change_of (Inserted number key value) = Some (record { number = number; key = key; before = None; after = Some value })
-change_of (Deleted number key value) = Some (record { number = number; key = key; before = Some value; after = None })
-change_of (Looked at key found) = None
-change_of (Shaped kind page other) = None
+change_of receipt = change_told (telling_of receipt)
 
 abbrev pub add_change : Option Change → List Change → List Change
 add_change None cs = cs

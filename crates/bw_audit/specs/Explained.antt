@@ -2,21 +2,20 @@
 use Rattle.std.specs.Prelude.{◌≡◌, ◌↔◌, ◌<◌, ◌≤◌, ℕ, List, length, Some, None}
 use Rattle.std.specs.List.{AllByRecursion}
 use Rattle.bw_step.specs.declared.receipt.Receipt.{Receipt}
-use Rattle.bw_step.specs.declared.receipt.Receipt.TheVariants.{Inserted, Deleted, Looked, Shaped}
+use Rattle.bw_step.specs.Tellings.{Telling, change, look, shape, telling_of}
 use Rattle.bw_law.specs.Tables.{TableValue, number_of, Lawful, Booked, Maps}
 use Rattle.bw_audit.specs.declared.change.Change.{Change}
 use Rattle.bw_audit.specs.Changes.{all_changes, bearer, value_at}
 use Rattle.bw_audit.specs.Legal.{AllRise, IsTrueReply, times_borne}
 
--- the position of a receipt isn't above the count of changes
-abbrev pub IsWithin : ℕ → Receipt → Type 0
-IsWithin n (Inserted number key value) = number ≤ n
-IsWithin n (Deleted number key value) = number ≤ n
-IsWithin n (Looked seen key found) = seen ≤ n
-IsWithin n (Shaped kind page other) = Unit {0}
+-- the position of what is told isn't above the count of changes
+abbrev pub IsWithin : ℕ → Telling → Type 0
+IsWithin n (change number key before after) = number ≤ n
+IsWithin n (look seen key found) = seen ≤ n
+IsWithin n shape = Unit {0}
 
 abbrev pub IsFine : List Change → Receipt → Type 0
-IsFine cs r = IsWithin (length cs) r × IsTrueReply cs r
+IsFine cs r = IsWithin (length cs) (telling_of r) × IsTrueReply cs r
 
 abbrev pub IsFineTrail : List Change → List Receipt → Type 0
 IsFineTrail cs t = AllByRecursion (IsFine cs) t × AllRise 0 t

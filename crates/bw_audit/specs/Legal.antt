@@ -3,35 +3,35 @@ use Rattle.std.specs.Prelude.{ℕ, ◌+◌, ◌-◌, ◌==◌, ◌≡◌, ◌≤
 use Rattle.std.specs.List.{AllByRecursion}
 use Rattle.bw_delta.specs.Entries.{at}
 use Rattle.bw_step.specs.declared.receipt.Receipt.{Receipt}
-use Rattle.bw_step.specs.declared.receipt.Receipt.TheVariants.{Inserted, Deleted, Looked, Shaped}
+use Rattle.bw_step.specs.Tellings.{Telling, change, look, shape, telling_of}
 use Rattle.bw_audit.specs.declared.change.Change.{Change}
 use Rattle.bw_audit.specs.Changes.{all_changes, value_at}
 
 -- the position of a change is its number, and that of a look the count of changes that it saw:
 -- a change stands above what was before it in its trail, and a look not below it
-abbrev pub rises_from : ℕ → Receipt → Bool
-rises_from last (Inserted number key value) = nat_lt last number
-rises_from last (Deleted number key value) = nat_lt last number
-rises_from last (Looked seen key found) = not (nat_lt seen last)
-rises_from last (Shaped kind page other) = true
+abbrev pub rises_from : ℕ → Telling → Bool
+rises_from last (change number key before after) = nat_lt last number
+rises_from last (look seen key found) = not (nat_lt seen last)
+rises_from last shape = true
 
-abbrev pub position_after : ℕ → Receipt → ℕ
-position_after last (Inserted number key value) = number
-position_after last (Deleted number key value) = number
-position_after last (Looked seen key found) = seen
-position_after last (Shaped kind page other) = last
+abbrev pub position_after : ℕ → Telling → ℕ
+position_after last (change number key before after) = number
+position_after last (look seen key found) = seen
+position_after last shape = last
 
 -- the receipts of a trail stand in the order of their positions
 abbrev pub AllRise : ℕ → List Receipt → Type 0
 AllRise last [] = Unit {0}
-AllRise last (r ∷ rs) = (rises_from last r ≡ true) × AllRise (position_after last r) rs
+AllRise last (r ∷ rs) = (rises_from last (telling_of r) ≡ true) × AllRise (position_after last (telling_of r)) rs
 
--- what a receipt says of the map is so
+-- what is told of the map is so: what a key had before a change, or what a look found
+abbrev pub IsTrueOf : List Change → Telling → Type 0
+IsTrueOf cs (change number key before after) = value_at cs (number - 1) key ≡ before
+IsTrueOf cs (look seen key found) = (seen ≤ length cs) × (value_at cs seen key ≡ found)
+IsTrueOf cs shape = Unit {0}
+
 abbrev pub IsTrueReply : List Change → Receipt → Type 0
-IsTrueReply cs (Inserted number key value) = value_at cs (number - 1) key ≡ None
-IsTrueReply cs (Deleted number key value) = value_at cs (number - 1) key ≡ Some value
-IsTrueReply cs (Looked seen key found) = (seen ≤ length cs) × (value_at cs seen key ≡ found)
-IsTrueReply cs (Shaped kind page other) = Unit {0}
+IsTrueReply cs receipt = IsTrueOf cs (telling_of receipt)
 
 -- how many changes bear a number
 abbrev pub times_borne : List Change → ℕ → ℕ

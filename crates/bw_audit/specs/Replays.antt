@@ -6,7 +6,7 @@ use Rattle.bw_keys.specs.Limits.{first_bad_field}
 use Rattle.bw_step.specs.declared.receipt.Receipt.{Receipt}
 use Rattle.bw_step.specs.declared.receipt.Receipt.TheVariants.{Looked}
 use Rattle.bw_step.specs.Proposals.{Proposal}
-use Rattle.bw_law.specs.Tables.{TableValue, number_of, Maps, new_table}
+use Rattle.bw_law.specs.Tables.{TableValue, number_of, IsValueAt, new_table}
 use Rattle.bw_law.specs.Refusals.{refusal}
 use Rattle.bw_law.specs.Effects.{receipt_of}
 use Rattle.bw_law.specs.Runs.{next_table}
@@ -27,15 +27,11 @@ pub record Turn : Type 0 where
   pub worker : ℕ
   pub deed : Deed
 
--- the value that the map has at the key, or none
-abbrev pub IsValueAt : TableValue → ℕ → Option ℕ → Type 0
-IsValueAt table key found = (value : ℕ) → (found ≡ Some value) ↔ Maps table.slots key value
-
 -- the look's receipt: the book's number, and what the map has
 pub record IsLookAt (table : TableValue) (key : ℕ) (receipt : Receipt) : Type 0 where
   pub found : Option ℕ
   pub told : receipt ≡ Looked (number_of table.book) key found
-  pub is_there : IsValueAt table key found
+  pub is_there : IsValueAt table.slots key found
 
 -- an accepted step has a receipt, and a refused one has none
 abbrev pub step_receipts : TableValue → Proposal → List Receipt

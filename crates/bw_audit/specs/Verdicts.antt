@@ -4,7 +4,7 @@ use Rattle.std.specs.Option.{option_eq}
 use Rattle.std.specs.Bool.{nat_eq}
 use Rattle.bw_delta.specs.Entries.{at}
 use Rattle.bw_step.specs.declared.receipt.Receipt.{Receipt}
-use Rattle.bw_step.specs.declared.receipt.Receipt.TheVariants.{Inserted, Deleted, Looked, Shaped}
+use Rattle.bw_step.specs.Tellings.{Telling, change, look, shape, telling_of}
 use Rattle.bw_audit.specs.declared.change.Change.{Change}
 use Rattle.bw_audit.specs.declared.verdict.Verdict.{Verdict}
 use Rattle.bw_audit.specs.declared.verdict.Verdict.TheVariants.{Yes, No}
@@ -21,21 +21,19 @@ is_bad_change cs before c = is_misnumbered cs before c.number || not (option_eq 
 abbrev pub is_bad_look : List Change → ℕ → ℕ → Option ℕ → Bool
 is_bad_look cs seen key found = nat_lt (length cs) seen || not (option_eq nat_eq (value_at cs seen key) found)
 
--- a receipt with so many changes before it, and with this position before it in its trail, is bad
-abbrev pub is_bad : List Change → ℕ → ℕ → Receipt → Bool
-is_bad cs before last (Inserted number key value) =
-    not (rises_from last (Inserted number key value)) || is_bad_change cs before (record { number = number; key = key; before = None; after = Some value })
-is_bad cs before last (Deleted number key value) =
-    not (rises_from last (Deleted number key value)) || is_bad_change cs before (record { number = number; key = key; before = Some value; after = None })
-is_bad cs before last (Looked seen key found) = not (rises_from last (Looked seen key found)) || is_bad_look cs seen key found
-is_bad cs before last (Shaped kind page other) = false
+-- what is told, with so many changes before it, and with this position before it in its trail, is bad
+abbrev pub is_bad : List Change → ℕ → ℕ → Telling → Bool
+is_bad cs before last (change number key had has) =
+    not (rises_from last (change number key had has)) || is_bad_change cs before (record { number = number; key = key; before = had; after = has })
+is_bad cs before last (look seen key found) = not (rises_from last (look seen key found)) || is_bad_look cs seen key found
+is_bad cs before last shape = false
 
 -- the place of the first bad receipt of a trail, of which so many are passed
 abbrev pub first_bad : List Change → ℕ → ℕ → ℕ → List Receipt → Option ℕ
 first_bad cs before last place [] = None
 first_bad cs before last place (r ∷ rs) =
-    cond (is_bad cs before last r) (Some place)
-    (first_bad cs (before + length (add_change (change_of r) [])) (position_after last r) (place + 1) rs)
+    cond (is_bad cs before last (telling_of r)) (Some place)
+    (first_bad cs (before + length (add_change (change_of r) [])) (position_after last (telling_of r)) (place + 1) rs)
 
 abbrev pub at_worker : ℕ → Option ℕ → Option (ℕ × ℕ) → Option (ℕ × ℕ)
 at_worker worker None later = later

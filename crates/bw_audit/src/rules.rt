@@ -1,6 +1,7 @@
 //! What makes a receipt bad, and the first bad one.
 
 ghost use Rattle.std.specs.Prelude.{◌≡◌, ◌+◌, ◌≤◌, IfNone, length, map};
+ghost use Rattle.bw_step.specs.Tellings.{telling_of};
 ghost use Rattle.bw_audit.specs.Changes.{all_changes, changes_of};
 ghost use Rattle.bw_audit.specs.Legal.{position_after, rises_from};
 ghost use Rattle.bw_audit.specs.Verdicts.{first_bad, first_fault, is_bad, is_bad_change, is_bad_look, is_misnumbered};
@@ -12,7 +13,7 @@ use bw_step::Receipt;
 
 /// Whether a receipt may stand behind the position: a change above it, a look not below it.
 fn does_rise(last: u64, receipt: &Receipt) -> bool
-    ensures { result ≡ rises_from last receipt.now }
+    ensures { result ≡ rises_from last (telling_of receipt.now) }
 {
     match *receipt {
         Receipt::Inserted { number, .. } | Receipt::Deleted { number, .. } => last < number,
@@ -23,7 +24,7 @@ fn does_rise(last: u64, receipt: &Receipt) -> bool
 
 /// The position of what stands behind the receipt.
 fn moved_on(last: u64, receipt: &Receipt) -> u64
-    ensures { result ≡ position_after last receipt.now }
+    ensures { result ≡ position_after last (telling_of receipt.now) }
 {
     match *receipt {
         Receipt::Inserted { number, .. } | Receipt::Deleted { number, .. } => number,
@@ -55,7 +56,7 @@ fn is_bad_look(index: &Index, at: u64, key: Key, found: Option<u64>) -> bool
 }
 
 fn is_bad(index: &Index, before: usize, last: u64, receipt: &Receipt) -> bool
-    ensures { result ≡ is_bad index.now before last receipt.now }
+    ensures { result ≡ is_bad index.now before last (telling_of receipt.now) }
 {
     if !does_rise(last, receipt) {
         return true;

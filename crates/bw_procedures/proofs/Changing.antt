@@ -3,7 +3,7 @@ use Rattle.std.proofs.Common.{◌≡◌, ℕ, ◌≤◌, Bool, true, false, if�
 use Rattle.bw_step.specs.Proposals.{Proposal, insert, delete}
 use Rattle.bw_step.specs.Steps.{IsReceiptOf}
 use Rattle.bw_step.specs.declared.receipt.Receipt.{Receipt}
-use Rattle.bw_step.specs.declared.receipt.Receipt.TheVariants.{Inserted, Deleted, Looked, Shaped}
+use Rattle.bw_step.specs.declared.receipt.Receipt.TheVariants.{Inserted, Deleted, Looked}
 use Rattle.bw_step.specs.declared.view.Look.{Look}
 use Rattle.bw_step.specs.Tellings.{without_shapes}
 use Rattle.bw_step.proofs.Tellings.{without_shapes-append}
@@ -58,12 +58,8 @@ attempts_any is_of passes_posts limit (Err fault) a b h = h
 
 pub insertion_made : (page seen key value : ℕ) (receipt : Receipt) → IsReceiptOf (insert page seen key value) receipt → IsReceiptOfPut key value PutInserted receipt
 insertion_made page seen key value (Inserted number k v) h = h
-insertion_made page seen key value (Deleted number k v) h = absurd h
-insertion_made page seen key value (Looked at k found) h = absurd h
-insertion_made page seen key value (Shaped kind at other) h = absurd h
+insertion_made page seen key value receipt h = absurd h
 
 pub deletion_made : (page seen key : ℕ) (receipt : Receipt) → IsReceiptOf (delete page seen key) receipt → IsDeletionOf key receipt
-deletion_made page seen key (Inserted number k v) h = absurd h
 deletion_made page seen key (Deleted number k v) h = h
-deletion_made page seen key (Looked at k found) h = absurd h
-deletion_made page seen key (Shaped kind at other) h = absurd h
+deletion_made page seen key receipt h = absurd h

@@ -2,7 +2,7 @@
 use Rattle.std.proofs.Common.{◌≡◌, ℕ, zero, suc, ◌<◌, List, [], ◌∷◌, ◌++◌, length, get_or, Option, Some, None, Ok, Err, refl, ap, sym, ◌∙◌, append_assoc, append-nil, arith}
 use Rattle.bw_step.specs.declared.receipt.Receipt.{Receipt}
 use Rattle.bw_step.specs.declared.receipt.Receipt.TheVariants.{Inserted, Deleted, Looked, Shaped}
-use Rattle.bw_step.specs.Tellings.{Told, found, told_in, without_shapes}
+use Rattle.bw_step.specs.Tellings.{Told, looked, told_in, without_shapes}
 use Rattle.bw_step.proofs.Tellings.{told_in-append, told_in-without_shapes}
 use Rattle.bw_procedures.specs.declared.fault.Fault.{Fault}
 use Rattle.bw_procedures.specs.declared.reply.Del.{Del}
@@ -44,7 +44,7 @@ put_tells key value reply old new more = ap Some (adds old.trail new.trail more.
 pub delete_tells : (key : ℕ) (reply : Del) (old new : Seen) → AddsReceipt (IsReceiptOfDelete key) reply old new → Some (told_in new.trail) ≡ Some (told_in old.trail ++ told_of_delete key reply ∷ [])
 delete_tells key reply old new more = ap Some (adds old.trail new.trail more.0 (told_of_delete key reply) more.1 (delete_told key reply more.0 more.2))
 
-pub get_tells : (key : ℕ) (value : Option ℕ) (old new : List Receipt) → AddsLook key (Ok value) old new → Some (told_in new) ≡ Some (told_in old ++ found key value ∷ [])
+pub get_tells : (key : ℕ) (value : Option ℕ) (old new : List Receipt) → AddsLook key (Ok value) old new → Some (told_in new) ≡ Some (told_in old ++ looked key value ∷ [])
 get_tells key value old new more = ap Some (ap told_in more.1 ∙ told_in-append old (Looked more.0 key value ∷ []))
 
 -- lists joined one after the other

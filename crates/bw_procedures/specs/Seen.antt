@@ -102,13 +102,13 @@ copy_effort (Err copy_faults.NoMemory) n = n
 abbrev pub Copied : {C : Type 0} → Result C CopyFault → Seen → Seen → Type 0
 Copied result old new = SameButEffort old new × (new.effort ≡ copy_effort result old.effort)
 
-abbrev pub effort_by : Telling → ℕ → ℕ
-effort_by shape n = one_more n
-effort_by told n = n
+abbrev pub told_effort : Telling → ℕ → ℕ
+told_effort shape n = one_more n
+told_effort told n = n
 
 -- an accepted step costs effort where it changes the tree's shape
 abbrev pub receipt_effort : Receipt → ℕ → ℕ
-receipt_effort receipt n = effort_by (telling_of receipt) n
+receipt_effort receipt n = told_effort (telling_of receipt) n
 
 -- an accepted step adds its own receipt to the trail
 pub record IsAccepted (step : Proposal) (receipt : Receipt) (old new : Seen) : Type 0 where

@@ -19,12 +19,12 @@ telling_of (Shaped kind page other) = shape
 -- what a caller is told: how a key changed, or what it was found to have
 pub data Told : Type 0 where
   changed : (key : ℕ) (before after : Option ℕ) → Told
-  found : (key : ℕ) (value : Option ℕ) → Told
+  looked : (key : ℕ) (value : Option ℕ) → Told
 
 -- a change of the shape tells a caller nothing
 abbrev pub told_by : Telling → List Told
 told_by (change number key before after) = changed key before after ∷ []
-told_by (look at key value) = found key value ∷ []
+told_by (look at key found) = looked key found ∷ []
 told_by shape = []
 
 -- what callers are told by the receipts, in their order
@@ -35,7 +35,7 @@ told_in (receipt ∷ rest) = told_by (telling_of receipt) ++ told_in rest
 -- the receipt, unless it is of a change of the shape
 abbrev pub unless_shape : Receipt → Telling → List Receipt
 unless_shape receipt (change number key before after) = receipt ∷ []
-unless_shape receipt (look at key value) = receipt ∷ []
+unless_shape receipt (look at key found) = receipt ∷ []
 unless_shape receipt shape = []
 
 -- the receipts that tell of more than the tree's shape, in their order
