@@ -2,6 +2,7 @@
 
 use anyhow::Result;
 use bw_audit::{Verdict, audit};
+use bw_lines::first_difference;
 use bw_step::Receipt;
 use bw_table::Table;
 use bw_trace::write_history;
@@ -34,19 +35,6 @@ impl fmt::Display for Difference {
             Difference::History(line) => write!(f, "the history differs from line {line} on"),
         }
     }
-}
-
-/// The number of the first line that differs, if the texts aren't equal.
-fn first_line(text: &str, foretold: &str) -> Option<usize> {
-    if text == foretold {
-        return None;
-    }
-    let equal = text
-        .split('\n')
-        .zip(foretold.split('\n'))
-        .take_while(|(line, other)| line == other)
-        .count();
-    Some(equal.saturating_add(1))
 }
 
 impl Texts {
@@ -86,9 +74,9 @@ impl Texts {
 
     /// Where the texts first aren't those that were foretold.
     pub(crate) fn first_difference(&self, foretold: &Texts) -> Option<Difference> {
-        if let Some(line) = first_line(&self.replies, &foretold.replies) {
+        if let Some(line) = first_difference(&self.replies, &foretold.replies) {
             return Some(Difference::Replies(line));
         }
-        first_line(&self.history, &foretold.history).map(Difference::History)
+        first_difference(&self.history, &foretold.history).map(Difference::History)
     }
 }
