@@ -1,5 +1,6 @@
 //! What the program answers.
 
+use bw_lines::first_difference;
 use std::alloc::Global;
 use std::fmt;
 
@@ -23,10 +24,10 @@ impl Answer {
 
     /// Where it first isn't the answer that was wanted.
     pub(crate) fn difference(&self, wanted: &Answer) -> Option<Difference> {
-        if let Some(line) = first_line(&self.faults, &wanted.faults) {
+        if let Some(line) = first_difference(&self.faults, &wanted.faults) {
             return Some(Difference::Faults(line));
         }
-        if let Some(line) = first_line(&self.output, &wanted.output) {
+        if let Some(line) = first_difference(&self.output, &wanted.output) {
             return Some(Difference::Output(line));
         }
         (self.status != wanted.status).then_some(Difference::Status(self.status))
@@ -52,17 +53,4 @@ impl fmt::Display for Difference {
             Difference::Status(status) => write!(f, "the status is {status}"),
         }
     }
-}
-
-/// The number of the first line that differs, if the texts aren't equal.
-fn first_line(text: &str, wanted: &str) -> Option<usize> {
-    if text == wanted {
-        return None;
-    }
-    let equal = text
-        .split('\n')
-        .zip(wanted.split('\n'))
-        .take_while(|(line, other)| line == other)
-        .count();
-    Some(equal.saturating_add(1))
 }

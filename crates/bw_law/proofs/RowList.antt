@@ -1,9 +1,12 @@
 -- The row of each level, as a list.
 use Rattle.std.proofs.Common.{◌≡◌, ℕ, zero, suc, ◌+◌, ◌<◌, ◌≤◌, List, [], ◌∷◌, Some, None, refl, sym, ◌∙◌, ap, subst, inl, inr, ⊎_elim, arith}
 use Rattle.std.proofs.lemmas.Bool.{cases_lt}
+use Rattle.bw_keys.specs.Ranges.{key_count}
 use Rattle.bw_step.specs.Stages.{is_in_row}
 use Rattle.bw_law.specs.Rows.{Outline, Spans, InRow, Rows}
+use Rattle.bw_law.specs.Tables.{outlines}
 use Rattle.bw_law.specs.Walks.{Linked, IsRow, Partitions, IsAmong, RepeatsNone, IsRowOf}
+use Rattle.bw_law.specs.Laws.{RowLaw}
 use Rattle.bw_law.proofs.Lists.{option_cases}
 
 -- the part of a row from a page on
@@ -95,6 +98,13 @@ only_row top at root law level (x ∷ xs) [] a b = absurd b
 only_row top at root law level (x ∷ xs) (y ∷ ys) a b =
     let same = same_page top at root law y x b.0 a.0 (a.1 ∙ sym b.1) (omega (arith, a.2, b.2), omega (arith, a.2, b.2, law.some_key y b.0)) in
     let rest = same_rest at y xs ys (subst (λ z. Linked at (z ∷ xs)) same a.3) b.3 in cc
+
+-- so each level of a lawful table has one row
+pub row_law : RowLaw
+row_law table law level under =
+    let at = outlines table.slots in
+    let found = row_of key_count at table.root law.rows level under in
+    record { row = found.0; is_row = found.1; only = λ other is. only_row key_count at table.root law.rows level other found.0 is found.1.is_row }
 
 -- a row that was found by right links is the row
 pub whole_row : (top : ℕ) (at : ℕ → Outline) (root : ℕ) (law : Rows top at root) (level : ℕ) (row : List ℕ) → level ≤ (at root).level → IsRow at level row → IsRowOf at top level row

@@ -1,11 +1,14 @@
 -- The walk of a search exists, is the only one, and ends at the leaf that spans the key.
 use Rattle.std.proofs.Common.{◌≡◌, ◌≢◌, ◌⊎◌, ℕ, zero, suc, pred, ◌+◌, ◌-◌, ◌<◌, ◌≤◌, true, List, [], ◌∷◌, Some, None, refl, sym, ◌∙◌, ap, subst, inl, inr, ⊎_elim, arith}
 use Rattle.std.proofs.lemmas.Bool.{cases_eq, cases_lt, cases_order}
+use Rattle.bw_keys.specs.Ranges.{key_count}
 use Rattle.bw_step.specs.declared.view.Stage.{Stage}
 use Rattle.bw_step.specs.declared.view.Stage.TheVariants.{Free, Unposted, Posted, Marked, Merged}
 use Rattle.bw_step.specs.Stages.{is_in_row, is_posted, is_leaving}
 use Rattle.bw_law.specs.Rows.{Outline, Spans, InRow, Rows}
+use Rattle.bw_law.specs.Tables.{outlines}
 use Rattle.bw_law.specs.Walks.{IsLive, GoesRight, GoesDown, GoesOn, IsWalk, IsWalkFrom, last_of}
+use Rattle.bw_law.specs.Laws.{WalkLaw}
 use Rattle.bw_law.proofs.Lists.{option_cases}
 
 -- a page is merged, or isn't
@@ -189,3 +192,16 @@ only_walk at root key (x ∷ xs) [] a b = absurd b
 only_walk at root key (x ∷ xs) (y ∷ ys) a b =
     let same : x ≡ y = a.0 ∙ sym b.0 in
     let rest = only_walk_on at key y xs ys (subst (λ z. IsWalk at key (z ∷ xs)) same a.1) b.1 in cc
+
+-- so each search of a lawful table has one walk, and ends at the one leaf whose range holds the key
+pub walk_law : WalkLaw
+walk_law table law key below =
+    let at = outlines table.slots in
+    let walk = walk_from_root key_count at table.root law.rows key below in
+    let end = walk_ends key_count at table.root law.rows key walk.0 walk.1 in record {
+      rest = walk.0;
+      is_walk = walk.1;
+      only = λ other is. only_walk at table.root key other (table.root ∷ walk.0) is walk.1;
+      ends = record { in_row = end.0; is_leaf = end.1; spans = end.2 };
+      one_leaf = λ leaf is. law.rows.apart leaf (last_of table.root walk.0) key is.in_row end.0 (is.is_leaf ∙ sym end.1) is.spans end.2;
+    }

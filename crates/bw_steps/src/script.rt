@@ -3,6 +3,7 @@
 use crate::line::Unread;
 use crate::player::Player;
 use anyhow::{Result, bail};
+use bw_lines::line_at;
 use std::alloc::{AllocError, Global};
 use std::fmt;
 
@@ -64,19 +65,12 @@ pub(crate) fn first_difference(
     answers: &str,
     foretold: &str,
 ) -> Result<Option<Difference>, AllocError> {
-    if answers == foretold {
+    let Some(line) = bw_lines::first_difference(answers, foretold) else {
         return Ok(None);
-    }
-    let equal = answers
-        .split('\n')
-        .zip(foretold.split('\n'))
-        .take_while(|(line, other)| line == other)
-        .count();
-    let answered = answers.split('\n').nth(equal).unwrap_or("");
-    let foretold = foretold.split('\n').nth(equal).unwrap_or("");
+    };
     Ok(Some(Difference {
-        line: equal.saturating_add(1),
-        answered: answered.to_string(alloc)?,
-        foretold: foretold.to_string(alloc)?,
+        line,
+        answered: line_at(answers, line).unwrap_or("").to_string(alloc)?,
+        foretold: line_at(foretold, line).unwrap_or("").to_string(alloc)?,
     }))
 }

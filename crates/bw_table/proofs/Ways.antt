@@ -1,5 +1,5 @@
 -- The way on from a page of a lawful table that is there: it isn't gone, and leads to a page that is there too.
-use Rattle.std.proofs.Common.{◌≡◌, ◌≢◌, ℕ, ◌+◌, ◌-◌, ◌<◌, ◌≤◌, Bool, true, false, cond, not, ◌∷◌, Option, Some, None, refl, sym, ◌∙◌, ap, subst, arith}
+use Rattle.std.proofs.Common.{◌≡◌, ◌≢◌, ℕ, ◌+◌, ◌-◌, ◌<◌, ◌≤◌, Bool, true, false, cond, not, Option, Some, None, refl, sym, ◌∙◌, ap, subst, arith}
 use Rattle.std.specs.Prelude.{nat_le, nat_lt}
 use Rattle.std.proofs.lemmas.Bool.Decides.{nat_tests}
 use Rattle.bw_keys.specs.declared.page.Pid.{Pid}
@@ -19,7 +19,7 @@ use Rattle.bw_law.specs.Walks.{last_of}
 use Rattle.bw_law.specs.Laws.{IsLeafOf}
 use Rattle.bw_law.proofs.Facts.{range_is_not_empty, right_is_next, last_ends_at_top, route_is_term, first_child}
 use Rattle.bw_law.proofs.MapAndTerms.{routes_in_rise}
-use Rattle.bw_law.proofs.Walk.{posted_in_row, walk_from_root, walk_ends, only_walk}
+use Rattle.bw_law.proofs.Walk.{posted_in_row, walk_ends, walk_law}
 use Rattle.bw_chain.proofs.Lasts.{last_below-bound}
 use Rattle.bw_table.specs.Views.{view_of}
 use Rattle.bw_table.specs.Visits.{is_there, is_live, live_routes, right_to, down_by, way_on, next_by, IsOnTheWay, IsFound, TellsWhetherOnTheWay, StaysOnTheWay, ComesNearer, FindsPage, EachWalkEndsAt, OneWalkEndsAt}
@@ -144,12 +144,8 @@ each_walk_ends_there table key leaf law is rest walk =
 -- and there is just one
 pub one_walk_ends_there : (table : TableValue) (key leaf : ℕ) → Lawful table → key < key_count → IsLeafOf table key leaf → OneWalkEndsAt table key leaf
 one_walk_ends_there table key leaf law below is =
-    let walk = walk_from_root key_count (outlines table.slots) table.root law.rows key below in record {
-      rest = walk.0;
-      is_walk = walk.1;
-      only = λ other other_is. only_walk (outlines table.slots) table.root key other (table.root ∷ walk.0) other_is walk.1;
-      ends = each_walk_ends_there table key leaf law is walk.0 walk.1;
-    }
+    let one = walk_law table law key below in
+    record { rest = one.rest; is_walk = one.is_walk; only = one.only; ends = sym (one.one_leaf leaf is) }
 
 -- a page that was found for a goal of 0 is a leaf
 pub found_leaf : (table : TableValue) (place : Place) (key : ℕ) (view : View) → IsFound table place key 0 view → IsLeafOf table key view.pid.0

@@ -1,48 +1,30 @@
 -- The law of a table gives what is told of a tree.
-use Rattle.std.proofs.Common.{◌≡◌, ℕ, zero, suc, ◌+◌, ◌<◌, ◌^◌, ◌∷◌, None, refl, sym, subst, ◌∙◌, ap, arith}
+use Rattle.std.proofs.Common.{◌≡◌, ℕ, zero, suc, ◌+◌, ◌<◌, ◌^◌, None, refl, sym, subst, ◌∙◌, ap, arith}
 use Rattle.bw_keys.specs.declared.config.Config.{Config}
 use Rattle.bw_keys.specs.Limits.{first_bad_field}
-use Rattle.bw_keys.specs.Ranges.{key_count}
 use Rattle.bw_step.specs.declared.receipt.Receipt.{Receipt}
 use Rattle.bw_step.specs.declared.survey.Book.{Book}
 use Rattle.bw_step.specs.Proposals.{Proposal}
 use Rattle.bw_law.specs.Effects.{TakesStep, after}
-use Rattle.bw_law.specs.Laws.{HasOneRow, HasOneWalk, MapAfter}
+use Rattle.bw_law.specs.Laws.{MapAfter}
 use Rattle.bw_law.specs.Refusals.{refusal}
-use Rattle.bw_law.specs.Tables.{TableValue, Lawful, Booked, outlines, new_table}
-use Rattle.bw_law.specs.Walks.{last_of}
+use Rattle.bw_law.specs.Tables.{TableValue, Lawful, Booked, new_table}
 use Rattle.bw_law.proofs.AllSteps.{step_law}
 use Rattle.bw_law.proofs.Count.{joined_count}
 use Rattle.bw_law.proofs.MapAndTerms.{map_law}
 use Rattle.bw_law.proofs.NewTable.{new_law}
-use Rattle.bw_law.proofs.RowList.{row_of, only_row}
-use Rattle.bw_law.proofs.Walk.{walk_from_root, walk_ends, only_walk}
+use Rattle.bw_law.proofs.RowList.{row_law}
+use Rattle.bw_law.proofs.Walk.{walk_law}
 use Rattle.bw_tree.specs.Shares.{book_of, counted}
 use Rattle.bw_tree.specs.Trees.{IsTree, CountsPairs, IsBookOf, MayBeMade}
 
-leaf_row : (table : TableValue) → Lawful table → HasOneRow table 0
-leaf_row table law =
-    let found = row_of key_count (outlines table.slots) table.root law.rows 0 (omega arith) in
-    record { row = found.0; is_row = found.1; only = λ other is. only_row key_count (outlines table.slots) table.root law.rows 0 other found.0 is found.1.is_row }
-
-one_walk : (table : TableValue) → Lawful table → (key : ℕ) → key < key_count → HasOneWalk table key
-one_walk table law key below =
-    let walk = walk_from_root key_count (outlines table.slots) table.root law.rows key below in
-    let end = walk_ends key_count (outlines table.slots) table.root law.rows key walk.0 walk.1 in record {
-      rest = walk.0;
-      is_walk = walk.1;
-      only = λ other is. only_walk (outlines table.slots) table.root key other (table.root ∷ walk.0) is walk.1;
-      ends = record { in_row = end.0; is_leaf = end.1; spans = end.2 };
-      one_leaf = λ leaf is. law.rows.apart leaf (last_of table.root walk.0) key is.in_row end.0 (is.is_leaf ∙ sym end.1) is.spans end.2;
-    }
-
 pub is_tree : (table : TableValue) → Lawful table → Booked table → IsTree table
 is_tree table law booked =
-    let leaves = leaf_row table law in record {
+    let leaves = row_law table law 0 (omega arith) in record {
       lawful = law;
       booked = booked;
       leaves = leaves;
-      searches = one_walk table law;
+      searches = walk_law table law;
       map = map_law table law leaves.row leaves.is_row;
       pairs = λ row is. omega (arith, booked, joined_count table.slots row is);
     }

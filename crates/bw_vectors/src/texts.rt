@@ -2,6 +2,7 @@
 
 use anyhow::Result;
 use bw_audit::audit;
+use bw_lines::first_difference;
 use bw_step::Receipt;
 use bw_table::Table;
 use bw_trace::write_history;
@@ -36,19 +37,6 @@ impl fmt::Display for Difference {
     }
 }
 
-/// The number of the first line that differs, if the texts aren't equal.
-fn first_line(text: &str, foretold: &str) -> Option<usize> {
-    if text == foretold {
-        return None;
-    }
-    let equal = text
-        .split('\n')
-        .zip(foretold.split('\n'))
-        .take_while(|(line, other)| line == other)
-        .count();
-    Some(equal.saturating_add(1))
-}
-
 impl Texts {
     /// The lines of replies are given; those of the table and of the worker's receipts come after them.
     pub(crate) fn new(
@@ -73,9 +61,9 @@ impl Texts {
 
     /// Where the texts first aren't those that were foretold.
     pub(crate) fn first_difference(&self, foretold: &Texts) -> Option<Difference> {
-        if let Some(line) = first_line(&self.replies, &foretold.replies) {
+        if let Some(line) = first_difference(&self.replies, &foretold.replies) {
             return Some(Difference::Replies(line));
         }
-        first_line(&self.history, &foretold.history).map(Difference::History)
+        first_difference(&self.history, &foretold.history).map(Difference::History)
     }
 }
