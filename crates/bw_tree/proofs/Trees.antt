@@ -1,12 +1,12 @@
 -- The law of a table gives what is told of a tree.
-use Rattle.std.proofs.Common.{◌≡◌, ℕ, zero, suc, ◌+◌, ◌<◌, ◌^◌, ◌∷◌, None, refl, sym, subst, ◌∙◌, ap, arith}
+use Rattle.std.proofs.Common.{◌≡◌, ℕ, zero, suc, ◌<◌, ◌^◌, ◌∷◌, None, refl, sym, subst, ◌∙◌, ap, arith}
 use Rattle.bw_keys.specs.declared.config.Config.{Config}
 use Rattle.bw_keys.specs.Limits.{first_bad_field}
 use Rattle.bw_keys.specs.Ranges.{key_count}
 use Rattle.bw_step.specs.declared.receipt.Receipt.{Receipt}
 use Rattle.bw_step.specs.declared.survey.Book.{Book}
-use Rattle.bw_step.specs.Proposals.{Proposal, insert, delete, consolidate, split, term_add, grow, mark, merge, term_delete}
-use Rattle.bw_law.specs.Effects.{TakesStep, after, receipt_of}
+use Rattle.bw_step.specs.Proposals.{Proposal}
+use Rattle.bw_law.specs.Effects.{TakesStep, after}
 use Rattle.bw_law.specs.Laws.{HasOneRow, HasOneWalk, MapAfter}
 use Rattle.bw_law.specs.Refusals.{refusal}
 use Rattle.bw_law.specs.Tables.{TableValue, Lawful, Booked, outlines, new_table}
@@ -58,18 +58,6 @@ new_book config table is fine fits =
     let empty = new_law config fine fits in
     rw is (record { lawful = empty.lawful; booked = empty.booked; totals = refl })
 
--- the book after an accepted step
-pub book_after : (table : TableValue) (step : Proposal) → (after table step).book ≡ counted table.book (receipt_of table step)
-book_after table (insert page seen key value) = let more : suc table.book.inserted ≡ table.book.inserted + 1 = omega arith in ap (λ (n : ℕ). book_of n table.book.removed) more
-book_after table (delete page seen key) = let more : suc table.book.removed ≡ table.book.removed + 1 = omega arith in ap (λ (n : ℕ). book_of table.book.inserted n) more
-book_after table (consolidate page seen base) = refl
-book_after table (split page seen separator base) = refl
-book_after table (term_add parent parent_seen child child_seen) = refl
-book_after table (grow child seen base) = refl
-book_after table (mark page seen parent) = refl
-book_after table (merge left left_seen page seen) = refl
-book_after table (term_delete parent parent_seen child child_seen) = refl
-
 -- the table after an accepted step, whose receipt was counted
 pub book_kept : (old new : TableValue) (step : Proposal) (receipt : Receipt) (inserted removed more_inserted more_removed : ℕ)
     → IsBookOf old inserted removed → refusal old step ≡ None → TakesStep old step receipt new
@@ -77,7 +65,7 @@ pub book_kept : (old new : TableValue) (step : Proposal) (receipt : Receipt) (in
 book_kept old new step receipt inserted removed more_inserted more_removed kept none taken is =
     let law = step_law old step kept.lawful kept.booked none in
     let same : (after old step).book ≡ book_of more_inserted more_removed =
-    book_after old step ∙ ap (counted old.book) (sym taken.told) ∙ ap (λ book. counted book receipt) kept.totals ∙ sym is in
+    ap (counted old.book) (sym taken.told) ∙ ap (λ book. counted book receipt) kept.totals ∙ sym is in
     rw taken.leads (record { lawful = law.lawful; booked = law.booked; totals = same })
 
 -- what an accepted step makes of the map
@@ -95,16 +83,5 @@ pub pairs_are : (table : TableValue) (inserted removed : ℕ) (sum : Book) → I
 pairs_are table inserted removed sum kept more less = subst (CountsPairs table) (book_is table inserted removed sum kept more less) (tree_of table inserted removed kept).pairs
 
 -- no step changes the configuration
-config_stays : (table : TableValue) (step : Proposal) → (after table step).config ≡ table.config
-config_stays table (insert page seen key value) = refl
-config_stays table (delete page seen key) = refl
-config_stays table (consolidate page seen base) = refl
-config_stays table (split page seen separator base) = refl
-config_stays table (term_add parent parent_seen child child_seen) = refl
-config_stays table (grow child seen base) = refl
-config_stays table (mark page seen parent) = refl
-config_stays table (merge left left_seen page seen) = refl
-config_stays table (term_delete parent parent_seen child child_seen) = refl
-
 pub config_kept : (old new : TableValue) (step : Proposal) (receipt : Receipt) → TakesStep old step receipt new → new.config ≡ old.config
-config_kept old new step receipt takes = ap (λ (t : TableValue). t.config) takes.leads ∙ config_stays old step
+config_kept old new step receipt takes = ap (λ (t : TableValue). t.config) takes.leads

@@ -1,9 +1,10 @@
 -- The shares of a tree's workers: each is a part of the book.
-use Rattle.std.specs.Prelude.{◌≡◌, ℕ, ◌+◌, List, sum_by}
+use Rattle.std.specs.Prelude.{◌≡◌, ℕ, List, sum_by}
 use Rattle.std.specs.declared.sync.ledger.Blank.{Blank}
 use Rattle.bw_step.specs.declared.survey.Book.{Book}
 use Rattle.bw_step.specs.declared.receipt.Receipt.{Receipt}
-use Rattle.bw_step.specs.declared.receipt.Receipt.TheVariants.{Inserted, Deleted, Looked, Shaped}
+use Rattle.bw_step.specs.Tellings.{telling_of}
+use Rattle.bw_law.specs.Tables.{book_with}
 
 abbrev pub book_of : ℕ → ℕ → Book
 book_of inserted removed = record { inserted = inserted; removed = removed }
@@ -12,12 +13,9 @@ book_of inserted removed = record { inserted = inserted; removed = removed }
 abbrev pub no_changes : Book
 no_changes = record { inserted = 0; removed = 0 }
 
--- the share after an accepted step with this receipt: only an insertion and a removal are counted, each as one
+-- the share after an accepted step with this receipt: it counts what the book counts
 abbrev pub counted : Book → Receipt → Book
-counted share (Inserted number key value) = record share { inserted = share.inserted + 1 }
-counted share (Deleted number key value) = record share { removed = share.removed + 1 }
-counted share (Looked at key found) = share
-counted share (Shaped kind page other) = share
+counted share receipt = book_with share (telling_of receipt)
 
 -- all insertions and all removals of the shares
 abbrev pub sum_of : List Book → Book
