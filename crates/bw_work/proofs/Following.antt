@@ -8,7 +8,8 @@ use Rattle.bw_step.specs.declared.receipt.Receipt.{Receipt}
 use Rattle.bw_step.specs.declared.receipt.Receipt.TheVariants.{Looked}
 use Rattle.bw_step.specs.declared.view.Look.{Look}
 use Rattle.bw_step.specs.Stages.{is_in_row}
-use Rattle.bw_step.specs.Proposals.{Proposal, insert, delete, consolidate, split, term_add, grow, mark, merge, term_delete}
+use Rattle.bw_step.specs.Proposals.{Proposal, insert, delete}
+use Rattle.bw_step.specs.Tellings.{telling_of}
 use Rattle.bw_law.specs.Slots.{pairs_in}
 use Rattle.bw_law.specs.Tables.{TableValue, slot_at, number_of, Lawful, Booked, is_leaf_in_row}
 use Rattle.bw_law.specs.Laws.{KeptBy}
@@ -18,20 +19,17 @@ use Rattle.bw_law.proofs.AllSteps.{step_law}
 use Rattle.bw_law.proofs.Accepted.{Holds}
 use Rattle.bw_law.proofs.Facts.{leaf_decides}
 use Rattle.bw_table.specs.Views.{look_at}
-use Rattle.bw_tree.proofs.Trees.{book_after}
-use Rattle.bw_work.specs.Leading.{Tells, Leads}
+use Rattle.bw_work.specs.Leading.{BearsNumber, Tells, Leads}
+
+-- a change of the map bears the next number
+step_number : (table : TableValue) (step : Proposal) → BearsNumber (telling_of (receipt_of table step)) (after table step).book
+step_number table (insert page seen key value) = omega arith
+step_number table (delete page seen key) = omega arith
+step_number table step = tt
 
 -- what an accepted step makes of the table is what its receipt tells
 step_tells : (table : TableValue) (step : Proposal) → KeptBy table step → Tells (receipt_of table step) table (after table step)
-step_tells table (insert page seen key value) kept = record { map = kept.map; book = book_after table (insert page seen key value); number = omega arith }
-step_tells table (delete page seen key) kept = record { map = kept.map; book = book_after table (delete page seen key); number = omega arith }
-step_tells table (consolidate page seen base) kept = record { map = kept.map; book = book_after table (consolidate page seen base); number = tt }
-step_tells table (split page seen separator base) kept = record { map = kept.map; book = book_after table (split page seen separator base); number = tt }
-step_tells table (term_add parent parent_seen child child_seen) kept = record { map = kept.map; book = book_after table (term_add parent parent_seen child child_seen); number = tt }
-step_tells table (grow child seen base) kept = record { map = kept.map; book = book_after table (grow child seen base); number = tt }
-step_tells table (mark page seen parent) kept = record { map = kept.map; book = book_after table (mark page seen parent); number = tt }
-step_tells table (merge left left_seen page seen) kept = record { map = kept.map; book = book_after table (merge left left_seen page seen); number = tt }
-step_tells table (term_delete parent parent_seen child child_seen) kept = record { map = kept.map; book = book_after table (term_delete parent parent_seen child child_seen); number = tt }
+step_tells table step kept = record { map = kept.map; book = refl; number = step_number table step }
 
 -- a receipt that tells of the two tables leads from the one to the other
 pub leads_by : (old new : TableValue) (trail : List Receipt) (receipt : Receipt) → Tells receipt old new → Leads old trail new (trail ++ receipt ∷ [])
@@ -89,18 +87,3 @@ look_leads table page key look trail law seen =
       book = refl;
       number = opened.number;
     })
-
--- no step changes the configuration
-config_stays : (table : TableValue) (step : Proposal) → (after table step).config ≡ table.config
-config_stays table (insert page seen key value) = refl
-config_stays table (delete page seen key) = refl
-config_stays table (consolidate page seen base) = refl
-config_stays table (split page seen separator base) = refl
-config_stays table (term_add parent parent_seen child child_seen) = refl
-config_stays table (grow child seen base) = refl
-config_stays table (mark page seen parent) = refl
-config_stays table (merge left left_seen page seen) = refl
-config_stays table (term_delete parent parent_seen child child_seen) = refl
-
-pub config_kept : (old new : TableValue) (step : Proposal) (receipt : Receipt) → TakesStep old step receipt new → new.config ≡ old.config
-config_kept old new step receipt takes = ap (λ (t : TableValue). t.config) takes.leads ∙ config_stays old step

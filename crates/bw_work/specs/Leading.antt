@@ -1,37 +1,23 @@
 -- How receipts lead from one table to another: in order, they are the changes of its map and its replies, and they bear the numbers of its book.
-use Rattle.std.specs.Prelude.{◌≡◌, ◌↔◌, ℕ, List, [], ◌∷◌, ◌++◌, Option, Some, refl}
+use Rattle.std.specs.Prelude.{◌≡◌, List, [], ◌∷◌, ◌++◌, refl}
 use Rattle.std.proofs.Common.{◌∙◌, ap, sym, subst, append_assoc, append-nil}
 use Rattle.bw_step.specs.declared.receipt.Receipt.{Receipt}
-use Rattle.bw_step.specs.declared.receipt.Receipt.TheVariants.{Inserted, Deleted, Looked, Shaped}
 use Rattle.bw_step.specs.declared.survey.Book.{Book}
-use Rattle.bw_law.specs.Slots.{SlotValue}
-use Rattle.bw_law.specs.Tables.{TableValue, number_of, Maps, SameMap}
-use Rattle.bw_law.specs.Laws.{AddsPair, TakesKey}
+use Rattle.bw_step.specs.Tellings.{Telling, change, look, shape, telling_of}
+use Rattle.bw_law.specs.Tables.{TableValue, number_of, TellsMap}
 use Rattle.bw_tree.specs.Shares.{counted}
 
--- the value that the map has at the key, or none
-abbrev pub IsValueAt : List SlotValue → ℕ → Option ℕ → Type 0
-IsValueAt slots key found = (value : ℕ) → (found ≡ Some value) ↔ Maps slots key value
-
--- what a receipt tells of the map before it and after it
-abbrev pub TellsMap : Receipt → List SlotValue → List SlotValue → Type 0
-TellsMap (Inserted number key value) old new = AddsPair old new key value
-TellsMap (Deleted number key value) old new = TakesKey old new key value
-TellsMap (Looked at key found) old new = IsValueAt old key found × SameMap old new
-TellsMap (Shaped kind page other) old new = SameMap old new
-
 -- a change bears the number that the book has with it, and a look the number that the book had
-abbrev pub BearsNumber : Receipt → Book → Type 0
-BearsNumber (Inserted number key value) book = number ≡ number_of book
-BearsNumber (Deleted number key value) book = number ≡ number_of book
-BearsNumber (Looked at key found) book = at ≡ number_of book
-BearsNumber (Shaped kind page other) book = Unit {0}
+abbrev pub BearsNumber : Telling → Book → Type 0
+BearsNumber (change number key before after) book = number ≡ number_of book
+BearsNumber (look at key found) book = at ≡ number_of book
+BearsNumber shape book = Unit {0}
 
 -- what a receipt tells of the table before it and after it
 pub record Tells (receipt : Receipt) (old new : TableValue) : Type 0 where
-  pub map : TellsMap receipt old.slots new.slots
+  pub map : TellsMap (telling_of receipt) old.slots new.slots
   pub book : new.book ≡ counted old.book receipt
-  pub number : BearsNumber receipt new.book
+  pub number : BearsNumber (telling_of receipt) new.book
 
 -- the receipts, one after the other, lead from the old table to the new, and where there is none nothing has changed
 abbrev pub Replays : TableValue → List Receipt → TableValue → Type 0
