@@ -1,5 +1,5 @@
 -- The law of a table gives what is told of a tree.
-use Rattle.std.proofs.Common.{◌≡◌, ℕ, zero, suc, ◌+◌, ◌<◌, ◌^◌, None, refl, sym, subst, ◌∙◌, ap, arith}
+use Rattle.std.proofs.Common.{◌≡◌, ℕ, zero, suc, ◌<◌, ◌^◌, None, refl, sym, subst, ◌∙◌, ap, arith}
 use Rattle.bw_keys.specs.declared.config.Config.{Config}
 use Rattle.bw_keys.specs.Limits.{first_bad_field}
 use Rattle.bw_step.specs.declared.receipt.Receipt.{Receipt}
