@@ -23,6 +23,7 @@ use std::alloc::Allocator;
 /// found no value. The reply stands, whatever ended helping or tending. With a fault in its place the
 /// map is as it was: `Contended` where the call's effort is spent, `TableFull`, `TooTall` or `Worn`
 /// where a step was refused so, and `NoMemory`.
+#[inline(always)]
 pub fn delete<A: Allocator + Copy, S: Steps<A, Step<A>>>(
     steps: &mut S,
     key: Key,
@@ -57,14 +58,17 @@ impl Wish for Deletion {
 
     ghost is_made = { λ wish. IsDeletionOf wish.key };
 
+    #[inline(always)]
     fn key(self) -> Key {
         self.key
     }
 
+    #[inline(always)]
     fn keep(self) -> Keep {
         Keep::IfNone
     }
 
+    #[inline(always)]
     fn answered(self, found: Option<u64>) -> Option<Del> {
         match found {
             Some(_) => None,
@@ -73,6 +77,7 @@ impl Wish for Deletion {
     }
 
     #[tactic(auto, using(crate::proofs::Changing::deletion_made))]
+    #[inline(always)]
     fn step<A: Allocator + Copy>(self, view: View, spare: Spare<A>) -> Step<A> {
         Step::Delete(Delete {
             page: view.pid,
@@ -82,6 +87,7 @@ impl Wish for Deletion {
         })
     }
 
+    #[inline(always)]
     fn reply(self, receipt: Receipt) -> Del {
         match receipt {
             Receipt::Deleted { value, .. } => Del::Removed(value),

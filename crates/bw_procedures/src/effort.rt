@@ -8,6 +8,7 @@ use bw_step::Step;
 use std::alloc::Allocator;
 
 /// The effort at which a call that begins now gives up.
+#[inline(always)]
 pub(crate) fn limit<A: Allocator + Copy, S: Steps<A, Step<A>>>(steps: &S) -> u64
     ensures { result ≡ limit_of (S.seen steps.now) }
 {
@@ -17,6 +18,7 @@ pub(crate) fn limit<A: Allocator + Copy, S: Steps<A, Step<A>>>(steps: &S) -> u64
 }
 
 /// Whether the worker has come to the limit.
+#[inline(always)]
 pub(crate) fn is_spent<A: Allocator + Copy, S: Steps<A, Step<A>>>(steps: &S, limit: u64) -> bool
     ensures { IsTrue result ↔ (limit ≤ (S.seen steps.now).effort) }
 {

@@ -23,6 +23,7 @@ use std::alloc::Allocator;
 /// found the key. The reply stands, whatever ended helping or tending. With a fault in its place the
 /// map is as it was: `Contended` where the call's effort is spent, `TableFull`, `TooTall` or `Worn`
 /// where a step was refused so, and `NoMemory`.
+#[inline(always)]
 pub fn put<A: Allocator + Copy, S: Steps<A, Step<A>>>(
     steps: &mut S,
     key: Key,
@@ -60,14 +61,17 @@ impl Wish for Insertion {
 
     ghost is_made = { λ wish. IsReceiptOfPut wish.key wish.value Inserted };
 
+    #[inline(always)]
     fn key(self) -> Key {
         self.key
     }
 
+    #[inline(always)]
     fn keep(self) -> Keep {
         Keep::IfFound
     }
 
+    #[inline(always)]
     fn answered(self, found: Option<u64>) -> Option<Put> {
         match found {
             Some(value) => Some(Put::Present(value)),
@@ -76,6 +80,7 @@ impl Wish for Insertion {
     }
 
     #[tactic(auto, using(crate::proofs::Changing::insertion_made))]
+    #[inline(always)]
     fn step<A: Allocator + Copy>(self, view: View, spare: Spare<A>) -> Step<A> {
         Step::Insert(Insert {
             page: view.pid,
@@ -86,6 +91,7 @@ impl Wish for Insertion {
         })
     }
 
+    #[inline(always)]
     fn reply(self, _receipt: Receipt) -> Put {
         Put::Inserted
     }

@@ -20,6 +20,7 @@ use std::alloc::Allocator;
 ///
 /// It ends with `Contended` where the call's effort is spent before a look is answered, and with
 /// `NoMemory` where the trail has no room.
+#[inline(always)]
 pub fn get<A: Allocator + Copy, S: Steps<A, Step<A>>>(
     steps: &mut S,
     key: Key,
@@ -44,6 +45,7 @@ pub fn get<A: Allocator + Copy, S: Steps<A, Step<A>>>(
 
 /// One walk to the leaf, and a look there. None where one of them came to nothing.
 #[tactic(auto, using(crate::proofs::Waiting::sought))]
+#[inline(always)]
 fn seek<A: Allocator + Copy, S: Steps<A, Step<A>>>(
     steps: &mut S,
     key: Key,

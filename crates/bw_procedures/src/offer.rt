@@ -18,6 +18,7 @@ pub(crate) enum Answer {
 }
 
 /// Proposes a step that changes the tree's shape. No refusal is a fault.
+#[inline(always)]
 pub(crate) fn offer<A: Allocator + Copy, S: Steps<A, Step<A>>>(
     steps: &mut S,
     limit: u64,
@@ -73,6 +74,7 @@ pub(crate) fn reshape<A: Allocator + Copy, S: Steps<A, Step<A>>>(
 }
 
 /// Proposes a step that changes the map. No refusal is a fault.
+#[inline(always)]
 pub(crate) fn change<A: Allocator + Copy, S: Steps<A, Step<A>>>(
     steps: &mut S,
     limit: u64,

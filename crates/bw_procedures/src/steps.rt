@@ -21,6 +21,7 @@ pub enum Keep {
 
 impl Keep {
     /// Whether a look that found this is added.
+    #[inline(always)]
     pub fn keeps(self, found: Option<u64>) -> bool
         ensures { result ≡ is_kept self found }
     {

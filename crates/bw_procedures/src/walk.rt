@@ -15,6 +15,7 @@ use std::alloc::Allocator;
 /// Goes on from a place to the page on the goal's level whose range holds the key. None where a place
 /// was gone.
 #[tactic(auto, using(crate::proofs::Waiting::waits_visited))]
+#[inline(always)]
 pub(crate) fn descend<A: Allocator + Copy, S: Steps<A, Step<A>>>(
     steps: &mut S,
     start: Place,

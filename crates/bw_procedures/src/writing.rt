@@ -46,6 +46,7 @@ enum Tried<T> {
 }
 
 /// Brings about what is wished for, as `put` and `delete` tell.
+#[inline(always)]
 pub(crate) fn write<A: Allocator + Copy, S: Steps<A, Step<A>>, W: Wish>(
     steps: &mut S,
     wish: W,
@@ -75,6 +76,7 @@ pub(crate) fn write<A: Allocator + Copy, S: Steps<A, Step<A>>, W: Wish>(
 
 /// One walk to the leaf, and what is wished for there.
 #[tactic(auto, using(crate::proofs::Changing::attempts_any))]
+#[inline(always)]
 fn try_once<A: Allocator + Copy, S: Steps<A, Step<A>>, W: Wish>(
     steps: &mut S,
     limit: u64,
@@ -93,6 +95,7 @@ fn try_once<A: Allocator + Copy, S: Steps<A, Step<A>>, W: Wish>(
 }
 
 /// The writer's walk from a place to the leaf, or to the first thing that is unfinished.
+#[inline(always)]
 fn approach<A: Allocator + Copy, S: Steps<A, Step<A>>>(
     steps: &mut S,
     start: Place,
@@ -119,6 +122,7 @@ fn approach<A: Allocator + Copy, S: Steps<A, Step<A>>>(
 }
 
 /// What is to be helped.
+#[inline(always)]
 fn wanted(todo: Option<Todo>, passes_posts: bool) -> Option<Todo> {
     match todo {
         Some(Todo::Post(_)) if passes_posts => None,
@@ -164,6 +168,7 @@ fn is_want_of_pages(fault: Fault) -> bool {
 
 /// What is wished for, at a page.
 #[tactic(auto, using(crate::proofs::Changing::replied, crate::proofs::Changing::wanted))]
+#[inline(always)]
 fn write_at<A: Allocator + Copy, S: Steps<A, Step<A>>, W: Wish>(
     steps: &mut S,
     limit: u64,
@@ -184,6 +189,7 @@ fn write_at<A: Allocator + Copy, S: Steps<A, Step<A>>, W: Wish>(
 
 /// Looks the key up at a page. None where the page isn't the key's leaf any more.
 #[tactic(auto, using(crate::proofs::Changing::found_by))]
+#[inline(always)]
 fn look_at<A: Allocator + Copy, S: Steps<A, Step<A>>>(
     steps: &mut S,
     page: Pid,
@@ -197,6 +203,7 @@ fn look_at<A: Allocator + Copy, S: Steps<A, Step<A>>>(
 }
 
 /// Proposes the step that is wished for. A page that is too deep for it is consolidated.
+#[inline(always)]
 fn propose<A: Allocator + Copy, S: Steps<A, Step<A>>, W: Wish>(
     steps: &mut S,
     limit: u64,

@@ -66,6 +66,7 @@ pub struct Glance {
 }
 
 /// What the published table has at the key; none, where it gave no entry.
+#[inline(always)]
 pub fn read<N: Naming>(reader: ReadingEnd<N>, key: Key) -> (ReadingEnd<N>, Option<Glance>)
     ensures look { IfSome result.1 (λ glance. IsLookIn N.config key glance.front.list glance.look) }
     ensures book { IfSome result.1 (λ glance. glance.front.book ≡ N.book) }

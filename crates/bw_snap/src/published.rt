@@ -114,6 +114,7 @@ impl<R: Wait + Drop, N: Naming, D: Ledger> Published<R, N, D> {
     }
 
     /// Lends the table, which the pending steps lead to from the published one.
+    #[inline(always)]
     pub fn table(&self) -> &Table<Global>
         ensures same { result.now ≡ self.now.table }
         ensures tree { IsTree result.now }
@@ -131,6 +132,7 @@ impl<R: Wait + Drop, N: Naming, D: Ledger> Published<R, N, D> {
     }
 
     /// Takes the step as `Booked::install` does, and notes its twin for the published copies.
+    #[inline(always)]
     pub fn install(
         &mut self,
         share: &mut Share<N, D>,

@@ -120,14 +120,17 @@ impl<R: Wait + Copy, N: Naming, D: Ledger> Shared<Global, Step<Global>> for Read
 
     ghost made_by = { λ tree. tree.config };
 
+    #[inline(always)]
     fn config(&self) -> Config {
         self.config
     }
 
+    #[inline(always)]
     fn root(&self) -> Place {
         self.published.lock(&self.rt).table().root()
     }
 
+    #[inline(always)]
     fn visit(&self, place: Place, key: Key, goal: u8) -> Next {
         self.published
             .lock(&self.rt)
@@ -135,14 +138,17 @@ impl<R: Wait + Copy, N: Naming, D: Ledger> Shared<Global, Step<Global>> for Read
             .visit(place, key, goal)
     }
 
+    #[inline(always)]
     fn peek(&self, pid: Pid) -> Option<View> {
         self.published.lock(&self.rt).table().peek(pid)
     }
 
+    #[inline(always)]
     fn look(&self, pid: Pid, key: Key) -> Option<Look> {
         self.published.lock(&self.rt).table().look(pid, key)
     }
 
+    #[inline(always)]
     fn copy_page(
         &self,
         alloc: Global,
@@ -156,6 +162,7 @@ impl<R: Wait + Copy, N: Naming, D: Ledger> Shared<Global, Step<Global>> for Read
     }
 
     /// Takes the step by `Published::install`. The step's twin is made before the lock is taken.
+    #[inline(always)]
     fn install(&self, share: &mut Share<N, D>, step: Step<Global>) -> Result<Receipt, Denied>
         ensures share { MatchResult result (λ receipt. share.new ≡ counted share.old receipt) (λ _. share.new ≡ share.old) }
         ensures receipt { IfOk result (IsReceiptOf (proposal_of step)) }

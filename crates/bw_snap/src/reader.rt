@@ -58,6 +58,7 @@ impl<N: Naming> Reader<N> {
 
     /// What the map has at the key after a list of accepted steps, which begins with all that this
     /// reader has seen and learnt. The list is the reader's from then on.
+    #[inline(always)]
     pub fn get(&mut self, key: Key) -> Result<Option<u64>, Closed>
         ensures seen { BeginsWith self.new self.old }
         ensures found { IfOk result (IsFoundIn N.config key self.new) }
@@ -70,6 +71,7 @@ impl<N: Naming> Reader<N> {
     }
 
     /// As `get`, and how many changes of the map that list has.
+    #[inline(always)]
     pub fn look(&mut self, key: Key) -> Result<Look, Closed>
         ensures seen { BeginsWith self.new self.old }
         ensures look { IfOk result (IsLookIn N.config key self.new) }

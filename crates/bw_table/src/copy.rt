@@ -16,6 +16,7 @@ use std::alloc::Allocator;
 impl<A: Allocator + Copy> Table<A> {
     /// A copy of the page's chain in `alloc`, if the page is in a row and still has the version
     /// that was seen.
+    #[inline(always)]
     pub fn copy_page(&self, alloc: A, pid: Pid, seen: Version) -> Result<Chain<A>, CopyFault>
         ensures absent { (result ≡ Err CopyFault.Absent) ↔ (is_in_row (slot_at self.now pid.0).stage ≡ false) }
         ensures stale { (result ≡ Err CopyFault.Stale) ↔ ((is_in_row (slot_at self.now pid.0).stage ≡ true) × ((slot_at self.now pid.0).version ≢ seen.0)) }
@@ -40,6 +41,7 @@ impl<A: Allocator + Copy> Table<A> {
 
 impl<A: Allocator + Copy> Slot<A> {
     /// The chain of the page, if it is in a row.
+    #[inline(always)]
     fn chain_in_row(&self) -> Option<&Chain<A>>
         requires { HasSoundChain self.now }
         ensures chain { IfSome result (λ chain. self.now.chain ≡ Some chain.now) }

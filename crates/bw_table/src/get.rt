@@ -16,6 +16,7 @@ use std::alloc::Allocator;
 
 impl<A: Allocator + Copy> Table<A> {
     /// The value that the map has at the key, if it has one. It takes no memory.
+    #[inline(always)]
     pub fn get(&self, key: Key) -> Option<u64>
         ensures { IsMapAt self.now key result }
     {
@@ -23,6 +24,7 @@ impl<A: Allocator + Copy> Table<A> {
     }
 
     /// What the map has at the key, and how many changes of the map there were. It takes no memory.
+    #[inline(always)]
     pub fn look_up(&self, key: Key) -> Look
         ensures found { IsMapAt self.now key result.found }
         ensures at { result.at ≡ number_of self.now.book }
@@ -34,6 +36,7 @@ impl<A: Allocator + Copy> Table<A> {
     }
 
     /// The leaf whose range holds the key.
+    #[inline(always)]
     pub(crate) fn page_for(&self, key: Key) -> Pid
         ensures lawful { Lawful self.now }
         ensures leaf { IsLeafOf self.now key result.0 }
@@ -46,6 +49,7 @@ impl<A: Allocator + Copy> Table<A> {
     }
 
     /// The next page of a search for the key; none after the leaf.
+    #[inline(always)]
     fn onward(&self, page: Pid, key: Key) -> Option<Pid>
         requires { IsUpTo self.now key page.0 }
         ensures { LeadsOn self.now key page.0 result }
@@ -55,6 +59,7 @@ impl<A: Allocator + Copy> Table<A> {
 
     /// The page on the right where the key is past this one; otherwise the one below, if this one is
     /// no leaf.
+    #[inline(always)]
     fn next_page(&self, slot: &Slot<A>, key: Key) -> Option<Pid>
         requires in_row { is_in_row slot.now.stage ≡ true }
         requires sound { HasSoundChain slot.now }
@@ -68,6 +73,7 @@ impl<A: Allocator + Copy> Table<A> {
     }
 
     /// The page by the greatest route at or below the key that leads to one which isn't merged.
+    #[inline(always)]
     fn live_child(&self, slot: &Slot<A>, key: Key) -> Option<Pid>
         requires in_row { is_in_row slot.now.stage ≡ true }
         requires sound { HasSoundChain slot.now }
@@ -84,6 +90,7 @@ impl<A: Allocator + Copy> Table<A> {
     }
 
     /// Whether the page was taken in to its left neighbour.
+    #[inline(always)]
     fn is_taken_in(&self, pid: Pid) -> bool
         ensures { result ≡ is_merged (slot_at self.now pid.0).stage }
     {
@@ -94,6 +101,7 @@ impl<A: Allocator + Copy> Table<A> {
     }
 
     /// The slot of a page in a row.
+    #[inline(always)]
     pub(crate) fn slot_in_row(&self, page: Pid) -> &Slot<A>
         requires { is_in_row (slot_at self.now page.0).stage ≡ true }
         ensures lawful { Lawful self.now }

@@ -75,6 +75,7 @@ impl<A: Allocator + Copy> Slot<A> {
     }
 
     /// The page as callers see it.
+    #[inline(always)]
     pub(crate) fn view(&self, pid: Pid) -> View
         ensures { result ≡ view_of pid self.now }
     {
@@ -92,6 +93,7 @@ impl<A: Allocator + Copy> Slot<A> {
     }
 
     /// Whether the range of the page holds the key.
+    #[inline(always)]
     pub(crate) fn holds(&self, key: Key) -> bool
         ensures { result ≡ is_within self.now.low self.now.high key }
     {
@@ -103,6 +105,7 @@ impl<A: Allocator + Copy> Slot<A> {
     }
 
     /// Whether this is a leaf in its row.
+    #[inline(always)]
     pub(crate) fn is_leaf_in_row(&self) -> bool
         ensures { result ≡ is_leaf_in_row self.now }
     {
@@ -117,6 +120,7 @@ impl<A: Allocator + Copy> Slot<A> {
     }
 
     /// Whether no further record may stand on the chain.
+    #[inline(always)]
     pub(crate) fn is_full(&self) -> bool
         ensures { result ≡ is_full self.now }
     {
@@ -124,6 +128,7 @@ impl<A: Allocator + Copy> Slot<A> {
     }
 
     /// Whether the version can't rise any more.
+    #[inline(always)]
     pub(crate) fn is_worn(&self) -> bool
         ensures { result ≡ is_worn self.now }
     {
@@ -131,6 +136,7 @@ impl<A: Allocator + Copy> Slot<A> {
     }
 
     /// The value at a key.
+    #[inline(always)]
     pub(crate) fn find(&self, key: Key) -> Option<u64>
         ensures { result ≡ at key (pairs_in self.now) }
     {
@@ -151,6 +157,7 @@ impl<A: Allocator + Copy> Slot<A> {
     }
 
     /// The route with the greatest separator at or below the key.
+    #[inline(always)]
     pub(crate) fn child(&self, key: Key) -> Option<(Key, Pid)>
         requires in_row { is_in_row self.now.stage ≡ true }
         requires sound { HasSoundChain self.now }
@@ -175,6 +182,7 @@ impl<A: Allocator + Copy> Slot<A> {
     }
 
     /// Whether the page is there as the place says, on a search for the key down to the goal.
+    #[inline(always)]
     pub(crate) fn is_there(&self, place: Place, key: Key, goal: u8) -> bool
         ensures { result ≡ is_there self.now place key goal }
     {
@@ -186,6 +194,7 @@ impl<A: Allocator + Copy> Slot<A> {
     }
 
     /// What the stage of the page, which has the id, asks for.
+    #[inline(always)]
     pub(crate) fn todo(&self, pid: Pid) -> Option<Todo>
         ensures { result ≡ own_todo self.now.stage pid }
     {

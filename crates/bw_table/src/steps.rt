@@ -24,6 +24,7 @@ use std::alloc::Allocator;
 
 impl<A: Allocator + Copy> Table<A> {
     /// What `install` would answer. It changes nothing.
+    #[inline(always)]
     pub fn check(&self, step: &Step<A>) -> Result<(), Refused>
         ensures { result ≡ fine_unless (refusal self.now (proposal_of step.now)) }
     {
@@ -42,6 +43,7 @@ impl<A: Allocator + Copy> Table<A> {
 
     /// Takes the step, or answers the first reason to refuse it and gives its memory up. It takes
     /// no memory.
+    #[inline(always)]
     pub fn install(&mut self, step: Step<A>) -> Result<Receipt, Refused>
         ensures accepted { IsOk result ↔ (refusal self.old (proposal_of step) ≡ None) }
         ensures taken { IfOk result (λ receipt. TakesStep self.old (proposal_of step) receipt self.new) }

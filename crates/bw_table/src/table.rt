@@ -80,6 +80,7 @@ impl<A: Allocator + Copy> Table<A> {
     }
 
     /// The configuration that the table was made by. The law of the table is told with it.
+    #[inline(always)]
     pub fn config(&self) -> Config
         ensures config { result ≡ self.now.config }
         ensures lawful { Lawful self.now }
@@ -89,6 +90,7 @@ impl<A: Allocator + Copy> Table<A> {
     }
 
     /// Where every search begins.
+    #[inline(always)]
     pub fn root(&self) -> Place
         ensures place { result ≡ root_place self.now }
         ensures on_the_way { (key goal : ℕ) → goal ≤ result.level → IsOnTheWay self.now result key goal }
@@ -101,6 +103,7 @@ impl<A: Allocator + Copy> Table<A> {
     }
 
     /// The page with the id, if the id isn't past the end and its slot isn't free.
+    #[inline(always)]
     pub fn peek(&self, pid: Pid) -> Option<View>
         ensures view { result ≡ view_at self.now pid }
         ensures merged { IfSome result (λ view. view.stage ≡ Merged → HasNothing view.high view.right view.count view.depth) }
@@ -125,6 +128,7 @@ impl<A: Allocator + Copy> Table<A> {
     }
 
     /// What the map has at the key, if the page is a leaf in its row whose range holds the key.
+    #[inline(always)]
     pub fn look(&self, pid: Pid, key: Key) -> Option<Look>
         ensures look { result ≡ look_at self.now pid.0 key }
         ensures map { IfSome result (λ look. IsValueAt self.now.slots key look.found) }
@@ -140,6 +144,7 @@ impl<A: Allocator + Copy> Table<A> {
     }
 
     /// How many changes of the map there were.
+    #[inline(always)]
     pub(crate) fn number(&self) -> u64
         ensures { result ≡ number_of self.now.book }
     {
@@ -148,6 +153,7 @@ impl<A: Allocator + Copy> Table<A> {
 
     /// The slot of a page, if the id isn't past the end.
     #[tactic(auto, using(crate::proofs::Whole::has_sound_chain))]
+    #[inline(always)]
     pub(crate) fn slot(&self, pid: Pid) -> Option<&Slot<A>>
         ensures there { IfSome result (λ slot. slot.now ≡ slot_at self.now pid.0) }
         ensures nowhere { IfNone result (slot_at self.now pid.0 ≡ free_slot 0) }
@@ -157,6 +163,7 @@ impl<A: Allocator + Copy> Table<A> {
         self.slots.get(pid.0 as usize)
     }
 
+    #[inline(always)]
     pub(crate) fn root_slot(&self) -> &Slot<A>
         ensures { result.now ≡ slot_at self.now self.now.root }
     {

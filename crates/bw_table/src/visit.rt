@@ -26,6 +26,7 @@ impl<A: Allocator + Copy> Table<A> {
     /// Where a search for the key, down to the goal's level, goes from a place, and what it meets
     /// unfinished there. Any place may be visited: one that `root` gave, or a visit of the table as
     /// it was earlier. Where its page isn't there any more the search begins again at the root.
+    #[inline(always)]
     pub fn visit(&self, place: Place, key: Key, goal: u8) -> Next
         ensures answer { result ≡ visit_at self.now place key goal }
 
@@ -46,6 +47,7 @@ impl<A: Allocator + Copy> Table<A> {
     }
 
     /// The way on from a page that is there: right, down or nowhere.
+    #[inline(always)]
     fn next(&self, pid: Pid, slot: &Slot<A>, key: Key, goal: u8) -> Next
         requires in_row { is_in_row slot.now.stage ≡ true }
         requires sound { HasSoundChain slot.now }
@@ -73,6 +75,7 @@ impl<A: Allocator + Copy> Table<A> {
     }
 
     /// The way down from an inner page.
+    #[inline(always)]
     fn next_down(&self, pid: Pid, slot: &Slot<A>, key: Key) -> Next
         requires in_row { is_in_row slot.now.stage ≡ true }
         requires sound { HasSoundChain slot.now }
@@ -116,6 +119,7 @@ impl<A: Allocator + Copy> Table<A> {
     }
 
     /// Whether the page is merged.
+    #[inline(always)]
     fn is_merged(&self, pid: Pid) -> bool
         ensures { result ≡ is_merged (slot_at self.now pid.0).stage }
     {
@@ -145,6 +149,7 @@ impl<A: Allocator + Copy> Table<A> {
 }
 
 /// Down from a page by one of its routes.
+#[inline(always)]
 fn down<A: Allocator + Copy>(slot: &Slot<A>, separator: Key, child: Pid) -> Go
     requires { 0 < slot.now.level }
     ensures { result ≡ down_by slot.now (Some (separator, child)) }

@@ -115,6 +115,7 @@ impl<A: Allocator + Copy, I: MadeBy, D: Ledger> Booked<A, I, D> {
 
     /// Lends the table.
     #[tactic(auto, using(crate::proofs::Trees::is_tree))]
+    #[inline(always)]
     pub fn table(&self) -> &Table<A>
         ensures same { result.now ≡ self.now }
         ensures tree { IsTree self.now }
@@ -124,6 +125,7 @@ impl<A: Allocator + Copy, I: MadeBy, D: Ledger> Booked<A, I, D> {
 
     /// Takes the step as `Table::install` does, and counts an insertion or a removal in the share.
     #[tactic(auto, using(crate::proofs::Answers::is_told))]
+    #[inline(always)]
     pub fn install(&mut self, share: &mut Share<I, D>, step: Step<A>) -> Result<Receipt, Refused>
         ensures accepted { IsOk result ↔ (refusal self.old (proposal_of step) ≡ None) }
         ensures taken { IfOk result (λ receipt. TakesStep self.old (proposal_of step) receipt self.new) }

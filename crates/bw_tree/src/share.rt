@@ -54,6 +54,7 @@ impl<I: Ledger, D: Ledger> Model for Share<I, D> {
 
 impl<I: Ledger, D: Ledger> Share<I, D> {
     /// Counts an insertion or a removal in the share and in its ledger.
+    #[inline(always)]
     pub(crate) fn count(
         &mut self,
         receipt: Receipt,

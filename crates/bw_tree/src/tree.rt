@@ -78,26 +78,32 @@ impl<R: Wait + Drop, A: Allocator + Copy, I: MadeBy, D: Ledger> Shared<A, Step<A
 
     ghost made_by = { λ tree. tree.config };
 
+    #[inline(always)]
     fn config(&self) -> Config {
         self.config
     }
 
+    #[inline(always)]
     fn root(&self) -> Place {
         self.booked.lock(&self.rt).table().root()
     }
 
+    #[inline(always)]
     fn visit(&self, place: Place, key: Key, goal: u8) -> Next {
         self.booked.lock(&self.rt).table().visit(place, key, goal)
     }
 
+    #[inline(always)]
     fn peek(&self, pid: Pid) -> Option<View> {
         self.booked.lock(&self.rt).table().peek(pid)
     }
 
+    #[inline(always)]
     fn look(&self, pid: Pid, key: Key) -> Option<Look> {
         self.booked.lock(&self.rt).table().look(pid, key)
     }
 
+    #[inline(always)]
     fn copy_page(&self, alloc: A, pid: Pid, seen: Version) -> Result<Chain<A>, CopyFault> {
         self.booked
             .lock(&self.rt)
@@ -106,6 +112,7 @@ impl<R: Wait + Drop, A: Allocator + Copy, I: MadeBy, D: Ledger> Shared<A, Step<A
     }
 
     /// Takes the step by `Booked::install`. It takes no memory.
+    #[inline(always)]
     fn install(&self, share: &mut Share<I, D>, step: Step<A>) -> Result<Receipt, Denied>
         ensures share { MatchResult result (λ receipt. share.new ≡ counted share.old receipt) (λ _. share.new ≡ share.old) }
         ensures receipt { IfOk result (IsReceiptOf (proposal_of step)) }

@@ -69,29 +69,35 @@ impl<'t, A: Allocator + Copy> Steps<A, Step<A>> for Alone<'t, A> {
 
     ghost narrows = { λ s low key end pairs le shown. shows_narrow s.table.now low key end pairs le shown };
 
+    #[inline(always)]
     fn config(&self) -> Config {
         self.account.config()
     }
 
+    #[inline(always)]
     fn alloc(&self) -> A {
         self.alloc
     }
 
+    #[inline(always)]
     fn root(&self) -> Place {
         self.table.root()
     }
 
     #[tactic(auto, using(crate::proofs::Calming::next_is_calm))]
+    #[inline(always)]
     fn visit(&mut self, place: Place, key: Key, goal: u8) -> Next {
         let next = self.table.visit(place, key, goal);
         self.account.visited(next.go);
         next
     }
 
+    #[inline(always)]
     fn peek(&mut self, pid: Pid) -> Option<View> {
         self.table.peek(pid)
     }
 
+    #[inline(always)]
     fn look(&mut self, pid: Pid, key: Key, keep: Keep) -> Result<Option<Look>, NoMemory> {
         self.account.reserve()?;
         // The law of the table is told with its configuration.
@@ -101,6 +107,7 @@ impl<'t, A: Allocator + Copy> Steps<A, Step<A>> for Alone<'t, A> {
         Ok(look)
     }
 
+    #[inline(always)]
     fn copy_page(&mut self, pid: Pid, version: Version) -> Result<Chain<A>, CopyFault> {
         // The law of the table is told with its configuration.
         let _config = self.table.config();
@@ -109,6 +116,7 @@ impl<'t, A: Allocator + Copy> Steps<A, Step<A>> for Alone<'t, A> {
         copy
     }
 
+    #[inline(always)]
     fn install(&mut self, step: Step<A>) -> Result<Receipt, Denied> {
         if self.account.reserve().is_err() {
             return Err(Denied::NoMemory);
@@ -127,18 +135,22 @@ impl<'t, A: Allocator + Copy> Steps<A, Step<A>> for Alone<'t, A> {
         }
     }
 
+    #[inline(always)]
     fn idle(&mut self) {
         self.account.idled();
     }
 
+    #[inline(always)]
     fn effort(&self) -> u64 {
         self.account.effort()
     }
 
+    #[inline(always)]
     fn ends(&self) -> Ends {
         self.account.ends()
     }
 
+    #[inline(always)]
     fn trail(&self) -> &[Receipt] {
         self.account.trail()
     }

@@ -97,28 +97,34 @@ impl<'t, A: Allocator + Copy, S: Shared<A, Step<A>>, G: Gate> Steps<A, Step<A>>
 
     ghost narrows = { λ h low key end pairs le shown. tt };
 
+    #[inline(always)]
     fn config(&self) -> Config {
         self.account.config()
     }
 
+    #[inline(always)]
     fn alloc(&self) -> A {
         self.alloc
     }
 
+    #[inline(always)]
     fn root(&self) -> Place {
         self.tree.root()
     }
 
+    #[inline(always)]
     fn visit(&mut self, place: Place, key: Key, goal: u8) -> Next {
         let next = self.tree.visit(place, key, goal);
         self.account.visited(next.go);
         next
     }
 
+    #[inline(always)]
     fn peek(&mut self, pid: Pid) -> Option<View> {
         self.tree.peek(pid)
     }
 
+    #[inline(always)]
     fn look(&mut self, pid: Pid, key: Key, keep: Keep) -> Result<Option<Look>, NoMemory> {
         self.account.reserve()?;
         let look = self.tree.look(pid, key);
@@ -126,12 +132,14 @@ impl<'t, A: Allocator + Copy, S: Shared<A, Step<A>>, G: Gate> Steps<A, Step<A>>
         Ok(look)
     }
 
+    #[inline(always)]
     fn copy_page(&mut self, pid: Pid, version: Version) -> Result<Chain<A>, CopyFault> {
         let copy = self.tree.copy_page(self.alloc, pid, version);
         self.account.copied(&copy);
         copy
     }
 
+    #[inline(always)]
     fn install(&mut self, step: Step<A>) -> Result<Receipt, Denied>
         ensures follows { Sums self.old.account.seen.trail self.old.share self.new.account.seen.trail self.new.share }
         ensures seen { Installed (proposal_of step) result self.old.account.seen self.new.account.seen }
@@ -153,24 +161,29 @@ impl<'t, A: Allocator + Copy, S: Shared<A, Step<A>>, G: Gate> Steps<A, Step<A>>
         }
     }
 
+    #[inline(always)]
     fn idle(&mut self) {
         self.account.idled();
     }
 
+    #[inline(always)]
     fn effort(&self) -> u64 {
         self.account.effort()
     }
 
+    #[inline(always)]
     fn ends(&self) -> Ends {
         self.account.ends()
     }
 
+    #[inline(always)]
     fn trail(&self) -> &[Receipt] {
         self.account.trail()
     }
 }
 
 /// Calls the gate where the receipt is that of a change of the tree's shape.
+#[inline(always)]
 fn pass<G: Gate>(gate: &G, worker: u32, receipt: Receipt) {
     match receipt {
         Receipt::Shaped { kind, .. } => gate.at(worker, kind),

@@ -19,6 +19,7 @@ use std::alloc::Allocator;
 
 impl<A: Allocator + Copy> Table<A> {
     /// Why the consolidation is refused.
+    #[inline(always)]
     pub(super) fn check_consolidate(&self, step: &Consolidate<A>) -> Result<(), Refused>
         ensures { result ≡ fine_unless (refusal self.now (consolidate_of step.now)) }
     {
@@ -29,6 +30,7 @@ impl<A: Allocator + Copy> Table<A> {
     }
 
     /// Does a consolidation that isn't refused.
+    #[inline(always)]
     pub(super) fn consolidate(&mut self, step: Consolidate<A>) -> Receipt
         requires { refusal self.old (consolidate_of step) ≡ None }
         ensures { TakesStep self.old (consolidate_of step) result self.new }
@@ -44,6 +46,7 @@ impl<A: Allocator + Copy> Table<A> {
 }
 
 /// Why the consolidation is refused on the slot of its page.
+#[inline(always)]
 fn may_consolidate<A: Allocator + Copy>(
     slot: &Slot<A>,
     step: &Consolidate<A>,
@@ -65,6 +68,7 @@ fn may_consolidate<A: Allocator + Copy>(
 }
 
 /// Puts the base in the place of the page's chain.
+#[inline(always)]
 fn consolidate_at<A: Allocator + Copy>(slots: &mut Vec<Slot<A>>, page: Pid, base: Base<A>)
     requires exists { page.0 < length slots.old.items }
     requires version { (slot_in slots.old.items page.0).version + 1 < 2 ^ 64 }
@@ -74,6 +78,7 @@ fn consolidate_at<A: Allocator + Copy>(slots: &mut Vec<Slot<A>>, page: Pid, base
 }
 
 impl<A: Allocator + Copy> Slot<A> {
+    #[inline(always)]
     fn consolidate(&mut self, base: Base<A>)
         requires version { self.old.version + 1 < 2 ^ 64 }
         ensures { self.new ≡ consolidated base self.old }

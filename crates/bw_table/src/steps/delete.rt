@@ -21,6 +21,7 @@ use std::alloc::Allocator;
 
 impl<A: Allocator + Copy> Table<A> {
     /// Why the deletion is refused.
+    #[inline(always)]
     pub(super) fn check_delete(&self, step: &Delete<A>) -> Result<(), Refused>
         ensures { result ≡ fine_unless (refusal self.now (delete_of step.now)) }
     {
@@ -31,6 +32,7 @@ impl<A: Allocator + Copy> Table<A> {
     }
 
     /// Does a deletion that isn't refused.
+    #[inline(always)]
     pub(super) fn delete(&mut self, step: Delete<A>) -> Receipt
         requires { refusal self.old (delete_of step) ≡ None }
         ensures { TakesStep self.old (delete_of step) result self.new }
@@ -52,6 +54,7 @@ impl<A: Allocator + Copy> Table<A> {
 }
 
 /// Why the deletion is refused on the slot of its page, at the book's number.
+#[inline(always)]
 fn may_delete<A: Allocator + Copy>(
     slot: &Slot<A>,
     number: u64,
@@ -67,6 +70,7 @@ fn may_delete<A: Allocator + Copy>(
 }
 
 /// Deletes a key that the leaf has, and answers its value.
+#[inline(always)]
 fn delete_at<A: Allocator + Copy>(
     slots: &mut Vec<Slot<A>>,
     page: Pid,
@@ -83,6 +87,7 @@ fn delete_at<A: Allocator + Copy>(
 }
 
 impl<A: Allocator + Copy> Slot<A> {
+    #[inline(always)]
     fn delete(&mut self, key: Key, spare: Spare<A>) -> u64
         requires deeper { MayGrowDeeper self.old }
         requires count { 0 < self.old.count }

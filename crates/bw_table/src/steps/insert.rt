@@ -20,6 +20,7 @@ use std::alloc::Allocator;
 
 impl<A: Allocator + Copy> Table<A> {
     /// Why the insertion is refused.
+    #[inline(always)]
     pub(super) fn check_insert(&self, step: &Insert<A>) -> Result<(), Refused>
         ensures { result ≡ fine_unless (refusal self.now (insert_of step.now)) }
     {
@@ -30,6 +31,7 @@ impl<A: Allocator + Copy> Table<A> {
     }
 
     /// Does an insertion that isn't refused.
+    #[inline(always)]
     pub(super) fn insert(&mut self, step: Insert<A>) -> Receipt
         requires { refusal self.old (insert_of step) ≡ None }
         ensures { TakesStep self.old (insert_of step) result self.new }
@@ -52,6 +54,7 @@ impl<A: Allocator + Copy> Table<A> {
 }
 
 /// Why the insertion is refused on the slot of its page, at the book's number.
+#[inline(always)]
 fn may_insert<A: Allocator + Copy>(
     slot: &Slot<A>,
     number: u64,
@@ -67,6 +70,7 @@ fn may_insert<A: Allocator + Copy>(
 }
 
 /// Inserts a key that the leaf doesn't have.
+#[inline(always)]
 fn insert_at<A: Allocator + Copy>(
     slots: &mut Vec<Slot<A>>,
     page: Pid,
@@ -83,6 +87,7 @@ fn insert_at<A: Allocator + Copy>(
 }
 
 impl<A: Allocator + Copy> Slot<A> {
+    #[inline(always)]
     fn insert(&mut self, key: Key, value: u64, spare: Spare<A>)
         requires deeper { MayGrowDeeper self.old }
         requires count { self.old.count + 1 < 2 ^ 64 }

@@ -18,6 +18,7 @@ use bw_step::{Refused, Stage, Summary};
 use std::alloc::Allocator;
 
 /// Why a page isn't open for a change: it isn't in a row, has another version, or is leaving.
+#[inline(always)]
 pub(super) fn check_open<A: Allocator + Copy>(slot: &Slot<A>, seen: Version) -> Result<(), Refused>
     ensures { result ≡ fine_unless (first_reason (absent (slot.now ∷ []) ∷ stale ((slot.now, seen.0) ∷ []) ∷ frozen slot.now ∷ [])) }
 {
@@ -34,6 +35,7 @@ pub(super) fn check_open<A: Allocator + Copy>(slot: &Slot<A>, seen: Version) -> 
 }
 
 /// Why the page isn't an open leaf whose range holds the key.
+#[inline(always)]
 pub(super) fn check_leaf<A: Allocator + Copy>(
     slot: &Slot<A>,
     seen: Version,
@@ -52,6 +54,7 @@ pub(super) fn check_leaf<A: Allocator + Copy>(
 }
 
 /// Why there is no room for a change of the map, at the book's number.
+#[inline(always)]
 pub(super) fn check_change<A: Allocator + Copy>(slot: &Slot<A>, number: u64) -> Result<(), Refused>
     ensures { result ≡ fine_unless (first_reason (when (is_full slot.now) Deep ∷ worn_change slot.now number ∷ [])) }
 {
@@ -89,6 +92,7 @@ impl<A: Allocator + Copy> Slot<A> {
     }
 
     /// Puts a record on top of the chain, by which the page has so many entries.
+    #[inline(always)]
     pub(super) fn record(&mut self, delta: Delta, count: u64, spare: Spare<A>)
         requires deeper { MayGrowDeeper self.old }
         ensures { self.new ≡ with_record delta count self.old }
