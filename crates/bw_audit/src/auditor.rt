@@ -1,7 +1,8 @@
-ghost use Rattle.std.specs.Prelude.{◌≡◌, ◌↔◌, IfOk, map};
+ghost use Rattle.std.specs.Prelude.{◌≡◌, ◌↔◌, IfOk};
 ghost use Rattle.bw_keys.specs.Ranges.{key_count};
 ghost use Rattle.bw_delta.specs.Entries.{at, from, rises};
 ghost use Rattle.bw_chain.specs.Ascends.{IsAscending};
+ghost use Rattle.bw_step.specs.Trails.{lists_of};
 ghost use Rattle.bw_audit.specs.Changes.{all_changes};
 ghost use Rattle.bw_audit.specs.Legal.{IsLegal};
 ghost use Rattle.bw_audit.specs.Verdicts.{changes_hold, pairs_hold, verdict_of};
@@ -32,8 +33,8 @@ pub fn audit(
     pairs: &[(Key, u64)],
 ) -> Result<Verdict, AuditFault>
     requires ascending { IsAscending pairs.now }
-    ensures legal { IfOk result (λ verdict. (verdict ≡ Verdict.Yes) ↔ IsLegal (map (λ trail. trail.items) trails.now) pairs.now) }
-    ensures first { IfOk result (λ verdict. verdict ≡ verdict_of (map (λ trail. trail.items) trails.now) pairs.now) }
+    ensures legal { IfOk result (λ verdict. (verdict ≡ Verdict.Yes) ↔ IsLegal (lists_of trails.now) pairs.now) }
+    ensures first { IfOk result (λ verdict. verdict ≡ verdict_of (lists_of trails.now) pairs.now) }
 {
     let changes = gather(machine, trails)?;
     let index = Index::new(machine, changes)?;
@@ -60,8 +61,8 @@ pub fn is_ascending(pairs: &[(Key, u64)]) -> bool
 /// The first bad receipt, or else whether the changes leave the pairs.
 fn judge(index: &Index, trails: &[Vec<Receipt>], pairs: &[(Key, u64)]) -> Verdict
     requires ascending { IsAscending pairs.now }
-    requires indexed { index.now ≡ all_changes (map (λ trail. trail.items) trails.now) }
-    ensures { result ≡ verdict_of (map (λ trail. trail.items) trails.now) pairs.now }
+    requires indexed { index.now ≡ all_changes (lists_of trails.now) }
+    ensures { result ≡ verdict_of (lists_of trails.now) pairs.now }
 {
     if let Some((worker, place)) = first_fault(index, trails) {
         return Verdict::No(worker, place);

@@ -1,4 +1,5 @@
-ghost use Rattle.std.specs.Prelude.{◌≡◌, ◌++◌, OnOk, IfOk, map};
+ghost use Rattle.std.specs.Prelude.{◌≡◌, ◌++◌, OnOk, IfOk};
+ghost use Rattle.bw_step.specs.Trails.{lists_of};
 ghost use Rattle.bw_audit.specs.Changes.{all_changes, change_of, changes_of};
 
 use crate::verdict::AuditFault;
@@ -53,7 +54,7 @@ fn gather_trail(changes: &mut Vec<Change>, trail: &[Receipt]) -> Result<(), Audi
 
 /// The changes of all trails, worker by worker.
 pub fn gather(machine: Global, trails: &[Vec<Receipt>]) -> Result<Vec<Change>, AuditFault>
-    ensures { IfOk result (λ changes. changes.items ≡ all_changes (map (λ trail. trail.items) trails.now)) }
+    ensures { IfOk result (λ changes. changes.items ≡ all_changes (lists_of trails.now)) }
 {
     let mut changes = Vec::new(machine);
     for trail in trails {

@@ -1,6 +1,7 @@
 ghost use Rattle.std.specs.Prelude.{◌≡◌, ◌<◌, ◌^◌, ℕ, List, None, IsOk, IfOk, IfErr, OnOk, map, length, replicate, ◌∷◌, []};
 ghost use Rattle.std.specs.List.{AllByRecursion};
 ghost use Rattle.bw_keys.specs.Limits.{first_bad_field};
+ghost use Rattle.bw_step.specs.Trails.{lists_of};
 ghost use Rattle.bw_law.specs.Tables.{Lawful};
 ghost use Rattle.bw_law.specs.Laws.{IsTheMap};
 ghost use Rattle.bw_audit.specs.Events.{turn_of, world_of, IsReplayFault};
@@ -43,8 +44,8 @@ pub fn replay(
     events: Vec<Event>,
 ) -> Result<Replayed, ReplayFault>
     requires workers { AllByRecursion (λ event. event.worker < workers) events.items }
-    ensures interleaved { IfOk result (λ replayed. IsInterleaving (first_world config workers) (map turn_of events.items) (world_of replayed.table (map (λ trail. trail.items) replayed.trails.items))) }
-    ensures legal { IfOk result (λ replayed. (pairs : List (ℕ × ℕ)) → IsTheMap replayed.table pairs → IsLegal (map (λ trail. trail.items) replayed.trails.items) pairs) }
+    ensures interleaved { IfOk result (λ replayed. IsInterleaving (first_world config workers) (map turn_of events.items) (world_of replayed.table (lists_of replayed.trails.items))) }
+    ensures legal { IfOk result (λ replayed. (pairs : List (ℕ × ℕ)) → IsTheMap replayed.table pairs → IsLegal (lists_of replayed.trails.items) pairs) }
     ensures fine { IsOk result → first_bad_field config ≡ None }
     ensures fault { IfErr result (IsReplayFault config) }
 {
@@ -69,8 +70,8 @@ fn take_turns(
 ) -> Result<Replayed, NoMemory>
     requires explained { Explains table (replicate workers []) }
     requires workers { AllByRecursion (λ event. event.worker < workers) events.items }
-    ensures interleaved { IfOk result (λ replayed. IsInterleaving (world_of table (replicate workers [])) (map turn_of events.items) (world_of replayed.table (map (λ trail. trail.items) replayed.trails.items))) }
-    ensures explained { IfOk result (λ replayed. Explains replayed.table (map (λ trail. trail.items) replayed.trails.items)) }
+    ensures interleaved { IfOk result (λ replayed. IsInterleaving (world_of table (replicate workers [])) (map turn_of events.items) (world_of replayed.table (lists_of replayed.trails.items))) }
+    ensures explained { IfOk result (λ replayed. Explains replayed.table (lists_of replayed.trails.items)) }
 {
     let mut trails = empty_trails(machine, workers)?;
     for event in events {
@@ -81,7 +82,7 @@ fn take_turns(
 
 /// A trail for each worker, without receipts.
 fn empty_trails(machine: Global, workers: u32) -> Result<Vec<Vec<Receipt>>, NoMemory>
-    ensures { IfOk result (λ trails. map (λ trail. trail.items) trails.items ≡ replicate workers []) }
+    ensures { IfOk result (λ trails. lists_of trails.items ≡ replicate workers []) }
 {
     let mut trails = Vec::with_capacity(machine, workers as usize)?;
     for _ in 0..workers {
@@ -98,7 +99,7 @@ fn take_turn(
 ) -> Result<(), NoMemory>
     requires lawful { Lawful table.old }
     requires worker { event.worker < length trails.old.items }
-    ensures { OnOk result (LeadsTo (world_of table.old (map (λ trail. trail.items) trails.old.items)) (turn_of event) (world_of table.new (map (λ trail. trail.items) trails.new.items))) }
+    ensures { OnOk result (LeadsTo (world_of table.old (lists_of trails.old.items)) (turn_of event) (world_of table.new (lists_of trails.new.items))) }
 {
     let Event { worker, act } = event;
     match act {
@@ -134,7 +135,7 @@ fn add_receipt(
     receipt: Receipt,
 ) -> Result<(), NoMemory>
     requires { worker < length trails.old.items }
-    ensures { OnOk result (map (λ trail. trail.items) trails.new.items ≡ add_receipts (map (λ trail. trail.items) trails.old.items) worker (receipt ∷ [])) }
+    ensures { OnOk result (lists_of trails.new.items ≡ add_receipts (lists_of trails.old.items) worker (receipt ∷ [])) }
 {
     trails[worker as usize].push(receipt)?;
     Ok(())

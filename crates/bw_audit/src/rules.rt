@@ -1,7 +1,8 @@
 //! What makes a receipt bad, and the first bad one.
 
-ghost use Rattle.std.specs.Prelude.{◌≡◌, ◌+◌, ◌≤◌, IfNone, length, map};
+ghost use Rattle.std.specs.Prelude.{◌≡◌, ◌+◌, ◌≤◌, IfNone, length};
 ghost use Rattle.bw_step.specs.Tellings.{telling_of};
+ghost use Rattle.bw_step.specs.Trails.{lists_of};
 ghost use Rattle.bw_audit.specs.Changes.{all_changes, changes_of};
 ghost use Rattle.bw_audit.specs.Legal.{position_after, rises_from};
 ghost use Rattle.bw_audit.specs.Verdicts.{first_bad, first_fault, is_bad, is_bad_change, is_bad_look, is_misnumbered};
@@ -93,8 +94,8 @@ fn first_bad(index: &Index, before: &mut usize, trail: &[Receipt]) -> Option<usi
 
 /// The worker and the place of the first bad receipt.
 pub fn first_fault(index: &Index, trails: &[Vec<Receipt>]) -> Option<(usize, usize)>
-    requires { length (all_changes (map (λ trail. trail.items) trails.now)) ≤ length index.now }
-    ensures { result ≡ first_fault index.now 0 0 (map (λ trail. trail.items) trails.now) }
+    requires { length (all_changes (lists_of trails.now)) ≤ length index.now }
+    ensures { result ≡ first_fault index.now 0 0 (lists_of trails.now) }
 {
     let mut before = 0;
     for (worker, trail) in trails.iter().enumerate() {

@@ -17,7 +17,7 @@ use Rattle.bw_delta.specs.Pairs.{routes}
 use Rattle.bw_delta.proofs.Stands.{routes_rise}
 use Rattle.bw_step.specs.declared.view.Stage.{Stage}
 use Rattle.bw_step.specs.declared.view.Stage.TheVariants.{Free, Unposted, Posted, Marked, Merged}
-use Rattle.bw_step.specs.Stages.{is_in_row, is_posted, is_leaving}
+use Rattle.bw_step.specs.Stages.{is_in_row, has_term, is_leaving}
 use Rattle.bw_law.specs.Slots.{SlotValue, free_slot, pairs_in, routes_in}
 use Rattle.bw_law.specs.Walks.{IsAmong}
 use Rattle.bw_law.specs.Tables.{TableValue, slot_at, id_of, IsPageOf, FreeList, Lawful, leaf_pairs, Booked, outlines, Maps}
@@ -27,7 +27,7 @@ use Rattle.bw_law.proofs.Accepted.{all_none, Holds}
 use Rattle.bw_law.proofs.Slots.{in_bounds, used_in_bounds}
 use Rattle.bw_law.proofs.FreeIds.{last_is_among, free_returned}
 use Rattle.bw_law.specs.Laws.{FitLaw}
-use Rattle.bw_law.proofs.Walk.{posted_in_row, low_is_live}
+use Rattle.bw_law.proofs.Walk.{term_in_row, low_is_live}
 use Rattle.bw_law.proofs.Shares.{leaf_pairs_in_row, Elsewhere, maps_cases, only_here}
 use Rattle.bw_law.proofs.Chains.{some_route, pairs_are, routes_are, leaf_count, inner_count, high_is, low_is}
 use Rattle.bw_law.proofs.Pigeonhole.{different_numbers_below, routes_to_different_pages}
@@ -140,7 +140,7 @@ module _ (table : TableValue) (law : Lawful table) where
       (omega (arith, inside.0, low_is (slot_at table page) chain own.1), omega (arith, inside.1, ap end_of (high_is (slot_at table page) chain own.1)))
 
   pub route_is_term : (page key : ℕ) (child : Pid) → IsHere page → at key (routes_in (slot_at table page)) ≡ Some child
-      → (is_posted (slot_at table child.0).stage ≡ true) × ((slot_at table page).level ≡ (slot_at table child.0).level + 1) × ((slot_at table child.0).low ≡ key)
+      → (has_term (slot_at table child.0).stage ≡ true) × ((slot_at table page).level ≡ (slot_at table child.0).level + 1) × ((slot_at table child.0).low ≡ key)
   route_is_term page key child here found =
       let term = law.rows.routed page child.0 key here (route_in_range page key child here found) (ap (option_map id_of) found) in
       (term.posted, term.above, term.at_low)
@@ -148,7 +148,7 @@ module _ (table : TableValue) (law : Lawful table) where
   pub routed_is_inside : (page key : ℕ) (child : Pid) → IsHere page → at key (routes_in (slot_at table page)) ≡ Some child → child.0 < length table.slots
   routed_is_inside page key child here found =
       let term = route_is_term page key child here found in
-      used_is_inside child.0 (λ free. cc (ap is_posted free, term.0))
+      used_is_inside child.0 (λ free. cc (ap has_term free, term.0))
 
   -- what a page counts
 
@@ -200,7 +200,7 @@ module _ (table : TableValue) (law : Lawful table) where
       let route = some_route (at (slot_at table page).low (routes_in (slot_at table page))) live.0 live.1.0 in
       let term = route_is_term page (slot_at table page).low route.0 here route.1 in
       let unmerged : (slot_at table route.0.0).stage ≢ Merged = λ merged. live.1.1 (ap (λ x. (slot_at table x).stage) (sym route.2) ∙ merged) in
-      (route.0, route.1, posted_in_row (slot_at table route.0.0).stage term.0 unmerged, omega (arith, term.1, inner), term.2)
+      (route.0, route.1, term_in_row (slot_at table route.0.0).stage term.0 unmerged, omega (arith, term.1, inner), term.2)
 
   -- the leaf whose range holds a key has what the map has there
   pub leaf_decides : (page key value : ℕ) → IsHere page → (slot_at table page).level ≡ 0 → Holds (slot_at table page) key

@@ -2,7 +2,7 @@
 use Rattle.std.proofs.Common.{◌≡◌, ℕ, ◌+◌, true, Some, None, cond, eqb, ltb, arith}
 use Rattle.bw_step.specs.declared.view.Stage.{Stage}
 use Rattle.bw_step.specs.declared.view.Stage.TheVariants.{Unposted, Posted}
-use Rattle.bw_step.specs.Stages.{is_posted, is_leaving}
+use Rattle.bw_step.specs.Stages.{has_term, is_leaving}
 use Rattle.bw_law.specs.Rows.{Outline, Spans, InRow, Rows}
 
 -- the outlines with one page written
@@ -46,10 +46,10 @@ over_two top level root key child = record {
 }
 
 -- the level above has a term for a page that is being removed
-pub leaving_is_posted : (stage : Stage) → is_leaving stage ≡ true → is_posted stage ≡ true
-leaving_is_posted stage leaving = grind arith
+pub leaving_has_term : (stage : Stage) → is_leaving stage ≡ true → has_term stage ≡ true
+leaving_has_term stage leaving = grind arith
 
 -- the page of the level above that spans the low of a page that is being removed routes it there
 pub leaving_is_routed : (top : ℕ) (at : ℕ → Outline) (root : ℕ) (law : Rows top at root) (p c : ℕ) → InRow (at p) → is_leaving (at c).stage ≡ true → (at p).level ≡ (at c).level + 1 → Spans (at p) (at c).low → (at p).routes (at c).low ≡ Some c
 leaving_is_routed top at root law p c in_row leaving above spans =
-    law.termed p c (at c).low in_row spans (record { posted = leaving_is_posted _ leaving; above = above; at_low = λ _. (at c).low })
+    law.termed p c (at c).low in_row spans (record { posted = leaving_has_term _ leaving; above = above; at_low = λ _. (at c).low })

@@ -4,7 +4,7 @@ use Rattle.std.proofs.lemmas.Bool.{cases_eq, cases_lt, cases_order}
 use Rattle.bw_keys.specs.Ranges.{key_count}
 use Rattle.bw_step.specs.declared.view.Stage.{Stage}
 use Rattle.bw_step.specs.declared.view.Stage.TheVariants.{Free, Unposted, Posted, Marked, Merged}
-use Rattle.bw_step.specs.Stages.{is_in_row, is_posted, is_leaving}
+use Rattle.bw_step.specs.Stages.{is_in_row, has_term, is_leaving}
 use Rattle.bw_law.specs.Rows.{Outline, Spans, InRow, Rows}
 use Rattle.bw_law.specs.Tables.{outlines}
 use Rattle.bw_law.specs.Walks.{IsLive, GoesRight, GoesDown, GoesOn, IsWalk, IsWalkFrom, last_of}
@@ -19,13 +19,13 @@ merged_cases Posted = inr (λ e. grind arith)
 merged_cases Marked = inr (λ e. grind arith)
 merged_cases Merged = inl refl
 
--- a posted page that isn't merged is in a row
-pub posted_in_row : (stage : Stage) → is_posted stage ≡ true → stage ≢ Merged → is_in_row stage ≡ true
-posted_in_row Free posted unmerged = absurd (cc)
-posted_in_row Unposted posted unmerged = absurd (cc)
-posted_in_row Posted posted unmerged = refl
-posted_in_row Marked posted unmerged = refl
-posted_in_row Merged posted unmerged = absurd (unmerged refl)
+-- a page with a term that isn't merged is in a row
+pub term_in_row : (stage : Stage) → has_term stage ≡ true → stage ≢ Merged → is_in_row stage ≡ true
+term_in_row Free term unmerged = absurd (cc)
+term_in_row Unposted term unmerged = absurd (cc)
+term_in_row Posted term unmerged = refl
+term_in_row Marked term unmerged = refl
+term_in_row Merged term unmerged = absurd (unmerged refl)
 
 -- the greatest live route from a page's low up to a number
 record Greatest (at : ℕ → Outline) (p n : ℕ) : Type 0 where
@@ -87,7 +87,7 @@ module _ (top : ℕ) (at : ℕ → Outline) (root : ℕ) (law : Rows top at root
       (λ (over : (at p).low ≤ down.route). over)
       (cases_lt down.route (at p).low) in
       let term = law.routed p q down.route p_in (from_low, omega (arith, down.within, down.at_or_below)) down.live.0 in
-      (posted_in_row _ term.posted down.live.1, omega (arith, term.at_low, down.at_or_below)))
+      (term_in_row _ term.posted down.live.1, omega (arith, term.at_low, down.at_or_below)))
       goes
 
   abbrev pub WalksFrom : ℕ → ℕ → Type 0

@@ -7,7 +7,7 @@ use Rattle.bw_keys.specs.declared.page.TheConstants.{MAX_DEPTH, MAX_LEVEL}
 use Rattle.bw_keys.specs.Ranges.{key_count}
 use Rattle.bw_delta.specs.Entries.{at, rises}
 use Rattle.bw_delta.specs.Pages.{Page}
-use Rattle.bw_step.specs.Stages.{is_posted}
+use Rattle.bw_step.specs.Stages.{has_term}
 use Rattle.bw_step.specs.Proposals.{Proposal}
 use Rattle.bw_step.specs.Tellings.{telling_of}
 use Rattle.bw_law.specs.Slots.{SlotValue, slot_in, pairs_in, routes_in}
@@ -94,7 +94,7 @@ joined_routes slots (page ∷ row) = routes_in (slot_in slots page) ++ joined_ro
 
 -- the level above has a term for the page, which begins at the key
 pub record HasTermAt (table : TableValue) (level page key : ℕ) : Type 0 where
-  pub posted : is_posted (slot_at table page).stage ≡ true
+  pub posted : has_term (slot_at table page).stage ≡ true
   pub on_level : (slot_at table page).level ≡ level
   pub begins : (slot_at table page).low ≡ key
 

@@ -2,7 +2,7 @@
 use Rattle.std.specs.Prelude.{◌≡◌, ◌≢◌, ℕ, ◌+◌, ◌<◌, ◌≤◌, true, Option, Some, None}
 use Rattle.bw_step.specs.declared.view.Stage.{Stage}
 use Rattle.bw_step.specs.declared.view.Stage.TheVariants.{Unposted, Posted}
-use Rattle.bw_step.specs.Stages.{is_in_row, is_posted, is_leaving}
+use Rattle.bw_step.specs.Stages.{is_in_row, has_term, is_leaving}
 
 -- What a page shows to the others. Its high is a number: the number of keys where the range ends at the top.
 pub record Outline : Type 0 where
@@ -21,7 +21,7 @@ InRow page = is_in_row page.stage ≡ true
 
 -- the child is to have a term on the level of the parent, at the key
 pub record IsTerm (parent child : Outline) (key : ℕ) : Type 0 where
-  pub posted : is_posted child.stage ≡ true
+  pub posted : has_term child.stage ≡ true
   pub above : parent.level ≡ child.level + 1
   pub at_low : child.low ≡ key
 

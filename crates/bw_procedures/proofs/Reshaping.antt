@@ -7,7 +7,7 @@ use Rattle.bw_step.specs.Tellings.{without_shapes}
 use Rattle.bw_step.proofs.Tellings.{without_shapes-append}
 use Rattle.bw_procedures.specs.Seen.{Seen, SameCounts, Grows, IsAccepted}
 use Rattle.bw_procedures.specs.declared.fault.Fault.{Fault}
-use Rattle.bw_procedures.specs.Calls.{OnlyReshapes, Works, IsFair, RoseBy, ChangesShape}
+use Rattle.bw_procedures.specs.Calls.{OnlyReshapes, ReshapesWithin, IsEarned, RoseBy, ChangesShape}
 
 pub counts_grow : (a b : Seen) → SameCounts a b → a.effort ≤ b.effort → Grows a b
 counts_grow a b p q = record { config = p.config; effort = q; full = omega arith; tall = omega arith; worn = omega arith }
@@ -25,14 +25,14 @@ shape_accepted step (Shaped kind page other) a b shape h = (
 shape_accepted step receipt a b shape h = absurd h.told
 
 -- the parts of what a call that only reshapes leaves
-pub works_reshapes : {T : Type 0} → (cost limit : ℕ) (result : Result T Fault) (a b : Seen) → Works cost limit result a b → OnlyReshapes a b
-works_reshapes cost limit (Ok it) a b works = works.0
-works_reshapes cost limit (Err fault) a b works = works.0
+pub within_reshapes : {T : Type 0} → (cost limit : ℕ) (result : Result T Fault) (a b : Seen) → ReshapesWithin cost limit result a b → OnlyReshapes a b
+within_reshapes cost limit (Ok it) a b is = is.0
+within_reshapes cost limit (Err fault) a b is = is.0
 
-pub works_cost : {T : Type 0} → (cost limit : ℕ) (result : Result T Fault) (a b : Seen) → Works cost limit result a b → OnOk result (RoseBy cost a.effort b.effort)
-works_cost cost limit (Ok it) a b works = works.1
-works_cost cost limit (Err fault) a b works = tt
+pub within_cost : {T : Type 0} → (cost limit : ℕ) (result : Result T Fault) (a b : Seen) → ReshapesWithin cost limit result a b → OnOk result (RoseBy cost a.effort b.effort)
+within_cost cost limit (Ok it) a b is = is.1
+within_cost cost limit (Err fault) a b is = tt
 
-pub works_fair : {T : Type 0} → (cost limit : ℕ) (result : Result T Fault) (a b : Seen) → Works cost limit result a b → IfErr result (IsFair limit a b)
-works_fair cost limit (Ok it) a b works = tt
-works_fair cost limit (Err fault) a b works = works.1
+pub within_earned : {T : Type 0} → (cost limit : ℕ) (result : Result T Fault) (a b : Seen) → ReshapesWithin cost limit result a b → IfErr result (IsEarned limit a b)
+within_earned cost limit (Ok it) a b is = tt
+within_earned cost limit (Err fault) a b is = is.1

@@ -15,7 +15,7 @@ use Rattle.bw_procedures.specs.declared.fault.Fault.TheVariants.{Contended, NoMe
 use Rattle.bw_procedures.specs.declared.offer.Answer.{Answer}
 use Rattle.bw_procedures.specs.declared.offer.Answer.TheVariants as answers
 use Rattle.bw_procedures.specs.Seen.{Seen, SameButEffort, SameCounts, Grows}
-use Rattle.bw_procedures.specs.Sights.{Sight, holds, fresh}
+use Rattle.bw_procedures.specs.Facts.{Fact, holds, fresh}
 
 -- a count rose by so much, or is at its end
 abbrev pub RoseBy : ℕ → ℕ → ℕ → Type 0
@@ -26,15 +26,15 @@ abbrev pub limit_of : Seen → ℕ
 limit_of seen = min (seen.effort + seen.config.tries) (2 ^ 64 - 1)
 
 -- a call that gives up at this effort may answer this fault
-abbrev pub IsFair : ℕ → Seen → Seen → Fault → Type 0
-IsFair limit old new Contended = limit ≤ new.effort
-IsFair limit old new NoRoom = Unit {0}
-IsFair limit old new TableFull = RoseBy 1 old.full new.full
-IsFair limit old new TooTall = RoseBy 1 old.tall new.tall
-IsFair limit old new Worn = RoseBy 1 old.worn new.worn
+abbrev pub IsEarned : ℕ → Seen → Seen → Fault → Type 0
+IsEarned limit old new Contended = limit ≤ new.effort
+IsEarned limit old new NoRoom = Unit {0}
+IsEarned limit old new TableFull = RoseBy 1 old.full new.full
+IsEarned limit old new TooTall = RoseBy 1 old.tall new.tall
+IsEarned limit old new Worn = RoseBy 1 old.worn new.worn
 
 -- no receipt and no count: only the effort may have risen
-pub record Waits (old new : Seen) : Type 0 where
+pub record OnlySpends (old new : Seen) : Type 0 where
   pub same : SameButEffort old new
   pub effort : old.effort ≤ new.effort
 
@@ -43,10 +43,10 @@ pub record OnlyReshapes (old new : Seen) : Type 0 where
   pub without_shapes : without_shapes new.trail ≡ without_shapes old.trail
   pub grows : Grows old new
 
--- a part of a call that changes nothing but the tree's shape: answered, it cost so much, and otherwise the fault is fair
-abbrev pub Works : {T : Type 0} → ℕ → ℕ → Result T Fault → Seen → Seen → Type 0
-Works cost limit (Ok it) old new = OnlyReshapes old new × RoseBy cost old.effort new.effort
-Works cost limit (Err fault) old new = OnlyReshapes old new × IsFair limit old new fault
+-- a part of a call that changes nothing but the tree's shape: answered, it cost so much, and otherwise the fault is earned
+abbrev pub ReshapesWithin : {T : Type 0} → ℕ → ℕ → Result T Fault → Seen → Seen → Type 0
+ReshapesWithin cost limit (Ok it) old new = OnlyReshapes old new × RoseBy cost old.effort new.effort
+ReshapesWithin cost limit (Err fault) old new = OnlyReshapes old new × IsEarned limit old new fault
 
 -- an attempt that came to nothing cost effort
 abbrev pub CostsIfNone : {T : Type 0} → Option T → Seen → Seen → Type 0
@@ -58,15 +58,15 @@ IsAtLevel goal None = Unit {0}
 IsAtLevel goal (Some view) = view.level ≡ goal
 
 -- a page is found that holds the key, and is fresh
-abbrev pub IsCalm : (Sight → Type 0) → ℕ → ℕ → Option View → Type 0
-IsCalm calm key goal None = ⊥
-IsCalm calm key goal (Some view) = calm (holds key goal view.pid) × calm (fresh view.pid view.version)
+abbrev pub FindsFresh : (Fact → Type 0) → ℕ → ℕ → Option View → Type 0
+FindsFresh calm key goal None = ⊥
+FindsFresh calm key goal (Some view) = calm (holds key goal view.pid) × calm (fresh view.pid view.version)
 
 -- one attempt to look a key up, which is kept if it is answered
 abbrev pub Sought : ℕ → Result (Option Look) NoMemory → Seen → Seen → Type 0
-Sought key (Ok None) old new = Waits old new × RoseBy 1 old.effort new.effort
+Sought key (Ok None) old new = OnlySpends old new × RoseBy 1 old.effort new.effort
 Sought key (Ok (Some look)) old new = SameCounts old new × (new.trail ≡ old.trail ++ receipts.Looked look.at key look.found ∷ []) × (old.effort ≤ new.effort)
-Sought key (Err no_memory) old new = Waits old new
+Sought key (Err no_memory) old new = OnlySpends old new
 
 -- the look that was answered is the one receipt that was added; without an answer none was
 abbrev pub AddsLook : ℕ → Result (Option ℕ) Fault → List Receipt → List Receipt → Type 0
@@ -75,8 +75,8 @@ AddsLook key (Err fault) old new = new ≡ old
 
 -- one attempt that adds no receipt, and costs effort if it comes to nothing
 abbrev pub Reads : {T : Type 0} → Result (Option T) NoMemory → Seen → Seen → Type 0
-Reads (Ok it) old new = Waits old new × CostsIfNone it old new
-Reads (Err no_memory) old new = Waits old new
+Reads (Ok it) old new = OnlySpends old new × CostsIfNone it old new
+Reads (Err no_memory) old new = OnlySpends old new
 
 -- memory apart, the attempt came to something
 abbrev pub IsAnswered : {T : Type 0} → Result (Option T) NoMemory → Type 0
@@ -118,4 +118,4 @@ fault_in _ = None
 abbrev pub Offered : Proposal → ℕ → Result Answer Fault → Seen → Seen → Type 0
 Offered step limit (Ok (answers.Accepted receipt)) old new = IsReceiptOf step receipt × (without_shapes new.trail ≡ without_shapes old.trail ++ receipt ∷ []) × Grows old new
 Offered step limit (Ok (answers.Refused reason)) old new = OnlyReshapes old new × RoseBy 1 old.effort new.effort × CountRose reason old new
-Offered step limit (Err fault) old new = OnlyReshapes old new × IsFair limit old new fault
+Offered step limit (Err fault) old new = OnlyReshapes old new × IsEarned limit old new fault

@@ -1,6 +1,6 @@
 pub mod Seen
 pub mod Accounts
-pub mod Sights
+pub mod Facts
 pub mod Calls
 pub mod Slices
 pub mod Rounds

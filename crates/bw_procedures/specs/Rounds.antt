@@ -8,7 +8,7 @@ use Rattle.bw_procedures.specs.declared.round.Turn.{Turn}
 use Rattle.bw_procedures.specs.declared.round.Turn.TheVariants.{Over, Idle, Next}
 use Rattle.bw_procedures.specs.Seen.{Seen}
 use Rattle.bw_procedures.specs.declared.fault.Fault.{Fault}
-use Rattle.bw_procedures.specs.Calls.{OnlyReshapes, IsFair, RoseBy}
+use Rattle.bw_procedures.specs.Calls.{OnlyReshapes, IsEarned, RoseBy}
 
 -- falls with each change of rounds: it leads up, or to a smaller key on the same level
 abbrev pub rank : ℕ → ℕ → ℕ
@@ -40,7 +40,7 @@ TurnCosts Over old new = RoseBy 1 old.effort new.effort
 TurnCosts Idle old new = Unit {0}
 TurnCosts (Next task) old new = Unit {0}
 
--- one round of this kind on this rung: it changes nothing but the tree's shape, and otherwise the fault is fair
+-- one round of this kind on this rung: it changes nothing but the tree's shape, and otherwise the fault is earned
 abbrev pub IsRound : Rung → ℕ → ℕ → Result Turn Fault → Seen → Seen → Type 0
 IsRound rung kind limit (Ok turn) old new = OnlyReshapes old new × TurnCosts turn old new × NextBelow rung kind turn
-IsRound rung kind limit (Err fault) old new = OnlyReshapes old new × IsFair limit old new fault
+IsRound rung kind limit (Err fault) old new = OnlyReshapes old new × IsEarned limit old new fault

@@ -16,7 +16,7 @@ use Rattle.bw_procedures.specs.declared.writing.Arrival.TheVariants.{Gone, Here,
 use Rattle.bw_procedures.specs.declared.writing.Tried.{Tried}
 use Rattle.bw_procedures.specs.declared.writing.Tried.TheVariants.{Reply, Tend, Again, Kept}
 use Rattle.bw_procedures.specs.Seen.{Seen, Grows, is_kept}
-use Rattle.bw_procedures.specs.Calls.{OnlyReshapes, IsFair, RoseBy}
+use Rattle.bw_procedures.specs.Calls.{OnlyReshapes, IsEarned, RoseBy}
 
 -- the receipt that goes with a put's reply: the insertion of the pair, or the look that found the key's value
 abbrev pub IsReceiptOfPut : ℕ → ℕ → Put → Receipt → Type 0
@@ -39,26 +39,26 @@ IsDeletionOf key receipt = ⊥
 abbrev pub AddsReceipt : {T : Type 0} → (T → Receipt → Type 0) → T → Seen → Seen → Type 0
 AddsReceipt is_of reply old new = (receipt : Receipt) × (without_shapes new.trail ≡ without_shapes old.trail ++ receipt ∷ []) × is_of reply receipt
 
--- a fault that is kept beside a reply is fair
-abbrev pub IsFairKept : ℕ → Seen → Seen → Option Fault → Type 0
-IsFairKept limit old new None = Unit {0}
-IsFairKept limit old new (Some fault) = IsFair limit old new fault
+-- a fault that is kept beside a reply is earned
+abbrev pub KeptIsEarned : ℕ → Seen → Seen → Option Fault → Type 0
+KeptIsEarned limit old new None = Unit {0}
+KeptIsEarned limit old new (Some fault) = IsEarned limit old new fault
 
 -- one attempt of a call; a fault is kept no more than once
 abbrev pub Attempts : {T : Type 0} → (T → Receipt → Type 0) → Bool → ℕ → Result (Tried T) Fault → Seen → Seen → Type 0
 Attempts is_of passes_posts limit (Ok (Reply reply)) old new = AddsReceipt is_of reply old new × Grows old new
 Attempts is_of passes_posts limit (Ok (Tend reply page)) old new = AddsReceipt is_of reply old new × Grows old new
 Attempts is_of passes_posts limit (Ok Again) old new = OnlyReshapes old new × RoseBy 1 old.effort new.effort
-Attempts is_of passes_posts limit (Ok (Kept fault)) old new = OnlyReshapes old new × IsFair limit old new fault × (passes_posts ≡ false)
-Attempts is_of passes_posts limit (Err fault) old new = OnlyReshapes old new × IsFair limit old new fault
+Attempts is_of passes_posts limit (Ok (Kept fault)) old new = OnlyReshapes old new × IsEarned limit old new fault × (passes_posts ≡ false)
+Attempts is_of passes_posts limit (Err fault) old new = OnlyReshapes old new × IsEarned limit old new fault
 
 -- help on a writer's walk
 abbrev pub Helped : {T : Type 0} → Bool → ℕ → Result (Tried T) Fault → Seen → Seen → Type 0
 Helped passes_posts limit (Ok (Reply reply)) old new = ⊥
 Helped passes_posts limit (Ok (Tend reply page)) old new = ⊥
 Helped passes_posts limit (Ok Again) old new = OnlyReshapes old new × RoseBy 1 old.effort new.effort
-Helped passes_posts limit (Ok (Kept fault)) old new = OnlyReshapes old new × IsFair limit old new fault × (passes_posts ≡ false)
-Helped passes_posts limit (Err fault) old new = OnlyReshapes old new × IsFair limit old new fault
+Helped passes_posts limit (Ok (Kept fault)) old new = OnlyReshapes old new × IsEarned limit old new fault × (passes_posts ≡ false)
+Helped passes_posts limit (Err fault) old new = OnlyReshapes old new × IsEarned limit old new fault
 
 -- a place that was gone cost effort
 abbrev pub ArrivalCosts : Arrival → Seen → Seen → Type 0
@@ -66,10 +66,10 @@ ArrivalCosts Gone old new = RoseBy 1 old.effort new.effort
 ArrivalCosts (Here view) old new = Unit {0}
 ArrivalCosts (Help todo) old new = Unit {0}
 
--- the fault in the end is the one kept, or it is fair
-abbrev pub EndsFairly : ℕ → Option Fault → Option Fault → Seen → Seen → Type 0
-EndsFairly limit kept None old new = kept ≡ None
-EndsFairly limit kept (Some fault) old new = (kept ≡ Some fault) ⊎ IsFair limit old new fault
+-- the fault in the end is the one kept, or it is earned
+abbrev pub EndsEarned : ℕ → Option Fault → Option Fault → Seen → Seen → Type 0
+EndsEarned limit kept None old new = kept ≡ None
+EndsEarned limit kept (Some fault) old new = (kept ≡ Some fault) ⊎ IsEarned limit old new fault
 
 -- a look that is kept adds its receipt, and one that isn't adds none
 abbrev pub LookAdds : Bool → ℕ → Option ℕ → Seen → Seen → Type 0

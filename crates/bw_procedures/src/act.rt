@@ -1,7 +1,7 @@
 //! Calls as values.
 
 ghost use Rattle.std.specs.Prelude.{◌≡◌, Some, IfOk, IfErr, OnErr};
-ghost use Rattle.bw_procedures.specs.Calls.{IsFair, limit_of};
+ghost use Rattle.bw_procedures.specs.Calls.{IsEarned, limit_of};
 ghost use Rattle.bw_step.specs.Tellings.{told_in};
 ghost use Rattle.bw_procedures.specs.Told.{joined, told_of};
 
@@ -35,7 +35,7 @@ pub fn do_act<A: Allocator + Copy, S: Steps<A, Step<A>>>(
     ensures follows { S.follows steps.old steps.new }
     ensures told { IfOk result (λ reply. Some (told_in (S.seen steps.new).trail) ≡ joined (Some (told_in (S.seen steps.old).trail)) (told_of act reply)) }
     ensures nothing { OnErr result (told_in (S.seen steps.new).trail ≡ told_in (S.seen steps.old).trail) }
-    ensures fault { IfErr result (IsFair (limit_of (S.seen steps.old)) (S.seen steps.old) (S.seen steps.new)) }
+    ensures fault { IfErr result (IsEarned (limit_of (S.seen steps.old)) (S.seen steps.old) (S.seen steps.new)) }
 {
     match act {
         Act::Put { key, value } => match put(steps, key, value) {

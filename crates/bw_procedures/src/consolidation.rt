@@ -2,7 +2,7 @@
 
 ghost use Rattle.std.specs.Prelude.{IfOk, IfSome};
 ghost use Rattle.bw_step.specs.ProposalView.{proposal_of};
-ghost use Rattle.bw_procedures.specs.Calls.{Works, Reads, ChangesShape};
+ghost use Rattle.bw_procedures.specs.Calls.{ReshapesWithin, Reads, ChangesShape};
 
 use crate::fault::Fault;
 use crate::offer::{Answer, offer};
@@ -42,7 +42,7 @@ pub(crate) fn consolidate<A: Allocator + Copy, S: Steps<A, Step<A>>>(
     view: View,
 ) -> Result<bool, Fault>
     ensures follows { S.follows steps.old steps.new }
-    ensures works { Works 1 limit result (S.seen steps.old) (S.seen steps.new) }
+    ensures reshapes { ReshapesWithin 1 limit result (S.seen steps.old) (S.seen steps.new) }
 {
     let Some(step) = consolidation(steps, view)? else {
         return Ok(false);

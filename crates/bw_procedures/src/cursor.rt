@@ -5,8 +5,8 @@ ghost use Rattle.bw_delta.specs.Entries.{from};
 ghost use Rattle.bw_delta.specs.Pairs.{pairs};
 ghost use Rattle.bw_delta.specs.Sound.{IsSound};
 ghost use Rattle.bw_procedures.specs.declared.fault.Fault.TheVariants as faults;
-ghost use Rattle.bw_procedures.specs.Sights.{quiet, ShowsCopy, IsLeafAround};
-ghost use Rattle.bw_procedures.specs.Calls.{limit_of, Waits, IsFair, Reads, IsAnswered};
+ghost use Rattle.bw_procedures.specs.Facts.{quiet, ShowsCopy, IsLeafAround};
+ghost use Rattle.bw_procedures.specs.Calls.{limit_of, OnlySpends, IsEarned, Reads, IsAnswered};
 ghost use Rattle.bw_procedures.specs.Slices.{end_of_slice, IsSliceFrom, ShowsRead, IsReadFrom};
 
 use crate::effort::{is_spent, limit};
@@ -31,10 +31,10 @@ pub fn page_from<A: Allocator + Copy, S: Steps<A, Step<A>>>(
     key: Key,
 ) -> Result<Slice, Fault>
     ensures follows { S.follows steps.old steps.new }
-    ensures seen { Waits (S.seen steps.old) (S.seen steps.new) }
+    ensures seen { OnlySpends (S.seen steps.old) (S.seen steps.new) }
     ensures shows { IfOk result (λ slice. S.shows steps.new key (end_of_slice slice.next) slice.pairs.items) }
     ensures slice { IfOk result (IsSliceFrom key) }
-    ensures fault { IfErr result (IsFair (limit_of (S.seen steps.old)) (S.seen steps.old) (S.seen steps.new)) }
+    ensures fault { IfErr result (IsEarned (limit_of (S.seen steps.old)) (S.seen steps.old) (S.seen steps.new)) }
     ensures calm { S.calm steps.old quiet → IfErr result (λ fault. fault ≡ faults.NoMemory) }
     ensures no_effort { S.calm steps.old quiet → (S.seen steps.new).effort ≡ (S.seen steps.old).effort }
 {

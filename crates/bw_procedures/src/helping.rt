@@ -1,7 +1,7 @@
 //! Helping an unfinished change along.
 
 ghost use Rattle.std.specs.Prelude.{◌≤◌, OnOk, IfErr};
-ghost use Rattle.bw_procedures.specs.Calls.{Works, OnlyReshapes, IsFair, RoseBy, limit_of};
+ghost use Rattle.bw_procedures.specs.Calls.{ReshapesWithin, OnlyReshapes, IsEarned, RoseBy, limit_of};
 
 use crate::effort::{is_spent, limit};
 use crate::fault::Fault;
@@ -16,7 +16,7 @@ use std::alloc::Allocator;
 ///
 /// It ends with `Contended` where the call's effort is spent, with `TableFull`, `TooTall` or `Worn`
 /// where its step was refused so, and with `NoMemory`.
-#[tactic(auto, using(crate::proofs::Reshaping::works_reshapes, crate::proofs::Reshaping::works_cost, crate::proofs::Reshaping::works_fair))]
+#[tactic(auto, using(crate::proofs::Reshaping::within_reshapes, crate::proofs::Reshaping::within_cost, crate::proofs::Reshaping::within_earned))]
 pub fn help<A: Allocator + Copy, S: Steps<A, Step<A>>>(
     steps: &mut S,
     todo: Todo,
@@ -24,7 +24,7 @@ pub fn help<A: Allocator + Copy, S: Steps<A, Step<A>>>(
     ensures follows { S.follows steps.old steps.new }
     ensures reshapes { OnlyReshapes (S.seen steps.old) (S.seen steps.new) }
     ensures cost { OnOk result (RoseBy 1 (S.seen steps.old).effort (S.seen steps.new).effort) }
-    ensures fault { IfErr result (IsFair (limit_of (S.seen steps.old)) (S.seen steps.old) (S.seen steps.new)) }
+    ensures fault { IfErr result (IsEarned (limit_of (S.seen steps.old)) (S.seen steps.old) (S.seen steps.new)) }
 {
     let limit = limit(steps);
     help_within(steps, limit, todo)
@@ -37,7 +37,7 @@ pub(crate) fn help_within<A: Allocator + Copy, S: Steps<A, Step<A>>>(
     todo: Todo,
 ) -> Result<(), Fault>
     ensures follows { S.follows steps.old steps.new }
-    ensures works { Works 1 limit result (S.seen steps.old) (S.seen steps.new) }
+    ensures reshapes { ReshapesWithin 1 limit result (S.seen steps.old) (S.seen steps.new) }
 {
     // Every page is further than this.
     let rung = Rung {

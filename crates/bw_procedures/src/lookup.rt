@@ -3,8 +3,8 @@
 ghost use Rattle.std.specs.Prelude.{◌≡◌, ◌≤◌, IfErr};
 ghost use Rattle.bw_procedures.specs.declared.fault.Fault.TheVariants as faults;
 ghost use Rattle.bw_procedures.specs.Seen.{Grows};
-ghost use Rattle.bw_procedures.specs.Sights.{quiet, IsLooked};
-ghost use Rattle.bw_procedures.specs.Calls.{limit_of, IsFair, Sought, AddsLook};
+ghost use Rattle.bw_procedures.specs.Facts.{quiet, IsLooked};
+ghost use Rattle.bw_procedures.specs.Calls.{limit_of, IsEarned, Sought, AddsLook};
 
 use crate::effort::{is_spent, limit};
 use crate::fault::Fault;
@@ -28,7 +28,7 @@ pub fn get<A: Allocator + Copy, S: Steps<A, Step<A>>>(
     ensures follows { S.follows steps.old steps.new }
     ensures grows { Grows (S.seen steps.old) (S.seen steps.new) }
     ensures receipt { AddsLook key result (S.seen steps.old).trail (S.seen steps.new).trail }
-    ensures fault { IfErr result (IsFair (limit_of (S.seen steps.old)) (S.seen steps.old) (S.seen steps.new)) }
+    ensures fault { IfErr result (IsEarned (limit_of (S.seen steps.old)) (S.seen steps.old) (S.seen steps.new)) }
     ensures calm { S.calm steps.old quiet → IfErr result (λ fault. fault ≡ faults.NoMemory) }
     ensures no_effort { S.calm steps.old quiet → (S.seen steps.new).effort ≡ (S.seen steps.old).effort }
 {
@@ -44,7 +44,7 @@ pub fn get<A: Allocator + Copy, S: Steps<A, Step<A>>>(
 }
 
 /// One walk to the leaf, and a look there. None where one of them came to nothing.
-#[tactic(auto, using(crate::proofs::Waiting::sought))]
+#[tactic(auto, using(crate::proofs::Spending::sought))]
 #[inline(always)]
 fn seek<A: Allocator + Copy, S: Steps<A, Step<A>>>(
     steps: &mut S,

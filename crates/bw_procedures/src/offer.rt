@@ -2,7 +2,7 @@
 
 ghost use Rattle.std.specs.Prelude.{◌≡◌, ◌<◌, IfOk, OnOk};
 ghost use Rattle.bw_step.specs.ProposalView.{proposal_of};
-ghost use Rattle.bw_procedures.specs.Calls.{Works, AnswerCounts, fault_in, ChangesShape, Offered};
+ghost use Rattle.bw_procedures.specs.Calls.{ReshapesWithin, AnswerCounts, fault_in, ChangesShape, Offered};
 
 use crate::effort::is_spent;
 use crate::fault::Fault;
@@ -26,7 +26,7 @@ pub(crate) fn offer<A: Allocator + Copy, S: Steps<A, Step<A>>>(
 ) -> Result<Answer, Fault>
     requires { ChangesShape (proposal_of step) }
     ensures follows { S.follows steps.old steps.new }
-    ensures works { Works 1 limit result (S.seen steps.old) (S.seen steps.new) }
+    ensures reshapes { ReshapesWithin 1 limit result (S.seen steps.old) (S.seen steps.new) }
     ensures within { OnOk result ((S.seen steps.old).effort < limit) }
     ensures counts { IfOk result (λ answer. AnswerCounts answer (S.seen steps.old) (S.seen steps.new)) }
 {
@@ -60,7 +60,7 @@ pub(crate) fn reshape<A: Allocator + Copy, S: Steps<A, Step<A>>>(
 ) -> Result<Answer, Fault>
     requires { ChangesShape (proposal_of step) }
     ensures follows { S.follows steps.old steps.new }
-    ensures works { Works 1 limit result (S.seen steps.old) (S.seen steps.new) }
+    ensures reshapes { ReshapesWithin 1 limit result (S.seen steps.old) (S.seen steps.new) }
     ensures within { OnOk result ((S.seen steps.old).effort < limit) }
 {
     let answer = offer(steps, limit, step)?;

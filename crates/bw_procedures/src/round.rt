@@ -2,7 +2,7 @@
 //! that has to come first.
 
 ghost use Rattle.std.specs.Prelude.{◌≡◌, ◌+◌, ◌<◌, IsTrue, IfOk};
-ghost use Rattle.bw_procedures.specs.Calls.{Works};
+ghost use Rattle.bw_procedures.specs.Calls.{ReshapesWithin};
 ghost use Rattle.bw_procedures.specs.Rounds.{IsRound, IsFree, NextBelow, rank, kind_rank};
 
 use crate::consolidation::consolidation;
@@ -64,7 +64,7 @@ pub(crate) fn parent_of<A: Allocator + Copy, S: Steps<A, Step<A>>>(
     view: View,
 ) -> Result<Option<View>, Fault>
     ensures follows { S.follows steps.old steps.new }
-    ensures works { Works 0 limit result (S.seen steps.old) (S.seen steps.new) }
+    ensures reshapes { ReshapesWithin 0 limit result (S.seen steps.old) (S.seen steps.new) }
 {
     match view.level.checked_add(1) {
         Some(goal) => walk(steps, limit, view.low, goal),
@@ -104,7 +104,7 @@ fn make_room<A: Allocator + Copy, S: Steps<A, Step<A>>>(
     view: View,
 ) -> Result<Turn, Fault>
     ensures follows { S.follows steps.old steps.new }
-    ensures works { Works 1 limit result (S.seen steps.old) (S.seen steps.new) }
+    ensures reshapes { ReshapesWithin 1 limit result (S.seen steps.old) (S.seen steps.new) }
     ensures over { IfOk result (λ turn. turn ≡ Turn.Over) }
 {
     if let Some(step) = consolidation(steps, view)? {
@@ -148,7 +148,7 @@ fn grow<A: Allocator + Copy, S: Steps<A, Step<A>>>(
     view: View,
 ) -> Result<(), Fault>
     ensures follows { S.follows steps.old steps.new }
-    ensures works { Works 1 limit result (S.seen steps.old) (S.seen steps.new) }
+    ensures reshapes { ReshapesWithin 1 limit result (S.seen steps.old) (S.seen steps.new) }
 {
     let routes = [(0, root.pid), (view.low, view.pid)];
     let base = match Base::inner(steps.alloc(), 0, Fence::Top, None, &routes) {

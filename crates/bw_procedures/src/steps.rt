@@ -55,7 +55,7 @@ pub trait Steps<A: Allocator + Copy, P: Proposes> {
     ghost use Rattle.bw_delta.specs.Sound.{IsSound};
     ghost use Rattle.bw_step.specs.Steps.{IsNext};
     ghost use Rattle.bw_procedures.specs.Seen.{Seen, ends_of, Visited, Looked, Copied, Installed, Idled};
-    ghost use Rattle.bw_procedures.specs.Sights.{Sight, quiet, on_the_way, CalmNext, CalmPeek, CalmLook, CalmCopy, ShowsCopy};
+    ghost use Rattle.bw_procedures.specs.Facts.{Fact, quiet, on_the_way, CalmNext, CalmPeek, CalmLook, CalmCopy, ShowsCopy};
 
     // the worker's configuration, its trail, its effort and its counts
     ghost seen: { Self → Seen };
@@ -67,7 +67,7 @@ pub trait Steps<A: Allocator + Copy, P: Proposes> {
     ghost shows: { Self → ℕ → ℕ → List (ℕ × ℕ) → Type 0 };
 
     // nobody else takes steps, and a place, or a page, is as it was seen
-    ghost calm: { Self → Sight → Type 0 };
+    ghost calm: { Self → Fact → Type 0 };
 
     /// The configuration that the table was made by.
     fn config(&self) -> Config

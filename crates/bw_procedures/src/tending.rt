@@ -2,7 +2,7 @@
 //! that changes on the level above is tended in turn.
 
 ghost use Rattle.std.specs.Prelude.{◌≡◌, ◌<◌, IfErr};
-ghost use Rattle.bw_procedures.specs.Calls.{Works, OnlyReshapes, IsFair, limit_of};
+ghost use Rattle.bw_procedures.specs.Calls.{ReshapesWithin, OnlyReshapes, IsEarned, limit_of};
 ghost use Rattle.bw_procedures.specs.Tending.{IsTended};
 
 use crate::consolidation::consolidate;
@@ -24,14 +24,14 @@ use std::alloc::Allocator;
 ///
 /// It ends with `Contended` where the call's effort is spent, with `TableFull`, `TooTall` or `Worn`
 /// where a step was refused so, and with `NoMemory`. What was done by then stands.
-#[tactic(auto, using(crate::proofs::Reshaping::works_reshapes, crate::proofs::Reshaping::works_fair))]
+#[tactic(auto, using(crate::proofs::Reshaping::within_reshapes, crate::proofs::Reshaping::within_earned))]
 pub fn tend<A: Allocator + Copy, S: Steps<A, Step<A>>>(
     steps: &mut S,
     page: Pid,
 ) -> Result<(), Fault>
     ensures follows { S.follows steps.old steps.new }
     ensures reshapes { OnlyReshapes (S.seen steps.old) (S.seen steps.new) }
-    ensures fault { IfErr result (IsFair (limit_of (S.seen steps.old)) (S.seen steps.old) (S.seen steps.new)) }
+    ensures fault { IfErr result (IsEarned (limit_of (S.seen steps.old)) (S.seen steps.old) (S.seen steps.new)) }
 {
     let limit = limit(steps);
     tend_within(steps, limit, page)
@@ -44,7 +44,7 @@ pub(crate) fn tend_within<A: Allocator + Copy, S: Steps<A, Step<A>>>(
     page: Pid,
 ) -> Result<(), Fault>
     ensures follows { S.follows steps.old steps.new }
-    ensures works { Works 0 limit result (S.seen steps.old) (S.seen steps.new) }
+    ensures reshapes { ReshapesWithin 0 limit result (S.seen steps.old) (S.seen steps.new) }
 {
     let mut page = page;
     'up: loop {
@@ -98,7 +98,7 @@ fn shorten<A: Allocator + Copy, S: Steps<A, Step<A>>>(
     page: Pid,
 ) -> Result<Option<View>, Fault>
     ensures follows { S.follows steps.old steps.new }
-    ensures works { Works 0 limit result (S.seen steps.old) (S.seen steps.new) }
+    ensures reshapes { ReshapesWithin 0 limit result (S.seen steps.old) (S.seen steps.new) }
 {
     let Some(view) = present(steps, page) else {
         return Ok(None);
@@ -169,7 +169,7 @@ fn after_split<A: Allocator + Copy, S: Steps<A, Step<A>>>(
     receipt: Receipt,
 ) -> Result<Option<Pid>, Fault>
     ensures follows { S.follows steps.old steps.new }
-    ensures works { Works 0 limit result (S.seen steps.old) (S.seen steps.new) }
+    ensures reshapes { ReshapesWithin 0 limit result (S.seen steps.old) (S.seen steps.new) }
 {
     let Receipt::Shaped {
         other: Some(page),
@@ -190,7 +190,7 @@ fn page_above<A: Allocator + Copy, S: Steps<A, Step<A>>>(
     key: Key,
 ) -> Result<Option<Pid>, Fault>
     ensures follows { S.follows steps.old steps.new }
-    ensures works { Works 0 limit result (S.seen steps.old) (S.seen steps.new) }
+    ensures reshapes { ReshapesWithin 0 limit result (S.seen steps.old) (S.seen steps.new) }
 {
     let Some(goal) = level.checked_add(1) else {
         return Ok(None);
@@ -236,7 +236,7 @@ fn after_mark<A: Allocator + Copy, S: Steps<A, Step<A>>>(
     view: View,
 ) -> Result<Option<Pid>, Fault>
     ensures follows { S.follows steps.old steps.new }
-    ensures works { Works 0 limit result (S.seen steps.old) (S.seen steps.new) }
+    ensures reshapes { ReshapesWithin 0 limit result (S.seen steps.old) (S.seen steps.new) }
 {
     settle(steps, limit, Pending::Merge(view))?;
     page_above(steps, limit, view.level, view.low)
@@ -258,7 +258,7 @@ fn settle<A: Allocator + Copy, S: Steps<A, Step<A>>>(
     pending: Pending,
 ) -> Result<(), Fault>
     ensures follows { S.follows steps.old steps.new }
-    ensures works { Works 0 limit result (S.seen steps.old) (S.seen steps.new) }
+    ensures reshapes { ReshapesWithin 0 limit result (S.seen steps.old) (S.seen steps.new) }
 {
     'rounds: loop {
         let Some(todo) = unfinished(steps, pending) else {

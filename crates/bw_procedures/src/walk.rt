@@ -2,8 +2,8 @@
 //! place is gone.
 
 ghost use Rattle.std.specs.Prelude.{◌≡◌, ◌≤◌, IfSome, IfOk, IfErr};
-ghost use Rattle.bw_procedures.specs.Sights.{on_the_way};
-ghost use Rattle.bw_procedures.specs.Calls.{Waits, CostsIfNone, IsAtLevel, IsCalm, IsFair};
+ghost use Rattle.bw_procedures.specs.Facts.{on_the_way};
+ghost use Rattle.bw_procedures.specs.Calls.{OnlySpends, CostsIfNone, IsAtLevel, FindsFresh, IsEarned};
 
 use crate::effort::is_spent;
 use crate::fault::Fault;
@@ -14,7 +14,7 @@ use std::alloc::Allocator;
 
 /// Goes on from a place to the page on the goal's level whose range holds the key. None where a place
 /// was gone.
-#[tactic(auto, using(crate::proofs::Waiting::waits_visited))]
+#[tactic(auto, using(crate::proofs::Spending::spends_visited))]
 #[inline(always)]
 pub(crate) fn descend<A: Allocator + Copy, S: Steps<A, Step<A>>>(
     steps: &mut S,
@@ -23,10 +23,10 @@ pub(crate) fn descend<A: Allocator + Copy, S: Steps<A, Step<A>>>(
     goal: u8,
 ) -> Option<View>
     ensures follows { S.follows steps.old steps.new }
-    ensures seen { Waits (S.seen steps.old) (S.seen steps.new) }
+    ensures seen { OnlySpends (S.seen steps.old) (S.seen steps.new) }
     ensures gone { CostsIfNone result (S.seen steps.old) (S.seen steps.new) }
     ensures level { IsAtLevel goal result }
-    ensures calm { S.calm steps.old (on_the_way key goal start) → IsCalm (S.calm steps.new) key goal result }
+    ensures calm { S.calm steps.old (on_the_way key goal start) → FindsFresh (S.calm steps.new) key goal result }
     ensures no_effort { S.calm steps.old (on_the_way key goal start) → (S.seen steps.new).effort ≡ (S.seen steps.old).effort }
 {
     let mut place = start;
@@ -48,9 +48,9 @@ pub(crate) fn walk<A: Allocator + Copy, S: Steps<A, Step<A>>>(
     goal: u8,
 ) -> Result<Option<View>, Fault>
     ensures follows { S.follows steps.old steps.new }
-    ensures seen { Waits (S.seen steps.old) (S.seen steps.new) }
+    ensures seen { OnlySpends (S.seen steps.old) (S.seen steps.new) }
     ensures level { IfOk result (IsAtLevel goal) }
-    ensures fault { IfErr result (IsFair limit (S.seen steps.old) (S.seen steps.new)) }
+    ensures fault { IfErr result (IsEarned limit (S.seen steps.old) (S.seen steps.new)) }
 {
     'again: loop {
         let root = steps.root();

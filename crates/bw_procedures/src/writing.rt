@@ -4,8 +4,8 @@
 ghost use Rattle.std.specs.Prelude.{◌≡◌, true, IfOk, IfErr, IfSome, OnErr};
 ghost use Rattle.bw_procedures.specs.Seen.{Grows};
 ghost use Rattle.bw_step.specs.Tellings.{without_shapes};
-ghost use Rattle.bw_procedures.specs.Calls.{Waits, OnlyReshapes, limit_of, IsFair};
-ghost use Rattle.bw_procedures.specs.Writing.{AddsReceipt, ArrivalCosts, Attempts, Helped, EndsFairly, FoundBy};
+ghost use Rattle.bw_procedures.specs.Calls.{OnlySpends, OnlyReshapes, limit_of, IsEarned};
+ghost use Rattle.bw_procedures.specs.Writing.{AddsReceipt, ArrivalCosts, Attempts, Helped, EndsEarned, FoundBy};
 
 use crate::consolidation::consolidate;
 use crate::effort::{is_spent, limit};
@@ -55,8 +55,8 @@ pub(crate) fn write<A: Allocator + Copy, S: Steps<A, Step<A>>, W: Wish>(
     ensures grows { Grows (S.seen steps.old) (S.seen steps.new) }
     ensures receipt { IfOk result (λ done. AddsReceipt (W.is_receipt_of wish) done.reply (S.seen steps.old) (S.seen steps.new)) }
     ensures no_receipt { OnErr result (without_shapes (S.seen steps.new).trail ≡ without_shapes (S.seen steps.old).trail) }
-    ensures fault { IfErr result (IsFair (limit_of (S.seen steps.old)) (S.seen steps.old) (S.seen steps.new)) }
-    ensures kept { IfOk result (λ done. IfSome done.fault (IsFair (limit_of (S.seen steps.old)) (S.seen steps.old) (S.seen steps.new))) }
+    ensures fault { IfErr result (IsEarned (limit_of (S.seen steps.old)) (S.seen steps.old) (S.seen steps.new)) }
+    ensures kept { IfOk result (λ done. IfSome done.fault (IsEarned (limit_of (S.seen steps.old)) (S.seen steps.old) (S.seen steps.new))) }
 {
     let limit = limit(steps);
     let mut kept: Option<Fault> = None;
@@ -103,7 +103,7 @@ fn approach<A: Allocator + Copy, S: Steps<A, Step<A>>>(
     passes_posts: bool,
 ) -> Arrival
     ensures follows { S.follows steps.old steps.new }
-    ensures seen { Waits (S.seen steps.old) (S.seen steps.new) }
+    ensures seen { OnlySpends (S.seen steps.old) (S.seen steps.new) }
     ensures cost { ArrivalCosts result (S.seen steps.old) (S.seen steps.new) }
 {
     let mut place = start;
@@ -236,7 +236,7 @@ fn finish<A: Allocator + Copy, S: Steps<A, Step<A>>, T>(
     ensures follows { S.follows steps.old steps.new }
     ensures reshapes { OnlyReshapes (S.seen steps.old) (S.seen steps.new) }
     ensures reply { result.reply ≡ reply }
-    ensures fault { EndsFairly limit kept result.fault (S.seen steps.old) (S.seen steps.new) }
+    ensures fault { EndsEarned limit kept result.fault (S.seen steps.old) (S.seen steps.new) }
 {
     match tend_within(steps, limit, page) {
         Ok(()) => Done { reply, fault: kept },

@@ -2,6 +2,7 @@
 
 ghost use Rattle.std.specs.Prelude.{◌≡◌, ◌<◌, IfOk, IfErr, length, map, sum_by};
 ghost use Rattle.std.specs.List.{AllByRecursion};
+ghost use Rattle.bw_step.specs.Trails.{lists_of};
 ghost use Rattle.bw_tree.specs.Shares.{book_of};
 ghost use Rattle.bw_tree.specs.Trees.{IsTree, CountsPairs};
 ghost use Rattle.bw_run.specs.Counts.{insertions, removals};
@@ -39,10 +40,10 @@ pub(crate) fn finish(
 ) -> Result<Finished, RunFault>
     requires workers { AllByRecursion (λ row. row.worker < length replies.items) rows.now }
     requires trails { length trails.items ≡ length replies.items }
-    requires answered { AreAnswered rows.now (map (λ column. column.items) replies.items) (map (λ trail. trail.items) trails.items) }
+    requires answered { AreAnswered rows.now (map (λ column. column.items) replies.items) (lists_of trails.items) }
     requires tree { IsTree table }
-    requires counted { CountsPairs table (book_of (sum_by insertions (map (λ trail. trail.items) trails.items)) (sum_by removals (map (λ trail. trail.items) trails.items))) }
-    ensures finished { IfOk result (λ finished. IsRunOf (length replies.items) rows.now finished.table finished.replies.items (map (λ trail. trail.items) finished.trails.items)) }
+    requires counted { CountsPairs table (book_of (sum_by insertions (lists_of trails.items)) (sum_by removals (lists_of trails.items))) }
+    ensures finished { IfOk result (λ finished. IsRunOf (length replies.items) rows.now finished.table finished.replies.items (lists_of finished.trails.items)) }
     ensures table { IfOk result (λ finished. finished.table ≡ table) }
     ensures fault { IfErr result (EndsBadly (length replies.items)) }
 {

@@ -1,6 +1,7 @@
 //! The audit of a run.
 
-ghost use Rattle.std.specs.Prelude.{◌≡◌, ℕ, List, OnOk, IfErr, map};
+ghost use Rattle.std.specs.Prelude.{◌≡◌, ℕ, List, OnOk, IfErr};
+ghost use Rattle.bw_step.specs.Trails.{lists_of};
 ghost use Rattle.bw_table.specs.Views.{ArePairsOf};
 ghost use Rattle.bw_tree.specs.Trees.{IsTree};
 ghost use Rattle.bw_audit.specs.Legal.{IsLegal};
@@ -20,8 +21,8 @@ pub(crate) fn judge(
     trails: &[Vec<Receipt>],
 ) -> Result<(), RunFault>
     requires { IsTree table.now }
-    ensures legal { OnOk result ((pairs : List (ℕ × ℕ)) → ArePairsOf table.now pairs → IsLegal (map (λ trail. trail.items) trails.now) pairs) }
-    ensures fault { IfErr result (λ fault. (pairs : List (ℕ × ℕ)) → ArePairsOf table.now pairs → IsVerdictOn (map (λ trail. trail.items) trails.now) pairs fault) }
+    ensures legal { OnOk result ((pairs : List (ℕ × ℕ)) → ArePairsOf table.now pairs → IsLegal (lists_of trails.now) pairs) }
+    ensures fault { IfErr result (λ fault. (pairs : List (ℕ × ℕ)) → ArePairsOf table.now pairs → IsVerdictOn (lists_of trails.now) pairs fault) }
 {
     let pairs = table.pairs(machine)?;
     match audit(machine, trails, &pairs) {

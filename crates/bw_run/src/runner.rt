@@ -1,8 +1,9 @@
 //! Runs of a trace by worker threads.
 
-ghost use Rattle.std.specs.Prelude.{◌≡◌, ◌≤◌, ◌<◌, ℕ, [], List, Some, IsOk, IfOk, IfErr, OnOk, length, map, slice_index_or};
+ghost use Rattle.std.specs.Prelude.{◌≡◌, ◌≤◌, ◌<◌, ℕ, [], List, Some, IsOk, IfOk, IfErr, OnOk, length, slice_index_or};
 ghost use Rattle.std.specs.List.{AllByRecursion};
 ghost use Rattle.bw_step.specs.Tellings.{told_in};
+ghost use Rattle.bw_step.specs.Trails.{lists_of};
 ghost use Rattle.bw_table.specs.Views.{ArePairsOf};
 ghost use Rattle.bw_tree.specs.Shares.{Opens};
 ghost use Rattle.bw_tree.specs.Trees.{IsTree, MayBeMade};
@@ -48,11 +49,11 @@ pub fn run<R: Threads + Wait + Sync + Send + Copy, G: Gate + Sync>(
     requires { AllByRecursion (λ row. row.worker < workers) rows.now }
     ensures replies { IfOk result (λ finished. length finished.replies.items ≡ length rows.now) }
     ensures trails { IfOk result (λ finished. length finished.trails.items ≡ workers) }
-    ensures told { IfOk result (λ finished. (worker : ℕ) → worker < workers → Some (told_in (slice_index_or (map (λ trail. trail.items) finished.trails.items) worker [])) ≡ told_to worker rows.now finished.replies.items) }
+    ensures told { IfOk result (λ finished. (worker : ℕ) → worker < workers → Some (told_in (slice_index_or (lists_of finished.trails.items) worker [])) ≡ told_to worker rows.now finished.replies.items) }
     ensures tree { IfOk result (λ finished. IsTree finished.table) }
     ensures config { IfOk result (λ finished. finished.table.config ≡ config) }
-    ensures legal { IfOk result (λ finished. (pairs : List (ℕ × ℕ)) → ArePairsOf finished.table pairs → IsLegal (map (λ trail. trail.items) finished.trails.items) pairs) }
-    ensures count { IfOk result (λ finished. (pairs : List (ℕ × ℕ)) → ArePairsOf finished.table pairs → CountsChanges (map (λ trail. trail.items) finished.trails.items) pairs) }
+    ensures legal { IfOk result (λ finished. (pairs : List (ℕ × ℕ)) → ArePairsOf finished.table pairs → IsLegal (lists_of finished.trails.items) pairs) }
+    ensures count { IfOk result (λ finished. (pairs : List (ℕ × ℕ)) → ArePairsOf finished.table pairs → CountsChanges (lists_of finished.trails.items) pairs) }
     ensures fine { IsOk result → MayRun config workers readers }
     ensures fault { IfErr result (IsRunFault config workers readers rows.now) }
 {
@@ -109,7 +110,7 @@ fn run_locked<
     requires config { I.config ≡ config }
     requires made { MayBeMade config blanks.workers }
     requires workers { AllByRecursion (λ row. row.worker < blanks.workers) rows.now }
-    ensures finished { IfOk result (λ finished. IsRunOf blanks.workers rows.now finished.table finished.replies.items (map (λ trail. trail.items) finished.trails.items)) }
+    ensures finished { IfOk result (λ finished. IsRunOf blanks.workers rows.now finished.table finished.replies.items (lists_of finished.trails.items)) }
     ensures config { IfOk result (λ finished. finished.table.config ≡ config) }
     ensures fault { IfErr result (IsRunFault config blanks.workers 0 rows.now) }
 {
@@ -151,7 +152,7 @@ fn run_read<
     requires made { MayRun config blanks.workers readers }
     requires some { 0 < readers }
     requires workers { AllByRecursion (λ row. row.worker < blanks.workers) rows.now }
-    ensures finished { IfOk result (λ finished. IsRunOf blanks.workers rows.now finished.table finished.replies.items (map (λ trail. trail.items) finished.trails.items)) }
+    ensures finished { IfOk result (λ finished. IsRunOf blanks.workers rows.now finished.table finished.replies.items (lists_of finished.trails.items)) }
     ensures config { IfOk result (λ finished. finished.table.config ≡ config) }
     ensures fault { IfErr result (IsRunFault config blanks.workers readers rows.now) }
 {

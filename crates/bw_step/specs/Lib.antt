@@ -3,3 +3,4 @@ pub mod Proposals
 pub mod ProposalView
 pub mod Steps
 pub mod Tellings
+pub mod Trails

@@ -12,12 +12,12 @@ is_in_row Marked = true
 is_in_row Merged = false
 
 -- the level above has a term for the page
-abbrev pub is_posted : Stage → Bool
-is_posted Free = false
-is_posted Unposted = false
-is_posted Posted = true
-is_posted Marked = true
-is_posted Merged = true
+abbrev pub has_term : Stage → Bool
+has_term Free = false
+has_term Unposted = false
+has_term Posted = true
+has_term Marked = true
+has_term Merged = true
 
 -- the removal of the page has begun
 abbrev pub is_leaving : Stage → Bool

@@ -1,5 +1,5 @@
 ghost use Rattle.std.specs.Prelude.{◌≡◌};
-ghost use Rattle.bw_step.specs.Stages.{is_in_row, is_posted, is_leaving};
+ghost use Rattle.bw_step.specs.Stages.{is_in_row, has_term, is_leaving};
 
 use bw_keys::{Fence, Key, Pid, Version};
 
@@ -30,8 +30,8 @@ impl Stage {
     }
 
     /// Whether the level above has a term for a page at this stage: Posted, Marked or Merged.
-    pub fn is_posted(self) -> bool
-        ensures { result ≡ is_posted self }
+    pub fn has_term(self) -> bool
+        ensures { result ≡ has_term self }
     {
         match self {
             Stage::Posted | Stage::Marked | Stage::Merged => true,

@@ -19,7 +19,7 @@ use Rattle.bw_law.specs.Walks.{last_of}
 use Rattle.bw_law.specs.Laws.{IsLeafOf}
 use Rattle.bw_law.proofs.Facts.{range_is_not_empty, right_is_next, last_ends_at_top, route_is_term, first_child}
 use Rattle.bw_law.proofs.MapAndTerms.{routes_in_rise}
-use Rattle.bw_law.proofs.Walk.{posted_in_row, walk_ends, walk_law}
+use Rattle.bw_law.proofs.Walk.{term_in_row, walk_ends, walk_law}
 use Rattle.bw_chain.proofs.Lasts.{last_below-bound}
 use Rattle.bw_table.specs.Views.{view_of}
 use Rattle.bw_table.specs.Visits.{is_there, is_live, live_routes, right_to, down_by, way_on, next_by, IsOnTheWay, IsFound, TellsWhetherOnTheWay, StaysOnTheWay, ComesNearer, FindsPage, EachWalkEndsAt, OneWalkEndsAt}
@@ -93,7 +93,7 @@ module _ (table : TableValue) (law : Lawful table) (place : Place) (key goal : â
       record {
         gone = on;
         stays = record {
-          in_row = posted_in_row (slot_at table route.1.0).stage term.0 (live_is_unmerged (slot_at table route.1.0).stage live);
+          in_row = term_in_row (slot_at table route.1.0).stage term.0 (live_is_unmerged (slot_at table route.1.0).stage live);
           level = omega (arith, term.1);
           goal_below = omega arith;
           low_from = omega (arith, term.2);

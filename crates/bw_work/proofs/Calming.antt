@@ -14,7 +14,7 @@ use Rattle.bw_law.specs.Slots.{pairs_in}
 use Rattle.bw_law.specs.Tables.{TableValue, slot_at, number_of}
 use Rattle.bw_table.specs.Views.{look_at}
 use Rattle.bw_table.specs.Visits.{IsOnTheWay, IsFound, TellsWhetherOnTheWay, StaysOnTheWay, FindsPage}
-use Rattle.bw_procedures.specs.Sights.{CalmNext, IsLooked}
+use Rattle.bw_procedures.specs.Facts.{CalmNext, IsLooked}
 use Rattle.bw_work.specs.Calm.{HoldsKey, IsTrueOf}
 
 -- the page that a search found holds the key, and has the version of its view

@@ -15,7 +15,7 @@ use Rattle.bw_law.specs.Tables.{TableValue, slot_at, Lawful, IsPageOf}
 use Rattle.bw_law.proofs.Accepted.{Holds}
 use Rattle.bw_law.proofs.Chains.{low_is, high_is, pairs_are, leaf_chain}
 use Rattle.bw_law.proofs.Facts.{leaf_decides}
-use Rattle.bw_procedures.specs.Sights.{IsLeafAround, IsCopied, ShowsCopy}
+use Rattle.bw_procedures.specs.Facts.{IsLeafAround, IsCopied, ShowsCopy}
 use Rattle.bw_work.specs.Calm.{HoldsKey}
 use Rattle.bw_work.specs.Showing.{Shows}
 

@@ -4,7 +4,7 @@ use Rattle.bw_keys.specs.Ranges.{end_of}
 use Rattle.bw_step.specs.Stages.{is_in_row}
 use Rattle.bw_law.specs.Tables.{TableValue, slot_at}
 use Rattle.bw_table.specs.Visits.{IsOnTheWay}
-use Rattle.bw_procedures.specs.Sights.{Sight, quiet, on_the_way, holds, fresh}
+use Rattle.bw_procedures.specs.Facts.{Fact, quiet, on_the_way, holds, fresh}
 
 -- the page is in the row of the level, with a range that holds the key
 pub record HoldsKey (table : TableValue) (key level page : ℕ) : Type 0 where
@@ -13,8 +13,8 @@ pub record HoldsKey (table : TableValue) (key level page : ℕ) : Type 0 where
   pub from_low : (slot_at table page).low ≤ key
   pub below_high : key < end_of (slot_at table page).high
 
--- a sight is true of the table, which nobody else changes
-abbrev pub IsTrueOf : TableValue → Sight → Type 0
+-- a fact is true of the table, which nobody else changes
+abbrev pub IsTrueOf : TableValue → Fact → Type 0
 IsTrueOf table quiet = Unit {0}
 IsTrueOf table (on_the_way key goal place) = IsOnTheWay table place key goal
 IsTrueOf table (holds key level pid) = HoldsKey table key level pid.0

@@ -61,7 +61,7 @@ impl<'t, A: Allocator + Copy> Steps<A, Step<A>> for Alone<'t, A> {
 
     ghost shows = { λ s low end pairs. Shows s.table.now low end pairs };
 
-    ghost calm = { λ s sight. IsTrueOf s.table.now sight };
+    ghost calm = { λ s fact. IsTrueOf s.table.now fact };
 
     ghost stays = { λ s. (refl, refl, leads_stay s.table.now s.account.seen.trail) };
 

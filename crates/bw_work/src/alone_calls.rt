@@ -3,7 +3,7 @@
 ghost use Rattle.std.specs.Prelude.{◌≡◌, IfOk, IfErr, IfSome, OnOk, OnErr};
 ghost use Rattle.bw_step.specs.Tellings.{without_shapes};
 ghost use Rattle.bw_procedures.specs.Seen.{Grows};
-ghost use Rattle.bw_procedures.specs.Calls.{limit_of, IsFair, Waits, OnlyReshapes, RoseBy, AddsLook};
+ghost use Rattle.bw_procedures.specs.Calls.{limit_of, IsEarned, OnlySpends, OnlyReshapes, RoseBy, AddsLook};
 ghost use Rattle.bw_procedures.specs.Slices.{end_of_slice, IsSliceFrom};
 ghost use Rattle.bw_procedures.specs.Writing.{AddsReceipt, IsReceiptOfPut, IsReceiptOfDelete};
 ghost use Rattle.bw_work.specs.Leading.{Leads};
@@ -26,8 +26,8 @@ impl<'t, A: Allocator + Copy> Alone<'t, A> {
         ensures grows { Grows self.old.account.seen self.new.account.seen }
         ensures receipt { IfOk result (λ done. AddsReceipt (IsReceiptOfPut key value) done.reply self.old.account.seen self.new.account.seen) }
         ensures no_receipt { OnErr result (without_shapes self.new.account.seen.trail ≡ without_shapes self.old.account.seen.trail) }
-        ensures fault { IfErr result (IsFair (limit_of self.old.account.seen) self.old.account.seen self.new.account.seen) }
-        ensures kept { IfOk result (λ done. IfSome done.fault (IsFair (limit_of self.old.account.seen) self.old.account.seen self.new.account.seen)) }
+        ensures fault { IfErr result (IsEarned (limit_of self.old.account.seen) self.old.account.seen self.new.account.seen) }
+        ensures kept { IfOk result (λ done. IfSome done.fault (IsEarned (limit_of self.old.account.seen) self.old.account.seen self.new.account.seen)) }
     {
         put(self, key, value)
     }
@@ -40,8 +40,8 @@ impl<'t, A: Allocator + Copy> Alone<'t, A> {
         ensures grows { Grows self.old.account.seen self.new.account.seen }
         ensures receipt { IfOk result (λ done. AddsReceipt (IsReceiptOfDelete key) done.reply self.old.account.seen self.new.account.seen) }
         ensures no_receipt { OnErr result (without_shapes self.new.account.seen.trail ≡ without_shapes self.old.account.seen.trail) }
-        ensures fault { IfErr result (IsFair (limit_of self.old.account.seen) self.old.account.seen self.new.account.seen) }
-        ensures kept { IfOk result (λ done. IfSome done.fault (IsFair (limit_of self.old.account.seen) self.old.account.seen self.new.account.seen)) }
+        ensures fault { IfErr result (IsEarned (limit_of self.old.account.seen) self.old.account.seen self.new.account.seen) }
+        ensures kept { IfOk result (λ done. IfSome done.fault (IsEarned (limit_of self.old.account.seen) self.old.account.seen self.new.account.seen)) }
     {
         delete(self, key)
     }
@@ -66,7 +66,7 @@ impl<'t, A: Allocator + Copy> Alone<'t, A> {
         ensures same_reference { self.new.table.ghost_name ≡ self.old.table.ghost_name }
         ensures config { self.new.table.now.config ≡ self.old.table.now.config }
         ensures follows { Leads self.old.table.now self.old.account.seen.trail self.new.table.now self.new.account.seen.trail }
-        ensures seen { Waits self.old.account.seen self.new.account.seen }
+        ensures seen { OnlySpends self.old.account.seen self.new.account.seen }
         ensures no_effort { self.new.account.seen.effort ≡ self.old.account.seen.effort }
         ensures slice { IfOk result (IsSliceFrom key) }
         ensures shows { IfOk result (λ slice. Shows self.new.table.now key (end_of_slice slice.next) slice.pairs.items) }
@@ -81,7 +81,7 @@ impl<'t, A: Allocator + Copy> Alone<'t, A> {
         ensures config { self.new.table.now.config ≡ self.old.table.now.config }
         ensures follows { Leads self.old.table.now self.old.account.seen.trail self.new.table.now self.new.account.seen.trail }
         ensures reshapes { OnlyReshapes self.old.account.seen self.new.account.seen }
-        ensures fault { IfErr result (IsFair (limit_of self.old.account.seen) self.old.account.seen self.new.account.seen) }
+        ensures fault { IfErr result (IsEarned (limit_of self.old.account.seen) self.old.account.seen self.new.account.seen) }
     {
         tend(self, page)
     }
@@ -93,7 +93,7 @@ impl<'t, A: Allocator + Copy> Alone<'t, A> {
         ensures follows { Leads self.old.table.now self.old.account.seen.trail self.new.table.now self.new.account.seen.trail }
         ensures reshapes { OnlyReshapes self.old.account.seen self.new.account.seen }
         ensures cost { OnOk result (RoseBy 1 self.old.account.seen.effort self.new.account.seen.effort) }
-        ensures fault { IfErr result (IsFair (limit_of self.old.account.seen) self.old.account.seen self.new.account.seen) }
+        ensures fault { IfErr result (IsEarned (limit_of self.old.account.seen) self.old.account.seen self.new.account.seen) }
     {
         help(self, todo)
     }

@@ -3,7 +3,7 @@
 ghost use Rattle.std.specs.Prelude.{◌≡◌, ◌≤◌, IfOk, IfErr, IfSome, OnOk, OnErr};
 ghost use Rattle.bw_step.specs.Tellings.{without_shapes};
 ghost use Rattle.bw_procedures.specs.Seen.{Grows};
-ghost use Rattle.bw_procedures.specs.Calls.{limit_of, IsFair, Waits, OnlyReshapes, RoseBy, AddsLook};
+ghost use Rattle.bw_procedures.specs.Calls.{limit_of, IsEarned, OnlySpends, OnlyReshapes, RoseBy, AddsLook};
 ghost use Rattle.bw_procedures.specs.Slices.{IsSliceFrom};
 ghost use Rattle.bw_procedures.specs.Writing.{AddsReceipt, IsReceiptOfPut, IsReceiptOfDelete};
 ghost use Rattle.bw_work.specs.Hands.{Sums};
@@ -23,8 +23,8 @@ impl<'t, A: Allocator + Copy, S: Shared<A, Step<A>>, G: Gate> Hand<'t, A, S, G> 
         ensures grows { Grows self.old.account.seen self.new.account.seen }
         ensures receipt { IfOk result (λ done. AddsReceipt (IsReceiptOfPut key value) done.reply self.old.account.seen self.new.account.seen) }
         ensures no_receipt { OnErr result (without_shapes self.new.account.seen.trail ≡ without_shapes self.old.account.seen.trail) }
-        ensures fault { IfErr result (IsFair (limit_of self.old.account.seen) self.old.account.seen self.new.account.seen) }
-        ensures kept { IfOk result (λ done. IfSome done.fault (IsFair (limit_of self.old.account.seen) self.old.account.seen self.new.account.seen)) }
+        ensures fault { IfErr result (IsEarned (limit_of self.old.account.seen) self.old.account.seen self.new.account.seen) }
+        ensures kept { IfOk result (λ done. IfSome done.fault (IsEarned (limit_of self.old.account.seen) self.old.account.seen self.new.account.seen)) }
     {
         put(self, key, value)
     }
@@ -35,8 +35,8 @@ impl<'t, A: Allocator + Copy, S: Shared<A, Step<A>>, G: Gate> Hand<'t, A, S, G> 
         ensures grows { Grows self.old.account.seen self.new.account.seen }
         ensures receipt { IfOk result (λ done. AddsReceipt (IsReceiptOfDelete key) done.reply self.old.account.seen self.new.account.seen) }
         ensures no_receipt { OnErr result (without_shapes self.new.account.seen.trail ≡ without_shapes self.old.account.seen.trail) }
-        ensures fault { IfErr result (IsFair (limit_of self.old.account.seen) self.old.account.seen self.new.account.seen) }
-        ensures kept { IfOk result (λ done. IfSome done.fault (IsFair (limit_of self.old.account.seen) self.old.account.seen self.new.account.seen)) }
+        ensures fault { IfErr result (IsEarned (limit_of self.old.account.seen) self.old.account.seen self.new.account.seen) }
+        ensures kept { IfOk result (λ done. IfSome done.fault (IsEarned (limit_of self.old.account.seen) self.old.account.seen self.new.account.seen)) }
     {
         delete(self, key)
     }
@@ -46,7 +46,7 @@ impl<'t, A: Allocator + Copy, S: Shared<A, Step<A>>, G: Gate> Hand<'t, A, S, G> 
         ensures share { Sums self.old.account.seen.trail self.old.share self.new.account.seen.trail self.new.share }
         ensures grows { Grows self.old.account.seen self.new.account.seen }
         ensures receipt { AddsLook key result self.old.account.seen.trail self.new.account.seen.trail }
-        ensures fault { IfErr result (IsFair (limit_of self.old.account.seen) self.old.account.seen self.new.account.seen) }
+        ensures fault { IfErr result (IsEarned (limit_of self.old.account.seen) self.old.account.seen self.new.account.seen) }
     {
         get(self, key)
     }
@@ -54,9 +54,9 @@ impl<'t, A: Allocator + Copy, S: Shared<A, Step<A>>, G: Gate> Hand<'t, A, S, G> 
     /// The pairs of one leaf, from the key on: see `page_from`.
     pub fn page_from(&mut self, machine: Global, key: Key) -> Result<Slice, Fault>
         ensures share { Sums self.old.account.seen.trail self.old.share self.new.account.seen.trail self.new.share }
-        ensures seen { Waits self.old.account.seen self.new.account.seen }
+        ensures seen { OnlySpends self.old.account.seen self.new.account.seen }
         ensures slice { IfOk result (IsSliceFrom key) }
-        ensures fault { IfErr result (IsFair (limit_of self.old.account.seen) self.old.account.seen self.new.account.seen) }
+        ensures fault { IfErr result (IsEarned (limit_of self.old.account.seen) self.old.account.seen self.new.account.seen) }
     {
         page_from(self, machine, key)
     }
@@ -65,7 +65,7 @@ impl<'t, A: Allocator + Copy, S: Shared<A, Step<A>>, G: Gate> Hand<'t, A, S, G> 
     pub fn tend(&mut self, page: Pid) -> Result<(), Fault>
         ensures share { Sums self.old.account.seen.trail self.old.share self.new.account.seen.trail self.new.share }
         ensures reshapes { OnlyReshapes self.old.account.seen self.new.account.seen }
-        ensures fault { IfErr result (IsFair (limit_of self.old.account.seen) self.old.account.seen self.new.account.seen) }
+        ensures fault { IfErr result (IsEarned (limit_of self.old.account.seen) self.old.account.seen self.new.account.seen) }
     {
         tend(self, page)
     }
@@ -75,7 +75,7 @@ impl<'t, A: Allocator + Copy, S: Shared<A, Step<A>>, G: Gate> Hand<'t, A, S, G> 
         ensures share { Sums self.old.account.seen.trail self.old.share self.new.account.seen.trail self.new.share }
         ensures reshapes { OnlyReshapes self.old.account.seen self.new.account.seen }
         ensures cost { OnOk result (RoseBy 1 self.old.account.seen.effort self.new.account.seen.effort) }
-        ensures fault { IfErr result (IsFair (limit_of self.old.account.seen) self.old.account.seen self.new.account.seen) }
+        ensures fault { IfErr result (IsEarned (limit_of self.old.account.seen) self.old.account.seen self.new.account.seen) }
     {
         help(self, todo)
     }

@@ -89,7 +89,7 @@ impl<'t, A: Allocator + Copy, S: Shared<A, Step<A>>, G: Gate> Steps<A, Step<A>>
     ghost shows = { λ h low end pairs. Unit {0} };
 
     // others may take steps at any time
-    ghost calm = { λ h sight. ⊥ };
+    ghost calm = { λ h fact. ⊥ };
 
     ghost stays = { λ h. sums_stay h.account.seen.trail h.share };
 

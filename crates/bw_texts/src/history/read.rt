@@ -1,6 +1,7 @@
 //! Reading of histories.
 
-ghost use Rattle.std.specs.Prelude.{◌≡◌, ◌≤◌, [], IfErr, IfOk, List, OnOk, Some, length, map, max, slice_index_or, ℕ};
+ghost use Rattle.std.specs.Prelude.{◌≡◌, ◌≤◌, [], IfErr, IfOk, List, OnOk, Some, length, max, slice_index_or, ℕ};
+ghost use Rattle.bw_step.specs.Trails.{lists_of};
 ghost use Rattle.bw_texts.specs.Histories.{AddsLine, AddsReceipt, HaveRisingKeys, IsAfter, IsHistory, row_count};
 ghost use Rattle.bw_texts.specs.Lines.{history_line, last_key};
 ghost use Rattle.bw_texts.specs.Reading.{ExplainsFault, IsExcused};
@@ -32,9 +33,9 @@ pub struct History {
 /// value. A number is one to twenty decimal digits, and below 2^64. After a fault nothing of the
 /// history is handed out.
 pub fn read_history<R: Read + Drop>(alloc: Global, input: R) -> Result<History, TextFault>
-    ensures rows { IfOk result (λ history. (bytes : List ℕ) → R.remaining input ≡ Some bytes → IsHistory bytes (map (λ trail. trail.items) history.trails.items) history.pairs.items) }
+    ensures rows { IfOk result (λ history. (bytes : List ℕ) → R.remaining input ≡ Some bytes → IsHistory bytes (lists_of history.trails.items) history.pairs.items) }
     ensures ascending { IfOk result (λ history. HaveRisingKeys history.pairs.items) }
-    ensures few { IfOk result (λ history. row_count (map (λ trail. trail.items) history.trails.items) history.pairs.items ≤ MOST_HISTORY_ROWS) }
+    ensures few { IfOk result (λ history. row_count (lists_of history.trails.items) history.pairs.items ≤ MOST_HISTORY_ROWS) }
     ensures fault { IfErr result (λ fault. (bytes : List ℕ) → R.remaining input ≡ Some bytes → ExplainsFault history_line MOST_HISTORY_ROWS bytes fault) }
 {
     let mut reader = open(alloc, input);
@@ -71,7 +72,7 @@ fn add_line(
 ) -> Result<(), TextFault>
     requires ascending { HaveRisingKeys pairs.old.items }
     requires above { IsAfter (last_key pairs.old.items) line }
-    ensures added { OnOk result (AddsLine (map (λ trail. trail.items) trails.old.items) (map (λ trail. trail.items) trails.new.items) pairs.old.items pairs.new.items line) }
+    ensures added { OnOk result (AddsLine (lists_of trails.old.items) (lists_of trails.new.items) pairs.old.items pairs.new.items line) }
     ensures ascending { OnOk result (HaveRisingKeys pairs.new.items) }
     ensures excused { IfErr result (λ fault. IsExcused fault) }
 {
@@ -90,7 +91,7 @@ fn add_receipt(
     worker: u32,
     receipt: Receipt,
 ) -> Result<(), TextFault>
-    ensures added { OnOk result (AddsReceipt (map (λ trail. trail.items) trails.old.items) (map (λ trail. trail.items) trails.new.items) worker receipt) }
+    ensures added { OnOk result (AddsReceipt (lists_of trails.old.items) (lists_of trails.new.items) worker receipt) }
     ensures excused { IfErr result (λ fault. IsExcused fault) }
 {
     let place = worker as usize;
@@ -102,7 +103,7 @@ fn add_receipt(
 /// Adds empty trails until there are so many.
 fn fill_up(alloc: Global, trails: &mut Vec<Vec<Receipt>>, count: usize) -> Result<(), TextFault>
     ensures count { OnOk result (length trails.new.items ≡ max (length trails.old.items) count) }
-    ensures same { OnOk result ((worker : ℕ) → slice_index_or (map (λ trail. trail.items) trails.new.items) worker [] ≡ slice_index_or (map (λ trail. trail.items) trails.old.items) worker []) }
+    ensures same { OnOk result ((worker : ℕ) → slice_index_or (lists_of trails.new.items) worker [] ≡ slice_index_or (lists_of trails.old.items) worker []) }
     ensures excused { IfErr result (λ fault. IsExcused fault) }
 {
     for _ in trails.len()..count {

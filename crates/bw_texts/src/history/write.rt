@@ -1,7 +1,8 @@
 //! Writing of histories.
 
-ghost use Rattle.std.specs.Prelude.{◌∷◌, [], IfOk, OnOk, codes, decimal, flat_map, map};
+ghost use Rattle.std.specs.Prelude.{◌∷◌, [], IfOk, OnOk, codes, decimal, flat_map};
 ghost use Rattle.std.specs.Io.KnownBytes.{Appends};
+ghost use Rattle.bw_step.specs.Trails.{lists_of};
 ghost use Rattle.csv.specs.Writing.{row_text, text_written};
 ghost use Rattle.bw_texts.specs.Written.{IsBetween, flexible_writer};
 ghost use Rattle.bw_texts.specs.WrittenHistories.{history_text, pair_text, receipt_text, trail_text, trails_text};
@@ -21,7 +22,7 @@ pub fn write_history<W: Write + Drop>(
     trails: &[Vec<Receipt>],
     pairs: &[(Key, u64)],
 ) -> Result<W, OutFault>
-    ensures { IfOk result (λ written. Appends (W.contents output) (W.contents written) (history_text (map (λ trail. trail.items) trails.now) pairs.now)) }
+    ensures { IfOk result (λ written. Appends (W.contents output) (W.contents written) (history_text (lists_of trails.now) pairs.now)) }
 {
     let mut writer = start(output);
     write_trails(&mut writer, trails)?;
@@ -35,7 +36,7 @@ fn write_trails<W: Write + Drop>(
 ) -> Result<(), OutFault>
     requires { IsBetween writer.old }
     ensures between { OnOk result (IsBetween writer.new) }
-    ensures text { OnOk result (Appends (text_written W.contents writer.old) (text_written W.contents writer.new) (trails_text 0 (map (λ trail. trail.items) trails.now))) }
+    ensures text { OnOk result (Appends (text_written W.contents writer.old) (text_written W.contents writer.new) (trails_text 0 (lists_of trails.now))) }
 {
     for worker in 0..trails.len() {
         write_trail(writer, worker, &trails[worker])?;

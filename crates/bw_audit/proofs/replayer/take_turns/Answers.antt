@@ -1,6 +1,7 @@
-use Rattle.std.proofs.Common.{rules, ◌≡◌, ◌∷◌, [], ◌<◌, ◌∙◌, ap, sym, refl, subst, length, map, replicate, arith}
+use Rattle.std.proofs.Common.{rules, ◌≡◌, ◌∷◌, [], ◌<◌, ◌∙◌, ap, sym, refl, subst, length, replicate, arith}
 use Rattle.std.specs.List.{AllByRecursion}
 use Rattle.std.proofs.lemmas.List.{length-map, length-replicate}
+use Rattle.bw_step.specs.Trails.{lists_of}
 use Rattle.bw_audit.specs.Events.{turn_of, world_of}
 use Rattle.bw_audit.specs.Replays.{IsInterleaving}
 use Rattle.bw_audit.proofs.Interleaved.{leads_keeps, leads_length}
@@ -9,7 +10,7 @@ use Rattle.bw_audit.proofs.replayer.take_turns.Goals as goal
 pub loop-event-init : goal.loop-event-init
 loop-event-init c =
     let all : c.into_iter-event-iterator.result.rest.items ≡ c.args.events.items = search rules in
-    let none : map (λ trail. trail.items) c.in_ok-trails.trails.items ≡ replicate c.args.workers [] = c.in_ok-trails.ensures in
+    let none : lists_of c.in_ok-trails.trails.items ≡ replicate c.args.workers [] = c.in_ok-trails.ensures in
     record {
       path = λ last. rw (all, none) (λ is. is);
       explained = rw none c.requires.explained;
@@ -21,13 +22,13 @@ pub loop-event-preserved : goal.loop-event-preserved
 loop-event-preserved c =
     let inv = c.loop-event.invariant in
     let split : c.loop-event.event-iterator.rest.items ≡ c.in-Some.event ∷ c.next.new.self.rest.items = search rules in
-    let old = world_of c.loop-event.table (map (λ trail. trail.items) c.loop-event.trails.items) in
-    let new = world_of c.take_turn.new.table (map (λ trail. trail.items) c.take_turn.new.trails.items) in
+    let old = world_of c.loop-event.table (lists_of c.loop-event.trails.items) in
+    let new = world_of c.take_turn.new.table (lists_of c.take_turn.new.trails.items) in
     let turns = rw split at inv.turns in
     let leads = c.in_ok-take_turn.ensures in
     let many = leads_length old (turn_of c.in-Some.event) new leads in
     let lengths = length-map c.loop-event.trails.items (λ trail. trail.items) in
-    let inside : c.in-Some.event.worker < length (map (λ trail. trail.items) c.loop-event.trails.items) = omega (arith, turns.0, inv.count, lengths) in
+    let inside : c.in-Some.event.worker < length (lists_of c.loop-event.trails.items) = omega (arith, turns.0, inv.count, lengths) in
     record {
       path = λ last rest. inv.path last (rw split (new, leads, rest));
       explained = leads_keeps old (turn_of c.in-Some.event) new inv.explained inside leads;

@@ -1,12 +1,12 @@
 use Rattle.std.proofs.Common.{◌≡◌, ◌+◌, ◌-◌, ◌*◌, ◌^◌}
-use Rattle.bw_procedures.specs.Sights.{on_the_way}
-use Rattle.bw_procedures.specs.Calls.{Waits}
+use Rattle.bw_procedures.specs.Facts.{on_the_way}
+use Rattle.bw_procedures.specs.Calls.{OnlySpends}
 use Rattle.bw_procedures.proofs.walk.descend.Given as goal
 
 abbrev pub invariant-down : goal.invariant-down
 invariant-down g l = record {
   follows : g.S.Steps.follows l.fn.steps l.steps;
-  seen : Waits (g.S.Steps.seen l.fn.steps) (g.S.Steps.seen l.steps);
+  seen : OnlySpends (g.S.Steps.seen l.fn.steps) (g.S.Steps.seen l.steps);
   calm : g.S.Steps.calm l.fn.steps (on_the_way l.key l.goal l.fn.start) → g.S.Steps.calm l.steps (on_the_way l.key l.goal l.place);
   no_effort : g.S.Steps.calm l.fn.steps (on_the_way l.key l.goal l.fn.start) → (g.S.Steps.seen l.steps).effort ≡ (g.S.Steps.seen l.fn.steps).effort;
 }

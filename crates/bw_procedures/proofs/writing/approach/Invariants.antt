@@ -1,11 +1,11 @@
 use Rattle.std.proofs.Common.{◌+◌, ◌-◌, ◌*◌, ◌^◌}
-use Rattle.bw_procedures.specs.Calls.{Waits}
+use Rattle.bw_procedures.specs.Calls.{OnlySpends}
 use Rattle.bw_procedures.proofs.writing.approach.Given as goal
 
 abbrev pub invariant-down : goal.invariant-down
 invariant-down g l = record {
   follows : g.S.Steps.follows l.fn.steps l.steps;
-  seen : Waits (g.S.Steps.seen l.fn.steps) (g.S.Steps.seen l.steps);
+  seen : OnlySpends (g.S.Steps.seen l.fn.steps) (g.S.Steps.seen l.steps);
 }
 
 -- each place is on a lower level, or further right on the same

@@ -1,6 +1,7 @@
 use Rattle.std.proofs.Common.{rules, ◌≡◌, ◌<◌, length, map, refl, ap, sym, subst, ◌∙◌}
 use Rattle.std.specs.Prelude.{sum_by}
 use Rattle.std.proofs.lemmas.List.{length-map}
+use Rattle.bw_step.specs.Trails.{lists_of}
 use Rattle.bw_tree.specs.Shares.{book_of}
 use Rattle.bw_audit.specs.Legal.{IsLegal}
 use Rattle.bw_run.specs.Counts.{insertions, removals}
@@ -11,7 +12,7 @@ use Rattle.bw_run.proofs.ending.finish.Goals as goal
 
 pub returns-in_err-judge-clause-fault : goal.returns-in_err-judge-clause-fault
 returns-in_err-judge-clause-fault c =
-    let trails = map (λ trail. trail.items) c.deref.result.now in
+    let trails = lists_of c.deref.result.now in
     let count : length trails ≡ length c.args.replies.items =
     length-map c.deref.result.now (λ trail. trail.items) ∙ (ap length c.deref.ensures.value ∙ c.requires.trails) in
     let fault : EndsBadly (length c.args.replies.items) c.in_err-judge.field-0.0 =
@@ -20,7 +21,7 @@ returns-in_err-judge-clause-fault c =
 
 pub returns-clause-finished : goal.returns-clause-finished
 returns-clause-finished c =
-    let trails = map (λ trail. trail.items) c.args.trails.items in
+    let trails = lists_of c.args.trails.items in
     let columns : length (map (λ column. column.items) c.args.replies.items) ≡ length c.args.replies.items = length-map c.args.replies.items (λ column. column.items) in
     record {
       replied = c.in_ok-replies.ensures.count;
@@ -29,6 +30,6 @@ returns-clause-finished c =
           let within : worker < length (map (λ column. column.items) c.args.replies.items) = subst (λ n. worker < n) (sym columns) inside in
           c.requires.answered.told worker within ∙ sym (c.in_ok-replies.ensures.told worker within);
       tree = c.requires.tree;
-      legal = λ pairs are. subst (λ ts. IsLegal (map (λ trail. trail.items) ts) pairs) c.deref.ensures.value (c.in_ok-judge.ensures.legal pairs are);
+      legal = λ pairs are. subst (λ ts. IsLegal (lists_of ts) pairs) c.deref.ensures.value (c.in_ok-judge.ensures.legal pairs are);
       count = λ pairs are. changes_counted c.args.table (book_of (sum_by insertions trails) (sum_by removals trails)) trails pairs c.requires.counted refl are;
     }

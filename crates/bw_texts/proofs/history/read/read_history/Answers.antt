@@ -1,4 +1,5 @@
-use Rattle.std.proofs.Common.{◌≡◌, ◌∙◌, ◌+◌, ◌++◌, ◌∷◌, [], ap, sym, refl, rules, arith, ℕ, List, Some, Ok, Err, Vec, Global, length-append, map}
+use Rattle.std.proofs.Common.{◌≡◌, ◌∙◌, ◌+◌, ◌++◌, ◌∷◌, [], ap, sym, refl, rules, arith, ℕ, List, Some, Ok, Err, Vec, Global, length-append}
+use Rattle.bw_step.specs.Trails.{lists_of}
 use Rattle.csv.specs.Records.{fields_of}
 use Rattle.bw_step.specs.declared.receipt.Receipt.{Receipt}
 use Rattle.bw_texts.specs.Lines.{history_line}
@@ -32,7 +33,7 @@ returns-in-Err-clause-fault g c = λ bytes known.
 pub loop-done-preserved : goal.loop-done-preserved
 loop-done-preserved g c =
     let l = c.loop-done in
-    let texts : List (Vec Receipt Global) → List (List Receipt) = map (λ trail. trail.items) in
+    let texts : List (Vec Receipt Global) → List (List Receipt) = lists_of in
     record {
       fresh = search rules;
       ascending = c.in_ok-add_line-in-Ok.ensures.ascending;

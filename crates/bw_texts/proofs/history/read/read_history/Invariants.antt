@@ -1,4 +1,5 @@
-use Rattle.std.proofs.Common.{◌≡◌, ℕ, List, Some, length, map}
+use Rattle.std.proofs.Common.{◌≡◌, ℕ, List, Some, length}
+use Rattle.bw_step.specs.Trails.{lists_of}
 use Rattle.bw_texts.specs.declared.history.line.Line.{Line}
 use Rattle.bw_texts.specs.Histories.{AreTrailsOf, HaveRisingKeys, row_count}
 use Rattle.bw_texts.specs.Lines.{history_line, pairs_of}
@@ -9,8 +10,8 @@ abbrev pub invariant-loop-done : goal.invariant-loop-done
 invariant-loop-done g l = record {
   fresh : IsOpen l.reader;
   ascending : HaveRisingKeys l.pairs.items;
-  count : row_count (map (λ trail. trail.items) l.trails.items) l.pairs.items ≡ l.done;
+  count : row_count (lists_of l.trails.items) l.pairs.items ≡ l.done;
   read : (bytes : List ℕ) → g.R.Read.remaining l.fn.input ≡ Some bytes
       → (lines : List Line) × HasReadAs g.R.Read.remaining l.reader history_line bytes lines
-      × AreTrailsOf (map (λ trail. trail.items) l.trails.items) lines × (l.pairs.items ≡ pairs_of lines) × (length lines ≡ l.done);
+      × AreTrailsOf (lists_of l.trails.items) lines × (l.pairs.items ≡ pairs_of lines) × (length lines ≡ l.done);
 }

@@ -17,21 +17,21 @@ use Rattle.bw_step.specs.declared.fault.CopyFault.TheVariants as copy_faults
 
 -- nobody else takes steps; the place is on the way to the key, down to the goal's level; the page is in the row of the level, with a range that
 -- holds the key; the page still has the version
-pub data Sight : Type 0 where
-  quiet : Sight
-  on_the_way : (key goal : ℕ) → Place → Sight
-  holds : (key level : ℕ) → Pid → Sight
-  fresh : Pid → Version → Sight
+pub data Fact : Type 0 where
+  quiet : Fact
+  on_the_way : (key goal : ℕ) → Place → Fact
+  holds : (key level : ℕ) → Pid → Fact
+  fresh : Pid → Version → Fact
 
 -- a search isn't lost: its next place is on the way, and the page that it finds is the key's, and fresh
-abbrev pub CalmNext : (Sight → Type 0) → ℕ → ℕ → Go → Type 0
+abbrev pub CalmNext : (Fact → Type 0) → ℕ → ℕ → Go → Type 0
 CalmNext calm key goal Gone = ⊥
 CalmNext calm key goal (Right next) = calm (on_the_way key goal next)
 CalmNext calm key goal (Down next) = calm (on_the_way key goal next)
 CalmNext calm key goal (Here view) = calm (holds key goal view.pid) × calm (fresh view.pid view.version)
 
 -- a page that is in a row is found, with the version that it has
-abbrev pub CalmPeek : (Sight → Type 0) → Pid → Option View → Type 0
+abbrev pub CalmPeek : (Fact → Type 0) → Pid → Option View → Type 0
 CalmPeek calm pid None = (key level : ℕ) → calm (holds key level pid) → ⊥
 CalmPeek calm pid (Some view) = calm quiet → calm (fresh pid view.version)
 
@@ -42,7 +42,7 @@ IsLooked (Ok (Some look)) = Unit {0}
 IsLooked (Err no_memory) = Unit {0}
 
 -- a look at the key's leaf is answered
-abbrev pub CalmLook : (Sight → Type 0) → ℕ → Pid → Result (Option Look) NoMemory → Type 0
+abbrev pub CalmLook : (Fact → Type 0) → ℕ → Pid → Result (Option Look) NoMemory → Type 0
 CalmLook calm key pid result = calm (holds key 0 pid) → IsLooked result
 
 -- the chain is a leaf's, and its range holds the key
@@ -57,7 +57,7 @@ IsCopied key (Ok chain) = IsLeafAround key chain
 IsCopied key (Err fault) = fault ≡ copy_faults.NoMemory
 
 -- the key's leaf is copied, if it is fresh
-abbrev pub CalmCopy : (Sight → Type 0) → Pid → Version → Result Records CopyFault → Type 0
+abbrev pub CalmCopy : (Fact → Type 0) → Pid → Version → Result Records CopyFault → Type 0
 CalmCopy calm pid version result = (key : ℕ) → calm (holds key 0 pid) → calm (fresh pid version) → IsCopied key result
 
 -- a copy of a leaf shows all pairs of its range

@@ -8,21 +8,21 @@ use Rattle.bw_step.specs.declared.receipt.Receipt.{Receipt}
 use Rattle.bw_step.specs.declared.receipt.Receipt.TheVariants as receipts
 use Rattle.bw_procedures.specs.declared.steps.Keep.TheVariants.{Always}
 use Rattle.bw_procedures.specs.Seen.{Seen, SameButEffort, SameCounts, Visited, Looked}
-use Rattle.bw_procedures.specs.Calls.{Waits, Sought}
+use Rattle.bw_procedures.specs.Calls.{OnlySpends, Sought}
 
 same_then : (a b c : Seen) → SameButEffort a b → SameButEffort b c → SameButEffort a c
 same_then a b c p q = record { config = q.config ∙ p.config; trail = q.trail ∙ p.trail; full = q.full ∙ p.full; tall = q.tall ∙ p.tall; worn = q.worn ∙ p.worn }
 
-pub waits_visited : (a b c : Seen) (go : Go) → Waits a b → Visited go b c → Waits a c
-waits_visited a b c Gone p q = record { same = same_then a b c p.same q.0; effort = omega arith }
-waits_visited a b c (Right place) p q = record { same = same_then a b c p.same q.0; effort = omega arith }
-waits_visited a b c (Down place) p q = record { same = same_then a b c p.same q.0; effort = omega arith }
-waits_visited a b c (Here view) p q = record { same = same_then a b c p.same q.0; effort = omega arith }
+pub spends_visited : (a b c : Seen) (go : Go) → OnlySpends a b → Visited go b c → OnlySpends a c
+spends_visited a b c Gone p q = record { same = same_then a b c p.same q.0; effort = omega arith }
+spends_visited a b c (Right place) p q = record { same = same_then a b c p.same q.0; effort = omega arith }
+spends_visited a b c (Down place) p q = record { same = same_then a b c p.same q.0; effort = omega arith }
+spends_visited a b c (Here view) p q = record { same = same_then a b c p.same q.0; effort = omega arith }
 
 counts_then : (a b c : Seen) → SameButEffort a b → SameCounts b c → SameCounts a c
 counts_then a b c p q = record { config = q.config ∙ p.config; full = q.full ∙ p.full; tall = q.tall ∙ p.tall; worn = q.worn ∙ p.worn }
 
-pub sought : (key : ℕ) (answer : Result (Option Look) NoMemory) (a b c : Seen) → Waits a b → Looked Always key answer b c → Sought key answer a c
+pub sought : (key : ℕ) (answer : Result (Option Look) NoMemory) (a b c : Seen) → OnlySpends a b → Looked Always key answer b c → Sought key answer a c
 sought key (Ok None) a b c p q = (
   record { same = record { config = q.0.config ∙ p.same.config; trail = q.1 ∙ p.same.trail; full = q.0.full ∙ p.same.full; tall = q.0.tall ∙ p.same.tall; worn = q.0.worn ∙ p.same.worn }; effort = omega (arith, p.effort, q.2) },
   omega (arith, p.effort, q.2),
