@@ -1,8 +1,7 @@
 -- What one more receipt tells.
-use Rattle.std.proofs.Common.{◌≡◌, ℕ, zero, suc, ◌<◌, List, [], ◌∷◌, ◌++◌, length, get_or, Option, Some, None, Ok, Err, refl, ap, sym, ◌∙◌, append_assoc, append-nil, arith}
+use Rattle.std.proofs.Common.{◌≡◌, ℕ, zero, suc, ◌<◌, List, [], ◌∷◌, ◌++◌, length, get_or, Option, Some, None, Ok, refl, ap, sym, ◌∙◌, append_assoc, append-nil, arith}
 use Rattle.bw_step.specs.declared.receipt.Receipt.{Receipt}
 use Rattle.bw_step.specs.declared.receipt.Receipt.TheVariants.{Inserted, Deleted, Looked, Shaped}
-use Rattle.bw_procedures.specs.declared.fault.Fault.{Fault}
 use Rattle.bw_procedures.specs.declared.reply.Del.{Del}
 use Rattle.bw_procedures.specs.declared.reply.Del.TheVariants as dels
 use Rattle.bw_procedures.specs.declared.reply.Put.{Put}
