@@ -2,7 +2,7 @@
 
 ghost use Rattle.std.specs.Prelude.{◌≡◌, IfOk, IfErr, IfSome, OnOk, OnErr};
 ghost use Rattle.bw_procedures.specs.Seen.{Grows};
-ghost use Rattle.bw_procedures.specs.Calls.{limit_of, IsFair, Waits, OnlyReshapes, RoseBy, AddsLook, plain};
+ghost use Rattle.bw_procedures.specs.Calls.{limit_of, IsFair, Waits, OnlyReshapes, RoseBy, AddsLook, without_shapes};
 ghost use Rattle.bw_procedures.specs.Slices.{end_of_slice, IsSliceFrom};
 ghost use Rattle.bw_procedures.specs.Writing.{AddsReceipt, IsReceiptOfPut, IsReceiptOfDelete};
 ghost use Rattle.bw_work.specs.Hands.{seen_of};
@@ -24,7 +24,7 @@ impl<'t, A: Allocator + Copy> Alone<'t, A> {
         ensures follows { Leads self.old.table.now self.old.trail.items self.new.table.now self.new.trail.items }
         ensures grows { Grows (seen_of self.old.table.now.config self.old.trail.items self.old.counts) (seen_of self.new.table.now.config self.new.trail.items self.new.counts) }
         ensures receipt { IfOk result (λ done. AddsReceipt (IsReceiptOfPut key value) done.reply (seen_of self.old.table.now.config self.old.trail.items self.old.counts) (seen_of self.new.table.now.config self.new.trail.items self.new.counts)) }
-        ensures no_receipt { OnErr result (plain self.new.trail.items ≡ plain self.old.trail.items) }
+        ensures no_receipt { OnErr result (without_shapes self.new.trail.items ≡ without_shapes self.old.trail.items) }
         ensures fault { IfErr result (IsFair (limit_of (seen_of self.old.table.now.config self.old.trail.items self.old.counts)) (seen_of self.old.table.now.config self.old.trail.items self.old.counts) (seen_of self.new.table.now.config self.new.trail.items self.new.counts)) }
         ensures kept { IfOk result (λ done. IfSome done.fault (IsFair (limit_of (seen_of self.old.table.now.config self.old.trail.items self.old.counts)) (seen_of self.old.table.now.config self.old.trail.items self.old.counts) (seen_of self.new.table.now.config self.new.trail.items self.new.counts))) }
     {
@@ -37,7 +37,7 @@ impl<'t, A: Allocator + Copy> Alone<'t, A> {
         ensures follows { Leads self.old.table.now self.old.trail.items self.new.table.now self.new.trail.items }
         ensures grows { Grows (seen_of self.old.table.now.config self.old.trail.items self.old.counts) (seen_of self.new.table.now.config self.new.trail.items self.new.counts) }
         ensures receipt { IfOk result (λ done. AddsReceipt (IsReceiptOfDelete key) done.reply (seen_of self.old.table.now.config self.old.trail.items self.old.counts) (seen_of self.new.table.now.config self.new.trail.items self.new.counts)) }
-        ensures no_receipt { OnErr result (plain self.new.trail.items ≡ plain self.old.trail.items) }
+        ensures no_receipt { OnErr result (without_shapes self.new.trail.items ≡ without_shapes self.old.trail.items) }
         ensures fault { IfErr result (IsFair (limit_of (seen_of self.old.table.now.config self.old.trail.items self.old.counts)) (seen_of self.old.table.now.config self.old.trail.items self.old.counts) (seen_of self.new.table.now.config self.new.trail.items self.new.counts)) }
         ensures kept { IfOk result (λ done. IfSome done.fault (IsFair (limit_of (seen_of self.old.table.now.config self.old.trail.items self.old.counts)) (seen_of self.old.table.now.config self.old.trail.items self.old.counts) (seen_of self.new.table.now.config self.new.trail.items self.new.counts))) }
     {

@@ -2,7 +2,7 @@
 
 ghost use Rattle.std.specs.Prelude.{◌≡◌, ◌≤◌, IfOk, IfErr, IfSome, OnOk, OnErr};
 ghost use Rattle.bw_procedures.specs.Seen.{Grows};
-ghost use Rattle.bw_procedures.specs.Calls.{limit_of, IsFair, Waits, OnlyReshapes, RoseBy, AddsLook, plain};
+ghost use Rattle.bw_procedures.specs.Calls.{limit_of, IsFair, Waits, OnlyReshapes, RoseBy, AddsLook, without_shapes};
 ghost use Rattle.bw_procedures.specs.Slices.{IsSliceFrom};
 ghost use Rattle.bw_procedures.specs.Writing.{AddsReceipt, IsReceiptOfPut, IsReceiptOfDelete};
 ghost use Rattle.bw_work.specs.Hands.{Sums, seen_of};
@@ -21,7 +21,7 @@ impl<'t, A: Allocator + Copy, S: Shared<A, Step<A>>, G: Gate> Hand<'t, A, S, G> 
         ensures share { Sums self.old.trail.items self.old.share self.new.trail.items self.new.share }
         ensures grows { Grows (seen_of self.old.config self.old.trail.items self.old.counts) (seen_of self.new.config self.new.trail.items self.new.counts) }
         ensures receipt { IfOk result (λ done. AddsReceipt (IsReceiptOfPut key value) done.reply (seen_of self.old.config self.old.trail.items self.old.counts) (seen_of self.new.config self.new.trail.items self.new.counts)) }
-        ensures no_receipt { OnErr result (plain self.new.trail.items ≡ plain self.old.trail.items) }
+        ensures no_receipt { OnErr result (without_shapes self.new.trail.items ≡ without_shapes self.old.trail.items) }
         ensures fault { IfErr result (IsFair (limit_of (seen_of self.old.config self.old.trail.items self.old.counts)) (seen_of self.old.config self.old.trail.items self.old.counts) (seen_of self.new.config self.new.trail.items self.new.counts)) }
         ensures kept { IfOk result (λ done. IfSome done.fault (IsFair (limit_of (seen_of self.old.config self.old.trail.items self.old.counts)) (seen_of self.old.config self.old.trail.items self.old.counts) (seen_of self.new.config self.new.trail.items self.new.counts))) }
     {
@@ -33,7 +33,7 @@ impl<'t, A: Allocator + Copy, S: Shared<A, Step<A>>, G: Gate> Hand<'t, A, S, G> 
         ensures share { Sums self.old.trail.items self.old.share self.new.trail.items self.new.share }
         ensures grows { Grows (seen_of self.old.config self.old.trail.items self.old.counts) (seen_of self.new.config self.new.trail.items self.new.counts) }
         ensures receipt { IfOk result (λ done. AddsReceipt (IsReceiptOfDelete key) done.reply (seen_of self.old.config self.old.trail.items self.old.counts) (seen_of self.new.config self.new.trail.items self.new.counts)) }
-        ensures no_receipt { OnErr result (plain self.new.trail.items ≡ plain self.old.trail.items) }
+        ensures no_receipt { OnErr result (without_shapes self.new.trail.items ≡ without_shapes self.old.trail.items) }
         ensures fault { IfErr result (IsFair (limit_of (seen_of self.old.config self.old.trail.items self.old.counts)) (seen_of self.old.config self.old.trail.items self.old.counts) (seen_of self.new.config self.new.trail.items self.new.counts)) }
         ensures kept { IfOk result (λ done. IfSome done.fault (IsFair (limit_of (seen_of self.old.config self.old.trail.items self.old.counts)) (seen_of self.old.config self.old.trail.items self.old.counts) (seen_of self.new.config self.new.trail.items self.new.counts))) }
     {
