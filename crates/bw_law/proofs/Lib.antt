@@ -31,3 +31,4 @@ pub mod Count
 pub mod Joined
 pub mod MapAndTerms
 pub mod Least
+pub mod ConfigStays

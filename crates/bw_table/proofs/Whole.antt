@@ -6,12 +6,13 @@ use Rattle.bw_keys.specs.declared.config.Config.{Config}
 use Rattle.bw_keys.specs.Limits.{first_bad_field}
 use Rattle.bw_keys.specs.Ranges.{is_within}
 use Rattle.bw_delta.specs.Entries.{at}
-use Rattle.bw_step.specs.Proposals.{Proposal, insert, delete, consolidate, split, term_add, grow, mark, merge, term_delete}
+use Rattle.bw_step.specs.Proposals.{Proposal}
 use Rattle.bw_law.specs.Tables.{TableValue, slot_at, is_leaf_in_row, Lawful, new_table}
 use Rattle.bw_law.specs.Slots.{SlotValue, pairs_in}
 use Rattle.bw_law.specs.Refusals.{refusal, new_id, last_id}
 use Rattle.bw_law.specs.Effects.{after}
 use Rattle.bw_law.proofs.AllSteps.{step_law}
+use Rattle.bw_law.proofs.ConfigStays.{config_stays}
 use Rattle.bw_law.proofs.Facts.{leaf_decides}
 use Rattle.bw_law.proofs.NewTable.{new_law}
 use Rattle.bw_table.specs.SlotFacts.{HasSoundChain}
@@ -42,25 +43,13 @@ by_new_slot {X} table new answer by_slot is told =
     stands None = refl
     stands (Some id) = refl
 
--- no step changes the configuration
-same_config : (table : TableValue) (step : Proposal) → (after table step).config ≡ table.config
-same_config table (insert page seen key value) = refl
-same_config table (delete page seen key) = refl
-same_config table (consolidate page seen base) = refl
-same_config table (split page seen separator base) = refl
-same_config table (term_add parent parent_seen child child_seen) = refl
-same_config table (grow child seen base) = refl
-same_config table (mark page seen parent) = refl
-same_config table (merge left left_seen page seen) = refl
-same_config table (term_delete parent parent_seen child child_seen) = refl
-
 -- the table after an accepted step
 pub whole_after : (table : TableValue) (step : Proposal) (room : ℕ) → IsWhole table room → refusal table step ≡ None → IsWhole (after table step) room
 whole_after table step room whole none =
     let kept = step_law table step whole.lawful whole.booked none in record {
       lawful = kept.lawful;
       booked = kept.booked;
-      free_room = omega (arith, ap (λ (c : Config). c.pages) (same_config table step), kept.lawful.bounds.slots, whole.lawful.bounds.slots, whole.free_room);
+      free_room = omega (arith, ap (λ (c : Config). c.pages) (config_stays table step), kept.lawful.bounds.slots, whole.lawful.bounds.slots, whole.free_room);
     }
 
 -- the new table

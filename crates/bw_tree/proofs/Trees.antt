@@ -75,18 +75,3 @@ book_is table inserted removed sum kept more less = kept.totals ∙ ap (λ (n : 
 
 pub pairs_are : (table : TableValue) (inserted removed : ℕ) (sum : Book) → IsBookOf table inserted removed → inserted ≡ sum.inserted → removed ≡ sum.removed → CountsPairs table sum
 pairs_are table inserted removed sum kept more less = subst (CountsPairs table) (book_is table inserted removed sum kept more less) (tree_of table inserted removed kept).pairs
-
--- no step changes the configuration
-config_stays : (table : TableValue) (step : Proposal) → (after table step).config ≡ table.config
-config_stays table (insert page seen key value) = refl
-config_stays table (delete page seen key) = refl
-config_stays table (consolidate page seen base) = refl
-config_stays table (split page seen separator base) = refl
-config_stays table (term_add parent parent_seen child child_seen) = refl
-config_stays table (grow child seen base) = refl
-config_stays table (mark page seen parent) = refl
-config_stays table (merge left left_seen page seen) = refl
-config_stays table (term_delete parent parent_seen child child_seen) = refl
-
-pub config_kept : (old new : TableValue) (step : Proposal) (receipt : Receipt) → TakesStep old step receipt new → new.config ≡ old.config
-config_kept old new step receipt takes = ap (λ (t : TableValue). t.config) takes.leads ∙ config_stays old step

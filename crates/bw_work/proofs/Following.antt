@@ -89,18 +89,3 @@ look_leads table page key look trail law seen =
       book = refl;
       number = opened.number;
     })
-
--- no step changes the configuration
-config_stays : (table : TableValue) (step : Proposal) → (after table step).config ≡ table.config
-config_stays table (insert page seen key value) = refl
-config_stays table (delete page seen key) = refl
-config_stays table (consolidate page seen base) = refl
-config_stays table (split page seen separator base) = refl
-config_stays table (term_add parent parent_seen child child_seen) = refl
-config_stays table (grow child seen base) = refl
-config_stays table (mark page seen parent) = refl
-config_stays table (merge left left_seen page seen) = refl
-config_stays table (term_delete parent parent_seen child child_seen) = refl
-
-pub config_kept : (old new : TableValue) (step : Proposal) (receipt : Receipt) → TakesStep old step receipt new → new.config ≡ old.config
-config_kept old new step receipt takes = ap (λ (t : TableValue). t.config) takes.leads ∙ config_stays old step
