@@ -1,10 +1,11 @@
 -- The lists of one more worker.
-use Rattle.std.proofs.Common.{◌≡◌, ℕ, zero, suc, ◌+◌, ◌<◌, List, [], ◌∷◌, ◌++◌, length, get_or, map, fold, Some, refl, ap, sym, subst, ◌∙◌, arith}
+use Rattle.std.proofs.Common.{◌≡◌, ℕ, zero, suc, ◌+◌, ◌<◌, List, [], ◌∷◌, ◌++◌, length, get_or, map, fold, Some, None, refl, ap, sym, subst, ◌∙◌, arith}
 use Rattle.std.specs.Prelude.{sum_by}
 use Rattle.std.proofs.lemmas.List.{length-map, map-append}
 use Rattle.std.proofs.lemmas.List.Sums.{sum_by-append}
 use Rattle.bw_step.specs.declared.receipt.Receipt.{Receipt}
-use Rattle.bw_step.specs.declared.receipt.Receipt.TheVariants.{Inserted, Deleted, Looked, Shaped}
+use Rattle.bw_step.specs.Tellings.{Telling, change, telling_of}
+use Rattle.bw_law.specs.Tables.{book_with}
 use Rattle.bw_step.specs.declared.survey.Book.{Book}
 use Rattle.bw_tree.specs.Shares.{book_of, counted, no_changes, sum_of}
 use Rattle.bw_run.specs.declared.reply.Reply.{Reply}
@@ -33,16 +34,19 @@ answered_more rows columns trails column trail same answered full told = record 
   told = each_more (λ worker c t. map Some (tellings t) ≡ answers (acts_of worker rows) c) columns trails column trail same answered.told told;
 }
 
+-- what is told adds to a book what it adds to an empty one
+counts_more : (share : Book) (told : Telling) → book_with share told ≡ book_of (share.inserted + (book_with no_changes told).inserted) (share.removed + (book_with no_changes told).removed)
+counts_more share (change number key None (Some value)) = let r : share.removed + 0 ≡ share.removed = omega arith in rw r refl
+counts_more share (change number key (Some value) None) = let i : share.inserted + 0 ≡ share.inserted = omega arith in rw i refl
+counts_more share told = let i : share.inserted + 0 ≡ share.inserted = omega arith in let r : share.removed + 0 ≡ share.removed = omega arith in rw (i, r) refl
+
 pub fold_counts : (trail : List Receipt) (share : Book) → fold counted share trail ≡ book_of (share.inserted + insertions trail) (share.removed + removals trail)
 fold_counts [] share = let i : share.inserted + 0 ≡ share.inserted = omega arith in let r : share.removed + 0 ≡ share.removed = omega arith in rw (i, r) refl
-fold_counts (Inserted number key value ∷ rs) share =
-    let more : (share.inserted + 1) + insertions rs ≡ share.inserted + (1 + insertions rs) = omega arith in
-    fold_counts rs (counted share (Inserted number key value)) ∙ ap (λ (n : ℕ). book_of n (share.removed + removals rs)) more
-fold_counts (Deleted number key value ∷ rs) share =
-    let more : (share.removed + 1) + removals rs ≡ share.removed + (1 + removals rs) = omega arith in
-    fold_counts rs (counted share (Deleted number key value)) ∙ ap (λ (n : ℕ). book_of (share.inserted + insertions rs) n) more
-fold_counts (Looked seen key found ∷ rs) share = fold_counts rs share
-fold_counts (Shaped kind page other ∷ rs) share = fold_counts rs share
+fold_counts (receipt ∷ rs) share =
+    let own = counts_more share (telling_of receipt) in
+    let i : (counted share receipt).inserted + insertions rs ≡ share.inserted + ((counted no_changes receipt).inserted + insertions rs) = omega (arith, ap (λ (b : Book). b.inserted) own) in
+    let r : (counted share receipt).removed + removals rs ≡ share.removed + ((counted no_changes receipt).removed + removals rs) = omega (arith, ap (λ (b : Book). b.removed) own) in
+    fold_counts rs (counted share receipt) ∙ (λ j. book_of (i j) (r j))
 
 pub sums_more : (shares : List Book) (share : Book) (trails : List (List Receipt)) (trail : List Receipt) → sum_of shares ≡ book_of (sum_by insertions trails) (sum_by removals trails)
     → share ≡ fold counted no_changes trail → sum_of (shares ++ share ∷ []) ≡ book_of (sum_by insertions (trails ++ trail ∷ [])) (sum_by removals (trails ++ trail ∷ []))

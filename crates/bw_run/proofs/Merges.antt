@@ -6,7 +6,8 @@ use Rattle.bw_run.specs.declared.reply.Reply.{Reply}
 use Rattle.bw_texts.specs.declared.row.Act.{Act}
 use Rattle.bw_texts.specs.declared.row.Row.{Row}
 use Rattle.bw_run.specs.Rows.{acts_of, told_to}
-use Rattle.bw_run.specs.Told.{Told, told_of, answers}
+use Rattle.bw_step.specs.Tellings.{Told}
+use Rattle.bw_run.specs.Told.{told_of, answers}
 
 -- an item that stands there or doesn't
 joined_if : {T : Type 0} → (own : Bool) (x : T) (xs ys : List T) → (if own then x ∷ (xs ++ ys) else xs ++ ys) ≡ (if own then x ∷ xs else xs) ++ ys

@@ -1,7 +1,8 @@
 -- What one more receipt tells.
-use Rattle.std.proofs.Common.{◌≡◌, ℕ, zero, suc, ◌<◌, List, [], ◌∷◌, ◌++◌, length, get_or, Option, Some, None, Ok, Err, refl, ap, sym, subst, ◌∙◌, map, arith}
+use Rattle.std.proofs.Common.{◌≡◌, ℕ, zero, suc, ◌<◌, List, [], ◌∷◌, ◌++◌, length, get_or, Option, Some, None, Ok, Err, refl, ap, sym, subst, ◌∙◌, map, append_assoc, arith}
 use Rattle.bw_step.specs.declared.receipt.Receipt.{Receipt}
 use Rattle.bw_step.specs.declared.receipt.Receipt.TheVariants.{Inserted, Deleted, Looked, Shaped}
+use Rattle.bw_step.specs.Tellings.{telling_of, Told, changed, looked, told_by}
 use Rattle.std.specs.Prelude.{IfOk, Result}
 use Rattle.bw_procedures.specs.declared.fault.Fault.{Fault}
 use Rattle.bw_procedures.specs.declared.reply.Del.{Del}
@@ -16,20 +17,19 @@ use Rattle.bw_run.specs.declared.reply.Reply.{Reply}
 use Rattle.bw_run.specs.Reads.{IsReadBy, IsReadByOwn, IsFoundBy}
 use Rattle.bw_texts.specs.declared.row.Act.{Act}
 use Rattle.bw_texts.specs.declared.row.Act.TheVariants as acts
-use Rattle.bw_run.specs.Told.{Told, inserted, removed, looked, tellings, told_of, told_of_put, told_of_delete, answers}
+use Rattle.bw_run.specs.Told.{tellings, told_of, told_of_put, told_of_delete, answers}
 
 tellings-append : (xs ys : List Receipt) → tellings (xs ++ ys) ≡ tellings xs ++ tellings ys
 tellings-append [] ys = refl
-tellings-append (Inserted number key value ∷ xs) ys = ap (λ (l : List Told). inserted key value ∷ l) (tellings-append xs ys)
-tellings-append (Deleted number key value ∷ xs) ys = ap (λ (l : List Told). removed key value ∷ l) (tellings-append xs ys)
-tellings-append (Looked seen key found ∷ xs) ys = ap (λ (l : List Told). looked key found ∷ l) (tellings-append xs ys)
-tellings-append (Shaped kind page other ∷ xs) ys = tellings-append xs ys
+tellings-append (x ∷ xs) ys =
+    ap (λ (l : List Told). told_by (telling_of x) ++ l) (tellings-append xs ys)
+    ∙ sym (append_assoc (told_by (telling_of x)) (tellings xs) (tellings ys))
 
 -- receipts of changed shape tell nothing
 tellings-plain : (xs : List Receipt) → tellings (plain xs) ≡ tellings xs
 tellings-plain [] = refl
-tellings-plain (Inserted number key value ∷ xs) = ap (λ (l : List Told). inserted key value ∷ l) (tellings-plain xs)
-tellings-plain (Deleted number key value ∷ xs) = ap (λ (l : List Told). removed key value ∷ l) (tellings-plain xs)
+tellings-plain (Inserted number key value ∷ xs) = ap (λ (l : List Told). changed key None (Some value) ∷ l) (tellings-plain xs)
+tellings-plain (Deleted number key value ∷ xs) = ap (λ (l : List Told). changed key (Some value) None ∷ l) (tellings-plain xs)
 tellings-plain (Looked seen key found ∷ xs) = ap (λ (l : List Told). looked key found ∷ l) (tellings-plain xs)
 tellings-plain (Shaped kind page other ∷ xs) = tellings-plain xs
 

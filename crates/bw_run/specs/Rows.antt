@@ -4,7 +4,8 @@ use Rattle.bw_step.specs.declared.receipt.Receipt.{Receipt}
 use Rattle.bw_run.specs.declared.reply.Reply.{Reply}
 use Rattle.bw_texts.specs.declared.row.Act.{Act}
 use Rattle.bw_texts.specs.declared.row.Row.{Row}
-use Rattle.bw_run.specs.Told.{Told, told_of, tellings, answers}
+use Rattle.bw_step.specs.Tellings.{Told}
+use Rattle.bw_run.specs.Told.{told_of, tellings, answers}
 
 -- the acts of a worker's rows, in their order
 abbrev pub acts_of : ℕ → List Row → List Act

@@ -1,7 +1,7 @@
 -- What receipts tell, and what goes with the acts and their replies.
 use Rattle.std.specs.Prelude.{ℕ, List, [], ◌∷◌, Option, Some, None}
 use Rattle.bw_step.specs.declared.receipt.Receipt.{Receipt}
-use Rattle.bw_step.specs.declared.receipt.Receipt.TheVariants.{Inserted, Deleted, Looked, Shaped}
+use Rattle.bw_step.specs.Tellings.{Told, changed, looked, told_in}
 use Rattle.bw_procedures.specs.declared.reply.Del.{Del}
 use Rattle.bw_procedures.specs.declared.reply.Del.TheVariants as dels
 use Rattle.bw_procedures.specs.declared.reply.Put.{Put}
@@ -11,28 +11,18 @@ use Rattle.bw_run.specs.declared.reply.Reply.TheVariants as replies
 use Rattle.bw_texts.specs.declared.row.Act.{Act}
 use Rattle.bw_texts.specs.declared.row.Act.TheVariants as acts
 
--- a receipt without its place among the changes: the pair that was inserted, the pair that was taken out, or what a key was found to have
-pub data Told : Type 0 where
-  inserted : ℕ → ℕ → Told
-  removed : ℕ → ℕ → Told
-  looked : ℕ → Option ℕ → Told
-
 -- what the receipts of a trail tell, in their order; those of changed shape tell nothing
 abbrev pub tellings : List Receipt → List Told
-tellings [] = []
-tellings (Inserted number key value ∷ rs) = inserted key value ∷ tellings rs
-tellings (Deleted number key value ∷ rs) = removed key value ∷ tellings rs
-tellings (Looked seen key found ∷ rs) = looked key found ∷ tellings rs
-tellings (Shaped kind page other ∷ rs) = tellings rs
+tellings trail = told_in trail
 
 -- a put inserts its pair, or finds the key's value
 abbrev pub told_of_put : ℕ → ℕ → Put → Told
-told_of_put key value puts.Inserted = inserted key value
+told_of_put key value puts.Inserted = changed key None (Some value)
 told_of_put key value (puts.Present there) = looked key (Some there)
 
 -- a delete takes the key out with its value, or finds none
 abbrev pub told_of_delete : ℕ → Del → Told
-told_of_delete key (dels.Removed value) = removed key value
+told_of_delete key (dels.Removed value) = changed key (Some value) None
 told_of_delete key dels.NoKey = looked key None
 
 -- what the receipt of an act with this reply tells; none goes with a reply to another kind of act

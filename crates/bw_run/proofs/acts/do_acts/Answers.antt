@@ -2,7 +2,8 @@ use Rattle.std.proofs.Common.{◌≡◌, ◌∷◌, ◌++◌, [], ◌∙◌, ap,
 use Rattle.bw_texts.specs.declared.row.Act.{Act}
 use Rattle.bw_texts.specs.declared.row.Act.TheVariants as acts
 use Rattle.bw_work.specs.Hands.{sums_join}
-use Rattle.bw_run.specs.Told.{Told, answers, told_of}
+use Rattle.bw_step.specs.Tellings.{Told}
+use Rattle.bw_run.specs.Told.{answers, told_of}
 use Rattle.bw_run.proofs.Receipts.{answers_more}
 use Rattle.bw_run.proofs.acts.do_acts.Goals as goal
 
