@@ -1,5 +1,5 @@
 -- Events as contracts see them: turns of the workers.
-use Rattle.std.specs.Prelude.{◌≡◌, ◌<◌, List, Some, None, map}
+use Rattle.std.specs.Prelude.{◌≡◌, List, Some, None}
 use Rattle.bw_keys.specs.declared.config.Config.{Config}
 use Rattle.bw_keys.specs.Limits.{first_bad_field}
 use Rattle.bw_step.specs.declared.receipt.Receipt.{Receipt}

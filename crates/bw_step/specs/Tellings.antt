@@ -31,14 +31,3 @@ told_by shape = []
 abbrev pub told_in : List Receipt → List Told
 told_in [] = []
 told_in (receipt ∷ rest) = told_by (telling_of receipt) ++ told_in rest
-
--- the receipt, unless it is of a change of the shape
-abbrev pub unless_shape : Receipt → Telling → List Receipt
-unless_shape receipt (change number key before after) = receipt ∷ []
-unless_shape receipt (look at key found) = receipt ∷ []
-unless_shape receipt shape = []
-
--- the receipts that tell of more than the tree's shape, in their order
-abbrev pub without_shapes : List Receipt → List Receipt
-without_shapes [] = []
-without_shapes (receipt ∷ rest) = unless_shape receipt (telling_of receipt) ++ without_shapes rest
