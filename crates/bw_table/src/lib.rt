@@ -2,6 +2,7 @@
 //! step (Levandoski et al., ICDE 2013, "mapping table").
 #![tactic(auto)]
 
+mod book;
 mod copy;
 mod fault;
 mod free;
