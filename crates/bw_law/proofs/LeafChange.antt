@@ -32,7 +32,7 @@ pub record Changes (table : TableValue) (page key : ℕ) (delta : Delta) (new : 
 
 -- a record for a key of a leaf
 module _ (table : TableValue) (page seen key : ℕ) (law : Lawful table) (may : MayChange table page seen key) (delta : Delta) (count : ℕ)
-    (stands : (chain : Records) → IsPageOf (slot_at table page) chain → MayStandOver delta (fences chain) (is_leaf chain))
+    (stands : (chain : Records) → IsPageOf (slot_at table page) chain → MayStandOver delta chain)
     (same_fence : (f : Fences) → fences_after delta f ≡ f) (same_routes : (es : _) → routes_after delta es ≡ es)
     (counted : (chain : Records) → IsPageOf (slot_at table page) chain → count ≡ length (pairs_after delta (pairs chain)) + length (routes_after delta (routes chain))) where
   abbrev slot : SlotValue

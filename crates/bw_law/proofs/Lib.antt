@@ -12,6 +12,7 @@ pub mod Chains
 pub mod LeafChange
 pub mod InsertStep
 pub mod DeleteStep
+pub mod ModifyStep
 pub mod Bases
 pub mod ConsolidateStep
 pub mod MarkStep
@@ -20,6 +21,7 @@ pub mod TermDeleteStep
 pub mod GrowStep
 pub mod SplitStep
 pub mod MergeStep
+
 pub mod AllSteps
 pub mod NewTable
 pub mod Pigeonhole

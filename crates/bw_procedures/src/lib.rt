@@ -1,4 +1,4 @@
-//! What a worker of a tree does for a put, a delete, a get and a cursor, written once over the atomic
+//! What a worker of a tree does for a put, a set, a delete, a get and a cursor, written once over the atomic
 //! steps that it takes and that others may come between (Levandoski et al., ICDE 2013, "structure
 //! modifications").
 #![tactic(auto)]
@@ -16,6 +16,7 @@ mod lookup;
 mod offer;
 mod reply;
 mod round;
+mod setting;
 mod steps;
 mod tending;
 mod walk;
@@ -30,6 +31,7 @@ pub use fault::Fault;
 pub use helping::help;
 pub use insertion::put;
 pub use lookup::get;
-pub use reply::{Del, Done, Put, Reply, Slice};
+pub use reply::{Del, Done, Put, Reply, Set, Slice};
+pub use setting::set;
 pub use steps::{Ends, Keep, Steps};
 pub use tending::tend;

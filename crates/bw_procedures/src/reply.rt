@@ -13,6 +13,15 @@ pub enum Put {
     Present(u64),
 }
 
+/// What a set replies.
+#[derive(Clone, Copy, Debug, PartialEq, Eq, Hash)]
+pub enum Set {
+    /// The key wasn't there, and has the value now.
+    Inserted,
+    /// The key was there, with this value, and has the other one now.
+    Replaced(u64),
+}
+
 /// What a delete replies.
 #[derive(Clone, Copy, Debug, PartialEq, Eq, Hash)]
 pub enum Del {

@@ -5,13 +5,13 @@ ghost use Rattle.bw_step.specs.Tellings.{without_shapes};
 ghost use Rattle.bw_procedures.specs.Seen.{Grows};
 ghost use Rattle.bw_procedures.specs.Calls.{limit_of, IsEarned, OnlySpends, OnlyReshapes, RoseBy, AddsLook};
 ghost use Rattle.bw_procedures.specs.Slices.{end_of_slice, IsSliceFrom};
-ghost use Rattle.bw_procedures.specs.Writing.{AddsReceipt, IsReceiptOfPut, IsReceiptOfDelete};
+ghost use Rattle.bw_procedures.specs.Writing.{AddsReceipt, IsReceiptOfPut, IsReceiptOfSet, IsReceiptOfDelete};
 ghost use Rattle.bw_work.specs.Leading.{Leads};
 ghost use Rattle.bw_work.specs.Showing.{Shows};
 
 use crate::alone::Alone;
 use bw_keys::{Key, Pid};
-use bw_procedures::{Del, Done, Fault, Put, Slice, delete, get, help, page_from, put, tend};
+use bw_procedures::{Del, Done, Fault, Put, Set, Slice, delete, get, help, page_from, put, set, tend};
 use bw_step::Todo;
 use std::alloc::{Allocator, Global};
 
@@ -30,6 +30,20 @@ impl<'t, A: Allocator + Copy> Alone<'t, A> {
         ensures kept { IfOk result (λ done. IfSome done.fault (IsEarned (limit_of self.old.account.seen) self.old.account.seen self.new.account.seen)) }
     {
         put(self, key, value)
+    }
+
+    /// Gives the key the value, whether it is there or not: see `set`. Its receipts are as those of `put`.
+    pub fn set(&mut self, key: Key, value: u64) -> Result<Done<Set>, Fault>
+        ensures same_reference { self.new.table.ghost_name ≡ self.old.table.ghost_name }
+        ensures config { self.new.table.now.config ≡ self.old.table.now.config }
+        ensures follows { Leads self.old.table.now self.old.account.seen.trail self.new.table.now self.new.account.seen.trail }
+        ensures grows { Grows self.old.account.seen self.new.account.seen }
+        ensures receipt { IfOk result (λ done. AddsReceipt (IsReceiptOfSet key value) done.reply self.old.account.seen self.new.account.seen) }
+        ensures no_receipt { OnErr result (without_shapes self.new.account.seen.trail ≡ without_shapes self.old.account.seen.trail) }
+        ensures fault { IfErr result (IsFair (limit_of self.old.account.seen) self.old.account.seen self.new.account.seen) }
+        ensures kept { IfOk result (λ done. IfSome done.fault (IsFair (limit_of self.old.account.seen) self.old.account.seen self.new.account.seen)) }
+    {
+        set(self, key, value)
     }
 
     /// Takes the key out, if it is there: see `delete`. Its receipts are as those of `put`.
