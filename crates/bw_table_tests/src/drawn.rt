@@ -28,6 +28,12 @@ impl Told {
             Receipt::Deleted { number, key, value } => {
                 number == self.number() && self.map.remove(&key) == Some(value)
             }
+            Receipt::Modified {
+                number,
+                key,
+                old,
+                value,
+            } => number == self.number() && self.map.insert(key, value)? == Some(old),
             Receipt::Shaped { .. } => true,
             Receipt::Looked { .. } => false,
         };
@@ -39,7 +45,13 @@ impl Told {
     }
 
     fn number(&self) -> u64 {
-        self.tally.inserted.saturating_add(self.tally.deleted)
+        let Tally {
+            inserted,
+            deleted,
+            modified,
+            ..
+        } = self.tally;
+        inserted.saturating_add(deleted).saturating_add(modified)
     }
 }
 
