@@ -2,7 +2,7 @@ use Rattle.std.proofs.Common.{rules, ◌≡◌, ◌<◌, length, map, refl, ap, 
 use Rattle.std.specs.Prelude.{sum_by}
 use Rattle.std.proofs.lemmas.List.{length-map}
 use Rattle.bw_step.specs.Trails.{lists_of}
-use Rattle.bw_tree.specs.Shares.{book_of}
+use Rattle.bw_tree.specs.Shares.{share_of}
 use Rattle.bw_audit.specs.Legal.{IsLegal}
 use Rattle.bw_run.specs.Counts.{insertions, removals}
 use Rattle.bw_run.specs.Faults.{EndsBadly}
@@ -31,5 +31,5 @@ returns-clause-finished c =
           c.requires.answered.told worker within ∙ sym (c.in_ok-replies.ensures.told worker within);
       tree = c.requires.tree;
       legal = λ pairs are. subst (λ ts. IsLegal (lists_of ts) pairs) c.deref.ensures.value (c.in_ok-judge.ensures.legal pairs are);
-      count = λ pairs are. changes_counted c.args.table (book_of (sum_by insertions trails) (sum_by removals trails)) trails pairs c.requires.counted refl are;
+      count = λ pairs are. changes_counted c.args.table (share_of (sum_by insertions trails) (sum_by removals trails)) trails pairs c.requires.counted refl are;
     }

@@ -18,3 +18,9 @@ returns-in-Inserted-clause-share g c = search rules
 
 pub returns-in-Inserted-clause-totals : goal.returns-in-Inserted-clause-totals
 returns-in-Inserted-clause-totals g c = search rules
+
+pub returns-in-Modified-clause-share : goal.returns-in-Modified-clause-share
+returns-in-Modified-clause-share g c = search rules
+
+pub returns-in-Modified-clause-totals : goal.returns-in-Modified-clause-totals
+returns-in-Modified-clause-totals g c = search rules
