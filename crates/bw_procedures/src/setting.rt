@@ -3,7 +3,7 @@
 ghost use Rattle.std.specs.Prelude.{◌≡◌, IfOk, IfErr, IfSome, OnErr};
 ghost use Rattle.bw_step.specs.Tellings.{without_shapes};
 ghost use Rattle.bw_procedures.specs.Seen.{Grows};
-ghost use Rattle.bw_procedures.specs.Calls.{limit_of, IsFair};
+ghost use Rattle.bw_procedures.specs.Calls.{limit_of, IsEarned};
 ghost use Rattle.bw_procedures.specs.Writing.{AddsReceipt, IsReceiptOfSet};
 
 use crate::fault::Fault;
@@ -32,8 +32,8 @@ pub fn set<A: Allocator + Copy, S: Steps<A, Step<A>>>(
     ensures grows { Grows (S.seen steps.old) (S.seen steps.new) }
     ensures receipt { IfOk result (λ done. AddsReceipt (IsReceiptOfSet key value) done.reply (S.seen steps.old) (S.seen steps.new)) }
     ensures no_receipt { OnErr result (without_shapes (S.seen steps.new).trail ≡ without_shapes (S.seen steps.old).trail) }
-    ensures fault { IfErr result (IsFair (limit_of (S.seen steps.old)) (S.seen steps.old) (S.seen steps.new)) }
-    ensures kept { IfOk result (λ done. IfSome done.fault (IsFair (limit_of (S.seen steps.old)) (S.seen steps.old) (S.seen steps.new))) }
+    ensures fault { IfErr result (IsEarned (limit_of (S.seen steps.old)) (S.seen steps.old) (S.seen steps.new)) }
+    ensures kept { IfOk result (λ done. IfSome done.fault (IsEarned (limit_of (S.seen steps.old)) (S.seen steps.old) (S.seen steps.new))) }
 {
     write(steps, Setting { key, value })
 }

@@ -35,8 +35,8 @@ impl<'t, A: Allocator + Copy, S: Shared<A, Step<A>>, G: Gate> Hand<'t, A, S, G> 
         ensures grows { Grows self.old.account.seen self.new.account.seen }
         ensures receipt { IfOk result (λ done. AddsReceipt (IsReceiptOfSet key value) done.reply self.old.account.seen self.new.account.seen) }
         ensures no_receipt { OnErr result (without_shapes self.new.account.seen.trail ≡ without_shapes self.old.account.seen.trail) }
-        ensures fault { IfErr result (IsFair (limit_of self.old.account.seen) self.old.account.seen self.new.account.seen) }
-        ensures kept { IfOk result (λ done. IfSome done.fault (IsFair (limit_of self.old.account.seen) self.old.account.seen self.new.account.seen)) }
+        ensures fault { IfErr result (IsEarned (limit_of self.old.account.seen) self.old.account.seen self.new.account.seen) }
+        ensures kept { IfOk result (λ done. IfSome done.fault (IsEarned (limit_of self.old.account.seen) self.old.account.seen self.new.account.seen)) }
     {
         set(self, key, value)
     }
