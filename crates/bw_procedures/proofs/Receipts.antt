@@ -1,7 +1,7 @@
 -- What one more receipt tells.
 use Rattle.std.proofs.Common.{◌≡◌, ℕ, zero, suc, ◌<◌, List, [], ◌∷◌, ◌++◌, length, get_or, Option, Some, None, Ok, Err, refl, ap, sym, ◌∙◌, append_assoc, append-nil, arith}
 use Rattle.bw_step.specs.declared.receipt.Receipt.{Receipt}
-use Rattle.bw_step.specs.declared.receipt.Receipt.TheVariants.{Inserted, Deleted, Looked, Shaped}
+use Rattle.bw_step.specs.declared.receipt.Receipt.TheVariants.{Inserted, Deleted, Modified, Looked}
 use Rattle.bw_step.specs.Tellings.{Told, looked, told_in, without_shapes}
 use Rattle.bw_step.proofs.Tellings.{told_in-append, told_in-without_shapes}
 use Rattle.bw_procedures.specs.declared.fault.Fault.{Fault}
@@ -9,12 +9,14 @@ use Rattle.bw_procedures.specs.declared.reply.Del.{Del}
 use Rattle.bw_procedures.specs.declared.reply.Del.TheVariants as dels
 use Rattle.bw_procedures.specs.declared.reply.Put.{Put}
 use Rattle.bw_procedures.specs.declared.reply.Put.TheVariants as puts
+use Rattle.bw_procedures.specs.declared.reply.Set.{Set}
+use Rattle.bw_procedures.specs.declared.reply.Set.TheVariants as sets
 use Rattle.bw_procedures.specs.Calls.{AddsLook}
 use Rattle.bw_procedures.specs.Seen.{Seen}
-use Rattle.bw_procedures.specs.Writing.{AddsReceipt, IsReceiptOfPut, IsReceiptOfDelete}
+use Rattle.bw_procedures.specs.Writing.{AddsReceipt, IsReceiptOfPut, IsReceiptOfSet, IsReceiptOfDelete}
 use Rattle.bw_procedures.specs.declared.reply.Reply.{Reply}
 use Rattle.bw_procedures.specs.declared.act.Act.{Act}
-use Rattle.bw_procedures.specs.Told.{told_of, told_of_put, told_of_delete, joined, answers}
+use Rattle.bw_procedures.specs.Told.{told_of, told_of_put, told_of_set, told_of_delete, joined, answers}
 
 pub none_told : (old new : List Receipt) → without_shapes new ≡ without_shapes old → told_in new ≡ told_in old
 none_told old new same = sym (told_in-without_shapes new) ∙ (ap told_in same ∙ told_in-without_shapes old)
@@ -32,6 +34,11 @@ put_told key value puts.Inserted (Inserted number k v) is = rw (is.0, is.1) refl
 put_told key value (puts.Present there) (Looked seen k found) is = rw (is.0, is.1) refl
 put_told key value reply receipt is = absurd is
 
+set_told : (key value : ℕ) (reply : Set) (receipt : Receipt) → IsReceiptOfSet key value reply receipt → told_in (receipt ∷ []) ≡ told_of_set key value reply ∷ []
+set_told key value sets.Inserted (Inserted number k v) is = rw (is.0, is.1) refl
+set_told key value (sets.Replaced there) (Modified number k old v) is = rw (is.0, is.1, is.2) refl
+set_told key value reply receipt is = absurd is
+
 delete_told : (key : ℕ) (reply : Del) (receipt : Receipt) → IsReceiptOfDelete key reply receipt → told_in (receipt ∷ []) ≡ told_of_delete key reply ∷ []
 delete_told key (dels.Removed value) (Deleted number k v) is = rw (is.0, is.1) refl
 delete_told key dels.NoKey (Looked seen k found) is = rw (is.0, is.1) refl
@@ -40,6 +47,10 @@ delete_told key reply receipt is = absurd is
 pub put_tells : (key value : ℕ) (reply : Put) (old new : Seen) → AddsReceipt (IsReceiptOfPut key value) reply old new
     → Some (told_in new.trail) ≡ Some (told_in old.trail ++ told_of_put key value reply ∷ [])
 put_tells key value reply old new more = ap Some (adds old.trail new.trail more.0 (told_of_put key value reply) more.1 (put_told key value reply more.0 more.2))
+
+pub set_tells : (key value : ℕ) (reply : Set) (old new : Seen) → AddsReceipt (IsReceiptOfSet key value) reply old new
+    → Some (told_in new.trail) ≡ Some (told_in old.trail ++ told_of_set key value reply ∷ [])
+set_tells key value reply old new more = ap Some (adds old.trail new.trail more.0 (told_of_set key value reply) more.1 (set_told key value reply more.0 more.2))
 
 pub delete_tells : (key : ℕ) (reply : Del) (old new : Seen) → AddsReceipt (IsReceiptOfDelete key) reply old new → Some (told_in new.trail) ≡ Some (told_in old.trail ++ told_of_delete key reply ∷ [])
 delete_tells key reply old new more = ap Some (adds old.trail new.trail more.0 (told_of_delete key reply) more.1 (delete_told key reply more.0 more.2))

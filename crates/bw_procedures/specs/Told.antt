@@ -5,6 +5,8 @@ use Rattle.bw_procedures.specs.declared.reply.Del.{Del}
 use Rattle.bw_procedures.specs.declared.reply.Del.TheVariants as dels
 use Rattle.bw_procedures.specs.declared.reply.Put.{Put}
 use Rattle.bw_procedures.specs.declared.reply.Put.TheVariants as puts
+use Rattle.bw_procedures.specs.declared.reply.Set.{Set}
+use Rattle.bw_procedures.specs.declared.reply.Set.TheVariants as sets
 use Rattle.bw_procedures.specs.declared.reply.Reply.{Reply}
 use Rattle.bw_procedures.specs.declared.reply.Reply.TheVariants as replies
 use Rattle.bw_procedures.specs.declared.act.Act.{Act}
@@ -15,6 +17,11 @@ abbrev pub told_of_put : ℕ → ℕ → Put → Told
 told_of_put key value puts.Inserted = changed key None (Some value)
 told_of_put key value (puts.Present there) = looked key (Some there)
 
+-- a set gives the key its value, where it had none or another
+abbrev pub told_of_set : ℕ → ℕ → Set → Told
+told_of_set key value sets.Inserted = changed key None (Some value)
+told_of_set key value (sets.Replaced old) = changed key (Some old) (Some value)
+
 -- a delete takes the key out with its value, or finds none
 abbrev pub told_of_delete : ℕ → Del → Told
 told_of_delete key (dels.Removed value) = changed key (Some value) None
@@ -23,6 +30,7 @@ told_of_delete key dels.NoKey = looked key None
 -- what the receipts of an act with this reply tell, in their order; nothing goes with a reply to another kind of act
 abbrev pub told_of : Act → Reply → Option (List Told)
 told_of (acts.Put key value) (replies.Put done) = Some (told_of_put key value done.reply ∷ [])
+told_of (acts.Set key value) (replies.Set done) = Some (told_of_set key value done.reply ∷ [])
 told_of (acts.Delete key) (replies.Delete done) = Some (told_of_delete key done.reply ∷ [])
 told_of (acts.Get key) (replies.Get value) = Some (looked key value ∷ [])
 told_of act reply = None

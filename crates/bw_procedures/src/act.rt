@@ -10,6 +10,7 @@ use crate::fault::Fault;
 use crate::insertion::put;
 use crate::lookup::get;
 use crate::reply::Reply;
+use crate::setting::set;
 use crate::steps::Steps;
 use bw_keys::Key;
 use bw_step::Step;
@@ -20,6 +21,8 @@ use std::alloc::Allocator;
 pub enum Act {
     /// Give the key the value, if it has none.
     Put { key: Key, value: u64 },
+    /// Give the key the value, whether it has one or none.
+    Set { key: Key, value: u64 },
     /// Say what the key has.
     Get { key: Key },
     /// Take the key out.
@@ -27,7 +30,7 @@ pub enum Act {
 }
 
 /// Does the act by the worker's steps, and answers what the worker was told.
-#[tactic(auto, using(crate::proofs::Receipts::put_tells, crate::proofs::Receipts::delete_tells, crate::proofs::Receipts::get_tells, crate::proofs::Receipts::none_told))]
+#[tactic(auto, using(crate::proofs::Receipts::put_tells, crate::proofs::Receipts::set_tells, crate::proofs::Receipts::delete_tells, crate::proofs::Receipts::get_tells, crate::proofs::Receipts::none_told))]
 pub fn do_act<A: Allocator + Copy, S: Steps<A, Step<A>>>(
     steps: &mut S,
     act: Act,
@@ -40,6 +43,10 @@ pub fn do_act<A: Allocator + Copy, S: Steps<A, Step<A>>>(
     match act {
         Act::Put { key, value } => match put(steps, key, value) {
             Ok(done) => Ok(Reply::Put(done)),
+            Err(fault) => Err(fault),
+        },
+        Act::Set { key, value } => match set(steps, key, value) {
+            Ok(done) => Ok(Reply::Set(done)),
             Err(fault) => Err(fault),
         },
         Act::Delete { key } => match delete(steps, key) {

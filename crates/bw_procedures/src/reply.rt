@@ -51,6 +51,7 @@ pub struct Slice {
 #[derive(Clone, Copy, Debug, PartialEq, Eq, Hash)]
 pub enum Reply {
     Put(Done<Put>),
+    Set(Done<Set>),
     Delete(Done<Del>),
     /// What the key has, if it has a value.
     Get(Option<u64>),
@@ -67,6 +68,13 @@ impl fmt::Display for Reply {
                 match done.reply {
                     Put::Inserted => write!(f, "inserted")?,
                     Put::Present(value) => write!(f, "present {value}")?,
+                }
+                done.fault
+            }
+            Reply::Set(done) => {
+                match done.reply {
+                    Set::Inserted => write!(f, "inserted")?,
+                    Set::Replaced(old) => write!(f, "replaced {old}")?,
                 }
                 done.fault
             }

@@ -23,6 +23,7 @@ use std::alloc::Allocator;
 /// which tells the value that was there. The reply stands, whatever ended helping or tending. With a fault
 /// in its place the map is as it was: `Contended` where the call's effort is spent, `TableFull`, `TooTall`
 /// or `Worn` where a step was refused so, and `NoMemory`.
+#[inline(always)]
 pub fn set<A: Allocator + Copy, S: Steps<A, Step<A>>>(
     steps: &mut S,
     key: Key,
@@ -59,19 +60,23 @@ impl Wish for Setting {
 
     ghost is_made = { λ wish. IsSettingOf wish.key wish.value };
 
+    #[inline(always)]
     fn key(self) -> Key {
         self.key
     }
 
+    #[inline(always)]
     fn keep(self) -> Keep {
         Keep::Never
     }
 
+    #[inline(always)]
     fn answered(self, _found: Option<u64>) -> Option<Set> {
         None
     }
 
     #[tactic(auto, using(crate::proofs::Changing::insertion_sets, crate::proofs::Changing::modification_sets))]
+    #[inline(always)]
     fn step<A: Allocator + Copy>(
         self,
         view: View,
@@ -99,6 +104,7 @@ impl Wish for Setting {
         }
     }
 
+    #[inline(always)]
     fn reply(self, receipt: Receipt) -> Set {
         match receipt {
             Receipt::Modified { old, .. } => Set::Replaced(old),

@@ -56,7 +56,7 @@ fn do_row<T: RunTree, G: Gate>(
             Some(look) => keep::<T, G>(hand, key, look),
             None => Ok(do_act(hand, act)?),
         },
-        Act::Put { .. } | Act::Delete { .. } => Ok(do_act(hand, act)?),
+        Act::Put { .. } | Act::Set { .. } | Act::Delete { .. } => Ok(do_act(hand, act)?),
     }
 }
 

@@ -5,7 +5,7 @@ use Rattle.csv.specs.declared.writer.Writer.{Writer}
 use Rattle.csv.specs.declared.writer.WriterBuilder.{WriterBuilder}
 use Rattle.bw_texts.specs.declared.trace.row.Row.{Row}
 use Rattle.bw_procedures.specs.declared.act.Act.{Act}
-use Rattle.bw_procedures.specs.declared.act.Act.TheVariants.{Put, Get, Delete}
+use Rattle.bw_procedures.specs.declared.act.Act.TheVariants.{Put, Set, Get, Delete}
 
 -- how records are written: by the defaults, but of any length
 abbrev pub flexible_writer : WriterBuilder
@@ -19,6 +19,7 @@ pub record IsBetween {W : Type 0} (writer : Writer W) : Type 0 where
 
 abbrev pub fields_of_act : Act → List (List ℕ)
 fields_of_act (Put key value) = codes "put" ∷ decimal key ∷ decimal value ∷ []
+fields_of_act (Set key value) = codes "set" ∷ decimal key ∷ decimal value ∷ []
 fields_of_act (Get key) = codes "get" ∷ decimal key ∷ [] ∷ []
 fields_of_act (Delete key) = codes "del" ∷ decimal key ∷ [] ∷ []
 

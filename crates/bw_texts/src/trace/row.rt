@@ -62,6 +62,7 @@ fn read_fields(workers: u32, first: &[u8], op: &[u8], key: &[u8], value: &[u8]) 
 #[derive(Clone, Copy, Debug, PartialEq, Eq)]
 enum Op {
     Put,
+    Set,
     Get,
     Delete,
 }
@@ -71,6 +72,7 @@ fn read_op(text: &[u8]) -> Option<Op>
 {
     match text {
         b"put" => Some(Op::Put),
+        b"set" => Some(Op::Set),
         b"get" => Some(Op::Get),
         b"del" => Some(Op::Delete),
         _ => None,
@@ -84,6 +86,10 @@ fn read_act(op: Op, key: Key, value: &[u8]) -> Option<Act>
         Op::Put => {
             let value = number(value)?;
             Some(Act::Put { key, value })
+        }
+        Op::Set => {
+            let value = number(value)?;
+            Some(Act::Set { key, value })
         }
         Op::Get => value.is_empty().then_some(Act::Get { key }),
         Op::Delete => value.is_empty().then_some(Act::Delete { key }),

@@ -39,6 +39,11 @@ fn write_row<W: Write + Drop>(writer: &mut Writer<W>, row: &Row) -> Result<(), O
             let value = value_digits.format(value).as_bytes();
             put_record(writer, &[worker, b"put", key, value])
         }
+        Act::Set { key, value } => {
+            let key = key_digits.format(key).as_bytes();
+            let value = value_digits.format(value).as_bytes();
+            put_record(writer, &[worker, b"set", key, value])
+        }
         Act::Get { key } => {
             let key = key_digits.format(key).as_bytes();
             put_record(writer, &[worker, b"get", key, b""])
