@@ -13,7 +13,7 @@ use std::process::ExitCode;
 
 /// The traces in the folder `data`. Of each there are the options and the rows, and what was foretold:
 /// the lines of replies, leaves and counts, and the history.
-const NAMES: [&str; 10] = [
+const NAMES: [&str; 11] = [
     "churn",
     "extreme_keys",
     "falling_small_pages",
@@ -23,6 +23,7 @@ const NAMES: [&str; 10] = [
     "mixed_deep_chain",
     "mixed_default",
     "rising_small_pages",
+    "sets",
     "table_full",
 ];
 
