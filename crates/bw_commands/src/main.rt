@@ -31,13 +31,14 @@ use std::sync::Wait;
 use std::thread::Threads;
 
 /// The files of cases.
-const NAMES: [&str; 7] = [
+const NAMES: [&str; 8] = [
     "cuts",
     "histories",
     "options",
     "readers",
     "runs",
     "seeds",
+    "sets",
     "traces",
 ];
 
