@@ -14,7 +14,7 @@ use std::mem;
 pub enum Delta {
     /// The key has the value.
     Insert(Key, u64),
-    /// The key, which had another value, has this one.
+    /// The key, which has a value below, has this one instead.
     Modify(Key, u64),
     /// The key has no value.
     Delete(Key),

@@ -4,7 +4,7 @@ use Rattle.bw_delta.specs.declared.chain.Delta.{Delta}
 use Rattle.bw_delta.specs.declared.fences.Fences.{Fences}
 use Rattle.bw_delta.specs.Entries.{at}
 use Rattle.bw_delta.specs.Records.{Records, above}
-use Rattle.bw_delta.specs.Fence.{fences, fences_after, is_leaf}
+use Rattle.bw_delta.specs.Fence.{fences, fences_after}
 use Rattle.bw_delta.specs.Pairs.{pairs, pairs_after, routes, routes_after}
 use Rattle.bw_delta.specs.Sound.{MayStandOver}
 use Rattle.bw_step.specs.declared.survey.Book.{Book}
