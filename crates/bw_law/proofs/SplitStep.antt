@@ -130,9 +130,9 @@ module _ (table : TableValue) (page seen separator : ℕ) (base : Page) (law : L
       ap (λ (p : Page). routes_listed p.listed) base_is ∙ routes_from separator (page_for own.0).listed
       ∙ ap (from separator) (routes_of_base own.0 own.1.sound ∙ sym (routes_are slot own.0 own.1))
 
-  -- the base lists no more than the page
-  pub upper_count : listed_length base.listed ≤ slot.count
-  upper_count = omega (
+  -- the page has the entries that it keeps and those that the base lists
+  halves : slot.count ≡ (length (below separator (pairs own.0)) + length (below separator (routes own.0))) + listed_length base.listed
+  halves = omega (
     arith,
     own.1.count,
     listed_count base.listed,
@@ -144,23 +144,16 @@ module _ (table : TableValue) (page seen separator : ℕ) (base : Page) (law : L
     length-parts separator (routes own.0),
   )
 
+  pub upper_count : listed_length base.listed ≤ slot.count
+  upper_count = omega (arith, halves)
+
   low_page : HasPage low_slot
   low_page _ = (
     above (Split separator (pid new)) own.0,
     above_page slot own.0 own.1 low_slot (Split separator (pid new)) (omega (arith, above_low, low_is slot own.0 own.1), lies_in slot own.0 own.1 separator may.range)
         (omega (arith, may.bare_page)) refl refl refl
         (λ i. record { low = low_is slot own.0 own.1 i; high = Key separator; right = Some (pid new) })
-        (omega (
-          arith,
-          own.1.count,
-          listed_count base.listed,
-          ap length base_pairs,
-          ap length base_routes,
-          ap (λ es. length (from separator es)) (pairs_are slot own.0 own.1),
-          ap (λ es. length (from separator es)) (routes_are slot own.0 own.1),
-          length-parts separator (pairs own.0),
-          length-parts separator (routes own.0),
-        )),
+        (omega (arith, halves)),
   )
 
   base_is_page : IsPage base
