@@ -124,12 +124,13 @@ fn put_modified<W: Write + Drop>(
     worker: &[u8],
     number: u64,
     key: Key,
-    (old, value): (u64, u64),
+    values: (u64, u64),
 ) -> Result<(), OutFault>
     requires { IsBetween writer.old }
     ensures between { OnOk result (IsBetween writer.new) }
-    ensures text { OnOk result (Appends (text_written W.contents writer.old) (text_written W.contents writer.new) (row_text flexible_writer (worker.now ∷ codes "mod" ∷ decimal number ∷ decimal key ∷ decimal value ∷ decimal old ∷ []))) }
+    ensures text { OnOk result (Appends (text_written W.contents writer.old) (text_written W.contents writer.new) (row_text flexible_writer (worker.now ∷ codes "mod" ∷ decimal number ∷ decimal key ∷ decimal values.1 ∷ decimal values.0 ∷ []))) }
 {
+    let (old, value) = values;
     let mut number_digits = Buffer::new();
     let mut key_digits = Buffer::new();
     let mut value_digits = Buffer::new();
