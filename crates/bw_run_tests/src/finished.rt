@@ -321,10 +321,12 @@ fn replaced_values(machine: Global, replies: &[Reply]) -> Result<Vec<u64>, NoMem
     let mut values = Vec::new(machine);
     for reply in replies {
         match reply {
-            Reply::Set(Done {
-                reply: Set::Replaced(old),
-                ..
-            }) => values.push(*old)?,
+            Reply::Set(
+                Done {
+                    reply: Set::Replaced(old),
+                    ..
+                },
+            ) => values.push(*old)?,
             _ => {}
         }
     }

@@ -165,7 +165,12 @@ fn changes_of(machine: Global, (zero, one): (&Trail, &Trail)) -> Result<Vec<Chan
         match *receipt {
             Receipt::Inserted { number, key, value } => changes.push((number, key, Some(value)))?,
             Receipt::Deleted { number, key, .. } => changes.push((number, key, None))?,
-            Receipt::Modified { number, key, value, .. } => {
+            Receipt::Modified {
+                number,
+                key,
+                value,
+                ..
+            } => {
                 changes.push((number, key, Some(value)))?;
             }
             _ => {}
@@ -190,7 +195,13 @@ fn value_after(changes: &[Change], last: u64, key: Key) -> Option<u64> {
 /// Whether each modification tells the value that the changes before it leave at its key.
 fn are_modified(changes: &[Change], receipts: &[Receipt]) -> bool {
     for receipt in receipts {
-        if let Receipt::Modified { number, key, old, .. } = *receipt {
+        if let Receipt::Modified {
+            number,
+            key,
+            old,
+            ..
+        } = *receipt
+        {
             if value_after(changes, number.saturating_sub(1), key) != Some(old) {
                 return false;
             }

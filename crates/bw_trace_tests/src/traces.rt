@@ -25,12 +25,12 @@ const WANTED: [Row; 4] = [
 
 #[test]
 fn rows_are_read(rt: HostRuntime) -> Result<(), Fail> {
-    let text = "0,put,00000000000000000001,1\n1,del,18446744073709551615,\r\n\n1,\"set\",07,18446744073709551615\n\"0\",get,7,";
+    let text =
+        "0,put,00000000000000000001,1\n1,del,18446744073709551615,\r\n\n1,\"set\",07,18446744073709551615\n\"0\",get,7,";
     let rows = read_trace(rt.alloc(), text.as_bytes(), 2)?;
     assert_eq!(rt; rows.as_slice(), WANTED.as_slice());
     let written = write_trace(Vec::new(rt.alloc()), &rows)?;
-    let plain =
-        "0,put,1,1\n1,del,18446744073709551615,\n1,set,7,18446744073709551615\n0,get,7,\n";
+    let plain = "0,put,1,1\n1,del,18446744073709551615,\n1,set,7,18446744073709551615\n0,get,7,\n";
     assert_eq!(rt; std::str::from_utf8(&written)?, plain);
     Ok(())
 }

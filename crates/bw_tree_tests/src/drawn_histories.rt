@@ -41,7 +41,12 @@ fn told(receipt: &Receipt) -> Option<(u64, Key, Option<u64>)> {
     match *receipt {
         Receipt::Inserted { number, key, value } => Some((number, key, Some(value))),
         Receipt::Deleted { number, key, .. } => Some((number, key, None)),
-        Receipt::Modified { number, key, value, .. } => Some((number, key, Some(value))),
+        Receipt::Modified {
+            number,
+            key,
+            value,
+            ..
+        } => Some((number, key, Some(value))),
         _ => None,
     }
 }
@@ -116,7 +121,12 @@ fn is_bad(
         }
         Receipt::Inserted { number, key, .. } => (number, key, None),
         Receipt::Deleted { number, key, value } => (number, key, Some(value)),
-        Receipt::Modified { number, key, old, .. } => (number, key, Some(old)),
+        Receipt::Modified {
+            number,
+            key,
+            old,
+            ..
+        } => (number, key, Some(old)),
     };
     let Some(before) = number.checked_sub(1) else {
         return Ok(true);
@@ -373,10 +383,7 @@ fn first_modification(trails: &[Vec<Receipt>]) -> Option<(usize, usize)> {
 
 /// The history where the first modification tells another old value, and the verdict on it: that very
 /// receipt is bad, and no other. None where there is no modification.
-fn with_another_old(
-    rng: &mut Pcg32,
-    legal: &History,
-) -> Result<Option<(History, Verdict)>, Fail> {
+fn with_another_old(rng: &mut Pcg32, legal: &History) -> Result<Option<(History, Verdict)>, Fail> {
     let mut trails = legal.trails.clone()?;
     let pairs = legal.pairs.clone()?;
     let Some((worker, place)) = first_modification(&trails) else {

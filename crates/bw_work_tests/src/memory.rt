@@ -148,14 +148,13 @@ fn set_one<A: Allocator + Copy>(
         None => Set::Inserted,
     };
     let (left, has_room) = match alone.set(key, value) {
-        Ok(Done {
-            reply,
-            fault: None,
-        }) if reply == wanted => (Some(value), true),
-        Ok(Done {
-            reply,
-            fault: Some(Fault::NoMemory),
-        }) if reply == wanted => (Some(value), false),
+        Ok(Done { reply, fault: None }) if reply == wanted => (Some(value), true),
+        Ok(
+            Done {
+                reply,
+                fault: Some(Fault::NoMemory),
+            },
+        ) if reply == wanted => (Some(value), false),
         Err(Fault::NoMemory) => (has, false),
         _ => return None,
     };
