@@ -82,7 +82,7 @@ fn write_receipt<W: Write + Drop>(
             key,
             old,
             value,
-        } => put_modified(writer, worker, number, key, (old, value)),
+        } => put_modified(writer, worker, number, key, old, value),
         Receipt::Looked {
             at,
             key,
@@ -124,7 +124,8 @@ fn put_modified<W: Write + Drop>(
     worker: &[u8],
     number: u64,
     key: Key,
-    (old, value): (u64, u64),
+    old: u64,
+    value: u64,
 ) -> Result<(), OutFault>
     requires { IsBetween writer.old }
     ensures between { OnOk result (IsBetween writer.new) }
