@@ -292,7 +292,7 @@ const SETTERS: u32 = 4;
 /// How many keys they set, and how many sets there are all together.
 const SET_KEYS: u32 = 8;
 
-const SETS: u32 = 800;
+const SETS: u32 = 200;
 
 /// Sets of the same keys by all workers, with a look behind every third. The value is the number of the
 /// set, so that each is given once.
@@ -360,7 +360,7 @@ fn verdict_on(
 fn each_value_that_was_set_is_replaced_once_or_left(rt: HostRuntime) -> Result<(), Fail> {
     let machine = rt.alloc();
     let trace = setting_trace(machine)?;
-    for number in 0..40 {
+    for number in 0..10 {
         let readers = number % 2;
         let ran = finish(rt, machine, LARGE, SETTERS, readers, &trace, &Open)?;
         let pairs = ran.table.pairs(machine)?;
