@@ -38,6 +38,15 @@ pub struct Done<T> {
     pub fault: Option<Fault>,
 }
 
+/// What came of the removal of a range of keys.
+#[derive(Clone, Copy, Debug, PartialEq, Eq, Hash)]
+pub struct Cleared {
+    /// How many keys were taken out.
+    pub removed: u64,
+    /// What ended the call before its range did, if a fault did.
+    pub fault: Option<Fault>,
+}
+
 /// The pairs of one leaf from a key on.
 #[derive(Debug, PartialEq, Eq, Drop)]
 pub struct Slice {
