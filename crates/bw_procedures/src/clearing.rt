@@ -22,6 +22,7 @@ use std::alloc::{Allocator, Global};
 /// the range; without a fault, each key of the range was missing in a copy of its leaf, or was deleted
 /// since. The first fault, be it of a read, of a delete or beside a delete's reply, ends the call, and
 /// what was taken out by then stays so.
+#[tactic(none)]
 pub fn clear<A: Allocator + Copy, S: Steps<A, Step<A>>>(
     steps: &mut S,
     machine: Global,
@@ -51,6 +52,7 @@ pub fn clear<A: Allocator + Copy, S: Steps<A, Step<A>>>(
 }
 
 /// The sum of two counts of receipts, of which the trail has no fewer.
+#[tactic(auto, using(crate::proofs::Removals::adds_upto))]
 fn add<A: Allocator + Copy, S: Steps<A, Step<A>>>(steps: &S, removed: u64, more: u64) -> u64
     requires { removed + more ≤ length (S.seen steps.now).trail }
     ensures { result ≡ removed + more }
@@ -61,6 +63,7 @@ fn add<A: Allocator + Copy, S: Steps<A, Step<A>>>(steps: &S, removed: u64, more:
 
 /// Takes out the keys of one leaf, from a key on and below the high. What it came to, and where the next
 /// leaf begins, unless this was the last one.
+#[tactic(none)]
 fn clear_leaf<A: Allocator + Copy, S: Steps<A, Step<A>>>(
     steps: &mut S,
     machine: Global,
@@ -87,6 +90,7 @@ fn clear_leaf<A: Allocator + Copy, S: Steps<A, Step<A>>>(
 }
 
 /// Takes out the keys of the pairs, in their order, as long as they lie below the high.
+#[tactic(none)]
 fn remove_below<A: Allocator + Copy, S: Steps<A, Step<A>>>(
     steps: &mut S,
     pairs: &[(Key, u64)],
