@@ -24,6 +24,15 @@ macro_rules! row {
             },
         }
     };
+    ($worker:literal set $key:expr => $value:expr) => {
+        Row {
+            worker: $worker,
+            act: Act::Set {
+                key: $key,
+                value: $value,
+            },
+        }
+    };
     ($worker:literal get $key:expr) => {
         Row {
             worker: $worker,

@@ -5,7 +5,8 @@ use bw_chain::{HalveFault, consolidate, halve};
 use bw_delta::{Base, BaseFault, NoMemory, Spare};
 use bw_keys::{Fence, Key, Pid, Version};
 use bw_step::{
-    Consolidate, Delete, Grow, Insert, Mark, Merge, Modify, Receipt, Split, Step, TermAdd, TermDelete,
+    Consolidate, Delete, Grow, Insert, Mark, Merge, Modify, Receipt, Split, Step, TermAdd,
+    TermDelete,
 };
 use bw_table::{CopyFault, Table};
 use std::alloc::{Allocator, Global};

@@ -5,13 +5,16 @@ use bw_delta::NoMemory;
 use bw_keys::Key;
 use bw_step::{Receipt, Step};
 use bw_tree::{Share, Shared};
-use bw_work::{Del, Done, Fault, Gate, Hand, Put, Slice, Steps, delete, get, page_from, put};
+use bw_work::{
+    Del, Done, Fault, Gate, Hand, Put, Set, Slice, Steps, delete, get, page_from, put, set,
+};
 use std::alloc::Global;
 
 /// A call of a worker.
 #[derive(Clone, Copy, Debug, PartialEq, Eq)]
 pub enum Call {
     Put(Key, u64),
+    Set(Key, u64),
     Delete(Key),
     Get(Key),
     Slice(Key),
@@ -22,6 +25,7 @@ pub enum Call {
 #[derive(Clone, Copy, Debug, PartialEq, Eq)]
 pub enum Reply {
     Put(Put),
+    Set(Set),
     Delete(Del),
     Get(Option<u64>),
     Pair(Key, u64),
@@ -104,6 +108,10 @@ fn answer<S: Steps<Global, Step<Global>>>(
         Call::Put(key, value) => {
             let Done { reply, fault } = put(steps, key, value)?;
             add(replies, Reply::Put(reply), fault)
+        }
+        Call::Set(key, value) => {
+            let Done { reply, fault } = set(steps, key, value)?;
+            add(replies, Reply::Set(reply), fault)
         }
         Call::Delete(key) => {
             let Done { reply, fault } = delete(steps, key)?;

@@ -58,7 +58,11 @@ fn drawn_steps_from_two_threads_are_counted(rt: HostRuntime) -> Result<(), Fail>
     let modified = zero.modified.saturating_add(one.modified);
     let survey = table.survey(machine)?;
     assert_eq!(rt;
-        (survey.book.inserted, survey.book.removed, survey.book.modified),
+        (
+            survey.book.inserted,
+            survey.book.removed,
+            survey.book.modified
+        ),
         (inserted, deleted, modified)
     );
     let many = table.pairs(machine)?.len() as u64;

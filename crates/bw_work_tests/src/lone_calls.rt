@@ -5,14 +5,15 @@ use bw_step::{Step, Todo};
 use bw_table::Table;
 use bw_test_kit::{Pages, Play, Reply, SMALL, Turns, Worked, play_on_new_tree};
 use bw_tree::{Share, Shared};
-use bw_work::{Alone, Del, Fault, Hand, Open, Put, Steps};
+use bw_work::{Alone, Del, Fault, Hand, Open, Put, Set, Steps};
 use std::alloc::Global;
 use std::test::Fail;
 
 /// Makes the calls that change and show pairs.
-fn replies(machine: Global, alone: &mut Alone<'_, Global>) -> Result<[Reply; 5], Fault> {
+fn replies(machine: Global, alone: &mut Alone<'_, Global>) -> Result<[Reply; 6], Fault> {
     let first = alone.put(9, 1)?.reply;
     let second = alone.put(9, 2)?.reply;
+    let third = alone.set(9, 3)?.reply;
     let found = alone.get(9)?;
     let slice = alone.page_from(machine, 0)?;
     let pair = match slice.pairs.as_slice() {
@@ -22,6 +23,7 @@ fn replies(machine: Global, alone: &mut Alone<'_, Global>) -> Result<[Reply; 5],
     Ok([
         Reply::Put(first),
         Reply::Put(second),
+        Reply::Set(third),
         Reply::Get(found),
         pair,
         Reply::Delete(alone.delete(9)?.reply),
@@ -44,13 +46,14 @@ fn a_lone_worker_has_each_call(rt: HostRuntime) -> Result<(), Fail> {
     let wanted = [
         Reply::Put(Put::Inserted),
         Reply::Put(Put::Present(1)),
-        Reply::Get(Some(1)),
-        Reply::Pair(9, 1),
-        Reply::Delete(Del::Removed(1)),
+        Reply::Set(Set::Replaced(1)),
+        Reply::Get(Some(3)),
+        Reply::Pair(9, 3),
+        Reply::Delete(Del::Removed(3)),
     ];
     assert_eq!(rt; replies(machine, &mut alone), Ok(wanted));
     assert_eq!(rt; efforts(&mut alone), Ok((0, 1)));
-    assert_eq!(rt; alone.finish().len(), 4);
+    assert_eq!(rt; alone.finish().len(), 5);
     Ok(())
 }
 

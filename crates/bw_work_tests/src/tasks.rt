@@ -85,14 +85,18 @@ fn is_as_foretold(
     told: &Told,
     table: &Table<Global>,
 ) -> Result<bool, NoMemory> {
-    let Book { inserted, removed } = table.survey(machine)?.book;
+    let Book {
+        inserted,
+        removed,
+        modified,
+    } = table.survey(machine)?.book;
     let many = table.pairs(machine)?.len() as u64;
     Ok(
         told.fault.is_none()
             && told.replies.as_slice() == row.replies
             && told.trail.as_slice() == row.trail
             && leaves_of(machine, table)?.as_slice() == row.leaves
-            && (inserted, removed) == row.book
+            && (inserted, removed, modified) == row.book
             && inserted.checked_sub(removed) == Some(many),
     )
 }
