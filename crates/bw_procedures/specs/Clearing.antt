@@ -1,40 +1,44 @@
 -- The removal of the keys of a range: a list of single deletes.
 use Rattle.std.specs.Prelude.{◌≡◌, ◌⊎◌, ℕ, ◌+◌, ◌<◌, ◌≤◌, List, [], ◌∷◌, ◌++◌, Option, Some, None}
 use Rattle.bw_delta.specs.Entries.{at}
-use Rattle.bw_step.specs.declared.receipt.Receipt.{Receipt}
-use Rattle.bw_step.specs.declared.receipt.Receipt.TheVariants as receipts
-use Rattle.bw_step.specs.Tellings.{without_shapes}
+use Rattle.bw_step.specs.Tellings.{Told, changed, looked, told_in}
 use Rattle.bw_procedures.specs.declared.fault.Fault.{Fault}
 use Rattle.bw_procedures.specs.Seen.{Seen}
 
--- the receipt of a delete of the key, whatever it replied: the key was taken out, or had no value
-abbrev pub IsRemovalOf : ℕ → Receipt → Type 0
-IsRemovalOf key (receipts.Deleted number k value) = k ≡ key
-IsRemovalOf key (receipts.Looked at k None) = k ≡ key
-IsRemovalOf key receipt = ⊥
+-- what is told of a delete of the key, whatever it replied: the key was taken out, or had no value
+abbrev pub IsRemovalOf : ℕ → Told → Type 0
+IsRemovalOf key (changed k (Some value) None) = k ≡ key
+IsRemovalOf key (looked k None) = k ≡ key
+IsRemovalOf key told = ⊥
 
--- the receipts of deletes of strictly rising keys, from the low on and below the high
-abbrev pub AreRemovals : ℕ → ℕ → List Receipt → Type 0
+-- deletes of strictly rising keys, from the low on and below the high
+abbrev pub AreRemovals : ℕ → ℕ → List Told → Type 0
 AreRemovals low high [] = Unit {0}
-AreRemovals low high (receipt ∷ rest) = (key : ℕ) × IsRemovalOf key receipt × (low ≤ key) × (key < high) × AreRemovals (key + 1) high rest
+AreRemovals low high (told ∷ rest) = (key : ℕ) × IsRemovalOf key told × (low ≤ key) × (key < high) × AreRemovals (key + 1) high rest
+
+-- one where a key was taken out
+abbrev pub removal_in : Told → ℕ
+removal_in (changed key (Some value) None) = 1
+removal_in told = 0
 
 -- how many of the deletes took a key out
-abbrev pub removals_in : List Receipt → ℕ
+abbrev pub removals_in : List Told → ℕ
 removals_in [] = 0
-removals_in (receipts.Deleted number key value ∷ rest) = 1 + removals_in rest
-removals_in (receipt ∷ rest) = removals_in rest
+removals_in (told ∷ rest) = removal_in told + removals_in rest
 
--- what was added, beside receipts of changed shape, are removals in the range, so many of which took a key out
-abbrev pub AddsRemovals : ℕ → ℕ → ℕ → Seen → Seen → Type 0
-AddsRemovals low high removed old new =
-    (added : List Receipt) × (without_shapes new.trail ≡ without_shapes old.trail ++ added) × AreRemovals low high added × (removals_in added ≡ removed)
+-- what was added tells of deletes in the range, so many of which took a key out
+pub record AddsRemovals (low high removed : ℕ) (old new : Seen) : Type 0 where
+  pub added : List Told
+  pub trail : told_in new.trail ≡ told_in old.trail ++ added
+  pub removals : AreRemovals low high added
+  pub count : removals_in added ≡ removed
 
-abbrev pub HasRemovalOf : ℕ → List Receipt → Type 0
+abbrev pub HasRemovalOf : ℕ → List Told → Type 0
 HasRemovalOf key [] = ⊥
-HasRemovalOf key (receipt ∷ rest) = IsRemovalOf key receipt ⊎ HasRemovalOf key rest
+HasRemovalOf key (told ∷ rest) = IsRemovalOf key told ⊎ HasRemovalOf key rest
 
 -- Between the two states there was one in which these were all pairs of a range that holds the key, and the key wasn't among them, or its
--- removal is among the receipts added since.
+-- removal is told of since.
 pub record IsSwept {S : Type 0} (seen : S → Seen) (follows : S → S → Type 0) (shows : S → ℕ → ℕ → List (ℕ × ℕ) → Type 0) (key : ℕ) (old new : S) : Type 0 where
   pub between : S
   pub before : follows old between
@@ -45,15 +49,15 @@ pub record IsSwept {S : Type 0} (seen : S → Seen) (follows : S → S → Type 
   pub shown : shows between low end pairs
   pub from_low : low ≤ key
   pub below_end : key < end
-  pub added : List Receipt
-  pub since : without_shapes (seen new).trail ≡ without_shapes (seen between).trail ++ added
+  pub added : List Told
+  pub since : told_in (seen new).trail ≡ told_in (seen between).trail ++ added
   pub gone : (at key pairs ≡ None) ⊎ HasRemovalOf key added
 
--- each of the pairs has the receipt of its key's removal
-abbrev pub AreRemovalsOf : List (ℕ × ℕ) → List Receipt → Type 0
+-- of each of the pairs the removal of its key is told
+abbrev pub AreRemovalsOf : List (ℕ × ℕ) → List Told → Type 0
 AreRemovalsOf [] [] = Unit {0}
-AreRemovalsOf (pair ∷ pairs) (receipt ∷ rest) = IsRemovalOf pair.0 receipt × AreRemovalsOf pairs rest
-AreRemovalsOf pairs receipts = ⊥
+AreRemovalsOf (pair ∷ pairs) (told ∷ rest) = IsRemovalOf pair.0 told × AreRemovalsOf pairs rest
+AreRemovalsOf pairs tellings = ⊥
 
 -- the keys of the pairs lie below the end
 abbrev pub LieBelow : ℕ → List (ℕ × ℕ) → Type 0
@@ -69,8 +73,8 @@ StartFrom end (pair ∷ pairs) = end ≤ pair.0
 pub record RemovesFirst (end : ℕ) (pairs done left : List (ℕ × ℕ)) (removed : ℕ) (old new : Seen) : Type 0 where
   pub parts : pairs ≡ done ++ left
   pub below_end : LieBelow end done
-  pub added : List Receipt
-  pub trail : without_shapes new.trail ≡ without_shapes old.trail ++ added
+  pub added : List Told
+  pub trail : told_in new.trail ≡ told_in old.trail ++ added
   pub removals : AreRemovalsOf done added
   pub count : removals_in added ≡ removed
 
@@ -79,8 +83,15 @@ abbrev pub RemovesBelow : ℕ → List (ℕ × ℕ) → ℕ → Option Fault →
 RemovesBelow end pairs removed fault old new =
     (done left : List (ℕ × ℕ)) × RemovesFirst end pairs done left removed old new × (fault ≡ None → StartFrom end left)
 
--- one key was deleted, or it was not, by a fault
+-- the delete of one key was told of, and whether it took the key out
+pub record RemovesOne (key removed : ℕ) (old new : Seen) : Type 0 where
+  pub told : Told
+  pub trail : told_in new.trail ≡ told_in old.trail ++ told ∷ []
+  pub removal : IsRemovalOf key told
+  pub count : removal_in told ≡ removed
+
+-- one key was deleted, or nothing was done, by a fault
 abbrev pub RemovesKey : ℕ → ℕ → Option Fault → Seen → Seen → Type 0
 RemovesKey key removed fault old new =
-    ((receipt : Receipt) × (without_shapes new.trail ≡ without_shapes old.trail ++ receipt ∷ []) × IsRemovalOf key receipt × (removals_in (receipt ∷ []) ≡ removed))
-    ⊎ ((without_shapes new.trail ≡ without_shapes old.trail) × (removed ≡ 0) × (fault ≡ None → ⊥))
+    RemovesOne key removed old new
+    ⊎ ((told_in new.trail ≡ told_in old.trail) × (removed ≡ 0) × (fault ≡ None → ⊥))

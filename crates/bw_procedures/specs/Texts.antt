@@ -31,8 +31,12 @@ abbrev pub text_without : Option Fault → List ℕ → Option (List ℕ)
 text_without None text = Some text
 text_without (Some fault) text = None
 
+abbrev pub clear_text : ℕ → List ℕ
+clear_text removed = codes "cleared " ++ decimal removed
+
 abbrev pub reply_text : Reply → Option (List ℕ)
 reply_text (replies.Put done) = text_without done.fault (put_text done.reply)
 reply_text (replies.Set done) = text_without done.fault (set_text done.reply)
 reply_text (replies.Delete done) = text_without done.fault (delete_text done.reply)
 reply_text (replies.Get found) = Some (get_text found)
+reply_text (replies.Clear cleared) = text_without cleared.fault (clear_text cleared.removed)

@@ -64,6 +64,7 @@ pub enum Reply {
     Delete(Done<Del>),
     /// What the key has, if it has a value.
     Get(Option<u64>),
+    Clear(Cleared),
 }
 
 /// The answer in a word, with its value; behind it, in brackets, what ended helping or tending, if a
@@ -93,6 +94,10 @@ impl fmt::Display for Reply {
                     Del::NoKey => write!(f, "nokey")?,
                 }
                 done.fault
+            }
+            Reply::Clear(cleared) => {
+                write!(f, "cleared {}", cleared.removed)?;
+                cleared.fault
             }
             Reply::Get(Some(value)) => return write!(f, "found {value}"),
             Reply::Get(None) => return write!(f, "none"),
