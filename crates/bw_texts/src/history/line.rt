@@ -140,13 +140,7 @@ fn read_form(text: &[u8]) -> Option<Form>
     }
 }
 
-fn read_receipt(
-    form: Form,
-    at: u64,
-    key: Key,
-    value: &[u8],
-    old: &[u8],
-) -> Result<Receipt, Part>
+fn read_receipt(form: Form, at: u64, key: Key, value: &[u8], old: &[u8]) -> Result<Receipt, Part>
     ensures { result ≡ receipt_read form at key value.now old.now }
 {
     match form {
