@@ -11,7 +11,7 @@ use Rattle.bw_procedures.specs.declared.act.Act.{Act}
 use Rattle.bw_texts.specs.declared.trace.row.Row.{Row}
 use Rattle.bw_run.specs.Counts.{insertions, removals}
 use Rattle.bw_run.specs.Rows.{AreAnswered, acts_of}
-use Rattle.bw_procedures.specs.Told.{answers}
+use Rattle.bw_procedures.specs.Told.{GoWith}
 
 each_more : {S T : Type 0} → (P : ℕ → List S → List T → Type 0) (xs : List (List S)) (ys : List (List T)) (x : List S) (y : List T) → length ys ≡ length xs
     → ((place : ℕ) → place < length xs → P place (get_or xs place []) (get_or ys place [])) → P (length xs) x y
@@ -25,11 +25,11 @@ each_more P (v ∷ xs) (w ∷ ys) x y same all last (suc place) inside =
     each_more (λ k s t. P (suc k) s t) xs ys x y (omega arith) (λ k below. all (suc k) (omega arith)) last place (omega arith)
 
 pub answered_more : (rows : List Row) (columns : List (List Reply)) (trails : List (List Receipt)) (column : List Reply) (trail : List Receipt) → length trails ≡ length columns → AreAnswered rows columns trails
-    → length column ≡ length (acts_of (length columns) rows) → Some (told_in trail) ≡ answers (acts_of (length columns) rows) column
+    → length column ≡ length (acts_of (length columns) rows) → GoWith (acts_of (length columns) rows) column (told_in trail)
     → AreAnswered rows (columns ++ column ∷ []) (trails ++ trail ∷ [])
 answered_more rows columns trails column trail same answered full told = record {
   full = each_more (λ worker c t. length c ≡ length (acts_of worker rows)) columns trails column trail same answered.full full;
-  told = each_more (λ worker c t. Some (told_in t) ≡ answers (acts_of worker rows) c) columns trails column trail same answered.told told;
+  told = each_more (λ worker c t. GoWith (acts_of worker rows) c (told_in t)) columns trails column trail same answered.told told;
 }
 
 -- what is told adds to a share what it adds to an empty one
@@ -62,12 +62,12 @@ sums_more shares share trails trail so_far is =
 
 -- the lists of the workers, with those of the next one
 pub answered_next : {X Y : Type 0} → (rows : List Row) (column : X → List Reply) (trail : Y → List Receipt) (columns : List X) (trails : List Y) (x : X) (y : Y) (n : ℕ) → length columns ≡ n → length trails ≡ n
-    → AreAnswered rows (map column columns) (map trail trails) → length (column x) ≡ length (acts_of n rows) → Some (told_in (trail y)) ≡ answers (acts_of n rows) (column x)
+    → AreAnswered rows (map column columns) (map trail trails) → length (column x) ≡ length (acts_of n rows) → GoWith (acts_of n rows) (column x) (told_in (trail y))
     → AreAnswered rows (map column (columns ++ x ∷ [])) (map trail (trails ++ y ∷ []))
 answered_next rows column trail columns trails x y n many as_many answered full told =
     let a : length (map column columns) ≡ n = length-map columns column ∙ many in
     let b : length (map trail trails) ≡ n = length-map trails trail ∙ as_many in
-    let more = answered_more rows (map column columns) (map trail trails) (column x) (trail y) (b ∙ sym a) answered (full ∙ ap (λ k. length (acts_of k rows)) (sym a)) (told ∙ ap (λ k. answers (acts_of k rows) (column x)) (sym a)) in
+    let more = answered_more rows (map column columns) (map trail trails) (column x) (trail y) (b ∙ sym a) answered (full ∙ ap (λ k. length (acts_of k rows)) (sym a)) (subst (λ k. GoWith (acts_of k rows) (column x) (told_in (trail y))) (sym a) told) in
     subst (λ cs. AreAnswered rows cs (map trail (trails ++ y ∷ []))) (sym (map-append column columns (x ∷ []))) (subst (λ ts. AreAnswered rows (map column columns ++ column x ∷ []) ts) (sym (map-append trail trails (y ∷ []))) more)
 
 pub sums_next : {Y : Type 0} → (trail : Y → List Receipt) (shares : List ShareValue) (share : ShareValue) (trails : List Y) (y : Y)

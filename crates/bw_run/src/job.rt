@@ -1,9 +1,9 @@
 //! What a worker is given, and what it brings back.
 
-ghost use Rattle.std.specs.Prelude.{◌≡◌, ◌+◌, ◌<◌, ◌≤◌, ◌^◌, [], Some, IfOk, All, fold, length, map, vec_len, vec_capacity};
+ghost use Rattle.std.specs.Prelude.{◌≡◌, ◌+◌, ◌<◌, ◌≤◌, ◌^◌, [], IfOk, All, fold, length, map, vec_len, vec_capacity};
 ghost use Rattle.std.specs.Option.{ForNone, ForSome};
 ghost use Rattle.bw_step.specs.Tellings.{told_in};
-ghost use Rattle.bw_procedures.specs.Told.{answers};
+ghost use Rattle.bw_procedures.specs.Told.{GoWith};
 ghost use Rattle.bw_tree.specs.Shares.{no_changes, counted};
 ghost use Rattle.bw_run.specs.Reads.{handed_out};
 
@@ -42,7 +42,7 @@ pub(crate) struct Worked<I: Ledger, D: Ledger, C> {
     pub trail: Vec<Receipt>,
     pub stop: Option<Stop<C>>,
     ghost counted: { share ≡ fold counted no_changes trail.items },
-    ghost told: { Some (told_in trail.items) ≡ answers acts.items replies.items },
+    ghost told: { GoWith acts.items replies.items (told_in trail.items) },
     ghost all: { ForNone stop (length replies.items ≡ length acts.items) },
     ghost stopped: { ForSome stop (λ _. length replies.items < length acts.items) },
 }
@@ -98,7 +98,7 @@ pub(crate) fn work<T: RunTree, G: Gate>(
         mut reader,
     } = job;
     let mut hand = Hand::new(machine, machine, tree, share, worker, gate);
-    let stop = do_acts(tree, &mut hand, &mut reader, &acts, &mut replies).err();
+    let stop = do_acts(tree, &mut hand, machine, &mut reader, &acts, &mut replies).err();
     let (share, trail) = hand.finish();
     Worked {
         share,

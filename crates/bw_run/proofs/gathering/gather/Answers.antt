@@ -1,6 +1,7 @@
-use Rattle.std.proofs.Common.{rules, ◌≡◌, ◌∷◌, ◌+◌, ◌<◌, [], length, ap, refl, ◌∙◌, arith, length-append}
+use Rattle.std.proofs.Common.{rules, ◌≡◌, ◌∷◌, ◌+◌, ◌<◌, [], length, ap, refl, subst, ◌∙◌, arith, length-append}
 use Rattle.bw_run.specs.Rows.{acts_of}
-use Rattle.bw_procedures.specs.Told.{answers}
+use Rattle.bw_step.specs.Tellings.{told_in}
+use Rattle.bw_procedures.specs.Told.{GoWith}
 use Rattle.bw_run.proofs.Gatherings.{answered_next, planned_first, planned_rest, sums_next}
 use Rattle.bw_run.proofs.gathering.gather.Goals as goal
 
@@ -41,6 +42,6 @@ loop-worked-preserved g c =
       planned = rw next others;
       answered = rw (c.in_ok-push-2.ensures.items, trailed)
           (answered_next rows (λ column. column.items) (λ trail. trail.items) c.loop-worked.columns.items c.loop-worked.trails.items w.replies w.trail n inv.columns refl inv.answered
-          (full ∙ ap length first) (w.told ∙ ap (λ acts. answers acts w.replies.items) first));
+          (full ∙ ap length first) (subst (λ acts. GoWith acts w.replies.items (told_in w.trail.items)) first w.told));
       sums = rw (c.in_ok-push.ensures.items, trailed) (sums_next (λ trail. trail.items) c.loop-worked.shares.items w.share c.loop-worked.trails.items w.trail inv.sums w.counted);
     }
