@@ -31,7 +31,8 @@ use std::sync::Wait;
 use std::thread::Threads;
 
 /// The files of cases.
-const NAMES: [&str; 8] = [
+const NAMES: [&str; 9] = [
+    "clears",
     "cuts",
     "histories",
     "options",
