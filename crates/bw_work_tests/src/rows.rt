@@ -26,7 +26,7 @@ pub(crate) struct Row {
 }
 
 /// A row without puts, calls and steps.
-const EMPTY: Row = Row {
+pub(crate) const EMPTY: Row = Row {
     name: "nothing",
     config: SMALL,
     puts: 0,
@@ -39,7 +39,7 @@ const EMPTY: Row = Row {
     then: &[],
 };
 
-const FEW_PAGES: Config = Config {
+pub(crate) const FEW_PAGES: Config = Config {
     fanout: 4,
     chain: 4,
     pages: 8,
@@ -47,7 +47,7 @@ const FEW_PAGES: Config = Config {
     first_version: 0,
 };
 
-const ONE_TRY: Config = Config {
+pub(crate) const ONE_TRY: Config = Config {
     fanout: 4,
     chain: 4,
     pages: 64,
@@ -55,7 +55,7 @@ const ONE_TRY: Config = Config {
     first_version: 0,
 };
 
-const INSERTED: Reply = Reply::Put(Put::Inserted);
+pub(crate) const INSERTED: Reply = Reply::Put(Put::Inserted);
 
 pub(crate) static ROWS: [Row; 21] = [
     Row {
