@@ -1,5 +1,6 @@
 //! Runs that come to their end.
 
+use crate::clear_cases::CLEARS;
 use crate::rows::{INSERTED, Puts, finish, row, trace_of};
 use bw_audit::{Verdict, audit, is_ascending};
 use bw_delta::NoMemory;
@@ -15,13 +16,13 @@ use std::test::Fail;
 /// leaves and the pairs are these. Where no leaves are written they depend on the workers' turns; the
 /// pairs are those of the puts, and then these.
 #[derive(Clone, Copy)]
-struct Case {
-    workers: u32,
-    puts: &'static [Puts],
-    rows: &'static [Row],
-    replies: &'static [Reply],
-    leaves: &'static [(Key, Fence, u64)],
-    pairs: &'static [(Key, u64)],
+pub(crate) struct Case {
+    pub(crate) workers: u32,
+    pub(crate) puts: &'static [Puts],
+    pub(crate) rows: &'static [Row],
+    pub(crate) replies: &'static [Reply],
+    pub(crate) leaves: &'static [(Key, Fence, u64)],
+    pub(crate) pairs: &'static [(Key, u64)],
 }
 
 static TWO_HUNDRED: Case = Case {
@@ -190,7 +191,7 @@ fn is_as_foretold(machine: Global, case: &Case, ran: &Finished) -> Result<bool, 
 #[test]
 fn runs_end_as_foretold(rt: HostRuntime) -> Result<(), Fail> {
     let machine = rt.alloc();
-    for case in CASES.iter() {
+    for case in CASES.iter().chain(CLEARS.iter()) {
         let trace = trace_of(machine, case.puts, case.rows)?;
         for readers in 0..=case.workers {
             let ran = finish(rt, machine, SMALL, case.workers, readers, &trace, &Open)?;
@@ -215,7 +216,7 @@ fn two_workers_put_a_hundred_keys_each(rt: HostRuntime) -> Result<(), Fail> {
 }
 
 /// The puts, with a look for its key behind every tenth of them.
-fn looking_trace(machine: Global, puts: &[Row]) -> Result<Vec<Row>, NoMemory> {
+pub(crate) fn looking_trace(machine: Global, puts: &[Row]) -> Result<Vec<Row>, NoMemory> {
     let mut trace = Vec::new(machine);
     for row in puts {
         trace.push(*row)?;
@@ -343,7 +344,7 @@ fn is_each_once(replaced: &[u64], left: &[(Key, u64)]) -> bool {
 }
 
 /// The verdict on the run, if the keys of the pairs rise.
-fn verdict_on(
+pub(crate) fn verdict_on(
     machine: Global,
     ran: &Finished,
     pairs: &[(Key, u64)],

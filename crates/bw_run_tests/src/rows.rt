@@ -45,6 +45,15 @@ macro_rules! row {
             act: Act::Delete { key: $key },
         }
     };
+    ($worker:literal clear $low:expr => $high:expr) => {
+        Row {
+            worker: $worker,
+            act: Act::Clear {
+                low: $low,
+                high: $high,
+            },
+        }
+    };
 }
 
 pub(crate) use row;

@@ -3,7 +3,7 @@
 
 use crate::crew::{Crew, Left, work_on_new_tree};
 use bw_delta::NoMemory;
-use bw_keys::Key;
+use bw_keys::{Fence, Key};
 use bw_snap::{Naming, ReadTree, Reader};
 use bw_step::Receipt;
 use bw_test_kit::{LARGE, Worked};
@@ -21,6 +21,9 @@ use std::thread;
 const RUNS: u64 = 100;
 
 const KEYS: u32 = 16;
+
+/// How many keys a range has that is removed.
+const RANGE: u64 = 4;
 
 /// How many calls a writer makes at least, and how many more at most.
 const FEWEST_CALLS: u32 = 20;
@@ -56,7 +59,7 @@ impl Trail {
     }
 }
 
-/// The writers draw puts, sets and deletes, and publish one time in four. The readers look until the writers
+/// The writers draw puts, sets, deletes and removals of ranges, and publish one time in four. The readers look until the writers
 /// have ended, and once more.
 #[derive(Drop)]
 struct Drawn {
@@ -105,10 +108,14 @@ impl Crew<Trail, Trail> for Drawn {
         let calls = FEWEST_CALLS + rng.next_u32() % MORE_CALLS;
         for _ in 0..calls {
             let key = drawn_key(&mut rng);
-            trail.count(match rng.next_u32() % 3 {
-                0 => hand.put(key, rng.next_u64()).is_ok(),
-                1 => hand.set(key, rng.next_u64()).is_ok(),
-                _ => hand.delete(key).is_ok(),
+            trail.count(match rng.next_u32() % 10 {
+                0..=2 => hand.put(key, rng.next_u64()).is_ok(),
+                3..=5 => hand.set(key, rng.next_u64()).is_ok(),
+                6..=8 => hand.delete(key).is_ok(),
+                _ => {
+                    let high = Fence::Key(key.saturating_add(RANGE));
+                    hand.clear(machine, key, high).fault.is_none()
+                }
             });
             if rng.next_u32().is_multiple_of(4) {
                 trail.count(tree.publish().is_ok());

@@ -19,7 +19,7 @@ struct Row {
 
 const INSERTED: Reply = Reply::Put(Put::Inserted);
 
-static ROWS: [Row; 11] = [
+static ROWS: [Row; 14] = [
     Row {
         name: "a reader answers what was published",
         acts: &[
@@ -237,6 +237,57 @@ static ROWS: [Row; 11] = [
         ],
         leaves: &[(0, Fence::Key(3), 0), (3, Fence::Top, 3)],
         book: (5, 2, 0),
+    },
+    Row {
+        name: "the removal of a range is seen once it is published",
+        acts: &[
+            Act::Puts(1, 7),
+            Act::Publish,
+            Act::Calls(&[Call::Clear(2, Fence::Key(5))], &[Reply::Clear(3)]),
+            Act::Scan(2, 3, &[(2, 2), (3, 3), (4, 4)]),
+            Act::ScanAfter(0, 10, &[(1, 1), (5, 5), (6, 6), (7, 7)]),
+            Act::Look(
+                4,
+                Look {
+                    found: None,
+                    at: 10,
+                },
+            ),
+        ],
+        leaves: &[(0, Fence::Key(5), 1), (5, Fence::Top, 3)],
+        book: (7, 3, 0),
+    },
+    Row {
+        name: "the removal of all keys",
+        acts: &[
+            Act::Puts(1, 7),
+            Act::Calls(&[Call::Clear(0, Fence::Top)], &[Reply::Clear(7)]),
+            Act::Get(3, None),
+            Act::LookAfter(
+                3,
+                Look {
+                    found: None,
+                    at: 14,
+                },
+            ),
+            Act::Scan(0, 10, &[]),
+        ],
+        leaves: &[(0, Fence::Top, 0)],
+        book: (7, 7, 0),
+    },
+    Row {
+        name: "the removal of a range without keys",
+        acts: &[
+            Act::Puts(1, 7),
+            Act::Calls(&[Call::Clear(5, Fence::Key(5))], &[Reply::Clear(0)]),
+            Act::ScanAfter(4, 2, &[(4, 4), (5, 5)]),
+        ],
+        leaves: &[
+            (0, Fence::Key(3), 2),
+            (3, Fence::Key(5), 2),
+            (5, Fence::Top, 3),
+        ],
+        book: (7, 0, 0),
     },
 ];
 

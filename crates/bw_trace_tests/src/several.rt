@@ -68,3 +68,28 @@ fn two_workers_put_a_hundred_keys_each(rt: HostRuntime) -> Result<(), Fail> {
     }
     Ok(())
 }
+
+// Whoever comes first: what one worker puts the other one removes, or leaves.
+#[test]
+fn one_worker_removes_all_keys_while_another_puts_them(rt: HostRuntime) -> Result<(), Fail> {
+    let mut trace = String::new(rt.alloc());
+    for key in 1..=100u32 {
+        writeln!(trace, "0,put,{key},{key}")?;
+        if key % 10 == 0 {
+            writeln!(trace, "0,get,{key},\n1,clr,0,")?;
+        }
+    }
+    for readers in ["--readers=0", "--readers=1", "--readers=2"] {
+        for _ in 0..20u32 {
+            let words = ["run", "--workers=2", "--fanout=4", "--chain=4", readers];
+            let output = printed(&rt, &words, trace.as_str())?;
+            assert!(rt; output.as_str().contains("inserted 100 removed "));
+            assert!(rt; output.as_str().ends_with("audit yes\n"));
+            let words = ["run", "--workers=2", "--history", readers];
+            let history = printed(&rt, &words, trace.as_str())?;
+            let verdict = printed(&rt, &["check"], history.as_str())?;
+            assert_eq!(rt; verdict.as_str(), "audit yes\n");
+        }
+    }
+    Ok(())
+}
