@@ -34,10 +34,12 @@ fn put_keys<A: Allocator + Copy>(
 /// Whether the pairs are the keys behind the first so many, each with itself as value.
 fn are_left(keys: &[Key], removed: u64, pairs: &[(Key, u64)]) -> bool {
     let mut left = keys.iter().skip(removed as usize);
-    pairs
-        .iter()
-        .all(|(key, value)| left.next() == Some(key) && key == value)
-        && left.next().is_none()
+    for (key, value) in pairs {
+        if left.next() != Some(key) || key != value {
+            return false;
+        }
+    }
+    left.next().is_none()
 }
 
 /// How many pairs the receipts take out.
@@ -116,8 +118,8 @@ fn a_removal_that_memory_ends_leaves_the_keys_behind(rt: HostRuntime) -> Result<
     for cells in 1..400usize {
         let heap = LocalHeap::new(rt.alloc(), 32 * cells)?;
         let outcome = put_and_clear(rt.alloc(), &heap)?;
-        rooms.count(outcome.is_some_and(Outcome::is_whole), &heap);
-        if outcome.is_some_and(Outcome::is_partial) {
+        rooms.count(outcome.is_some_and(|outcome| outcome.is_whole()), &heap);
+        if outcome.is_some_and(|outcome| outcome.is_partial()) {
             partial = partial.saturating_add(1);
         }
     }

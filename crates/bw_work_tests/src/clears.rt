@@ -4,7 +4,8 @@ use bw_keys::{Config, Fence, Key, Range};
 use bw_step::{Receipt, Step};
 use bw_table::Table;
 use bw_test_kit::{
-    Call, Pages, Play, Reply, Task, Told, Turns, Worked, play_on_new_tree, work, work_by_hand,
+    Call, Ended, Pages, Play, Reply, Task, Told, Turns, Worked, play_on_new_tree, work,
+    work_by_hand,
 };
 use bw_tree::{Share, Shared};
 use bw_work::{Alone, Cleared, Hand, Open, Steps, clear, delete, set};
@@ -14,18 +15,18 @@ use std::alloc::Global;
 use std::collections::BTreeMap;
 use std::test::Fail;
 
-const TREES: u64 = 60;
+const TREES: u32 = 60;
 
 /// How many calls a tree sees, about one in ten of which removes a range.
 const CALLS: u32 = 120;
 
-/// The keys are those below this one, and the greatest.
-const KEYS: u32 = 64;
+/// How many keys a tree may have: those below 64, and the greatest.
+const KEYS: u32 = 65;
 
 /// One of the tree's keys.
 fn drawn_key(rng: &mut Pcg32) -> Key {
-    match rng.next_u32() % (KEYS + 1) {
-        KEYS => Key::MAX,
+    match rng.next_u32() % KEYS {
+        64 => Key::MAX,
         key => u64::from(key),
     }
 }
@@ -110,7 +111,7 @@ fn clear_both<S: Steps<Global, Step<Global>>>(
     let removed = taken.len() as u64;
     let before = steps.trail().len();
     let cleared = clear(steps, machine, range.low, range.high);
-    let added = steps.trail().iter().skip(before).copied().collect(machine)?;
+    let added: Vec<Receipt> = steps.trail().iter().skip(before).copied().collect(machine)?;
     let all = Cleared {
         removed,
         fault: None,
@@ -132,10 +133,10 @@ struct Left {
 /// Makes drawn calls on a new tree and on a plain map.
 fn work_drawn<S: Steps<Global, Step<Global>>>(
     machine: Global,
-    seed: u64,
+    seed: u32,
     steps: &mut S,
 ) -> Result<Left, Fail> {
-    let mut rng = Pcg32::seed_from_u64(seed);
+    let mut rng = Pcg32::seed_from_u64(u64::from(seed));
     let mut map = BTreeMap::new(machine);
     let mut removed = 0u64;
     for _ in 0..CALLS {
@@ -153,10 +154,10 @@ fn work_drawn<S: Steps<Global, Step<Global>>>(
 }
 
 /// Small pages and chains, of other sizes from tree to tree.
-fn config_of(seed: u64) -> Config {
+fn config_of(seed: u32) -> Config {
     Config {
-        fanout: 4 + (seed % 5) as u32,
-        chain: 1 + (seed % 7) as u32,
+        fanout: 4 + seed % 5,
+        chain: 1 + seed % 7,
         pages: 256,
         tries: 100,
         first_version: 0,
@@ -175,7 +176,7 @@ fn drawn_ranges_are_removed_alone(rt: HostRuntime) -> Result<(), Fail> {
         assert_eq!(rt; table.pairs(machine)?, left.pairs, "tree {seed}");
         removed = removed.saturating_add(left.removed);
     }
-    assert!(rt; removed > TREES);
+    assert!(rt; removed > u64::from(TREES));
     Ok(())
 }
 
@@ -183,7 +184,7 @@ fn drawn_ranges_are_removed_alone(rt: HostRuntime) -> Result<(), Fail> {
 #[derive(Drop)]
 struct Drawn {
     machine: Global,
-    seed: u64,
+    seed: u32,
 }
 
 impl Play<Option<Left>> for Drawn {
@@ -209,11 +210,15 @@ fn drawn_ranges_are_removed_by_hand(rt: HostRuntime) -> Result<(), Fail> {
     let machine = rt.alloc();
     for seed in 0..TREES {
         let play = Drawn { machine, seed };
-        let ended = play_on_new_tree(rt, machine, config_of(seed), Turns::OneByOne, &play)?;
-        let left = ended
-            .zero
-            .ok_or("a call was answered otherwise than by the map")?;
-        assert_eq!(rt; ended.table.pairs(machine)?, left.pairs, "tree {seed}");
+        let Ended { table, zero, .. } = play_on_new_tree(
+            rt,
+            machine,
+            config_of(seed),
+            Turns::OneByOne,
+            &play,
+        )?;
+        let left = zero.ok_or("an answer was another than the map's")?;
+        assert_eq!(rt; table.pairs(machine)?, left.pairs, "tree {seed}");
     }
     Ok(())
 }
@@ -296,9 +301,9 @@ impl Play<Told> for Many {
 fn twenty_thousand_keys_are_removed_by_hand(rt: HostRuntime) -> Result<(), Fail> {
     let machine = rt.alloc();
     let ended = play_on_new_tree(rt, machine, USUAL, Turns::OneByOne, &Many { machine })?;
-    let told = ended.zero;
+    let told = &ended.zero;
     assert!(rt;
-        has_removed_all(&told),
+        has_removed_all(told),
         "{:?} {:?}",
         told.replies,
         told.fault
