@@ -1,7 +1,9 @@
 //! What the workers bring back, gathered.
 
-ghost use Rattle.std.specs.Prelude.{◌≡◌, ◌-◌, ◌<◌, ℕ, [], Some, IfOk, IfErr, length, map, sum_by, take, slice_index_or};
+ghost use Rattle.std.specs.Prelude.{◌≡◌, ◌-◌, ◌<◌, ℕ, [], Some, IfOk, IfErr, All, length, map, sum_by, take, slice_index_or};
+ghost use Rattle.bw_step.specs.Tellings.{told_in};
 ghost use Rattle.bw_step.specs.Trails.{lists_of};
+ghost use Rattle.bw_procedures.specs.Told.{GoWith};
 ghost use Rattle.bw_tree.specs.Shares.{share_of, sum_of};
 ghost use Rattle.bw_run.specs.Counts.{insertions, removals};
 ghost use Rattle.bw_run.specs.Faults.{StopsWithin};
@@ -32,7 +34,8 @@ pub(crate) fn gather<T: RunTree>(
     rows: &[Row],
     all: Vec<Worked<T::Insertions, T::Removals, T::Closed>>,
 ) -> Result<Gathered<T::Insertions, T::Removals>, RunFault>
-    requires { ArePlanned (map (λ worked. worked.acts.items) all.items) rows.now }
+    requires planned { ArePlanned (map (λ worked. worked.acts.items) all.items) rows.now }
+    requires told { All (λ worked. GoWith worked.acts.items worked.replies.items (told_in worked.trail.items)) all.items }
     ensures shares { IfOk result (λ gathered. length gathered.shares.items ≡ length all.items) }
     ensures replies { IfOk result (λ gathered. length gathered.replies.items ≡ length all.items) }
     ensures trails { IfOk result (λ gathered. length gathered.trails.items ≡ length all.items) }

@@ -33,7 +33,7 @@ pub(crate) struct Job<I: Ledger, D: Ledger, L> {
 }
 
 /// What a worker did: a reply to each of its acts, or, where it stopped, to those before the one
-/// that it gave up. Its trail tells of these acts alone, and its share is the sum of its trail.
+/// that it gave up. Its share is the sum of its trail.
 #[derive(Drop)]
 pub(crate) struct Worked<I: Ledger, D: Ledger, C> {
     pub share: Share<I, D>,
@@ -42,7 +42,6 @@ pub(crate) struct Worked<I: Ledger, D: Ledger, C> {
     pub trail: Vec<Receipt>,
     pub stop: Option<Stop<C>>,
     ghost counted: { share ≡ fold counted no_changes trail.items },
-    ghost told: { GoWith acts.items replies.items (told_in trail.items) },
     ghost all: { ForNone stop (length replies.items ≡ length acts.items) },
     ghost stopped: { ForSome stop (λ _. length replies.items < length acts.items) },
 }
@@ -81,14 +80,15 @@ pub(crate) fn jobs_of<I: Ledger, D: Ledger, L: Drop>(
     Ok(jobs)
 }
 
-/// Does a job with a hand of its own on the shared tree.
+/// Does a job with a hand of its own on the shared tree. The trail tells of its acts alone.
 pub(crate) fn work<T: RunTree, G: Gate>(
     machine: Global,
     tree: &T,
     gate: &G,
     job: Job<T::Insertions, T::Removals, T::Reader>,
 ) -> Worked<T::Insertions, T::Removals, T::Closed>
-    ensures { result.acts.items ≡ job.acts.items }
+    ensures acts { result.acts.items ≡ job.acts.items }
+    ensures told { GoWith result.acts.items result.replies.items (told_in result.trail.items) }
 {
     let Job {
         worker,
