@@ -2,13 +2,19 @@
 
 use crate::rows::{EMPTY, FEW_PAGES, INSERTED, ONE_TRY, Row};
 use bw_keys::{Config, Fence, Key};
-use bw_test_kit::{Call, Change, Reply, receipt};
+use bw_test_kit::{Call, Change, Reply, SMALL, receipt};
 use bw_work::{Del, Fault, Set};
 
 /// Each change of a leaf is followed by a consolidation, which is all the effort that a call has.
 const ONE_TRY_EACH: Config = Config {
     chain: 1,
     ..ONE_TRY
+};
+
+/// A page has three changes until its versions are used up.
+const THREE_VERSIONS: Config = Config {
+    first_version: u64::MAX - 3,
+    ..SMALL
 };
 
 /// The leaves of the keys from 1 to 7.
@@ -18,7 +24,7 @@ const SEVEN: &[(Key, Fence, u64)] = &[
     (5, Fence::Top, 3),
 ];
 
-pub(crate) static CLEARS: [Row; 14] = [
+pub(crate) static CLEARS: [Row; 15] = [
     Row {
         name: "a range over two leaves and the half of one",
         puts: 7,
@@ -241,6 +247,26 @@ pub(crate) static CLEARS: [Row; 14] = [
             (9, Fence::Top, 4),
         ],
         book: (14, 2, 0),
+        ..EMPTY
+    },
+    Row {
+        name: "a delete that is refused ends the call, and what was taken out by then stays so",
+        config: THREE_VERSIONS,
+        puts: 2,
+        calls: &[Call::Clear(0, Fence::Top), Call::Get(1), Call::Get(2)],
+        replies: &[
+            Reply::Clear(1),
+            Reply::But(Fault::Worn),
+            Reply::Get(None),
+            Reply::Get(Some(2)),
+        ],
+        trail: &[
+            receipt!(deleted 3, 1),
+            receipt!(looked 3, 1, None),
+            receipt!(looked 3, 2, Some(2)),
+        ],
+        leaves: &[(0, Fence::Top, 1)],
+        book: (2, 1, 0),
         ..EMPTY
     },
     Row {
