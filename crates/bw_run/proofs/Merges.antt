@@ -1,8 +1,8 @@
 -- A worker's own replies, row by row.
-use Rattle.std.proofs.Common.{◌≡◌, ℕ, ◌<◌, ◌==◌, Bool, true, false, List, [], ◌∷◌, ◌++◌, length, refl, ap, sym, ◌∙◌, append-nil, arith}
+use Rattle.std.proofs.Common.{◌≡◌, ℕ, ◌<◌, ◌≤◌, ◌==◌, Bool, true, false, List, [], ◌∷◌, ◌++◌, length, take, drop, refl, ap, sym, ◌∙◌, append-nil, arith}
 use Rattle.std.specs.Prelude.{if◌then◌else◌}
 use Rattle.std.proofs.lemmas.Bool.Decides.{nat_tests}
-use Rattle.std.proofs.lemmas.List.{nil_from_length}
+use Rattle.std.proofs.lemmas.List.{drop_all, nil_from_length, take_all}
 use Rattle.bw_procedures.specs.declared.reply.Reply.{Reply}
 use Rattle.bw_procedures.specs.declared.act.Act.{Act}
 use Rattle.bw_texts.specs.declared.trace.row.Row.{Row}
@@ -31,9 +31,13 @@ own_step worker done row merged reply replies left same taken =
     ap (λ (l : List Reply). l ++ left) (own_snoc worker done row merged reply same)
     ∙ (own_first (row.worker == worker) (replies_to worker done merged) reply left ∙ ap (λ (l : List Reply). replies_to worker done merged ++ l) (sym taken))
 
--- where none are left, the worker's own replies are all of them
-pub own_end : (own left all : List Reply) → length left ≡ 0 → own ++ left ≡ all → own ≡ all
-own_end own left all none is = sym (append-nil own) ∙ (ap (λ (l : List Reply). own ++ l) (sym (nil_from_length left none)) ∙ is)
+-- behind the last row none are left, and the worker's own replies are all of them
+pub own_end : (worker : ℕ) (rows : List Row) (place : ℕ) (merged left all : List Reply) → length rows ≤ place → length left ≡ length (acts_of worker (drop place rows))
+    → replies_to worker (take place rows) merged ++ left ≡ all → replies_to worker rows merged ≡ all
+own_end worker rows place merged left all past full is =
+    let none : left ≡ [] = nil_from_length left (full ∙ ap (λ (rs : List Row). length (acts_of worker rs)) (drop_all place rows past)) in
+    ap (λ (rs : List Row). replies_to worker rs merged) (sym (take_all place rows past))
+    ∙ (sym (append-nil (replies_to worker (take place rows) merged)) ∙ (ap (λ (l : List Reply). replies_to worker (take place rows) merged ++ l) (sym none) ∙ is))
 
 full_case : (own : Bool) (act : Act) (reply : Reply) (acts : List Act) (left : List Reply) → length (if own then reply ∷ left else left) ≡ length (if own then act ∷ acts else acts) → length left ≡ length acts
 full_case true act reply acts left same = omega arith

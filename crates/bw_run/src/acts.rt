@@ -16,7 +16,7 @@ use std::alloc::Global;
 
 /// Does the acts in their order, as long as none is given up, and adds the reply to each. The worker
 /// looks keys up by its reader, if it has one.
-#[tactic(auto, using(bw_procedures::proofs::Receipts::go_none))]
+#[tactic(auto, using(crate::proofs::Receipts::none_done))]
 pub(crate) fn do_acts<T: RunTree, G: Gate>(
     tree: &T,
     hand: &mut Hand<'_, Global, T, G>,
