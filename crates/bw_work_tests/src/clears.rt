@@ -1,5 +1,6 @@
 //! Removals of drawn ranges from drawn trees, each compared with a plain map, and of very many keys.
 
+use bw_delta::NoMemory;
 use bw_keys::{Config, Fence, Key, Range};
 use bw_step::{Receipt, Step};
 use bw_table::Table;
@@ -16,6 +17,8 @@ use std::collections::BTreeMap;
 use std::test::Fail;
 
 const TREES: u32 = 60;
+
+const UNLIKE: &str = "a call was answered otherwise than by the map";
 
 /// How many calls a tree sees, about one in ten of which removes a range.
 const CALLS: u32 = 120;
@@ -42,25 +45,20 @@ fn drawn_range(rng: &mut Pcg32) -> Range {
     Range { low, high }
 }
 
-/// Sets or deletes a drawn key, in the plain map too.
+/// Sets or deletes a drawn key, in the plain map too. Whether no fault came.
 fn change_both<S: Steps<Global, Step<Global>>>(
     rng: &mut Pcg32,
     steps: &mut S,
     map: &mut BTreeMap<Key, u64>,
-) -> Result<(), Fail> {
+) -> Result<bool, NoMemory> {
     let key = drawn_key(rng);
     let value = rng.next_u64();
-    let is_done = if rng.next_u32().is_multiple_of(4) {
+    if rng.next_u32().is_multiple_of(4) {
         map.remove(&key);
-        delete(steps, key).is_ok_and(|done| done.fault.is_none())
+        Ok(delete(steps, key).is_ok_and(|done| done.fault.is_none()))
     } else {
         map.insert(key, value)?;
-        set(steps, key, value).is_ok_and(|done| done.fault.is_none())
-    };
-    if is_done {
-        Ok(())
-    } else {
-        Err("a change ended with a fault".into())
+        Ok(set(steps, key, value).is_ok_and(|done| done.fault.is_none()))
     }
 }
 
@@ -69,7 +67,7 @@ fn take_range(
     machine: Global,
     map: &mut BTreeMap<Key, u64>,
     range: Range,
-) -> Result<Vec<(Key, u64)>, Fail> {
+) -> Result<Vec<(Key, u64)>, NoMemory> {
     let mut taken = Vec::new(machine);
     for (key, value) in map.iter() {
         if range.holds(*key) {
@@ -99,13 +97,14 @@ fn are_removals_of(pairs: &[(Key, u64)], receipts: &[Receipt]) -> bool {
     left.next().is_none()
 }
 
-/// Removes a drawn range, from the plain map too. How many keys it had.
+/// Removes a drawn range, from the plain map too. How many keys it had; None where the worker tells
+/// something else.
 fn clear_both<S: Steps<Global, Step<Global>>>(
     machine: Global,
     rng: &mut Pcg32,
     steps: &mut S,
     map: &mut BTreeMap<Key, u64>,
-) -> Result<u64, Fail> {
+) -> Result<Option<u64>, NoMemory> {
     let range = drawn_range(rng);
     let taken = take_range(machine, map, range)?;
     let removed = taken.len() as u64;
@@ -116,11 +115,8 @@ fn clear_both<S: Steps<Global, Step<Global>>>(
         removed,
         fault: None,
     };
-    if cleared == all && are_removals_of(&taken, &added) {
-        Ok(removed)
-    } else {
-        Err("a range was removed otherwise than from the map".into())
-    }
+    let is_alike = cleared == all && are_removals_of(&taken, &added);
+    Ok(is_alike.then_some(removed))
 }
 
 /// What is left of the plain map, and how many keys were taken out of it by ranges.
@@ -130,27 +126,31 @@ struct Left {
     removed: u64,
 }
 
-/// Makes drawn calls on a new tree and on a plain map.
+/// Makes drawn calls on a new tree and on a plain map. None where a call was answered otherwise than by
+/// the map.
 fn work_drawn<S: Steps<Global, Step<Global>>>(
     machine: Global,
     seed: u32,
     steps: &mut S,
-) -> Result<Left, Fail> {
+) -> Result<Option<Left>, NoMemory> {
     let mut rng = Pcg32::seed_from_u64(u64::from(seed));
     let mut map = BTreeMap::new(machine);
     let mut removed = 0u64;
     for _ in 0..CALLS {
         if rng.next_u32().is_multiple_of(10) {
-            removed = removed.saturating_add(clear_both(machine, &mut rng, steps, &mut map)?);
-        } else {
-            change_both(&mut rng, steps, &mut map)?;
+            match clear_both(machine, &mut rng, steps, &mut map)? {
+                Some(more) => removed = removed.saturating_add(more),
+                None => return Ok(None),
+            }
+        } else if !change_both(&mut rng, steps, &mut map)? {
+            return Ok(None);
         }
     }
     let mut pairs = Vec::new(machine);
     for (key, value) in map.iter() {
         pairs.push((*key, *value))?;
     }
-    Ok(Left { pairs, removed })
+    Ok(Some(Left { pairs, removed }))
 }
 
 /// Small pages and chains, of other sizes from tree to tree.
@@ -171,7 +171,7 @@ fn drawn_ranges_are_removed_alone(rt: HostRuntime) -> Result<(), Fail> {
     for seed in 0..TREES {
         let mut table = Table::new(machine, machine, config_of(seed))?;
         let mut alone = Alone::new(machine, machine, &mut table);
-        let left = work_drawn(machine, seed, &mut alone)?;
+        let left = work_drawn(machine, seed, &mut alone)?.ok_or(UNLIKE)?;
         alone.finish();
         assert_eq!(rt; table.pairs(machine)?, left.pairs, "tree {seed}");
         removed = removed.saturating_add(left.removed);
@@ -187,18 +187,18 @@ struct Drawn {
     seed: u32,
 }
 
-impl Play<Option<Left>> for Drawn {
+impl Play<Result<Option<Left>, NoMemory>> for Drawn {
     fn work<S: Shared<Global, Step<Global>> + Pages<Global>>(
         &self,
         tree: &S,
         worker: u32,
         share: Share<S::Insertions, S::Removals>,
-    ) -> Worked<S::Insertions, S::Removals, Option<Left>> {
+    ) -> Worked<S::Insertions, S::Removals, Result<Option<Left>, NoMemory>> {
         let mut hand = Hand::new(self.machine, self.machine, tree, share, worker, &Open);
         let told = if worker == 0 {
-            work_drawn(self.machine, self.seed, &mut hand).ok()
+            work_drawn(self.machine, self.seed, &mut hand)
         } else {
-            None
+            Ok(None)
         };
         let (share, _) = hand.finish();
         Worked { share, told }
@@ -217,7 +217,7 @@ fn drawn_ranges_are_removed_by_hand(rt: HostRuntime) -> Result<(), Fail> {
             Turns::OneByOne,
             &play,
         )?;
-        let left = zero.ok_or("an answer was another than the map's")?;
+        let left = zero?.ok_or(UNLIKE)?;
         assert_eq!(rt; table.pairs(machine)?, left.pairs, "tree {seed}");
     }
     Ok(())
