@@ -34,7 +34,7 @@ pub enum Act {
 
 /// Does the act by the worker's steps, and answers what the worker was told. A removal of a range is
 /// answered with its fault, and so is never given up; its copies of leaves lie in the machine's memory.
-#[tactic(auto, using(crate::proofs::Receipts::put_tells, crate::proofs::Receipts::set_tells, crate::proofs::Receipts::delete_tells, crate::proofs::Receipts::get_tells, crate::proofs::Receipts::none_told))]
+#[tactic(auto, using(crate::proofs::Receipts::none_told))]
 pub fn do_act<A: Allocator + Copy, S: Steps<A, Step<A>>>(
     steps: &mut S,
     machine: Global,

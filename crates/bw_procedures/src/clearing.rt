@@ -1,7 +1,7 @@
 //! Taking the keys of a range out.
 
 ghost use Rattle.std.specs.Prelude.{◌≡◌, ℕ, ◌+◌, ◌<◌, ◌≤◌, min, length, IfSome, None};
-ghost use Rattle.bw_keys.specs.Ranges.{end_of};
+ghost use Rattle.bw_keys.specs.Ranges.{end_of, key_count};
 ghost use Rattle.bw_procedures.specs.Seen.{Grows};
 ghost use Rattle.bw_procedures.specs.Calls.{limit_of, IsEarned};
 ghost use Rattle.bw_procedures.specs.Slices.{end_of_slice};
@@ -22,7 +22,7 @@ use std::alloc::{Allocator, Global};
 /// the range; without a fault, each key of the range was missing in a copy of its leaf, or was deleted
 /// since. The first fault, be it of a read, of a delete or beside a delete's reply, ends the call, and
 /// what was taken out by then stays so.
-#[tactic(none)]
+#[tactic(auto, using(crate::proofs::Removals::adds_none))]
 pub fn clear<A: Allocator + Copy, S: Steps<A, Step<A>>>(
     steps: &mut S,
     machine: Global,
@@ -41,14 +41,34 @@ pub fn clear<A: Allocator + Copy, S: Steps<A, Step<A>>>(
         let (leaf, next) = clear_leaf(steps, machine, at, high);
         removed = add(steps, removed, leaf.removed);
         if leaf.fault.is_some() {
-            return Cleared { removed, fault: leaf.fault };
+            return Cleared {
+                removed,
+                fault: leaf.fault,
+            };
         }
         let Some(next) = next else {
-            return Cleared { removed, fault: None };
+            end_among_keys(high);
+            return Cleared {
+                removed,
+                fault: None,
+            };
         };
         at = next;
     }
-    Cleared { removed, fault: None }
+    Cleared {
+        removed,
+        fault: None,
+    }
+}
+
+/// A fence lies past no more than all keys. It does nothing: a proof learns it by the fence's cases.
+#[inline(always)]
+fn end_among_keys(high: Fence)
+    ensures { end_of high ≤ key_count }
+{
+    match high {
+        Fence::Key(_) | Fence::Top => (),
+    }
 }
 
 /// The sum of two counts of receipts, of which the trail has no fewer.
@@ -63,7 +83,7 @@ fn add<A: Allocator + Copy, S: Steps<A, Step<A>>>(steps: &S, removed: u64, more:
 
 /// Takes out the keys of one leaf, from a key on and below the high. What it came to, and where the next
 /// leaf begins, unless this was the last one.
-#[tactic(none)]
+#[tactic(auto, using(crate::proofs::Removals::adds_none))]
 fn clear_leaf<A: Allocator + Copy, S: Steps<A, Step<A>>>(
     steps: &mut S,
     machine: Global,
@@ -78,7 +98,10 @@ fn clear_leaf<A: Allocator + Copy, S: Steps<A, Step<A>>>(
     ensures next { at < end_of_slice result.1 }
 {
     match page_from(steps, machine, at) {
-        Ok(slice) => (remove_below(steps, slice.pairs.as_slice(), high), slice.next),
+        Ok(slice) => (
+            remove_below(steps, slice.pairs.as_slice(), high),
+            slice.next,
+        ),
         Err(fault) => (
             Cleared {
                 removed: 0,
@@ -90,7 +113,7 @@ fn clear_leaf<A: Allocator + Copy, S: Steps<A, Step<A>>>(
 }
 
 /// Takes out the keys of the pairs, in their order, as long as they lie below the high.
-#[tactic(none)]
+#[tactic(auto, using(crate::proofs::Removals::removes_none))]
 fn remove_below<A: Allocator + Copy, S: Steps<A, Step<A>>>(
     steps: &mut S,
     pairs: &[(Key, u64)],
@@ -104,7 +127,10 @@ fn remove_below<A: Allocator + Copy, S: Steps<A, Step<A>>>(
     let mut removed = 0;
     for pair in pairs {
         if !high.is_above(pair.0) {
-            return Cleared { removed, fault: None };
+            return Cleared {
+                removed,
+                fault: None,
+            };
         }
         let one = remove(steps, pair.0);
         removed += one.removed;
@@ -115,7 +141,10 @@ fn remove_below<A: Allocator + Copy, S: Steps<A, Step<A>>>(
             };
         }
     }
-    Cleared { removed, fault: None }
+    Cleared {
+        removed,
+        fault: None,
+    }
 }
 
 /// Takes one key out, if it is there.

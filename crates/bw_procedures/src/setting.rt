@@ -77,12 +77,7 @@ impl Wish for Setting {
 
     #[tactic(auto, using(crate::proofs::Changing::insertion_sets, crate::proofs::Changing::modification_sets))]
     #[inline(always)]
-    fn step<A: Allocator + Copy>(
-        self,
-        view: View,
-        found: Option<u64>,
-        spare: Spare<A>,
-    ) -> Step<A> {
+    fn step<A: Allocator + Copy>(self, view: View, found: Option<u64>, spare: Spare<A>) -> Step<A> {
         let (page, seen) = (view.pid, view.version);
         let (key, value) = (self.key, self.value);
         if found.is_some() {
