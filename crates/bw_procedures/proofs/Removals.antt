@@ -18,23 +18,8 @@ use Rattle.bw_procedures.specs.Writing.{AddsReceipt, IsReceiptOfDelete}
 use Rattle.bw_procedures.specs.Clearing.{IsRemovalOf, AreRemovals, removal_in, removals_in, AddsRemovals, HasRemovalOf, IsSwept, AreRemovalsOf, LieBelow, StartFrom, RemovesFirst, RemovesBelow, RemovesOne, RemovesKey}
 use Rattle.bw_procedures.proofs.Receipts.{adds, delete_told, none_told}
 
-pub spends_grow : (a b : Seen) → OnlySpends a b → Grows a b
-spends_grow a b h = record { config = h.same.config; effort = h.effort; full = omega (arith, h.same.full); tall = omega (arith, h.same.tall); worn = omega (arith, h.same.worn) }
-
 pub grow_then : (a b c : Seen) → Grows a b → Grows b c → Grows a c
 grow_then a b c p q = record { config = q.config ∙ p.config; effort = omega (arith, p.effort, q.effort); full = omega (arith, p.full, q.full); tall = omega (arith, p.tall, q.tall); worn = omega (arith, p.worn, q.worn) }
-
--- a fault that a part of a call earned, by the limit that it began with, is earned by the whole
-earned_later : (a b c : Seen) (fault : Fault) → Grows a b → IsEarned (limit_of b) b c fault → IsEarned (limit_of a) a c fault
-earned_later a b c Contended grows earned = omega (arith, ap (λ (config : Config). config.tries) grows.config, grows.effort, earned)
-earned_later a b c NoMemory grows earned = tt
-earned_later a b c TableFull grows earned = omega (arith, grows.full, earned)
-earned_later a b c TooTall grows earned = omega (arith, grows.tall, earned)
-earned_later a b c Worn grows earned = omega (arith, grows.worn, earned)
-
-pub earned_part : (a b c : Seen) (fault : Option Fault) → Grows a b → IfSome fault (IsEarned (limit_of b) b c) → IfSome fault (IsEarned (limit_of a) a c)
-earned_part a b c None grows earned = tt
-earned_part a b c (Some fault) grows earned = earned_later a b c fault grows earned
 
 -- removals in a range are removals in a wider one
 pub removals_lower : (low at high : ℕ) (xs : List Told) → low ≤ at → AreRemovals at high xs → AreRemovals low high xs
