@@ -13,6 +13,9 @@ pub trait Worker {
     /// Gives the key the value, unless the key is there. Whether it did.
     fn put(&mut self, key: u64, value: u64) -> bool;
 
+    /// Gives the key the value. What it had.
+    fn set(&mut self, key: u64, value: u64) -> Option<u64>;
+
     fn delete(&mut self, key: u64) -> Option<u64>;
 
     /// The first pairs from a key on, at most so many.
@@ -45,6 +48,10 @@ impl Worker for &mut Map {
         put_absent(self, key, value)
     }
 
+    fn set(&mut self, key: u64, value: u64) -> Option<u64> {
+        self.insert(key, value)
+    }
+
     fn delete(&mut self, key: u64) -> Option<u64> {
         self.remove(&key)
     }
@@ -63,6 +70,10 @@ impl Worker for &Mutex<Map> {
         put_absent(&mut self.lock().unwrap(), key, value)
     }
 
+    fn set(&mut self, key: u64, value: u64) -> Option<u64> {
+        self.lock().unwrap().insert(key, value)
+    }
+
     fn delete(&mut self, key: u64) -> Option<u64> {
         self.lock().unwrap().remove(&key)
     }
@@ -79,6 +90,10 @@ impl Worker for &RwLock<Map> {
 
     fn put(&mut self, key: u64, value: u64) -> bool {
         put_absent(&mut self.write().unwrap(), key, value)
+    }
+
+    fn set(&mut self, key: u64, value: u64) -> Option<u64> {
+        self.write().unwrap().insert(key, value)
     }
 
     fn delete(&mut self, key: u64) -> Option<u64> {

@@ -19,7 +19,7 @@ const USAGE: &str = "usage: peers STRUCTURE WORK THREADS KEYS OPERATIONS
        peers beside STRUCTURE WORK THREADS KEYS OPERATIONS
        peers tallies KEYS OPERATIONS
 STRUCTURE is btree (one thread, and no other beside it), mutex or rwlock;
-WORK is load, scan, list, or the percent of gets beside puts and deletes.";
+WORK is load, set, scan, list, or the percent of gets beside puts and deletes.";
 
 #[derive(Clone, Copy, PartialEq, Eq)]
 enum Structure {

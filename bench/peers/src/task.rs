@@ -15,6 +15,8 @@ pub enum Work {
     Load,
     /// Gets in so many of a hundred operations; of the others half are puts, half deletes.
     Mix { gets: u32 },
+    /// Keys that are there are given other values.
+    Set,
     /// The first hundred pairs from a key on.
     Scan,
     /// All pairs.
@@ -23,17 +25,19 @@ pub enum Work {
 
 impl Work {
     /// The kinds that `bench/compare` times.
-    pub const ALL: [Work; 5] = [
+    pub const ALL: [Work; 6] = [
         Work::Load,
         Work::Mix { gets: 100 },
         Work::Mix { gets: 95 },
         Work::Mix { gets: 50 },
+        Work::Set,
         Work::Scan,
     ];
 
     fn read(word: &str) -> Option<Work> {
         match word {
             "load" => Some(Work::Load),
+            "set" => Some(Work::Set),
             "scan" => Some(Work::Scan),
             "list" => Some(Work::List),
             percent => {
@@ -49,6 +53,7 @@ impl fmt::Display for Work {
         match self {
             Work::Load => f.write_str("load"),
             Work::Mix { gets } => write!(f, "{gets}"),
+            Work::Set => f.write_str("set"),
             Work::Scan => f.write_str("scan"),
             Work::List => f.write_str("list"),
         }
@@ -86,7 +91,9 @@ impl Task {
     pub fn count(&self) -> u32 {
         match self.work {
             Work::Load => self.keys,
-            Work::Mix { .. } | Work::Scan | Work::List => self.turns() * self.threads,
+            Work::Mix { .. } | Work::Set | Work::Scan | Work::List => {
+                self.turns() * self.threads
+            }
         }
     }
 
@@ -117,6 +124,7 @@ impl Task {
         match self.work {
             Work::Load => self.load(worker, order, &mut index),
             Work::Mix { gets } => self.mix(worker, gets, &mut index),
+            Work::Set => self.set_often(worker, &mut index),
             Work::Scan | Work::List => self.scan_often(worker, &mut index),
         }
     }
@@ -142,6 +150,20 @@ impl Task {
                 tally.inserted += u64::from(index.put(key, key));
             } else {
                 tally.removed += u64::from(black_box(index.delete(key)).is_some());
+            }
+        }
+        tally
+    }
+
+    fn set_often(&self, worker: u32, index: &mut impl Worker) -> Tally {
+        let mut tally = Tally::default();
+        let mut dice = Dice::new(u64::from(worker), 1);
+        for _ in 0..self.turns() {
+            let key = 2 * u64::from(dice.below(self.keys));
+            let value = u64::from(dice.word());
+            match black_box(index.set(key, value)) {
+                Some(_) => tally.replaced += 1,
+                None => tally.inserted += 1,
             }
         }
         tally

@@ -8,7 +8,7 @@ use Rattle.bw_keys.specs.Limits.{first_bad_field}
 use Rattle.bw_delta.specs.Entries.{at}
 use Rattle.bw_step.specs.declared.receipt.Receipt.{Receipt}
 use Rattle.bw_step.specs.declared.receipt.Receipt.TheVariants.{Looked}
-use Rattle.bw_step.specs.Proposals.{Proposal, insert, delete}
+use Rattle.bw_step.specs.Proposals.{Proposal, insert, delete, modify}
 use Rattle.bw_step.specs.Tellings.{Telling, change, look, shape, telling_of}
 use Rattle.bw_law.specs.Slots.{SlotValue, pairs_in}
 use Rattle.bw_law.specs.Tables.{TableValue, slot_at, number_of, book_with, Lawful, Booked, Maps, SameMap, ChangesKey, TellsMap}
@@ -165,6 +165,9 @@ module _ (table : TableValue) (trails : List (List Receipt)) (is : Explains tabl
       changed (insert page seen key value) key None (Some value) (step_law table (insert page seen key value) is.lawful is.booked accepted) refl (omega arith)
   step_keeps (delete page seen key) accepted =
       changed (delete page seen key) key (Some (unwrap_or (at key (pairs_in (slot_at table page))) 0)) None (step_law table (delete page seen key) is.lawful is.booked accepted) refl (omega arith)
+  step_keeps (modify page seen key value) accepted =
+      changed (modify page seen key value) key (Some (unwrap_or (at key (pairs_in (slot_at table page))) 0)) (Some value)
+      (step_law table (modify page seen key value) is.lawful is.booked accepted) refl (omega arith)
   step_keeps step accepted = shaped step (step_law table step is.lawful is.booked accepted) refl
 
   -- a look sees what the changes so far leave

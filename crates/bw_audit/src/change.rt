@@ -35,6 +35,17 @@ impl Change {
                 before: Some(value),
                 after: None,
             }),
+            Receipt::Modified {
+                number,
+                key,
+                old,
+                value,
+            } => Some(Change {
+                number,
+                key,
+                before: Some(old),
+                after: Some(value),
+            }),
             Receipt::Looked { .. } | Receipt::Shaped { .. } => None,
         }
     }

@@ -17,7 +17,9 @@ fn does_rise(last: u64, receipt: &Receipt) -> bool
     ensures { result ≡ rises_from last (telling_of receipt.now) }
 {
     match *receipt {
-        Receipt::Inserted { number, .. } | Receipt::Deleted { number, .. } => last < number,
+        Receipt::Inserted { number, .. }
+        | Receipt::Deleted { number, .. }
+        | Receipt::Modified { number, .. } => last < number,
         Receipt::Looked { at, .. } => last <= at,
         Receipt::Shaped { .. } => true,
     }
@@ -28,7 +30,9 @@ fn moved_on(last: u64, receipt: &Receipt) -> u64
     ensures { result ≡ position_after last (telling_of receipt.now) }
 {
     match *receipt {
-        Receipt::Inserted { number, .. } | Receipt::Deleted { number, .. } => number,
+        Receipt::Inserted { number, .. }
+        | Receipt::Deleted { number, .. }
+        | Receipt::Modified { number, .. } => number,
         Receipt::Looked { at, .. } => at,
         Receipt::Shaped { .. } => last,
     }

@@ -136,7 +136,7 @@ impl Reading for Reads {
         let mut reader = reader;
         let mut rng = Pcg32::new(u64::from(number), 1);
         match self.task.work {
-            Work::Load | Work::Mix { .. } => self.get_often(&mut reader, &mut rng),
+            Work::Load | Work::Mix { .. } | Work::Set => self.get_often(&mut reader, &mut rng),
             Work::Scan | Work::List => self.scan_often(&mut reader, &mut rng),
         }
     }

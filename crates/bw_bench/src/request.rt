@@ -14,7 +14,7 @@ usage: bw_bench STRUCTURE WORK WORKERS KEYS OPERATIONS
        bw_bench audit RECEIPTS
        bw_bench traces ROWS
 STRUCTURE is alone (one worker), hand, or reader (at most 16, for 100, scan and list);
-WORK is load, scan, list, or the percent of gets beside puts and deletes;
+WORK is load, set, scan, list, or the percent of gets beside puts and deletes;
 a tree with readers is published every so many CHANGES.
 ";
 

@@ -8,8 +8,10 @@ use std::fmt;
 pub(crate) struct Tally {
     /// Gets that found a value.
     pub found: u64,
-    /// Puts that gave a key a value.
+    /// Puts and sets that gave a key that wasn't there a value.
     pub inserted: u64,
+    /// Sets that gave a key that was there another value.
+    pub replaced: u64,
     /// Deletes that took a key out.
     pub removed: u64,
     /// The pairs that scans gave, all together.
@@ -17,9 +19,9 @@ pub(crate) struct Tally {
 }
 
 impl Tally {
-    /// Whether a key was given a value or taken out.
+    /// Whether a key was given a value, or another one, or taken out.
     pub(crate) fn has_changes(self) -> bool {
-        self.inserted > 0 || self.removed > 0
+        self.inserted > 0 || self.replaced > 0 || self.removed > 0
     }
 
     /// The sum of both.
@@ -27,6 +29,7 @@ impl Tally {
         Tally {
             found: self.found.saturating_add(other.found),
             inserted: self.inserted.saturating_add(other.inserted),
+            replaced: self.replaced.saturating_add(other.replaced),
             removed: self.removed.saturating_add(other.removed),
             scanned: self.scanned.saturating_add(other.scanned),
         }
@@ -38,12 +41,13 @@ impl fmt::Display for Tally {
         let Tally {
             found,
             inserted,
+            replaced,
             removed,
             scanned,
         } = self;
         write!(
             f,
-            "found {found} inserted {inserted} removed {removed} scanned {scanned}"
+            "found {found} inserted {inserted} replaced {replaced} removed {removed} scanned {scanned}"
         )
     }
 }

@@ -12,6 +12,8 @@ pub(crate) enum Work {
     Load,
     /// Gets in so many of a hundred operations; of the others half are puts, half deletes.
     Mix { gets: u32 },
+    /// Keys that are there are given other values.
+    Set,
     /// The first hundred pairs from a key on.
     Scan,
     /// All pairs.
@@ -20,18 +22,19 @@ pub(crate) enum Work {
 
 impl Work {
     /// The kinds that `bench/compare` times.
-    pub(crate) const ALL: [Work; 5] = [
+    pub(crate) const ALL: [Work; 6] = [
         Work::Load,
         Work::Mix { gets: 100 },
         Work::Mix { gets: 95 },
         Work::Mix { gets: 50 },
+        Work::Set,
         Work::Scan,
     ];
 
     /// Whether nothing is changed.
     pub(crate) fn only_reads(self) -> bool {
         match self {
-            Work::Load => false,
+            Work::Load | Work::Set => false,
             Work::Mix { gets } => gets == 100,
             Work::Scan | Work::List => true,
         }
@@ -40,6 +43,7 @@ impl Work {
     fn read(word: &str) -> Option<Work> {
         match word {
             "load" => Some(Work::Load),
+            "set" => Some(Work::Set),
             "scan" => Some(Work::Scan),
             "list" => Some(Work::List),
             gets => Some(Work::Mix {
@@ -54,6 +58,7 @@ impl fmt::Display for Work {
         match self {
             Work::Load => f.write_str("load"),
             Work::Mix { gets } => write!(f, "{gets}"),
+            Work::Set => f.write_str("set"),
             Work::Scan => f.write_str("scan"),
             Work::List => f.write_str("list"),
         }
@@ -89,7 +94,7 @@ impl Task {
     pub(crate) fn count(&self) -> u32 {
         match self.work {
             Work::Load => self.keys,
-            Work::Mix { .. } | Work::Scan | Work::List => {
+            Work::Mix { .. } | Work::Set | Work::Scan | Work::List => {
                 self.turns().saturating_mul(self.workers)
             }
         }

@@ -5,7 +5,7 @@ use crate::tally::Tally;
 use crate::task::{Task, Work};
 use bw_keys::Key;
 use bw_step::Step;
-use bw_work::{Del, Put, Steps, delete, get, page_from, put};
+use bw_work::{Del, Put, Set, Steps, delete, get, page_from, put, set};
 use rand_core::Rng;
 use rand_pcg::Pcg32;
 use std::alloc::Global;
@@ -39,6 +39,7 @@ pub(crate) fn work<S: Steps<Global, Step<Global>>>(
     match task.work {
         Work::Load => load(steps, task, worker, order),
         Work::Mix { gets } => mix(steps, task, worker, gets),
+        Work::Set => set_often(steps, task, worker),
         Work::Scan | Work::List => scan_often(steps, alloc, task, worker),
     }
 }
@@ -109,6 +110,35 @@ fn delete_one<S: Steps<Global, Step<Global>>>(steps: &mut S, key: Key) -> Result
     })
 }
 
+/// Sets drawn keys that are there, to drawn values.
+fn set_often<S: Steps<Global, Step<Global>>>(
+    steps: &mut S,
+    task: &Task,
+    worker: u32,
+) -> Result<Tally, Stop> {
+    let mut tally = Tally::default();
+    let mut rng = Pcg32::new(u64::from(worker), 1);
+    for _ in 0..task.turns() {
+        let key = filled_key(&mut rng, task);
+        let value = u64::from(rng.next_u32());
+        tally = tally.plus(set_one(steps, key, value)?);
+    }
+    Ok(tally)
+}
+
+fn set_one<S: Steps<Global, Step<Global>>>(
+    steps: &mut S,
+    key: Key,
+    value: u64,
+) -> Result<Tally, Stop> {
+    let done = set(steps, key, value)?;
+    Ok(Tally {
+        inserted: u64::from(matches!(done.reply, Set::Inserted)),
+        replaced: u64::from(matches!(done.reply, Set::Replaced(_))),
+        ..Tally::default()
+    })
+}
+
 /// A put or a delete, in equal parts, of a drawn key.
 pub(crate) fn change_one<S: Steps<Global, Step<Global>>>(
     steps: &mut S,
@@ -129,11 +159,18 @@ pub(crate) fn drawn_key(rng: &mut Pcg32, task: &Task) -> Key {
     u64::from(rng.next_u32() % end)
 }
 
+/// A key that the map was filled with.
+fn filled_key(rng: &mut Pcg32, task: &Task) -> Key {
+    2 * u64::from(rng.next_u32() % task.keys.max(1))
+}
+
 /// From which key on pairs are listed, and how many at most.
 pub(crate) fn drawn_part(rng: &mut Pcg32, task: &Task) -> (Key, usize) {
     match task.work {
         Work::List => (0, usize::MAX),
-        Work::Load | Work::Mix { .. } | Work::Scan => (drawn_key(rng, task), SCANNED),
+        Work::Load | Work::Mix { .. } | Work::Set | Work::Scan => {
+            (drawn_key(rng, task), SCANNED)
+        }
     }
 }
 

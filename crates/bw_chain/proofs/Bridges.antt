@@ -3,7 +3,7 @@ use Rattle.std.proofs.Common.{◌≡◌, ◌≤◌, ℕ, List, Bool, true, false
 use Rattle.bw_keys.specs.declared.page.Pid.{Pid}
 use Rattle.bw_keys.specs.Ranges.{end_of}
 use Rattle.bw_delta.specs.declared.chain.Delta.{Delta}
-use Rattle.bw_delta.specs.declared.chain.Delta.TheVariants.{Insert, Delete, Split, Remove, TermAdd, TermDelete}
+use Rattle.bw_delta.specs.declared.chain.Delta.TheVariants.{Insert, Modify, Delete, Split, Remove, TermAdd, TermDelete}
 use Rattle.bw_delta.specs.Entries.{at, starts_at}
 use Rattle.bw_delta.specs.Records.{Records, above}
 use Rattle.bw_delta.specs.Pairs.{pairs, pairs_listed, routes, routes_listed}
@@ -24,6 +24,7 @@ own_routes_ascend chain sound = rw (routes_are chain) (routes_ascend chain sound
 -- no record takes the range further
 pub ranges_shrink : (delta : Delta) (chain : Records) → IsWellBuilt (above delta chain) → end_of (fences (above delta chain)).high ≤ end_of (fences chain).high
 ranges_shrink (Insert key value) chain built = omega arith
+ranges_shrink (Modify key value) chain built = omega arith
 ranges_shrink (Delete key) chain built = omega arith
 ranges_shrink (Split separator right) chain built = omega (arith, built.1.1.below_high)
 ranges_shrink Remove chain built = omega arith

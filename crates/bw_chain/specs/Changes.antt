@@ -2,7 +2,7 @@
 use Rattle.std.specs.Prelude.{ℕ, List, ◌++◌}
 use Rattle.bw_keys.specs.declared.page.Pid.{Pid}
 use Rattle.bw_delta.specs.declared.chain.Delta.{Delta}
-use Rattle.bw_delta.specs.declared.chain.Delta.TheVariants.{Insert, Delete, Split, Remove, TermAdd, TermDelete}
+use Rattle.bw_delta.specs.declared.chain.Delta.TheVariants.{Insert, Modify, Delete, Split, Remove, TermAdd, TermDelete}
 use Rattle.bw_delta.specs.Entries.{put, without, below, from}
 use Rattle.bw_delta.specs.Pages.{Listed}
 use Rattle.bw_delta.specs.Records.{Records, bare, above, merged}
@@ -19,6 +19,7 @@ changed Nothing es = es
 -- what a record changes of the pairs below it
 abbrev pub pair_change : Delta → Change ℕ
 pair_change (Insert key value) = Put key value
+pair_change (Modify key value) = Put key value
 pair_change (Delete key) = Without key
 pair_change (Split separator right) = Below separator
 pair_change Remove = Nothing
@@ -28,6 +29,7 @@ pair_change (TermDelete separator) = Nothing
 -- what a record changes of the routes below it
 abbrev pub route_change : Delta → Change Pid
 route_change (Insert key value) = Nothing
+route_change (Modify key value) = Nothing
 route_change (Delete key) = Nothing
 route_change (Split separator right) = Below separator
 route_change Remove = Nothing

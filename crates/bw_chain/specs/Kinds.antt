@@ -2,7 +2,7 @@
 use Rattle.std.proofs.Common.{◌≡◌, true, refl, ap, arith}
 use Rattle.bw_keys.specs.Ranges.{end_of}
 use Rattle.bw_delta.specs.declared.chain.Delta.{Delta}
-use Rattle.bw_delta.specs.declared.chain.Delta.TheVariants.{Insert, Delete, Split, Remove, TermAdd, TermDelete}
+use Rattle.bw_delta.specs.declared.chain.Delta.TheVariants.{Insert, Modify, Delete, Split, Remove, TermAdd, TermDelete}
 use Rattle.bw_delta.specs.Entries.{below, put, without, rises}
 use Rattle.bw_delta.specs.Fence.{fences}
 use Rattle.bw_delta.specs.Pairs.{pairs, pairs_listed, routes, routes_listed}
@@ -15,6 +15,7 @@ use Rattle.bw_chain.specs.Passing.Cuts.{IsUncut}
 pub pairs_are : (chain : Records) → entries_by pairs_listed pair_change chain ≡ pairs chain
 pairs_are (bare page) = refl
 pairs_are (above (Insert key value) chain) = ap (put key value) (pairs_are chain)
+pairs_are (above (Modify key value) chain) = ap (put key value) (pairs_are chain)
 pairs_are (above (Delete key) chain) = ap (without key) (pairs_are chain)
 pairs_are (above (Split separator right) chain) = ap (below separator) (pairs_are chain)
 pairs_are (above Remove chain) = pairs_are chain
@@ -25,6 +26,7 @@ pairs_are (merged merging left right) = rw (pairs_are left, pairs_are right) ref
 pub routes_are : (chain : Records) → entries_by routes_listed route_change chain ≡ routes chain
 routes_are (bare page) = refl
 routes_are (above (Insert key value) chain) = routes_are chain
+routes_are (above (Modify key value) chain) = routes_are chain
 routes_are (above (Delete key) chain) = routes_are chain
 routes_are (above (Split separator right) chain) = ap (below separator) (routes_are chain)
 routes_are (above Remove chain) = routes_are chain
@@ -41,6 +43,7 @@ routes_rise_in_range chain built = rw (routes_are chain) (routes_rise chain buil
 -- a split cuts them off where the range ends
 pub pairs_cut_at_high : (delta : Delta) (chain : Records) → IsUncut (end_of (fences (above delta chain)).high) (pair_change delta)
 pairs_cut_at_high (Insert key value) chain = tt
+pairs_cut_at_high (Modify key value) chain = tt
 pairs_cut_at_high (Delete key) chain = tt
 pairs_cut_at_high (Split separator right) chain = omega arith
 pairs_cut_at_high Remove chain = tt
@@ -49,6 +52,7 @@ pairs_cut_at_high (TermDelete separator) chain = tt
 
 pub routes_cut_at_high : (delta : Delta) (chain : Records) → IsUncut (end_of (fences (above delta chain)).high) (route_change delta)
 routes_cut_at_high (Insert key value) chain = tt
+routes_cut_at_high (Modify key value) chain = tt
 routes_cut_at_high (Delete key) chain = tt
 routes_cut_at_high (Split separator right) chain = omega arith
 routes_cut_at_high Remove chain = tt

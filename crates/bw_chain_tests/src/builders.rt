@@ -4,7 +4,7 @@
 ghost use Rattle.std.specs.Prelude.{◌≡◌, true, IfOk};
 ghost use Rattle.bw_delta.specs.Sound.{IsSound, MayStandOver};
 
-use bw_chain::{depth, fences, is_leaf};
+use bw_chain::{depth, fences, find, is_leaf};
 use bw_delta::{Base, BaseFault, Chain, Delta, Fences, Spare};
 use bw_keys::{Fence, MAX_DEPTH, Range};
 use std::alloc::Allocator;
@@ -33,8 +33,7 @@ pub(crate) fn add_record<A: Allocator + Copy>(
     requires { IsSound chain.old }
     ensures { IsSound chain.new }
 {
-    let fence = fences(chain);
-    if depth(chain) >= MAX_DEPTH || !may_stand(delta, fence, is_leaf(chain)) {
+    if depth(chain) >= MAX_DEPTH || !may_stand(delta, chain) {
         return Err(BaseFault::BadEntries);
     }
     let Ok(spare) = Spare::new(alloc) else {
@@ -44,18 +43,19 @@ pub(crate) fn add_record<A: Allocator + Copy>(
     Ok(())
 }
 
-/// Whether the record may stand on a chain with this range, of a leaf or not.
-fn may_stand(delta: Delta, fence: Fences, leaf: bool) -> bool
-    ensures { result ≡ true → MayStandOver delta fence leaf }
+/// Whether the record may stand on the chain.
+fn may_stand<A: Allocator + Copy>(delta: Delta, chain: &Chain<A>) -> bool
+    ensures { result ≡ true → MayStandOver delta chain.now }
 {
-    let Fences { low, high, .. } = fence;
+    let Fences { low, high, .. } = fences(chain);
     let range = Range { low, high };
     match delta {
-        Delta::Insert(key, _) | Delta::Delete(key) => leaf && range.holds(key),
+        Delta::Insert(key, _) | Delta::Delete(key) => is_leaf(chain) && range.holds(key),
+        Delta::Modify(key, _) => is_leaf(chain) && find(chain, key).is_some(),
         Delta::Split(separator, _) => low < separator && range.holds(separator),
         Delta::Remove => true,
         Delta::TermAdd(separator, _) | Delta::TermDelete(separator) => {
-            !leaf && range.holds(separator)
+            !is_leaf(chain) && range.holds(separator)
         }
     }
 }

@@ -79,8 +79,8 @@ fn both_programs_agree_on_drawn_chains(rt: HostRuntime) -> Result<(), Fail> {
     Ok(())
 }
 
-/// A leaf with 100 to 199 under as many records as a chain may have: each third key deleted, and
-/// smaller ones inserted.
+/// A leaf with 100 to 199 under as many records as a chain may have: each fourth key deleted, the
+/// next one modified, and smaller ones inserted.
 fn deepest_leaf<A: Allocator + Copy>(alloc: A) -> Result<Chain<A>, BaseFault>
     ensures { IfOk result IsSound }
 {
@@ -91,8 +91,9 @@ fn deepest_leaf<A: Allocator + Copy>(alloc: A) -> Result<Chain<A>, BaseFault>
     let base = Base::leaf(alloc, 0, Fence::Top, None, &pairs)?;
     let mut chain = with_records(alloc, base, &[])?;
     for i in 0..u64::from(MAX_DEPTH) {
-        let delta = match i % 3 {
+        let delta = match i % 4 {
             0 => Delta::Delete(100 + i),
+            1 => Delta::Modify(100 + i, 7),
             _ => Delta::Insert(i, 7),
         };
         add_record(alloc, &mut chain, delta)?;
@@ -132,14 +133,14 @@ fn a_comparison_takes_no_memory(rt: HostRuntime) -> Result<(), Fail> {
     Ok(())
 }
 
-// 100 entries and 42 insertions, at 16 bytes each; 22 keys are deleted.
+// 100 entries, 32 insertions and 16 modifications, at 16 bytes each; 16 keys are deleted.
 #[test]
 fn the_result_is_reserved_once(rt: HostRuntime) -> Result<(), Fail> {
     let heap = LocalHeap::new(rt.alloc(), 65536)?;
     let chain = deepest_leaf(&heap)?;
     let used = heap.used();
     let page = consolidate(&heap, &chain)?;
-    assert_eq!(rt; heap.used().checked_sub(used), Some(142 * 16));
-    assert_eq!(rt; page.len(), 120);
+    assert_eq!(rt; heap.used().checked_sub(used), Some(148 * 16));
+    assert_eq!(rt; page.len(), 116);
     Ok(())
 }

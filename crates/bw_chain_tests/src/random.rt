@@ -25,6 +25,7 @@ pub(crate) struct Leaf {
     pairs: BTreeMap<Key, u64>,
     ends: Fences,
     has_merge: bool,
+    has_modification: bool,
 }
 
 /// One of few keys, so that records meet: the last four, and 0 to 35.
@@ -67,6 +68,7 @@ fn drawn_leaf(alloc: Global, rng: &mut Pcg32, low: Key) -> Result<Leaf, Fail>
         pairs,
         ends: Fences { low, high, right },
         has_merge: false,
+        has_modification: false,
     };
     'records: for _ in 0..rng.next_u32() % 12 {
         add_record(alloc, rng, &mut leaf)?;
@@ -100,6 +102,12 @@ fn add_record(alloc: Global, rng: &mut Pcg32, leaf: &mut Leaf) -> Result<(), Fai
         2..=7 => {
             leaf.chain.prepend(Delta::Delete(key), spare);
             leaf.pairs.remove(&key);
+        }
+        8..=11 if find(&leaf.chain, key).is_some() => {
+            let value = rng.next_u64();
+            leaf.pairs.insert(key, value)?;
+            leaf.chain.prepend(Delta::Modify(key, value), spare);
+            leaf.has_modification = true;
         }
         _ => {
             let value = rng.next_u64();
@@ -214,14 +222,18 @@ fn page_agrees(alloc: Global, leaf: &Leaf) -> Result<bool, Fail>
 fn drawn_chains_agree_with_a_map(rt: HostRuntime) -> Result<(), Fail> {
     let alloc = rt.alloc();
     let mut rng = Pcg32::new(2, 3);
-    let (mut deepest, mut has_merge) = (0, false);
+    let (mut deepest, mut has_merge, mut has_modification) = (0, false, false);
     for round in 0..2000u32 {
         let leaf = drawn_chain(alloc, &mut rng)?;
         assert!(rt; searches_agree(&leaf), "in round {round}");
         assert!(rt; page_agrees(alloc, &leaf)?, "in round {round}");
         deepest = deepest.max(depth(&leaf.chain));
         has_merge |= leaf.has_merge;
+        has_modification |= leaf.has_modification;
     }
-    assert_eq!(rt; (deepest, has_merge), (DEEPEST, true));
+    assert_eq!(rt;
+        (deepest, has_merge, has_modification),
+        (DEEPEST, true, true)
+    );
     Ok(())
 }

@@ -95,6 +95,22 @@ fn the_newest_record_decides(rt: HostRuntime) -> Result<(), Fail> {
 }
 
 #[test]
+fn a_modification_changes_a_value_and_no_count(rt: HostRuntime) -> Result<(), Fail> {
+    let alloc = rt.alloc();
+    let old = Base::leaf(alloc, 0, Fence::Top, None, &[(5, 50)])?;
+    let base = old.copy_in(alloc)?;
+    let chain = with_records(alloc, base, &[Delta::Modify(5, 51)])?;
+    assert_eq!(rt; find(&chain, 5), Some(51));
+    assert_eq!(rt; next_at(&chain, 0), Some((5, 51)));
+    assert_eq!(rt; (count(&chain), depth(&chain)), (1, 1));
+    let whole = consolidate(alloc, &chain)?;
+    assert!(rt; lists_pairs(&whole, &[(5, 51)]));
+    assert!(rt; same(&whole, &chain));
+    assert!(rt; !same(&old, &chain));
+    Ok(())
+}
+
+#[test]
 fn a_page_is_consolidated_and_halved(rt: HostRuntime) -> Result<(), Fail> {
     let alloc = rt.alloc();
     let chain = small_leaf(alloc)?;

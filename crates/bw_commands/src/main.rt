@@ -31,13 +31,15 @@ use std::sync::Wait;
 use std::thread::Threads;
 
 /// The files of cases.
-const NAMES: [&str; 7] = [
+const NAMES: [&str; 9] = [
+    "clears",
     "cuts",
     "histories",
     "options",
     "readers",
     "runs",
     "seeds",
+    "sets",
     "traces",
 ];
 

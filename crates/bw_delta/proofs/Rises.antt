@@ -1,13 +1,27 @@
 -- Entries that rise inside a range still do after each change.
-use Rattle.std.proofs.Common.{◌≡◌, ℕ, ◌+◌, ◌<◌, ◌≤◌, true, List, [], ◌∷◌, ◌++◌, refl, arith}
+use Rattle.std.proofs.Common.{◌≡◌, ℕ, ◌+◌, ◌<◌, ◌≤◌, true, List, [], ◌∷◌, ◌++◌, length, refl, arith}
+use Rattle.std.specs.Prelude.{is_some}
 use Rattle.std.proofs.lemmas.Bool.Decides.{nat_tests}
-use Rattle.bw_delta.specs.Entries.{rises}
-use Rattle.bw_delta.specs.Entries.{put, without, below, from}
+use Rattle.bw_delta.specs.Entries.{at, put, without, below, from, rises}
 
 module _ {X : Type 0} (end : ℕ) where
   pub rises-lower : (a b : ℕ) (es : List (ℕ × X)) → a ≤ b → rises b end es ≡ true → rises a end es ≡ true
   rises-lower a b [] le h = refl
   rises-lower a b (e ∷ es) le h = grind (arith, nat_tests)
+
+  -- a key that has an entry lies where the entries rise
+  pub there-from : (low key : ℕ) (es : List (ℕ × X)) → is_some (at key es) ≡ true → rises low end es ≡ true → low ≤ key
+  there-from low key [] there h = absurd (cc)
+  there-from low key (e ∷ es) there h = grind (arith, nat_tests, there-from (e.0 + 1) key es)
+
+  pub there-below : (low key : ℕ) (es : List (ℕ × X)) → is_some (at key es) ≡ true → rises low end es ≡ true → key < end
+  there-below low key [] there h = absurd (cc)
+  there-below low key (e ∷ es) there h = grind (arith, nat_tests, there-below (e.0 + 1) key es)
+
+  -- a new value there makes them no more
+  pub length-put_there : (low key : ℕ) (x : X) (es : List (ℕ × X)) → is_some (at key es) ≡ true → rises low end es ≡ true → length (put key x es) ≡ length es
+  length-put_there low key x [] there h = absurd (cc)
+  length-put_there low key x (e ∷ es) there h = grind (arith, nat_tests, length-put_there (e.0 + 1) key x es, there-from (e.0 + 1) key es)
 
   pub rises-put : (low key : ℕ) (x : X) (es : List (ℕ × X)) → low ≤ key → key < end → rises low end es ≡ true → rises low end (put key x es) ≡ true
   rises-put low key x [] le above h = grind (arith, nat_tests)

@@ -2,7 +2,7 @@
 use Rattle.std.proofs.Common.{◌≡◌, ℕ, ◌<◌, ◌≤◌, Bool, true, false, List, [], ◌++◌, refl, ap, sym, ◌∙◌, arith}
 use Rattle.std.proofs.lemmas.Bool.Decides.{nat_tests}
 use Rattle.bw_keys.specs.Ranges.{key_count, end_of}
-use Rattle.bw_delta.specs.declared.chain.Delta.TheVariants.{Insert, Delete, Split, Remove, TermAdd, TermDelete}
+use Rattle.bw_delta.specs.declared.chain.Delta.TheVariants.{Insert, Modify, Delete, Split, Remove, TermAdd, TermDelete}
 use Rattle.bw_delta.specs.declared.fences.Fences.{Fences}
 use Rattle.bw_delta.specs.Entries.{below, from, rises}
 use Rattle.bw_delta.specs.Pages.{IsPage, Listed, pairs_of, routes_of, listed_rises, lists_pairs}
@@ -10,12 +10,13 @@ use Rattle.bw_delta.specs.Records.{Records, bare, above, merged}
 use Rattle.bw_delta.specs.Fence.{fences, is_leaf}
 use Rattle.bw_delta.specs.Pairs.{pairs, pairs_listed, routes, routes_listed}
 use Rattle.bw_delta.specs.Sound.{IsWellBuilt, IsSound, Joins, listed_for, page_for}
-use Rattle.bw_delta.proofs.Rises.{rises-put, rises-without, rises-below, below_all, from_all, rises-append}
+use Rattle.bw_delta.proofs.Rises.{there-from, there-below, rises-put, rises-without, rises-below, below_all, from_all, rises-append}
 
 -- the range of a chain isn't empty
 pub range_not_empty : (chain : Records) → IsWellBuilt chain → (fences chain).low < end_of (fences chain).high
 range_not_empty (bare page) built = grind (arith, nat_tests)
 range_not_empty (above (Insert key value) chain) built = range_not_empty chain built.0
+range_not_empty (above (Modify key value) chain) built = range_not_empty chain built.0
 range_not_empty (above (Delete key) chain) built = range_not_empty chain built.0
 range_not_empty (above (Split separator right) chain) built = built.1.0
 range_not_empty (above Remove chain) built = range_not_empty chain built.0
@@ -29,6 +30,7 @@ range_not_empty (merged merging left right) built =
 pub end_among_keys : (chain : Records) → IsWellBuilt chain → end_of (fences chain).high ≤ key_count
 end_among_keys (bare page) built = grind (arith, nat_tests)
 end_among_keys (above (Insert key value) chain) built = end_among_keys chain built.0
+end_among_keys (above (Modify key value) chain) built = end_among_keys chain built.0
 end_among_keys (above (Delete key) chain) built = end_among_keys chain built.0
 end_among_keys (above (Split separator right) chain) built = omega (arith, end_among_keys chain built.0, built.1.1.below_high)
 end_among_keys (above Remove chain) built = end_among_keys chain built.0
@@ -54,6 +56,11 @@ pairs_rise (bare page) built = listed page.low (end_of page.high) page.listed (g
     listed low end (routes_of es) h = refl
 pairs_rise (above (Insert key value) chain) built =
     rises-put (end_of (fences chain).high) (fences chain).low key value (pairs chain) built.1.1.from_low built.1.1.below_high (pairs_rise chain built.0)
+pairs_rise (above (Modify key value) chain) built =
+    let end : ℕ = end_of (fences chain).high in
+    let low : ℕ = (fences chain).low in
+    let rise = pairs_rise chain built.0 in
+    rises-put end low key value (pairs chain) (there-from end low key (pairs chain) built.1.1 rise) (there-below end low key (pairs chain) built.1.1 rise) rise
 pairs_rise (above (Delete key) chain) built = rises-without (end_of (fences chain).high) (fences chain).low key (pairs chain) (pairs_rise chain built.0)
 pairs_rise (above (Split separator right) chain) built = rises-below (end_of (fences chain).high) (fences chain).low separator (pairs chain) (pairs_rise chain built.0)
 pairs_rise (above Remove chain) built = pairs_rise chain built.0
@@ -73,6 +80,7 @@ routes_rise (bare page) built = listed page.low (end_of page.high) page.listed (
     listed low end (pairs_of es) h = refl
     listed low end (routes_of es) h = h
 routes_rise (above (Insert key value) chain) built = routes_rise chain built.0
+routes_rise (above (Modify key value) chain) built = routes_rise chain built.0
 routes_rise (above (Delete key) chain) built = routes_rise chain built.0
 routes_rise (above (Split separator right) chain) built = rises-below (end_of (fences chain).high) (fences chain).low separator (routes chain) (routes_rise chain built.0)
 routes_rise (above Remove chain) built = routes_rise chain built.0
@@ -104,6 +112,7 @@ inner_has_no_pairs (bare page) built inner = unlisted page.listed inner
     unlisted (pairs_of es) h = cc
     unlisted (routes_of es) h = refl
 inner_has_no_pairs (above (Insert key value) chain) built inner = let leaf = built.1.0 in cc
+inner_has_no_pairs (above (Modify key value) chain) built inner = let leaf = built.1.0 in cc
 inner_has_no_pairs (above (Delete key) chain) built inner = let leaf = built.1.0 in cc
 inner_has_no_pairs (above (Split separator right) chain) built inner = ap (below separator) (inner_has_no_pairs chain built.0 inner)
 inner_has_no_pairs (above Remove chain) built inner = inner_has_no_pairs chain built.0 inner
@@ -121,6 +130,7 @@ leaf_has_no_routes (bare page) built leaf = unlisted page.listed leaf
     unlisted (pairs_of es) h = refl
     unlisted (routes_of es) h = cc
 leaf_has_no_routes (above (Insert key value) chain) built leaf = leaf_has_no_routes chain built.0 leaf
+leaf_has_no_routes (above (Modify key value) chain) built leaf = leaf_has_no_routes chain built.0 leaf
 leaf_has_no_routes (above (Delete key) chain) built leaf = leaf_has_no_routes chain built.0 leaf
 leaf_has_no_routes (above (Split separator right) chain) built leaf = ap (below separator) (leaf_has_no_routes chain built.0 leaf)
 leaf_has_no_routes (above Remove chain) built leaf = leaf_has_no_routes chain built.0 leaf

@@ -2,7 +2,7 @@
 use Rattle.std.specs.Prelude.{Some, Bool}
 use Rattle.bw_keys.specs.declared.range.Fence.TheVariants.{Key}
 use Rattle.bw_delta.specs.declared.chain.Delta.{Delta}
-use Rattle.bw_delta.specs.declared.chain.Delta.TheVariants.{Insert, Delete, Split, Remove, TermAdd, TermDelete}
+use Rattle.bw_delta.specs.declared.chain.Delta.TheVariants.{Insert, Modify, Delete, Split, Remove, TermAdd, TermDelete}
 use Rattle.bw_delta.specs.declared.fences.Fences.{Fences}
 use Rattle.bw_delta.specs.Pages.{Page, lists_pairs}
 use Rattle.bw_delta.specs.Records.{Records, bare, above, merged}
@@ -13,6 +13,7 @@ page_fences page = record { low = page.low; high = page.high; right = page.right
 -- what a record makes of the fence below it: a split ends the range at its separator, before the new page
 abbrev pub fences_after : Delta → Fences → Fences
 fences_after (Insert key value) fence = fence
+fences_after (Modify key value) fence = fence
 fences_after (Delete key) fence = fence
 fences_after (Split separator right) fence = record { low = fence.low; high = Key separator; right = Some right }
 fences_after Remove fence = fence

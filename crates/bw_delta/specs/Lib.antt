@@ -7,3 +7,4 @@ pub mod RecordsView
 pub mod Fence
 pub mod Pairs
 pub mod Sound
+pub mod Modified

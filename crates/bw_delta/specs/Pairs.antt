@@ -2,7 +2,7 @@
 use Rattle.std.specs.Prelude.{ℕ, List, [], ◌++◌}
 use Rattle.bw_keys.specs.declared.page.Pid.{Pid}
 use Rattle.bw_delta.specs.declared.chain.Delta.{Delta}
-use Rattle.bw_delta.specs.declared.chain.Delta.TheVariants.{Insert, Delete, Split, Remove, TermAdd, TermDelete}
+use Rattle.bw_delta.specs.declared.chain.Delta.TheVariants.{Insert, Modify, Delete, Split, Remove, TermAdd, TermDelete}
 use Rattle.bw_delta.specs.Entries.{put, without, below, from}
 use Rattle.bw_delta.specs.Pages.{Listed, pairs_of, routes_of}
 use Rattle.bw_delta.specs.Records.{Records, bare, above, merged}
@@ -14,6 +14,7 @@ pairs_listed (routes_of es) = []
 -- what a record makes of the pairs below it
 abbrev pub pairs_after : Delta → List (ℕ × ℕ) → List (ℕ × ℕ)
 pairs_after (Insert key value) es = put key value es
+pairs_after (Modify key value) es = put key value es
 pairs_after (Delete key) es = without key es
 pairs_after (Split separator right) es = below separator es
 pairs_after Remove es = es
@@ -33,6 +34,7 @@ routes_listed (routes_of es) = es
 -- what a record makes of the routes below it
 abbrev pub routes_after : Delta → List (ℕ × Pid) → List (ℕ × Pid)
 routes_after (Insert key value) es = es
+routes_after (Modify key value) es = es
 routes_after (Delete key) es = es
 routes_after (Split separator right) es = below separator es
 routes_after Remove es = es

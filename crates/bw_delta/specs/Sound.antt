@@ -4,7 +4,7 @@ use Rattle.bw_keys.specs.declared.range.Fence.TheVariants.{Key}
 use Rattle.bw_keys.specs.declared.page.TheConstants.{MAX_DEPTH}
 use Rattle.bw_keys.specs.Ranges.{end_of}
 use Rattle.bw_delta.specs.declared.chain.Delta.{Delta}
-use Rattle.bw_delta.specs.declared.chain.Delta.TheVariants.{Insert, Delete, Split, Remove, TermAdd, TermDelete}
+use Rattle.bw_delta.specs.declared.chain.Delta.TheVariants.{Insert, Modify, Delete, Split, Remove, TermAdd, TermDelete}
 use Rattle.bw_delta.specs.declared.chain.Merging.{Merging}
 use Rattle.bw_delta.specs.declared.fences.Fences.{Fences}
 use Rattle.bw_delta.specs.Pages.{Page, Listed, IsPage, pairs_of, routes_of}
@@ -18,14 +18,15 @@ pub record LiesIn (key : ℕ) (fence : Fences) : Type 0 where
   pub from_low : fence.low ≤ key
   pub below_high : key < end_of fence.high
 
--- the record may stand over a chain with this fence, of a leaf or not
-abbrev pub MayStandOver : Delta → Fences → Bool → Type 0
-MayStandOver (Insert key value) fence leaf = (leaf ≡ true) × LiesIn key fence
-MayStandOver (Delete key) fence leaf = (leaf ≡ true) × LiesIn key fence
-MayStandOver (Split separator right) fence leaf = (fence.low < separator) × LiesIn separator fence
-MayStandOver Remove fence leaf = Unit {0}
-MayStandOver (TermAdd separator child) fence leaf = (leaf ≡ false) × LiesIn separator fence
-MayStandOver (TermDelete separator) fence leaf = (leaf ≡ false) × LiesIn separator fence
+-- the record may stand over the chain: a modification wants its key among the pairs
+abbrev pub MayStandOver : Delta → Records → Type 0
+MayStandOver (Insert key value) chain = (is_leaf chain ≡ true) × LiesIn key (fences chain)
+MayStandOver (Modify key value) chain = (is_leaf chain ≡ true) × (is_some (at key (pairs chain)) ≡ true)
+MayStandOver (Delete key) chain = (is_leaf chain ≡ true) × LiesIn key (fences chain)
+MayStandOver (Split separator right) chain = ((fences chain).low < separator) × LiesIn separator (fences chain)
+MayStandOver Remove chain = Unit {0}
+MayStandOver (TermAdd separator child) chain = (is_leaf chain ≡ false) × LiesIn separator (fences chain)
+MayStandOver (TermDelete separator) chain = (is_leaf chain ≡ false) × LiesIn separator (fences chain)
 
 -- the halves of a merge meet at its separator, and it ends where the right half does
 pub record Joins (merging : Merging) (left right : Fences) : Type 0 where
@@ -37,7 +38,7 @@ pub record Joins (merging : Merging) (left right : Fences) : Type 0 where
 -- each record may stand where it stands
 abbrev pub IsWellBuilt : Records → Type 0
 IsWellBuilt (bare page) = IsPage page
-IsWellBuilt (above delta chain) = IsWellBuilt chain × MayStandOver delta (fences chain) (is_leaf chain)
+IsWellBuilt (above delta chain) = IsWellBuilt chain × MayStandOver delta chain
 IsWellBuilt (merged merging left right) = IsWellBuilt left × IsWellBuilt right × (is_leaf left ≡ is_leaf right) × Joins merging (fences left) (fences right)
 
 pub record IsSound (chain : Records) : Type 0 where

@@ -14,6 +14,8 @@ use std::mem;
 pub enum Delta {
     /// The key has the value.
     Insert(Key, u64),
+    /// The key, which has a value below, has this one instead.
+    Modify(Key, u64),
     /// The key has no value.
     Delete(Key),
     /// The range ends before the separator, and the page goes on to the right.

@@ -9,7 +9,14 @@ mod chain;
 mod fault;
 mod fences;
 
+ghost use Rattle.bw_delta.specs.Modified.{ModifyLaw};
+
 pub use base::{Base, Entries};
 pub use chain::{Chain, Delta, Merging, Node, Spare};
 pub use fault::{BaseFault, NoMemory};
 pub use fences::Fences;
+
+/// A modification of a sound chain changes the value at its key, and nothing else: no key comes or goes.
+pub fn a_modification_changes_one_value()
+    ensures { ModifyLaw }
+{}

@@ -11,11 +11,11 @@ use Rattle.bw_delta.specs.Sound.{page_for}
 use Rattle.bw_step.specs.declared.refused.Refused.TheVariants.{Present, TermStands}
 use Rattle.bw_step.specs.declared.view.Stage.TheVariants.{Unposted, Posted, Marked, Merged}
 use Rattle.bw_step.specs.Stages.{is_in_row}
-use Rattle.bw_step.specs.Proposals.{insert, delete, consolidate, split, term_add, grow, mark, merge, term_delete}
+use Rattle.bw_step.specs.Proposals.{insert, delete, modify, consolidate, split, term_add, grow, mark, merge, term_delete}
 use Rattle.bw_law.specs.Slots.{SlotValue, chain_in, pairs_in, routes_in, last_number}
 use Rattle.bw_law.specs.Tables.{TableValue, slot_at, number_of}
 use Rattle.bw_delta.specs.Pages.{upper_part}
-use Rattle.bw_law.specs.Refusals.{last_id, new_id, is_bad_separator, root_page, reasons, refusal}
+use Rattle.bw_law.specs.Refusals.{last_id, new_id, is_bad_separator, root_page, found_reasons, reasons, refusal}
 use Rattle.bw_law.proofs.SameTests.{same_page, same_link}
 
 -- each is none
@@ -40,7 +40,7 @@ pub record IsOpen (slot : SlotValue) (seen : ℕ) : Type 0 where
   pub fresh : slot.version ≡ seen
   pub rises : slot.version ≢ last_number
 
--- what Insert and Delete ask for alike
+-- what Insert, Delete and Modify ask for alike
 pub record MayChange (table : TableValue) (page seen key : ℕ) : Type 0 where
   pub open_page : IsOpen (slot_at table page) seen
   pub leaf : (slot_at table page).level ≡ 0
@@ -52,7 +52,8 @@ pub record MayInsert (table : TableValue) (page seen key : ℕ) : Type 0 where
   pub change : MayChange table page seen key
   pub absent : at key (pairs_in (slot_at table page)) ≡ None
 
-pub record MayDelete (table : TableValue) (page seen key : ℕ) : Type 0 where
+-- what Delete and Modify ask for alike: the key is there
+pub record MayChangeFound (table : TableValue) (page seen key : ℕ) : Type 0 where
   pub change : MayChange table page seen key
   pub value : ℕ
   pub present : at key (pairs_in (slot_at table page)) ≡ Some value
@@ -154,9 +155,9 @@ insert_accepted table page seen key value none =
       absent = no_present Present _ present;
     }
 
-pub delete_accepted : (table : TableValue) (page seen key : ℕ) → refusal table (delete page seen key) ≡ None → MayDelete table page seen key
-delete_accepted table page seen key none =
-    let (absent, (stale, (frozen, (kind, (range, (no_key, (deep, (worn, _)))))))) = all_none (reasons table (delete page seen key)) none in
+pub found_accepted : (table : TableValue) (page seen key : ℕ) → first_reason (found_reasons (slot_at table page) (number_of table.book) seen key) ≡ None → MayChangeFound table page seen key
+found_accepted table page seen key none =
+    let (absent, (stale, (frozen, (kind, (range, (no_key, (deep, (worn, _)))))))) = all_none (found_reasons (slot_at table page) (number_of table.book) seen key) none in
     let found = present_value (at key (pairs_in (slot_at table page))) (grind arith) in
     record {
       change = record {

@@ -1,15 +1,16 @@
--- All nine steps.
+-- All ten steps.
 use Rattle.std.proofs.Common.{◌≡◌, cond, List, [], ◌∷◌, Option, Some, None, is_none}
 use Rattle.bw_step.specs.declared.refused.Refused.{Refused}
 use Rattle.bw_law.specs.Tables.{TableValue, Lawful, Booked}
 use Rattle.bw_law.specs.Refusals.{refusal}
 use Rattle.bw_law.specs.Effects.{after}
 use Rattle.bw_law.specs.Runs.{next_table, run}
-use Rattle.bw_step.specs.Proposals.{Proposal, insert, delete, consolidate, split, term_add, grow, mark, merge, term_delete}
+use Rattle.bw_step.specs.Proposals.{Proposal, insert, delete, modify, consolidate, split, term_add, grow, mark, merge, term_delete}
 use Rattle.bw_law.specs.Laws.{StepLaw}
-use Rattle.bw_law.proofs.Accepted.{insert_accepted, delete_accepted, consolidate_accepted, split_accepted, term_add_accepted, grow_accepted, mark_accepted, merge_accepted, term_delete_accepted}
+use Rattle.bw_law.proofs.Accepted.{insert_accepted, found_accepted, consolidate_accepted, split_accepted, term_add_accepted, grow_accepted, mark_accepted, merge_accepted, term_delete_accepted}
 use Rattle.bw_law.proofs.InsertStep.{insert_keeps}
 use Rattle.bw_law.proofs.DeleteStep.{delete_keeps}
+use Rattle.bw_law.proofs.ModifyStep.{modify_keeps}
 use Rattle.bw_law.proofs.ConsolidateStep.{consolidate_keeps}
 use Rattle.bw_law.proofs.SplitStep.{split_keeps}
 use Rattle.bw_law.proofs.TermAddStep.{term_add_keeps}
@@ -21,7 +22,8 @@ use Rattle.bw_law.proofs.TermDeleteStep.{term_delete_keeps}
 -- each kind of step keeps the law, the book and the map
 pub step_law : StepLaw
 step_law table (insert page seen key value) law booked none = insert_keeps table page seen key value law (insert_accepted table page seen key value none) booked
-step_law table (delete page seen key) law booked none = delete_keeps table page seen key law (delete_accepted table page seen key none) booked
+step_law table (delete page seen key) law booked none = delete_keeps table page seen key law (found_accepted table page seen key none) booked
+step_law table (modify page seen key value) law booked none = modify_keeps table page seen key value law (found_accepted table page seen key none) booked
 step_law table (consolidate page seen base) law booked none = consolidate_keeps table page seen base law (consolidate_accepted table page seen base none) booked
 step_law table (split page seen separator base) law booked none = split_keeps table page seen separator base law (split_accepted table page seen separator base none) booked
 step_law table (term_add parent parent_seen child child_seen) law booked none = term_add_keeps table parent parent_seen child child_seen law (term_add_accepted table parent parent_seen child child_seen none) booked

@@ -78,7 +78,7 @@ module _ (slot : SlotValue) (chain : Records) (is : IsPageOf slot chain) where
   }
 
   -- a record stands on the chain, and the slot is as it says
-  pub above_page : (new : SlotValue) (delta : Delta) → MayStandOver delta (fences chain) (is_leaf chain) → slot.depth < MAX_DEPTH
+  pub above_page : (new : SlotValue) (delta : Delta) → MayStandOver delta chain → slot.depth < MAX_DEPTH
       → new.chain ≡ option_map (above delta) slot.chain → new.depth ≡ suc slot.depth → new.level ≡ slot.level → slot_fences new ≡ fences_after delta (fences chain)
       → new.count ≡ length (pairs_after delta (pairs chain)) + length (routes_after delta (routes chain)) → IsPageOf new (above delta chain)
   above_page new delta stands shallow its_chain deeper level fence count = record {

@@ -15,12 +15,12 @@ use Rattle.bw_law.specs.Tables.{TableValue, slot_at, IsPageOf, Lawful, leaf_pair
 use Rattle.bw_law.specs.Effects.{with_record}
 use Rattle.bw_law.specs.Laws.{KeptBy}
 use Rattle.bw_law.proofs.Lists.{at-without, length-without}
-use Rattle.bw_law.proofs.Accepted.{MayDelete}
+use Rattle.bw_law.proofs.Accepted.{MayChangeFound}
 use Rattle.bw_law.proofs.Shares.{count-set}
 use Rattle.bw_law.proofs.LeafChange.{Changes, changes}
 use Rattle.bw_law.proofs.Chains.{pairs_are, lies_in, leaf_chain}
 
-module _ (table : TableValue) (page seen key : ℕ) (law : Lawful table) (may : MayDelete table page seen key) where
+module _ (table : TableValue) (page seen key : ℕ) (law : Lawful table) (may : MayChangeFound table page seen key) where
   abbrev slot : SlotValue
   slot = slot_at table page
 

@@ -4,7 +4,7 @@ use Rattle.bw_delta.specs.declared.chain.Delta.{Delta}
 use Rattle.bw_delta.specs.declared.fences.Fences.{Fences}
 use Rattle.bw_delta.specs.Entries.{at}
 use Rattle.bw_delta.specs.Records.{Records, above}
-use Rattle.bw_delta.specs.Fence.{fences, fences_after, is_leaf}
+use Rattle.bw_delta.specs.Fence.{fences, fences_after}
 use Rattle.bw_delta.specs.Pairs.{pairs, pairs_after, routes, routes_after}
 use Rattle.bw_delta.specs.Sound.{MayStandOver}
 use Rattle.bw_step.specs.declared.survey.Book.{Book}
@@ -32,7 +32,7 @@ pub record Changes (table : TableValue) (page key : ℕ) (delta : Delta) (new : 
 
 -- a record for a key of a leaf
 module _ (table : TableValue) (page seen key : ℕ) (law : Lawful table) (may : MayChange table page seen key) (delta : Delta) (count : ℕ)
-    (stands : (chain : Records) → IsPageOf (slot_at table page) chain → MayStandOver delta (fences chain) (is_leaf chain))
+    (stands : (chain : Records) → IsPageOf (slot_at table page) chain → MayStandOver delta chain)
     (same_fence : (f : Fences) → fences_after delta f ≡ f) (same_routes : (es : _) → routes_after delta es ≡ es)
     (counted : (chain : Records) → IsPageOf (slot_at table page) chain → count ≡ length (pairs_after delta (pairs chain)) + length (routes_after delta (routes chain))) where
   abbrev slot : SlotValue

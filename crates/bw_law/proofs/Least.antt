@@ -7,7 +7,7 @@ use Rattle.bw_keys.specs.declared.page.Pid.{Pid}
 use Rattle.bw_keys.specs.Reasons.{when, first_reason}
 use Rattle.bw_step.specs.declared.refused.Refused.{Refused}
 use Rattle.bw_step.specs.declared.refused.Refused.TheVariants.{Absent, Stale, Frozen, WrongKind, OutOfRange, Present, NoKey, NotBare, BadSeparator, NotSame, WrongStage, WrongParent, TermStands, Leftmost, NotNeighbours, Deep, TooTall, TableFull, Worn}
-use Rattle.bw_step.specs.Proposals.{Proposal, insert, delete, consolidate, split, term_add, grow, mark, merge, term_delete}
+use Rattle.bw_step.specs.Proposals.{Proposal, insert, delete, modify, consolidate, split, term_add, grow, mark, merge, term_delete}
 use Rattle.bw_law.specs.Tables.{TableValue}
 use Rattle.bw_law.specs.Refusals.{reasons}
 use Rattle.bw_law.specs.Numbers.{number_of_refusal, refusals_of, HasNumber, AreNumbered, RefusalLaw}
@@ -32,6 +32,8 @@ numbered table (insert page seen key value) =
     (given _ Absent, (given _ Stale, (given _ Frozen, (given _ WrongKind, (given _ OutOfRange, (present _, (given _ Deep, (given _ Worn, tt))))))))
 numbered table (delete page seen key) =
     (given _ Absent, (given _ Stale, (given _ Frozen, (given _ WrongKind, (given _ OutOfRange, (given _ NoKey, (given _ Deep, (given _ Worn, tt))))))))
+numbered table (modify page seen key value) =
+    (given _ Absent, (given _ Stale, (given _ Frozen, (given _ WrongKind, (given _ OutOfRange, (given _ NoKey, (given _ Deep, (given _ Worn, tt))))))))
 numbered table (consolidate page seen base) = (given _ Absent, (given _ Stale, (given _ Frozen, (given _ WrongKind, (given _ NotSame, (given _ Worn, tt))))))
 numbered table (split page seen separator base) =
     (given _ Absent, (given _ Stale, (given _ Frozen, (given _ WrongKind, (given _ OutOfRange, (given _ NotBare, (given _ BadSeparator, (given _ NotSame, (given _ TableFull, (given _ Worn, tt))))))))))
@@ -55,6 +57,7 @@ rising before (number ∷ numbers) = ltb before number && rising number numbers
 refusals_rise : (step : Proposal) → rising 0 (refusals_of step) ≡ true
 refusals_rise (insert page seen key value) = refl
 refusals_rise (delete page seen key) = refl
+refusals_rise (modify page seen key value) = refl
 refusals_rise (consolidate page seen base) = refl
 refusals_rise (split page seen separator base) = refl
 refusals_rise (term_add parent parent_seen child child_seen) = refl

@@ -12,6 +12,7 @@ pub mod Chains
 pub mod LeafChange
 pub mod InsertStep
 pub mod DeleteStep
+pub mod ModifyStep
 pub mod Bases
 pub mod ConsolidateStep
 pub mod MarkStep

@@ -6,12 +6,12 @@ use Rattle.bw_step.specs.declared.view.Stage.TheVariants.{Posted}
 use Rattle.bw_step.specs.Stages.{is_in_row}
 use Rattle.bw_step.specs.Proposals.{insert, term_add, merge}
 use Rattle.bw_law.specs.Slots.{SlotValue, pairs_in, routes_in}
-use Rattle.bw_law.specs.Tables.{TableValue, slot_at, Lawful, Booked}
+use Rattle.bw_law.specs.Tables.{TableValue, slot_at, number_of, Lawful, Booked}
 use Rattle.bw_law.specs.Refusals.{new_id}
 use Rattle.bw_law.specs.Effects.{with_record, with_stage, joined, taken_in, after, pid}
 use Rattle.bw_delta.specs.declared.chain.Delta.TheVariants.{Insert, TermAdd}
 use Rattle.bw_law.specs.Laws.{KeptBy}
-use Rattle.bw_law.proofs.Accepted.{MayInsert, MayDelete, MayConsolidate, MaySplit, MayTermAdd, MayTermDelete, MayGrow, MayMark, MayMerge}
+use Rattle.bw_law.proofs.Accepted.{MayInsert, MayChangeFound, MayConsolidate, MaySplit, MayTermAdd, MayTermDelete, MayGrow, MayMark, MayMerge}
 use Rattle.bw_law.proofs.Slots.{slot_written, slot_kept}
 use Rattle.bw_law.proofs.Facts.{found_among_entries, free_list_has_room, here_is_inside, used_is_inside, last_id_is_free, leaf_counts_pairs, inner_counts_routes, count_fits}
 use Rattle.bw_law.proofs.InsertStep.{insert_keeps}
@@ -31,11 +31,11 @@ pub record InsertRoom (table : TableValue) (page : ℕ) : Type 0 where
   pub count : (slot_at table page).count + 1 < 2 ^ 64
   pub inserted : table.book.inserted + 1 < 2 ^ 64
 
--- a leaf loses one of its pairs
-pub record DeleteRoom (table : TableValue) (page : ℕ) : Type 0 where
+-- a leaf loses one of its pairs, or changes one
+pub record FoundRoom (table : TableValue) (page : ℕ) : Type 0 where
   pub raised : CanRise table page
   pub count : 0 < (slot_at table page).count
-  pub removed : table.book.removed + 1 < 2 ^ 64
+  pub number : number_of table.book + 1 < 2 ^ 64
 
 -- a page gives a part of its entries to a new page
 pub record SplitRoom (table : TableValue) (page : ℕ) (base : Page) : Type 0 where
@@ -92,12 +92,12 @@ module _ (table : TableValue) (law : Lawful table) (booked : Booked table) where
       now : slot_at (after table (insert page seen key value)) page ≡ with_record (Insert key value) (suc (slot_at table page).count) (slot_at table page)
       now = slot_written table.slots page (with_record (Insert key value) (suc (slot_at table page).count) (slot_at table page)) (here_is_inside table law page may.change.open_page.in_row)
 
-  -- the leaf has a pair to lose
-  pub delete_room : (page seen key : ℕ) → MayDelete table page seen key → DeleteRoom table page
-  delete_room page seen key may = record {
+  -- the leaf has the pair
+  pub found_room : (page seen key : ℕ) → MayChangeFound table page seen key → FoundRoom table page
+  found_room page seen key may = record {
     raised = rises_here page may.change.open_page.in_row may.change.open_page.rises;
     count = omega (arith, leaf_counts_pairs table law page may.change.open_page.in_row may.change.leaf, found_among_entries key may.value (pairs_in (slot_at table page)) may.present);
-    removed = omega (arith, may.change.number, law.bounds.number);
+    number = omega (arith, may.change.number, law.bounds.number);
   }
 
   -- the page can rise

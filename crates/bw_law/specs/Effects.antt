@@ -3,17 +3,17 @@ use Rattle.std.specs.Prelude.{◌≡◌, ℕ, suc, ◌+◌, ◌-◌, ◌==◌, m
 use Rattle.bw_keys.specs.declared.range.Fence.TheVariants.{Key}
 use Rattle.bw_keys.specs.declared.page.Pid.{Pid}
 use Rattle.bw_delta.specs.declared.chain.Delta.{Delta}
-use Rattle.bw_delta.specs.declared.chain.Delta.TheVariants.{Insert, Delete, Split, Remove, TermAdd, TermDelete}
+use Rattle.bw_delta.specs.declared.chain.Delta.TheVariants.{Insert, Modify, Delete, Split, Remove, TermAdd, TermDelete}
 use Rattle.bw_delta.specs.declared.chain.Merging.{Merging}
 use Rattle.bw_delta.specs.Entries.{at}
 use Rattle.bw_delta.specs.Pages.{Page, listed_length}
 use Rattle.bw_delta.specs.Records.{Records, bare, above, merged}
 use Rattle.bw_step.specs.declared.receipt.Kind.TheVariants as kinds
 use Rattle.bw_step.specs.declared.receipt.Receipt.{Receipt}
-use Rattle.bw_step.specs.declared.receipt.Receipt.TheVariants.{Inserted, Deleted, Shaped}
+use Rattle.bw_step.specs.declared.receipt.Receipt.TheVariants.{Inserted, Deleted, Modified, Shaped}
 use Rattle.bw_step.specs.declared.view.Stage.{Stage}
 use Rattle.bw_step.specs.declared.view.Stage.TheVariants.{Unposted, Posted, Marked, Merged}
-use Rattle.bw_step.specs.Proposals.{Proposal, insert, delete, consolidate, split, term_add, grow, mark, merge, term_delete}
+use Rattle.bw_step.specs.Proposals.{Proposal, insert, delete, modify, consolidate, split, term_add, grow, mark, merge, term_delete}
 use Rattle.bw_step.specs.Tellings.{telling_of}
 use Rattle.bw_law.specs.Slots.{SlotValue, free_slot, pairs_in, last_number}
 use Rattle.bw_law.specs.Tables.{TableValue, slot_at, number_of, book_with}
@@ -95,6 +95,9 @@ slots_after table (insert page seen key value) =
 slots_after table (delete page seen key) =
     let slot = slot_at table page in
     slice_set table.slots page (with_record (Delete key) (slot.count - 1) slot)
+slots_after table (modify page seen key value) =
+    let slot = slot_at table page in
+    slice_set table.slots page (with_record (Modify key value) slot.count slot)
 slots_after table (consolidate page seen base) = slice_set table.slots page (consolidated base (slot_at table page))
 slots_after table (split page seen separator base) =
     let slot = slot_at table page in
@@ -133,6 +136,8 @@ root_after table step = table.root
 abbrev pub receipt_of : TableValue → Proposal → Receipt
 receipt_of table (insert page seen key value) = Inserted (suc (number_of table.book)) key value
 receipt_of table (delete page seen key) = Deleted (suc (number_of table.book)) key (unwrap_or (at key (pairs_in (slot_at table page))) 0)
+receipt_of table (modify page seen key value) =
+    Modified (suc (number_of table.book)) key (unwrap_or (at key (pairs_in (slot_at table page))) 0) value
 receipt_of table (consolidate page seen base) = Shaped kinds.Consolidate (pid page) None
 receipt_of table (split page seen separator base) = Shaped kinds.Split (pid page) (Some (pid (new_id table)))
 receipt_of table (term_add parent parent_seen child child_seen) = Shaped kinds.TermAdd (pid parent) (Some (pid child))

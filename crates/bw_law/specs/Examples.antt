@@ -42,7 +42,7 @@ posted level page = record (free_slot 0) {
 }
 
 abbrev pub table_of : List SlotValue → List ℕ → ℕ → TableValue
-table_of slots free inserted = record { slots = slots; free = free; root = 2; book = record { inserted = inserted; removed = 0 }; config = small_config }
+table_of slots free inserted = record { slots = slots; free = free; root = 2; book = record { inserted = inserted; removed = 0; modified = 0 }; config = small_config }
 
 -- the keys 1 to 5 in two leaves under a root
 abbrev pub two_leaves : TableValue

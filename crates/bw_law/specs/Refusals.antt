@@ -1,4 +1,4 @@
--- Why a step is refused: for each of the nine steps the reasons in the order of their numbers, each tried over all the pages that the step names.
+-- Why a step is refused: for each of the ten steps the reasons in the order of their numbers, each tried over all the pages that the step names.
 use Rattle.std.specs.Prelude.{ℕ, ◌+◌, ◌-◌, Bool, false, ◌||◌, not, ◌==◌, nat_lt, nat_le, max, is_some, is_none, if◌then◌else◌, List, [], ◌∷◌, Option, Some, None, option_map, unwrap_or}
 use Rattle.std.specs.List.{list_any}
 use Rattle.bw_keys.specs.declared.page.TheConstants.{MAX_DEPTH, MAX_LEVEL}
@@ -12,7 +12,7 @@ use Rattle.bw_delta.specs.Sound.{page_for}
 use Rattle.bw_step.specs.declared.refused.Refused.{Refused}
 use Rattle.bw_step.specs.declared.refused.Refused.TheVariants.{Absent, Stale, Frozen, WrongKind, OutOfRange, Present, NoKey, NotBare, BadSeparator, NotSame, WrongStage, WrongParent, TermStands, Leftmost, NotNeighbours, Deep, TooTall, TableFull, Worn}
 use Rattle.bw_step.specs.Stages.{is_in_row, is_leaving}
-use Rattle.bw_step.specs.Proposals.{Proposal, insert, delete, consolidate, split, term_add, grow, mark, merge, term_delete}
+use Rattle.bw_step.specs.Proposals.{Proposal, insert, delete, modify, consolidate, split, term_add, grow, mark, merge, term_delete}
 use Rattle.bw_law.specs.Slots.{SlotValue, slot_in, chain_in, pairs_in, routes_in, last_number, is_free, is_unposted, is_plainly_posted, is_marked, is_merged}
 use Rattle.bw_law.specs.Same.{is_same_page, is_same_link}
 use Rattle.bw_law.specs.Tables.{TableValue, slot_at, number_of}
@@ -95,8 +95,9 @@ insert_reasons slot number seen key =
     absent (slot ∷ []) ∷ stale ((slot, seen) ∷ []) ∷ frozen slot ∷ when (nat_lt 0 slot.level) WrongKind ∷ when (is_outside slot key) OutOfRange
     ∷ option_map Present (at key (pairs_in slot)) ∷ when (is_full slot) Deep ∷ worn_change slot number ∷ []
 
-abbrev pub delete_reasons : SlotValue → ℕ → ℕ → ℕ → List (Option Refused)
-delete_reasons slot number seen key =
+-- Delete and Modify change a key that is there
+abbrev pub found_reasons : SlotValue → ℕ → ℕ → ℕ → List (Option Refused)
+found_reasons slot number seen key =
     absent (slot ∷ []) ∷ stale ((slot, seen) ∷ []) ∷ frozen slot ∷ when (nat_lt 0 slot.level) WrongKind ∷ when (is_outside slot key) OutOfRange
     ∷ when (is_none (at key (pairs_in slot))) NoKey ∷ when (is_full slot) Deep ∷ worn_change slot number ∷ []
 
@@ -147,7 +148,8 @@ term_delete_reasons over under parent_seen child_seen =
 
 abbrev pub reasons : TableValue → Proposal → List (Option Refused)
 reasons table (insert page seen key value) = insert_reasons (slot_at table page) (number_of table.book) seen key
-reasons table (delete page seen key) = delete_reasons (slot_at table page) (number_of table.book) seen key
+reasons table (delete page seen key) = found_reasons (slot_at table page) (number_of table.book) seen key
+reasons table (modify page seen key value) = found_reasons (slot_at table page) (number_of table.book) seen key
 reasons table (consolidate page seen base) = consolidate_reasons (slot_at table page) seen base
 reasons table (split page seen separator base) =
     split_reasons (slot_at table page) (slot_at table (new_id table)) (is_leaving_at table.slots (at separator (routes_in (slot_at table page))))

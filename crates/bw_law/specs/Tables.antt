@@ -33,12 +33,13 @@ slot_at table page = slot_in table.slots page
 
 -- how many changes of the map there were
 abbrev pub number_of : Book → ℕ
-number_of book = book.inserted + book.removed
+number_of book = book.inserted + book.removed + book.modified
 
--- the book with what a receipt tells: a key that got a value was inserted, and one that lost its value was removed
+-- the book with what a receipt tells: a key that got a value was inserted, one that lost its value was removed, and one that has another was modified
 abbrev pub book_with : Book → Telling → Book
 book_with book (change number key None (Some value)) = record book { inserted = book.inserted + 1 }
 book_with book (change number key (Some value) None) = record book { removed = book.removed + 1 }
+book_with book (change number key (Some old) (Some value)) = record book { modified = book.modified + 1 }
 book_with book told = book
 
 abbrev pub id_of : Pid → ℕ
@@ -166,6 +167,6 @@ new_table config = record {
   slots = first_slot config.first_version ∷ replicate (config.pages - 1) (free_slot config.first_version);
   free = ids_down config.pages;
   root = 0;
-  book = record { inserted = 0; removed = 0 };
+  book = record { inserted = 0; removed = 0; modified = 0 };
   config = config;
 }

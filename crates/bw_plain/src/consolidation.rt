@@ -96,7 +96,7 @@ fn apply_to_pairs<A: Allocator + Copy>(
     ensures { OnOk result (pairs.new.items ≡ pairs_after delta pairs.old.items) }
 {
     match delta {
-        Delta::Insert(key, value) => put(pairs, key, value)?,
+        Delta::Insert(key, value) | Delta::Modify(key, value) => put(pairs, key, value)?,
         Delta::Delete(key) => remove(pairs, key),
         Delta::Split(separator, _) => keep_below(pairs, separator),
         Delta::Remove | Delta::TermAdd(_, _) | Delta::TermDelete(_) => {}
@@ -115,7 +115,7 @@ fn apply_to_routes<A: Allocator + Copy>(
         Delta::TermAdd(separator, child) => put(routes, separator, child)?,
         Delta::TermDelete(separator) => remove(routes, separator),
         Delta::Split(separator, _) => keep_below(routes, separator),
-        Delta::Remove | Delta::Insert(_, _) | Delta::Delete(_) => {}
+        Delta::Insert(_, _) | Delta::Modify(_, _) | Delta::Delete(_) | Delta::Remove => {}
     }
     Ok(())
 }

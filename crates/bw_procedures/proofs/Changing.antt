@@ -1,9 +1,9 @@
 -- What a step that changes the map leaves.
 use Rattle.std.proofs.Common.{◌≡◌, ℕ, ◌≤◌, Bool, true, false, if◌then◌else◌, List, [], ◌∷◌, ◌++◌, Option, Some, Result, Ok, Err, refl, ap, ◌∙◌, arith}
-use Rattle.bw_step.specs.Proposals.{Proposal, insert, delete}
+use Rattle.bw_step.specs.Proposals.{Proposal, insert, delete, modify}
 use Rattle.bw_step.specs.Steps.{IsReceiptOf}
 use Rattle.bw_step.specs.declared.receipt.Receipt.{Receipt}
-use Rattle.bw_step.specs.declared.receipt.Receipt.TheVariants.{Inserted, Deleted, Looked}
+use Rattle.bw_step.specs.declared.receipt.Receipt.TheVariants.{Inserted, Deleted, Modified, Looked}
 use Rattle.bw_step.specs.declared.view.Look.{Look}
 use Rattle.bw_step.specs.Tellings.{without_shapes}
 use Rattle.bw_step.proofs.Tellings.{without_shapes-append}
@@ -15,7 +15,7 @@ use Rattle.bw_procedures.specs.declared.writing.Tried.{Tried}
 use Rattle.bw_procedures.specs.declared.writing.Tried.TheVariants.{Reply, Tend, Again, Kept}
 use Rattle.bw_procedures.specs.Seen.{Seen, SameCounts, IsAccepted, is_kept}
 use Rattle.bw_procedures.specs.Seen.{Looked as LookTaken}
-use Rattle.bw_procedures.specs.Writing.{Attempts, LookAdds, FoundBy, IsReceiptOfPut, IsDeletionOf}
+use Rattle.bw_procedures.specs.Writing.{Attempts, LookAdds, FoundBy, IsReceiptOfPut, IsDeletionOf, IsSettingOf}
 use Rattle.bw_procedures.specs.Calls.{Offered, OnlyReshapes, ChangesShape}
 use Rattle.bw_procedures.proofs.Reshaping.{counts_grow}
 
@@ -27,8 +27,11 @@ change_accepted (insert page seen key value) limit (Inserted n k v) a b change h
     (h.told, adds_without_shapes a b (Inserted n k v) refl h.trail, counts_grow a b h.counts (omega (arith, h.effort)))
 change_accepted (delete page seen key) limit (Deleted n k v) a b change h =
     (h.told, adds_without_shapes a b (Deleted n k v) refl h.trail, counts_grow a b h.counts (omega (arith, h.effort)))
+change_accepted (modify page seen key value) limit (Modified n k old v) a b change h =
+    (h.told, adds_without_shapes a b (Modified n k old v) refl h.trail, counts_grow a b h.counts (omega (arith, h.effort)))
 change_accepted (insert page seen key value) limit receipt a b change h = absurd h.told
 change_accepted (delete page seen key) limit receipt a b change h = absurd h.told
+change_accepted (modify page seen key value) limit receipt a b change h = absurd h.told
 change_accepted step limit receipt a b change h = absurd (change tt)
 
 look_adds : (kept : Bool) (key at : ℕ) (found : Option ℕ) (a b : Seen) → SameCounts a b → b.trail ≡ (if kept then a.trail ++ Looked at key found ∷ [] else a.trail) → a.effort ≤ b.effort → LookAdds kept key found a b
@@ -63,3 +66,12 @@ insertion_made page seen key value receipt h = absurd h
 pub deletion_made : (page seen key : ℕ) (receipt : Receipt) → IsReceiptOf (delete page seen key) receipt → IsDeletionOf key receipt
 deletion_made page seen key (Deleted number k v) h = h
 deletion_made page seen key receipt h = absurd h
+
+-- a set inserts the pair, or changes the value that is there
+pub insertion_sets : (page seen key value : ℕ) (receipt : Receipt) → IsReceiptOf (insert page seen key value) receipt → IsSettingOf key value receipt
+insertion_sets page seen key value (Inserted number k v) h = h
+insertion_sets page seen key value receipt h = absurd h
+
+pub modification_sets : (page seen key value : ℕ) (receipt : Receipt) → IsReceiptOf (modify page seen key value) receipt → IsSettingOf key value receipt
+modification_sets page seen key value (Modified number k old v) h = h
+modification_sets page seen key value receipt h = absurd h

@@ -1,8 +1,8 @@
 -- What steps that change only the tree's shape leave.
 use Rattle.std.proofs.Common.{◌≡◌, ℕ, ◌≤◌, List, [], ◌∷◌, ◌++◌, Result, Ok, Err, IfErr, OnOk, refl, ap, ◌∙◌, append-nil, arith}
-use Rattle.bw_step.specs.Proposals.{Proposal, insert, delete}
+use Rattle.bw_step.specs.Proposals.{Proposal, insert, delete, modify}
 use Rattle.bw_step.specs.declared.receipt.Receipt.{Receipt}
-use Rattle.bw_step.specs.declared.receipt.Receipt.TheVariants.{Inserted, Deleted, Looked, Shaped}
+use Rattle.bw_step.specs.declared.receipt.Receipt.TheVariants.{Shaped}
 use Rattle.bw_step.specs.Tellings.{without_shapes}
 use Rattle.bw_step.proofs.Tellings.{without_shapes-append}
 use Rattle.bw_procedures.specs.Seen.{Seen, SameCounts, Grows, IsAccepted}
@@ -15,6 +15,7 @@ counts_grow a b p q = record { config = p.config; effort = q; full = omega arith
 pub shape_accepted : (step : Proposal) (receipt : Receipt) (a b : Seen) → ChangesShape step → IsAccepted step receipt a b → OnlyReshapes a b × RoseBy 1 a.effort b.effort
 shape_accepted (insert page seen key value) receipt a b shape h = absurd shape
 shape_accepted (delete page seen key) receipt a b shape h = absurd shape
+shape_accepted (modify page seen key value) receipt a b shape h = absurd shape
 shape_accepted step (Shaped kind page other) a b shape h = (
   record {
     without_shapes = ap without_shapes h.trail ∙ (without_shapes-append a.trail (Shaped kind page other ∷ []) ∙ append-nil (without_shapes a.trail));

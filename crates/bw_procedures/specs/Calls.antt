@@ -1,7 +1,7 @@
 -- What a call, or a part of one, leaves of the worker.
 use Rattle.std.specs.Prelude.{◌≡◌, ℕ, ◌+◌, ◌-◌, ◌≤◌, ◌^◌, min, List, [], ◌∷◌, ◌++◌, Option, Some, None, Result, Ok, Err}
 use Rattle.bw_delta.specs.declared.fault.NoMemory.{NoMemory}
-use Rattle.bw_step.specs.Proposals.{Proposal, insert, delete, consolidate, split, term_add, grow, mark, merge, term_delete}
+use Rattle.bw_step.specs.Proposals.{Proposal, insert, delete, modify, consolidate, split, term_add, grow, mark, merge, term_delete}
 use Rattle.bw_step.specs.declared.receipt.Receipt.{Receipt}
 use Rattle.bw_step.specs.declared.receipt.Receipt.TheVariants as receipts
 use Rattle.bw_step.specs.declared.refused.Refused.{Refused}
@@ -88,6 +88,7 @@ IsAnswered (Err no_memory) = Unit {0}
 abbrev pub ChangesShape : Proposal → Type 0
 ChangesShape (insert page seen key value) = ⊥
 ChangesShape (delete page seen key) = ⊥
+ChangesShape (modify page seen key value) = ⊥
 ChangesShape (consolidate page seen base) = Unit {0}
 ChangesShape (split page seen separator base) = Unit {0}
 ChangesShape (term_add parent parent_seen child child_seen) = Unit {0}

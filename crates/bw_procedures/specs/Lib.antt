@@ -6,5 +6,6 @@ pub mod Slices
 pub mod Rounds
 pub mod Tending
 pub mod Writing
+pub mod Clearing
 pub mod Told
 pub mod Texts

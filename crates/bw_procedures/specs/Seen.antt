@@ -1,5 +1,5 @@
 -- What contracts see of a worker, and what each of its atomic steps leaves of that.
-use Rattle.std.specs.Prelude.{◌≡◌, ℕ, ◌+◌, ◌-◌, ◌≤◌, ◌^◌, min, max, Bool, if◌then◌else◌, is_some, is_none, true, List, [], ◌∷◌, ◌++◌, Option, Some, None, Result, Ok, Err}
+use Rattle.std.specs.Prelude.{◌≡◌, ℕ, ◌+◌, ◌-◌, ◌≤◌, ◌^◌, min, max, Bool, if◌then◌else◌, is_some, is_none, true, false, List, [], ◌∷◌, ◌++◌, Option, Some, None, Result, Ok, Err}
 use Rattle.bw_keys.specs.declared.config.Config.{Config}
 use Rattle.bw_delta.specs.declared.fault.NoMemory.{NoMemory}
 use Rattle.bw_step.specs.Proposals.{Proposal}
@@ -17,7 +17,7 @@ use Rattle.bw_step.specs.declared.fault.Denied.TheVariants as denied
 use Rattle.bw_step.specs.Steps.{IsReceiptOf}
 use Rattle.bw_step.specs.Tellings.{Telling, shape, telling_of}
 use Rattle.bw_procedures.specs.declared.steps.Keep.{Keep}
-use Rattle.bw_procedures.specs.declared.steps.Keep.TheVariants.{Always, IfFound, IfNone}
+use Rattle.bw_procedures.specs.declared.steps.Keep.TheVariants.{Always, IfFound, IfNone, Never}
 use Rattle.bw_procedures.specs.declared.steps.Ends.{Ends}
 
 -- a worker: its configuration, the receipts on its trail, its effort, and how often a step was refused because no slot was free, because the
@@ -78,6 +78,7 @@ abbrev pub is_kept : Keep → Option ℕ → Bool
 is_kept Always found = true
 is_kept IfFound found = is_some found
 is_kept IfNone found = is_none found
+is_kept Never found = false
 
 abbrev pub trail_after_look : Keep → ℕ → Option Look → List Receipt → List Receipt
 trail_after_look keep key None trail = trail

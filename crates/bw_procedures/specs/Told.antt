@@ -1,40 +1,51 @@
 -- What callers are told: what goes with the acts and their replies.
-use Rattle.std.specs.Prelude.{ℕ, List, [], ◌∷◌, ◌++◌, Option, Some, None}
-use Rattle.bw_step.specs.Tellings.{Told, changed, looked}
+use Rattle.std.specs.Prelude.{◌≡◌, ℕ, List, [], ◌∷◌, ◌++◌, Some, None}
+use Rattle.bw_keys.specs.Ranges.{end_of}
+use Rattle.bw_step.specs.declared.receipt.Receipt.{Receipt}
+use Rattle.bw_step.specs.Tellings.{Told, changed, looked, told_in}
 use Rattle.bw_procedures.specs.declared.reply.Del.{Del}
 use Rattle.bw_procedures.specs.declared.reply.Del.TheVariants as dels
 use Rattle.bw_procedures.specs.declared.reply.Put.{Put}
 use Rattle.bw_procedures.specs.declared.reply.Put.TheVariants as puts
+use Rattle.bw_procedures.specs.declared.reply.Set.{Set}
+use Rattle.bw_procedures.specs.declared.reply.Set.TheVariants as sets
 use Rattle.bw_procedures.specs.declared.reply.Reply.{Reply}
 use Rattle.bw_procedures.specs.declared.reply.Reply.TheVariants as replies
 use Rattle.bw_procedures.specs.declared.act.Act.{Act}
 use Rattle.bw_procedures.specs.declared.act.Act.TheVariants as acts
+use Rattle.bw_procedures.specs.Clearing.{AreRemovals, removals_in}
 
 -- a put inserts its pair, or finds the key's value
 abbrev pub told_of_put : ℕ → ℕ → Put → Told
 told_of_put key value puts.Inserted = changed key None (Some value)
 told_of_put key value (puts.Present there) = looked key (Some there)
 
+-- a set gives the key its value, where it had none or another
+abbrev pub told_of_set : ℕ → ℕ → Set → Told
+told_of_set key value sets.Inserted = changed key None (Some value)
+told_of_set key value (sets.Replaced old) = changed key (Some old) (Some value)
+
 -- a delete takes the key out with its value, or finds none
 abbrev pub told_of_delete : ℕ → Del → Told
 told_of_delete key (dels.Removed value) = changed key (Some value) None
 told_of_delete key dels.NoKey = looked key None
 
--- what the receipts of an act with this reply tell, in their order; nothing goes with a reply to another kind of act
-abbrev pub told_of : Act → Reply → Option (List Told)
-told_of (acts.Put key value) (replies.Put done) = Some (told_of_put key value done.reply ∷ [])
-told_of (acts.Delete key) (replies.Delete done) = Some (told_of_delete key done.reply ∷ [])
-told_of (acts.Get key) (replies.Get value) = Some (looked key value ∷ [])
-told_of act reply = None
+-- this is told by the receipts of an act with this reply, in their order; nothing goes with a reply to another kind of act
+abbrev pub GoesWith : Act → Reply → List Told → Type 0
+GoesWith (acts.Put key value) (replies.Put done) told = told ≡ told_of_put key value done.reply ∷ []
+GoesWith (acts.Set key value) (replies.Set done) told = told ≡ told_of_set key value done.reply ∷ []
+GoesWith (acts.Delete key) (replies.Delete done) told = told ≡ told_of_delete key done.reply ∷ []
+GoesWith (acts.Get key) (replies.Get value) told = told ≡ looked key value ∷ []
+GoesWith (acts.Clear low high) (replies.Clear cleared) told = AreRemovals low (end_of high) told × (removals_in told ≡ cleared.removed)
+GoesWith act reply told = ⊥
 
--- the one list and then the other, where there are both
-abbrev pub joined : Option (List Told) → Option (List Told) → Option (List Told)
-joined (Some told) (Some more) = Some (told ++ more)
-joined (Some told) None = None
-joined None more = None
+-- what the trail tells more goes with the act and its reply
+pub record AddsTold (act : Act) (reply : Reply) (old new : List Receipt) : Type 0 where
+  pub added : List Told
+  pub trail : told_in new ≡ told_in old ++ added
+  pub answers : GoesWith act reply added
 
--- what goes with the acts that have a reply, in their order
-abbrev pub answers : List Act → List Reply → Option (List Told)
-answers acts [] = Some []
-answers [] (reply ∷ replies) = Some []
-answers (act ∷ acts) (reply ∷ replies) = joined (told_of act reply) (answers acts replies)
+-- this is told of the acts that have a reply, in their order
+abbrev pub GoWith : List Act → List Reply → List Told → Type 0
+GoWith (act ∷ acts) (reply ∷ replies) told = (first rest : List Told) × (told ≡ first ++ rest) × GoesWith act reply first × GoWith acts replies rest
+GoWith acts replies told = told ≡ []

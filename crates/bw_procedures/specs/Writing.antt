@@ -1,4 +1,4 @@
--- What put and delete leave of the worker: one receipt for each reply.
+-- What put, set and delete leave of the worker: one receipt for each reply.
 use Rattle.std.specs.Prelude.{◌≡◌, ◌⊎◌, ℕ, Bool, true, false, [], ◌∷◌, ◌++◌, Option, Some, None, Result, Ok, Err}
 use Rattle.bw_step.specs.declared.receipt.Receipt.{Receipt}
 use Rattle.bw_step.specs.declared.receipt.Receipt.TheVariants as receipts
@@ -10,6 +10,8 @@ use Rattle.bw_procedures.specs.declared.reply.Del.{Del}
 use Rattle.bw_procedures.specs.declared.reply.Del.TheVariants.{Removed, NoKey}
 use Rattle.bw_procedures.specs.declared.reply.Put.{Put}
 use Rattle.bw_procedures.specs.declared.reply.Put.TheVariants.{Inserted, Present}
+use Rattle.bw_procedures.specs.declared.reply.Set.{Set}
+use Rattle.bw_procedures.specs.declared.reply.Set.TheVariants as sets
 use Rattle.bw_procedures.specs.declared.steps.Keep.{Keep}
 use Rattle.bw_procedures.specs.declared.writing.Arrival.{Arrival}
 use Rattle.bw_procedures.specs.declared.writing.Arrival.TheVariants.{Gone, Here, Help}
@@ -24,6 +26,12 @@ IsReceiptOfPut key value Inserted (receipts.Inserted number k v) = (k ≡ key) �
 IsReceiptOfPut key value (Present there) (receipts.Looked at k found) = (k ≡ key) × (found ≡ Some there)
 IsReceiptOfPut key value reply receipt = ⊥
 
+-- the receipt that goes with a set's reply: the insertion of the pair, or the modification of the key from the value that was there
+abbrev pub IsReceiptOfSet : ℕ → ℕ → Set → Receipt → Type 0
+IsReceiptOfSet key value sets.Inserted (receipts.Inserted number k v) = (k ≡ key) × (v ≡ value)
+IsReceiptOfSet key value (sets.Replaced there) (receipts.Modified number k old v) = (k ≡ key) × (old ≡ there) × (v ≡ value)
+IsReceiptOfSet key value reply receipt = ⊥
+
 -- the receipt that goes with a delete's reply: the deletion of the key, with the value that was there, or the look that found none
 abbrev pub IsReceiptOfDelete : ℕ → Del → Receipt → Type 0
 IsReceiptOfDelete key (Removed value) (receipts.Deleted number k v) = (k ≡ key) × (v ≡ value)
@@ -34,6 +42,12 @@ IsReceiptOfDelete key reply receipt = ⊥
 abbrev pub IsDeletionOf : ℕ → Receipt → Type 0
 IsDeletionOf key (receipts.Deleted number k value) = k ≡ key
 IsDeletionOf key receipt = ⊥
+
+-- the receipt by which the key has the value, whatever it had
+abbrev pub IsSettingOf : ℕ → ℕ → Receipt → Type 0
+IsSettingOf key value (receipts.Inserted number k v) = (k ≡ key) × (v ≡ value)
+IsSettingOf key value (receipts.Modified number k old v) = (k ≡ key) × (v ≡ value)
+IsSettingOf key value receipt = ⊥
 
 -- one receipt that isn't Shaped was added, and it is this reply's
 abbrev pub AddsReceipt : {T : Type 0} → (T → Receipt → Type 0) → T → Seen → Seen → Type 0

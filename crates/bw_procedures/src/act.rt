@@ -1,45 +1,57 @@
 //! Calls as values.
 
-ghost use Rattle.std.specs.Prelude.{◌≡◌, Some, IfOk, IfErr, OnErr};
+ghost use Rattle.std.specs.Prelude.{◌≡◌, IfOk, IfErr, OnErr};
 ghost use Rattle.bw_procedures.specs.Calls.{IsEarned, limit_of};
 ghost use Rattle.bw_step.specs.Tellings.{told_in};
-ghost use Rattle.bw_procedures.specs.Told.{joined, told_of};
+ghost use Rattle.bw_procedures.specs.Told.{AddsTold};
 
+use crate::clearing::clear;
 use crate::deletion::delete;
 use crate::fault::Fault;
 use crate::insertion::put;
 use crate::lookup::get;
 use crate::reply::Reply;
+use crate::setting::set;
 use crate::steps::Steps;
-use bw_keys::Key;
+use bw_keys::{Fence, Key};
 use bw_step::Step;
-use std::alloc::Allocator;
+use std::alloc::{Allocator, Global};
 
 /// What a worker may be asked to do.
 #[derive(Clone, Copy, Debug, PartialEq, Eq, Hash)]
 pub enum Act {
     /// Give the key the value, if it has none.
     Put { key: Key, value: u64 },
+    /// Give the key the value, whether it has one or none.
+    Set { key: Key, value: u64 },
     /// Say what the key has.
     Get { key: Key },
     /// Take the key out.
     Delete { key: Key },
+    /// Take out the keys from the low on and below the high.
+    Clear { low: Key, high: Fence },
 }
 
-/// Does the act by the worker's steps, and answers what the worker was told.
-#[tactic(auto, using(crate::proofs::Receipts::put_tells, crate::proofs::Receipts::delete_tells, crate::proofs::Receipts::get_tells, crate::proofs::Receipts::none_told))]
+/// Does the act by the worker's steps, and answers what the worker was told. A removal of a range is
+/// answered with its fault, and so is never given up; its copies of leaves lie in the machine's memory.
+#[tactic(auto, using(crate::proofs::Receipts::none_told))]
 pub fn do_act<A: Allocator + Copy, S: Steps<A, Step<A>>>(
     steps: &mut S,
+    machine: Global,
     act: Act,
 ) -> Result<Reply, Fault>
     ensures follows { S.follows steps.old steps.new }
-    ensures told { IfOk result (λ reply. Some (told_in (S.seen steps.new).trail) ≡ joined (Some (told_in (S.seen steps.old).trail)) (told_of act reply)) }
+    ensures told { IfOk result (λ reply. AddsTold act reply (S.seen steps.old).trail (S.seen steps.new).trail) }
     ensures nothing { OnErr result (told_in (S.seen steps.new).trail ≡ told_in (S.seen steps.old).trail) }
     ensures fault { IfErr result (IsEarned (limit_of (S.seen steps.old)) (S.seen steps.old) (S.seen steps.new)) }
 {
     match act {
         Act::Put { key, value } => match put(steps, key, value) {
             Ok(done) => Ok(Reply::Put(done)),
+            Err(fault) => Err(fault),
+        },
+        Act::Set { key, value } => match set(steps, key, value) {
+            Ok(done) => Ok(Reply::Set(done)),
             Err(fault) => Err(fault),
         },
         Act::Delete { key } => match delete(steps, key) {
@@ -50,5 +62,6 @@ pub fn do_act<A: Allocator + Copy, S: Steps<A, Step<A>>>(
             Ok(found) => Ok(Reply::Get(found)),
             Err(fault) => Err(fault),
         },
+        Act::Clear { low, high } => Ok(Reply::Clear(clear(steps, machine, low, high))),
     }
 }

@@ -78,7 +78,12 @@ impl Wish for Deletion {
 
     #[tactic(auto, using(crate::proofs::Changing::deletion_made))]
     #[inline(always)]
-    fn step<A: Allocator + Copy>(self, view: View, spare: Spare<A>) -> Step<A> {
+    fn step<A: Allocator + Copy>(
+        self,
+        view: View,
+        _found: Option<u64>,
+        spare: Spare<A>,
+    ) -> Step<A> {
         Step::Delete(Delete {
             page: view.pid,
             seen: view.version,

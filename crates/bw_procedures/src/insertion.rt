@@ -81,7 +81,12 @@ impl Wish for Insertion {
 
     #[tactic(auto, using(crate::proofs::Changing::insertion_made))]
     #[inline(always)]
-    fn step<A: Allocator + Copy>(self, view: View, spare: Spare<A>) -> Step<A> {
+    fn step<A: Allocator + Copy>(
+        self,
+        view: View,
+        _found: Option<u64>,
+        spare: Spare<A>,
+    ) -> Step<A> {
         Step::Insert(Insert {
             page: view.pid,
             seen: view.version,

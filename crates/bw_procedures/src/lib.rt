@@ -1,10 +1,11 @@
-//! What a worker of a tree does for a put, a delete, a get and a cursor, written once over the atomic
-//! steps that it takes and that others may come between (Levandoski et al., ICDE 2013, "structure
-//! modifications").
+//! What a worker of a tree does for a put, a set, a delete, a get, a cursor and the removal of a range, written
+//! once over the atomic steps that it takes and that others may come between (Levandoski et al., ICDE 2013,
+//! "structure modifications").
 #![tactic(auto)]
 
 mod account;
 mod act;
+mod clearing;
 mod consolidation;
 mod cursor;
 mod deletion;
@@ -16,6 +17,7 @@ mod lookup;
 mod offer;
 mod reply;
 mod round;
+mod setting;
 mod steps;
 mod tending;
 mod walk;
@@ -24,12 +26,14 @@ mod writing;
 
 pub use account::Account;
 pub use act::{Act, do_act};
+pub use clearing::clear;
 pub use cursor::page_from;
 pub use deletion::delete;
 pub use fault::Fault;
 pub use helping::help;
 pub use insertion::put;
 pub use lookup::get;
-pub use reply::{Del, Done, Put, Reply, Slice};
+pub use reply::{Cleared, Del, Done, Put, Reply, Set, Slice};
+pub use setting::set;
 pub use steps::{Ends, Keep, Steps};
 pub use tending::tend;

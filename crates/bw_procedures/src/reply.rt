@@ -13,6 +13,15 @@ pub enum Put {
     Present(u64),
 }
 
+/// What a set replies.
+#[derive(Clone, Copy, Debug, PartialEq, Eq, Hash)]
+pub enum Set {
+    /// The key wasn't there, and has the value now.
+    Inserted,
+    /// The key was there, with this value, and has the other one now.
+    Replaced(u64),
+}
+
 /// What a delete replies.
 #[derive(Clone, Copy, Debug, PartialEq, Eq, Hash)]
 pub enum Del {
@@ -29,6 +38,15 @@ pub struct Done<T> {
     pub fault: Option<Fault>,
 }
 
+/// What came of the removal of a range of keys.
+#[derive(Clone, Copy, Debug, PartialEq, Eq, Hash)]
+pub struct Cleared {
+    /// How many keys were taken out.
+    pub removed: u64,
+    /// What ended the call before its range did, if a fault did.
+    pub fault: Option<Fault>,
+}
+
 /// The pairs of one leaf from a key on.
 #[derive(Debug, PartialEq, Eq, Drop)]
 pub struct Slice {
@@ -42,9 +60,11 @@ pub struct Slice {
 #[derive(Clone, Copy, Debug, PartialEq, Eq, Hash)]
 pub enum Reply {
     Put(Done<Put>),
+    Set(Done<Set>),
     Delete(Done<Del>),
     /// What the key has, if it has a value.
     Get(Option<u64>),
+    Clear(Cleared),
 }
 
 /// The answer in a word, with its value; behind it, in brackets, what ended helping or tending, if a
@@ -61,12 +81,23 @@ impl fmt::Display for Reply {
                 }
                 done.fault
             }
+            Reply::Set(done) => {
+                match done.reply {
+                    Set::Inserted => write!(f, "inserted")?,
+                    Set::Replaced(old) => write!(f, "replaced {old}")?,
+                }
+                done.fault
+            }
             Reply::Delete(done) => {
                 match done.reply {
                     Del::Removed(value) => write!(f, "removed {value}")?,
                     Del::NoKey => write!(f, "nokey")?,
                 }
                 done.fault
+            }
+            Reply::Clear(cleared) => {
+                write!(f, "cleared {}", cleared.removed)?;
+                cleared.fault
             }
             Reply::Get(Some(value)) => return write!(f, "found {value}"),
             Reply::Get(None) => return write!(f, "none"),

@@ -17,6 +17,8 @@ pub enum Keep {
     IfFound,
     /// Where it found none.
     IfNone,
+    /// Whatever it found, it isn't.
+    Never,
 }
 
 impl Keep {
@@ -29,6 +31,7 @@ impl Keep {
             Keep::Always => true,
             Keep::IfFound => found.is_some(),
             Keep::IfNone => found.is_none(),
+            Keep::Never => false,
         }
     }
 }

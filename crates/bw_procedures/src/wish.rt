@@ -44,8 +44,8 @@ pub(crate) trait Wish: Copy {
     fn answered(self, found: Option<u64>) -> Option<Self::Reply>
         ensures { MatchOption result (is_kept (keep_of self) found ≡ false) (λ reply. (is_kept (keep_of self) found ≡ true) × ((at : ℕ) → is_receipt_of self reply (Looked at (key_of self) found))) };
 
-    /// The step, at the key's leaf.
-    fn step<A: Allocator + Copy>(self, view: View, spare: Spare<A>) -> Step<A>
+    /// The step, at the key's leaf, where this was found.
+    fn step<A: Allocator + Copy>(self, view: View, found: Option<u64>, spare: Spare<A>) -> Step<A>
         ensures change { ChangesShape (proposal_of result) → ⊥ }
         ensures made { (receipt : Receipt) → IsReceiptOf (proposal_of result) receipt → is_made self receipt };
 

@@ -45,7 +45,7 @@ enum Tried<T> {
     Kept(Fault),
 }
 
-/// Brings about what is wished for, as `put` and `delete` tell.
+/// Brings about what is wished for, as `put`, `set` and `delete` tell.
 #[inline(always)]
 pub(crate) fn write<A: Allocator + Copy, S: Steps<A, Step<A>>, W: Wish>(
     steps: &mut S,
@@ -183,7 +183,7 @@ fn write_at<A: Allocator + Copy, S: Steps<A, Step<A>>, W: Wish>(
     };
     match wish.answered(look.found) {
         Some(reply) => Ok(Tried::Reply(reply)),
-        None => propose(steps, limit, view, wish),
+        None => propose(steps, limit, view, look.found, wish),
     }
 }
 
@@ -208,13 +208,14 @@ fn propose<A: Allocator + Copy, S: Steps<A, Step<A>>, W: Wish>(
     steps: &mut S,
     limit: u64,
     view: View,
+    found: Option<u64>,
     wish: W,
 ) -> Result<Tried<W::Reply>, Fault>
     ensures follows { S.follows steps.old steps.new }
     ensures attempts { Attempts (W.is_receipt_of wish) true limit result (S.seen steps.old) (S.seen steps.new) }
 {
     let spare = Spare::new(steps.alloc())?;
-    match change(steps, limit, wish.step(view, spare))? {
+    match change(steps, limit, wish.step(view, found, spare))? {
         Answer::Accepted(receipt) => Ok(Tried::Tend(wish.reply(receipt), view.pid)),
         Answer::Refused(Refused::Deep) => {
             consolidate(steps, limit, view)?;

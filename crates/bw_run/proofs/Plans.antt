@@ -38,9 +38,10 @@ none_there zero worker = refl
 none_there (suc n) zero = refl
 none_there (suc n) (suc worker) = none_there n worker
 
-own_first : (own : Bool) (so_far : List Act) (act : Act) (acts : List Act) → (so_far ++ (if own then act ∷ [] else [])) ++ acts ≡ so_far ++ (if own then act ∷ acts else acts)
-own_first true so_far act acts = append_assoc so_far (act ∷ []) acts
-own_first false so_far act acts = ap (λ (l : List Act). l ++ acts) (append-nil so_far)
+-- one more item of the worker's own comes first of those that follow
+pub own_first : {T : Type 0} → (own : Bool) (so_far : List T) (item : T) (items : List T) → (so_far ++ (if own then item ∷ [] else [])) ++ items ≡ so_far ++ (if own then item ∷ items else items)
+own_first true so_far item items = append_assoc so_far (item ∷ []) items
+own_first false so_far item items = ap (λ (l : List _). l ++ items) (append-nil so_far)
 
 -- what a worker has so far and what its rows to come ask for is in all the same
 pub plan_step : (plan more : List (List Act)) (row : Row) (rest : List Row) → AddsAct plan row more → (worker : ℕ)

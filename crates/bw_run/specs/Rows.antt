@@ -1,23 +1,22 @@
 -- A trace as its workers see it.
-use Rattle.std.specs.Prelude.{◌≡◌, ℕ, ◌-◌, ◌<◌, ◌≤◌, ◌==◌, if◌then◌else◌, List, [], ◌∷◌, ◌++◌, length, slice_index_or, Option, Some}
+use Rattle.std.specs.Prelude.{◌≡◌, ℕ, ◌-◌, ◌<◌, ◌≤◌, ◌==◌, if◌then◌else◌, List, [], ◌∷◌, ◌++◌, length, slice_index_or}
 use Rattle.bw_step.specs.declared.receipt.Receipt.{Receipt}
 use Rattle.bw_procedures.specs.declared.reply.Reply.{Reply}
 use Rattle.bw_procedures.specs.declared.act.Act.{Act}
 use Rattle.bw_texts.specs.declared.trace.row.Row.{Row}
-use Rattle.bw_step.specs.Tellings.{Told, told_in}
-use Rattle.bw_procedures.specs.Told.{told_of, joined, answers}
+use Rattle.bw_step.specs.Tellings.{told_in}
+use Rattle.bw_procedures.specs.Told.{GoWith}
 
 -- the acts of a worker's rows, in their order
 abbrev pub acts_of : ℕ → List Row → List Act
 acts_of worker [] = []
 acts_of worker (row ∷ rows) = if row.worker == worker then row.act ∷ acts_of worker rows else acts_of worker rows
 
--- what goes with a worker's rows and the replies that stand at their places, in their order
-abbrev pub told_to : ℕ → List Row → List Reply → Option (List Told)
-told_to worker [] replies = Some []
-told_to worker (row ∷ rows) [] = Some []
-told_to worker (row ∷ rows) (reply ∷ replies) =
-    if row.worker == worker then joined (told_of row.act reply) (told_to worker rows replies) else told_to worker rows replies
+-- a worker's own replies: those that stand at the places of its rows, in their order
+abbrev pub replies_to : ℕ → List Row → List Reply → List Reply
+replies_to worker [] replies = []
+replies_to worker (row ∷ rows) [] = []
+replies_to worker (row ∷ rows) (reply ∷ replies) = if row.worker == worker then reply ∷ replies_to worker rows replies else replies_to worker rows replies
 
 -- the row with this number, counted from 1, is the worker's
 pub record IsRowOf (rows : List Row) (worker number : ℕ) : Type 0 where
@@ -44,9 +43,9 @@ AreFull rows columns = (worker : ℕ) → worker < length columns → length (sl
 -- each worker's trail tells what goes with its rows and its replies, of which there are as many
 pub record AreAnswered (rows : List Row) (columns : List (List Reply)) (trails : List (List Receipt)) : Type 0 where
   pub full : AreFull rows columns
-  pub told : (worker : ℕ) → worker < length columns → Some (told_in (slice_index_or trails worker [])) ≡ answers (acts_of worker rows) (slice_index_or columns worker [])
+  pub told : (worker : ℕ) → worker < length columns → GoWith (acts_of worker rows) (slice_index_or columns worker []) (told_in (slice_index_or trails worker []))
 
--- the replies stand in the order of the rows, and each worker is told the same
+-- the replies stand in the order of the rows, and each worker's own are those of its list
 pub record IsMerged (rows : List Row) (columns : List (List Reply)) (merged : List Reply) : Type 0 where
   pub count : length merged ≡ length rows
-  pub told : (worker : ℕ) → worker < length columns → told_to worker rows merged ≡ answers (acts_of worker rows) (slice_index_or columns worker [])
+  pub own : (worker : ℕ) → worker < length columns → replies_to worker rows merged ≡ slice_index_or columns worker []

@@ -1,6 +1,8 @@
 //! The workers' threads.
 
-ghost use Rattle.std.specs.Prelude.{◌≡◌, ◌⊎◌, IfOk, IfErr, map};
+ghost use Rattle.std.specs.Prelude.{◌≡◌, ◌⊎◌, IfOk, IfErr, All, map};
+ghost use Rattle.bw_step.specs.Tellings.{told_in};
+ghost use Rattle.bw_procedures.specs.Told.{GoWith};
 ghost use Rattle.bw_run.specs.declared.fault.RunFault.TheVariants as fault;
 
 use crate::fault::RunFault;
@@ -15,14 +17,14 @@ use std::sync::ledger::Ledger;
 use std::thread;
 use std::thread::{Promise, Threads};
 
-/// That what comes back from a thread is the work on these acts.
+/// That what comes back from a thread is the work on these acts, and its trail tells of them alone.
 #[derive(Drop)]
 struct WorkOn {
     acts: Snapshot<Vec<Act>>,
 }
 
 impl<I: Ledger, D: Ledger, C> Promise<Worked<I, D, C>> for WorkOn {
-    ghost kept_by = { λ promise worked. worked.acts.items ≡ promise.acts.value.items };
+    ghost kept_by = { λ promise worked. (worked.acts.items ≡ promise.acts.value.items) × GoWith worked.acts.items worked.replies.items (told_in worked.trail.items) };
 }
 
 /// Does all jobs side by side, each in a thread of its own, and gives what was done in the order of
@@ -44,6 +46,7 @@ pub(crate) fn work_all<
     jobs: Vec<Job<I, D, L>>,
 ) -> Result<Vec<Worked<I, D, C>>, RunFault>
     ensures acts { IfOk result (λ all. map (λ worked. worked.acts.items) all.items ≡ map (λ job. job.acts.items) jobs.items) }
+    ensures told { IfOk result (λ all. All (λ worked. GoWith worked.acts.items worked.replies.items (told_in worked.trail.items)) all.items) }
     ensures fault { IfErr result (λ f. (f ≡ fault.Threads) ⊎ (f ≡ fault.Memory)) }
 {
     thread::scope(
@@ -51,6 +54,7 @@ pub(crate) fn work_all<
         &rt,
         |scope| -> Result<Vec<Worked<I, D, C>>, RunFault>
             ensures acts { IfOk result (λ all. map (λ worked. worked.acts.items) all.items ≡ map (λ job. job.acts.items) jobs.items) }
+            ensures told { IfOk result (λ all. All (λ worked. GoWith worked.acts.items worked.replies.items (told_in worked.trail.items)) all.items) }
             ensures fault { IfErr result (λ f. (f ≡ fault.Threads) ⊎ (f ≡ fault.Memory)) }
         {
             let mut handles = Vec::new(machine);
@@ -61,7 +65,8 @@ pub(crate) fn work_all<
                 let Ok(handle) = scope.spawn_with(
                     promise,
                     move || -> Worked<I, D, C>
-                        ensures { result.acts.items ≡ job.acts.items }
+                        ensures acts { result.acts.items ≡ job.acts.items }
+                        ensures told { GoWith result.acts.items result.replies.items (told_in result.trail.items) }
                     { work(machine, tree, gate, job) },
                 ) else {
                     return Err(RunFault::Threads);

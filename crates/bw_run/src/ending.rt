@@ -3,7 +3,7 @@
 ghost use Rattle.std.specs.Prelude.{◌≡◌, ◌<◌, IfOk, IfErr, length, map, sum_by};
 ghost use Rattle.std.specs.List.{AllByRecursion};
 ghost use Rattle.bw_step.specs.Trails.{lists_of};
-ghost use Rattle.bw_tree.specs.Shares.{book_of};
+ghost use Rattle.bw_tree.specs.Shares.{share_of};
 ghost use Rattle.bw_tree.specs.Trees.{IsTree, CountsPairs};
 ghost use Rattle.bw_run.specs.Counts.{insertions, removals};
 ghost use Rattle.bw_run.specs.Faults.{EndsBadly};
@@ -42,7 +42,7 @@ pub(crate) fn finish(
     requires trails { length trails.items ≡ length replies.items }
     requires answered { AreAnswered rows.now (map (λ column. column.items) replies.items) (lists_of trails.items) }
     requires tree { IsTree table }
-    requires counted { CountsPairs table (book_of (sum_by insertions (lists_of trails.items)) (sum_by removals (lists_of trails.items))) }
+    requires counted { CountsPairs table (share_of (sum_by insertions (lists_of trails.items)) (sum_by removals (lists_of trails.items))) }
     ensures finished { IfOk result (λ finished. IsRunOf (length replies.items) rows.now finished.table finished.replies.items (lists_of finished.trails.items)) }
     ensures table { IfOk result (λ finished. finished.table ≡ table) }
     ensures fault { IfErr result (EndsBadly (length replies.items)) }

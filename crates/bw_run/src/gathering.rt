@@ -1,8 +1,10 @@
 //! What the workers bring back, gathered.
 
-ghost use Rattle.std.specs.Prelude.{◌≡◌, ◌-◌, ◌<◌, ℕ, [], Some, IfOk, IfErr, length, map, sum_by, take, slice_index_or};
+ghost use Rattle.std.specs.Prelude.{◌≡◌, ◌-◌, ◌<◌, ℕ, [], Some, IfOk, IfErr, All, length, map, sum_by, take, slice_index_or};
+ghost use Rattle.bw_step.specs.Tellings.{told_in};
 ghost use Rattle.bw_step.specs.Trails.{lists_of};
-ghost use Rattle.bw_tree.specs.Shares.{book_of, sum_of};
+ghost use Rattle.bw_procedures.specs.Told.{GoWith};
+ghost use Rattle.bw_tree.specs.Shares.{share_of, sum_of};
 ghost use Rattle.bw_run.specs.Counts.{insertions, removals};
 ghost use Rattle.bw_run.specs.Faults.{StopsWithin};
 ghost use Rattle.bw_run.specs.Rows.{ArePlanned, AreAnswered, IsRowOf, acts_of};
@@ -32,12 +34,13 @@ pub(crate) fn gather<T: RunTree>(
     rows: &[Row],
     all: Vec<Worked<T::Insertions, T::Removals, T::Closed>>,
 ) -> Result<Gathered<T::Insertions, T::Removals>, RunFault>
-    requires { ArePlanned (map (λ worked. worked.acts.items) all.items) rows.now }
+    requires planned { ArePlanned (map (λ worked. worked.acts.items) all.items) rows.now }
+    requires told { All (λ worked. GoWith worked.acts.items worked.replies.items (told_in worked.trail.items)) all.items }
     ensures shares { IfOk result (λ gathered. length gathered.shares.items ≡ length all.items) }
     ensures replies { IfOk result (λ gathered. length gathered.replies.items ≡ length all.items) }
     ensures trails { IfOk result (λ gathered. length gathered.trails.items ≡ length all.items) }
     ensures answered { IfOk result (λ gathered. AreAnswered rows.now (map (λ column. column.items) gathered.replies.items) (lists_of gathered.trails.items)) }
-    ensures sums { IfOk result (λ gathered. sum_of gathered.shares.items ≡ book_of (sum_by insertions (lists_of gathered.trails.items)) (sum_by removals (lists_of gathered.trails.items))) }
+    ensures sums { IfOk result (λ gathered. sum_of gathered.shares.items ≡ share_of (sum_by insertions (lists_of gathered.trails.items)) (sum_by removals (lists_of gathered.trails.items))) }
     ensures fault { IfErr result (StopsWithin T.may_close (length all.items) rows.now) }
 {
     let mut shares = Vec::new(machine);

@@ -1,9 +1,9 @@
 //! What a worker is given, and what it brings back.
 
-ghost use Rattle.std.specs.Prelude.{◌≡◌, ◌+◌, ◌<◌, ◌≤◌, ◌^◌, [], Some, IfOk, All, fold, length, map, vec_len, vec_capacity};
+ghost use Rattle.std.specs.Prelude.{◌≡◌, ◌+◌, ◌<◌, ◌≤◌, ◌^◌, [], IfOk, All, fold, length, map, vec_len, vec_capacity};
 ghost use Rattle.std.specs.Option.{ForNone, ForSome};
 ghost use Rattle.bw_step.specs.Tellings.{told_in};
-ghost use Rattle.bw_procedures.specs.Told.{answers};
+ghost use Rattle.bw_procedures.specs.Told.{GoWith};
 ghost use Rattle.bw_tree.specs.Shares.{no_changes, counted};
 ghost use Rattle.bw_run.specs.Reads.{handed_out};
 
@@ -33,7 +33,7 @@ pub(crate) struct Job<I: Ledger, D: Ledger, L> {
 }
 
 /// What a worker did: a reply to each of its acts, or, where it stopped, to those before the one
-/// that it gave up. Its trail tells of these acts alone, and its share is the sum of its trail.
+/// that it gave up. Its share is the sum of its trail.
 #[derive(Drop)]
 pub(crate) struct Worked<I: Ledger, D: Ledger, C> {
     pub share: Share<I, D>,
@@ -42,7 +42,6 @@ pub(crate) struct Worked<I: Ledger, D: Ledger, C> {
     pub trail: Vec<Receipt>,
     pub stop: Option<Stop<C>>,
     ghost counted: { share ≡ fold counted no_changes trail.items },
-    ghost told: { Some (told_in trail.items) ≡ answers acts.items replies.items },
     ghost all: { ForNone stop (length replies.items ≡ length acts.items) },
     ghost stopped: { ForSome stop (λ _. length replies.items < length acts.items) },
 }
@@ -81,14 +80,15 @@ pub(crate) fn jobs_of<I: Ledger, D: Ledger, L: Drop>(
     Ok(jobs)
 }
 
-/// Does a job with a hand of its own on the shared tree.
+/// Does a job with a hand of its own on the shared tree. The trail tells of its acts alone.
 pub(crate) fn work<T: RunTree, G: Gate>(
     machine: Global,
     tree: &T,
     gate: &G,
     job: Job<T::Insertions, T::Removals, T::Reader>,
 ) -> Worked<T::Insertions, T::Removals, T::Closed>
-    ensures { result.acts.items ≡ job.acts.items }
+    ensures acts { result.acts.items ≡ job.acts.items }
+    ensures told { GoWith result.acts.items result.replies.items (told_in result.trail.items) }
 {
     let Job {
         worker,
@@ -98,7 +98,7 @@ pub(crate) fn work<T: RunTree, G: Gate>(
         mut reader,
     } = job;
     let mut hand = Hand::new(machine, machine, tree, share, worker, gate);
-    let stop = do_acts(tree, &mut hand, &mut reader, &acts, &mut replies).err();
+    let stop = do_acts(tree, &mut hand, machine, &mut reader, &acts, &mut replies).err();
     let (share, trail) = hand.finish();
     Worked {
         share,

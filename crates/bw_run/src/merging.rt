@@ -11,7 +11,7 @@ use std::alloc::Global;
 use std::vec::IntoIter;
 
 /// The replies, each at its row's place. Each worker has as many replies as rows.
-#[tactic(auto, using(bw_procedures::proofs::Receipts::told_end))]
+#[tactic(auto, using(crate::proofs::Merges::own_end))]
 pub(crate) fn merge(
     machine: Global,
     rows: &[Row],

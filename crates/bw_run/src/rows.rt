@@ -3,7 +3,7 @@
 ghost use Rattle.std.specs.Prelude.{◌≡◌, ◌<◌, ◌^◌, IfOk, IfErr, All, length, map, sum_by};
 ghost use Rattle.std.specs.List.{AllByRecursion};
 ghost use Rattle.bw_step.specs.Trails.{lists_of};
-ghost use Rattle.bw_tree.specs.Shares.{book_of, no_changes, sum_of};
+ghost use Rattle.bw_tree.specs.Shares.{share_of, no_changes, sum_of};
 ghost use Rattle.bw_run.specs.Counts.{insertions, removals};
 ghost use Rattle.bw_run.specs.Faults.{StopsWithin};
 ghost use Rattle.bw_run.specs.Rows.{AreAnswered};
@@ -48,7 +48,7 @@ pub(crate) fn do_rows<
     ensures replies { IfOk result (λ gathered. length gathered.replies.items ≡ length shares.items) }
     ensures trails { IfOk result (λ gathered. length gathered.trails.items ≡ length shares.items) }
     ensures answered { IfOk result (λ gathered. AreAnswered rows.now (map (λ column. column.items) gathered.replies.items) (lists_of gathered.trails.items)) }
-    ensures sums { IfOk result (λ gathered. sum_of gathered.shares.items ≡ book_of (sum_by insertions (lists_of gathered.trails.items)) (sum_by removals (lists_of gathered.trails.items))) }
+    ensures sums { IfOk result (λ gathered. sum_of gathered.shares.items ≡ share_of (sum_by insertions (lists_of gathered.trails.items)) (sum_by removals (lists_of gathered.trails.items))) }
     ensures fault { IfErr result (StopsWithin T.may_close (length shares.items) rows.now) }
 {
     let plan = share_out(machine, shares.len() as u32, rows)?;

@@ -1,6 +1,6 @@
 //! Runs of a trace by worker threads.
 
-ghost use Rattle.std.specs.Prelude.{◌≡◌, ◌≤◌, ◌<◌, ℕ, [], List, Some, IsOk, IfOk, IfErr, OnOk, length, slice_index_or};
+ghost use Rattle.std.specs.Prelude.{◌≡◌, ◌≤◌, ◌<◌, ℕ, [], List, IsOk, IfOk, IfErr, OnOk, length, slice_index_or};
 ghost use Rattle.std.specs.List.{AllByRecursion};
 ghost use Rattle.bw_step.specs.Tellings.{told_in};
 ghost use Rattle.bw_step.specs.Trails.{lists_of};
@@ -8,9 +8,10 @@ ghost use Rattle.bw_table.specs.Views.{ArePairsOf};
 ghost use Rattle.bw_tree.specs.Shares.{Opens};
 ghost use Rattle.bw_tree.specs.Trees.{IsTree, MayBeMade};
 ghost use Rattle.bw_audit.specs.Legal.{IsLegal};
+ghost use Rattle.bw_procedures.specs.Told.{GoWith};
 ghost use Rattle.bw_run.specs.Counts.{CountsChanges};
 ghost use Rattle.bw_run.specs.Faults.{IsRunFault, MayRun};
-ghost use Rattle.bw_run.specs.Rows.{told_to};
+ghost use Rattle.bw_run.specs.Rows.{acts_of, replies_to};
 ghost use Rattle.bw_run.specs.Runs.{IsRunOf};
 
 use crate::ending::{Finished, finish};
@@ -49,7 +50,7 @@ pub fn run<R: Threads + Wait + Sync + Send + Copy, G: Gate + Sync>(
     requires { AllByRecursion (λ row. row.worker < workers) rows.now }
     ensures replies { IfOk result (λ finished. length finished.replies.items ≡ length rows.now) }
     ensures trails { IfOk result (λ finished. length finished.trails.items ≡ workers) }
-    ensures told { IfOk result (λ finished. (worker : ℕ) → worker < workers → Some (told_in (slice_index_or (lists_of finished.trails.items) worker [])) ≡ told_to worker rows.now finished.replies.items) }
+    ensures told { IfOk result (λ finished. (worker : ℕ) → worker < workers → GoWith (acts_of worker rows.now) (replies_to worker rows.now finished.replies.items) (told_in (slice_index_or (lists_of finished.trails.items) worker []))) }
     ensures tree { IfOk result (λ finished. IsTree finished.table) }
     ensures config { IfOk result (λ finished. finished.table.config ≡ config) }
     ensures legal { IfOk result (λ finished. (pairs : List (ℕ × ℕ)) → ArePairsOf finished.table pairs → IsLegal (lists_of finished.trails.items) pairs) }

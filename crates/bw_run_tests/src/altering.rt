@@ -77,11 +77,16 @@ struct Altered {
 }
 
 /// Does the worker's rows. Whether it did all.
-fn do_rows<S: Steps<Global, Step<Global>>>(steps: &mut S, worker: u32, rows: &[Row]) -> bool {
+fn do_rows<S: Steps<Global, Step<Global>>>(
+    steps: &mut S,
+    machine: Global,
+    worker: u32,
+    rows: &[Row],
+) -> bool {
     let mut is_whole = true;
     for row in rows {
         if row.worker == worker {
-            is_whole = do_act(steps, row.act).is_ok() && is_whole;
+            is_whole = do_act(steps, machine, row.act).is_ok() && is_whole;
         }
     }
     is_whole
@@ -99,7 +104,7 @@ impl Play<Trail> for Altered {
             hook: &self.raise,
         };
         let mut hand = Hand::new(self.machine, self.machine, &hooked, share, worker, &Open);
-        let is_whole = do_rows(&mut hand, worker, &self.rows);
+        let is_whole = do_rows(&mut hand, self.machine, worker, &self.rows);
         let (share, receipts) = hand.finish();
         Worked {
             share,

@@ -5,6 +5,10 @@
 #[cfg(test)]
 mod altering;
 #[cfg(test)]
+mod clear_cases;
+#[cfg(test)]
+mod clears;
+#[cfg(test)]
 mod faults;
 #[cfg(test)]
 mod finished;

@@ -24,6 +24,15 @@ macro_rules! row {
             },
         }
     };
+    ($worker:literal set $key:expr => $value:expr) => {
+        Row {
+            worker: $worker,
+            act: Act::Set {
+                key: $key,
+                value: $value,
+            },
+        }
+    };
     ($worker:literal get $key:expr) => {
         Row {
             worker: $worker,
@@ -34,6 +43,15 @@ macro_rules! row {
         Row {
             worker: $worker,
             act: Act::Delete { key: $key },
+        }
+    };
+    ($worker:literal clear $low:expr => $high:expr) => {
+        Row {
+            worker: $worker,
+            act: Act::Clear {
+                low: $low,
+                high: $high,
+            },
         }
     };
 }

@@ -4,7 +4,7 @@ use Rattle.std.proofs.Common.{refl, ◌⊎◌, inl, inr}
 use Rattle.std.specs.Coded.{Coded, code_by, coded×, coded⊎, coded_ℕ}
 use Rattle.bw_delta.specs.Codes.{page_code}
 use Rattle.bw_delta.specs.Pages.{Page}
-use Rattle.bw_step.specs.Proposals.{Proposal, insert, delete, consolidate, split, term_add, grow, mark, merge, term_delete}
+use Rattle.bw_step.specs.Proposals.{Proposal, insert, delete, modify, consolidate, split, term_add, grow, mark, merge, term_delete}
 
 abbrev Four : Type 0
 Four = ℕ × (ℕ × (ℕ × ℕ))
@@ -13,7 +13,7 @@ abbrev Three : Type 0
 Three = ℕ × (ℕ × ℕ)
 
 abbrev Parts : Type 0
-Parts = Four ⊎ (Three ⊎ ((ℕ × (ℕ × Page)) ⊎ ((Three × Page) ⊎ (Four ⊎ ((ℕ × (ℕ × Page)) ⊎ (Three ⊎ (Four ⊎ Four)))))))
+Parts = Four ⊎ (Three ⊎ ((ℕ × (ℕ × Page)) ⊎ ((Three × Page) ⊎ (Four ⊎ ((ℕ × (ℕ × Page)) ⊎ (Three ⊎ (Four ⊎ (Four ⊎ Four))))))))
 
 abbrev parts_of : Proposal → Parts
 parts_of (insert page seen key value) = inl (page, (seen, (key, value)))
@@ -24,7 +24,8 @@ parts_of (term_add parent parent_seen child child_seen) = inr (inr (inr (inr (in
 parts_of (grow child seen base) = inr (inr (inr (inr (inr (inl (child, (seen, base)))))))
 parts_of (mark page seen parent) = inr (inr (inr (inr (inr (inr (inl (page, (seen, parent))))))))
 parts_of (merge left left_seen page seen) = inr (inr (inr (inr (inr (inr (inr (inl (left, (left_seen, (page, seen))))))))))
-parts_of (term_delete parent parent_seen child child_seen) = inr (inr (inr (inr (inr (inr (inr (inr (parent, (parent_seen, (child, child_seen))))))))))
+parts_of (term_delete parent parent_seen child child_seen) = inr (inr (inr (inr (inr (inr (inr (inr (inl (parent, (parent_seen, (child, child_seen)))))))))))
+parts_of (modify page seen key value) = inr (inr (inr (inr (inr (inr (inr (inr (inr (page, (seen, (key, value)))))))))))
 
 abbrev proposal_again : Parts → Proposal
 proposal_again (inl p) = insert p.0 p.1.0 p.1.1.0 p.1.1.1
@@ -35,7 +36,8 @@ proposal_again (inr (inr (inr (inr (inl p))))) = term_add p.0 p.1.0 p.1.1.0 p.1.
 proposal_again (inr (inr (inr (inr (inr (inl p)))))) = grow p.0 p.1.0 p.1.1
 proposal_again (inr (inr (inr (inr (inr (inr (inl p))))))) = mark p.0 p.1.0 p.1.1
 proposal_again (inr (inr (inr (inr (inr (inr (inr (inl p)))))))) = merge p.0 p.1.0 p.1.1.0 p.1.1.1
-proposal_again (inr (inr (inr (inr (inr (inr (inr (inr p)))))))) = term_delete p.0 p.1.0 p.1.1.0 p.1.1.1
+proposal_again (inr (inr (inr (inr (inr (inr (inr (inr (inl p))))))))) = term_delete p.0 p.1.0 p.1.1.0 p.1.1.1
+proposal_again (inr (inr (inr (inr (inr (inr (inr (inr (inr p))))))))) = modify p.0 p.1.0 p.1.1.0 p.1.1.1
 
 pub proposal_again-parts_of : (step : Proposal) → proposal_again (parts_of step) ≡ step
 proposal_again-parts_of (insert page seen key value) = refl
@@ -47,6 +49,7 @@ proposal_again-parts_of (grow child seen base) = refl
 proposal_again-parts_of (mark page seen parent) = refl
 proposal_again-parts_of (merge left left_seen page seen) = refl
 proposal_again-parts_of (term_delete parent parent_seen child child_seen) = refl
+proposal_again-parts_of (modify page seen key value) = refl
 
 abbrev coded_four : Coded Four
 coded_four = coded× coded_ℕ (coded× coded_ℕ (coded× coded_ℕ coded_ℕ))
@@ -61,7 +64,7 @@ abbrev pub proposal_code : Coded Proposal
 proposal_code =
     code_by Parts
     (coded⊎ coded_four (coded⊎ coded_three (coded⊎ coded_paged (coded⊎ (coded× coded_three page_code)
-    (coded⊎ coded_four (coded⊎ coded_paged (coded⊎ coded_three (coded⊎ coded_four coded_four))))))))
+    (coded⊎ coded_four (coded⊎ coded_paged (coded⊎ coded_three (coded⊎ coded_four (coded⊎ coded_four coded_four)))))))))
     parts_of
     proposal_again
     proposal_again-parts_of

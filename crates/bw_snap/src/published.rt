@@ -8,7 +8,7 @@ ghost use Rattle.bw_law.specs.Effects.{TakesStep};
 ghost use Rattle.bw_law.specs.Laws.{MapAfter};
 ghost use Rattle.bw_law.specs.Refusals.{refusal};
 ghost use Rattle.bw_law.specs.Tables.{new_table};
-ghost use Rattle.bw_tree.specs.Shares.{no_changes, counted, sum_of, Opens};
+ghost use Rattle.bw_tree.specs.Shares.{no_changes, counted, shared_in, sum_of, Opens};
 ghost use Rattle.bw_tree.specs.Trees.{IsTree, CountsPairs};
 ghost use Rattle.bw_snap.specs.Trees.{IsPublished, IsDenialOf, IsSnapFault, MayBeRead, is_bad_reader_number};
 
@@ -190,7 +190,7 @@ impl<R: Wait + Drop, N: Naming, D: Ledger> Published<R, N, D> {
         ensures table { IfOk result (λ table. table ≡ self.table) }
         ensures config { IfOk result (λ table. table.config ≡ N.config) }
         ensures tree { IfOk result IsTree }
-        ensures book { IfOk result (λ table. table.book ≡ sum_of shares.items) }
+        ensures book { IfOk result (λ table. shared_in table.book ≡ sum_of shares.items) }
         ensures pairs { IfOk result (λ table. CountsPairs table (sum_of shares.items)) }
         ensures all { IsOk result ↔ (length shares.items ≡ N.parts) }
         ensures missing { OnErr result (length shares.items < N.parts) }

@@ -3,7 +3,7 @@
 ghost use Rattle.std.specs.Prelude.{◌≡◌, ◌<◌, ◌↔◌, [], IsOk, IfOk, IfErr, OnOk, OnErr, MatchResult, All, length};
 ghost use Rattle.bw_step.specs.ProposalView.{proposal_of};
 ghost use Rattle.bw_step.specs.Steps.{IsReceiptOf};
-ghost use Rattle.bw_tree.specs.Shares.{no_changes, counted, sum_of, Opens};
+ghost use Rattle.bw_tree.specs.Shares.{no_changes, counted, shared_in, sum_of, Opens};
 ghost use Rattle.bw_tree.specs.Trees.{IsTree, CountsPairs};
 ghost use Rattle.bw_snap.specs.Trees.{IsSnapFault, IsWant, MayBeRead};
 
@@ -80,7 +80,7 @@ impl<R: Wait + Copy, N: Naming, D: Ledger> ReadTree<R, N, D> {
     pub fn close(self, shares: Vec<Share<N, D>>) -> Result<Table<Global>, MissingShare>
         ensures config { IfOk result (λ table. table.config ≡ N.config) }
         ensures tree { IfOk result IsTree }
-        ensures book { IfOk result (λ table. table.book ≡ sum_of shares.items) }
+        ensures book { IfOk result (λ table. shared_in table.book ≡ sum_of shares.items) }
         ensures pairs { IfOk result (λ table. CountsPairs table (sum_of shares.items)) }
         ensures all { IsOk result ↔ (length shares.items ≡ N.parts) }
         ensures missing { OnErr result (length shares.items < N.parts) }

@@ -3,7 +3,7 @@
 
 use crate::crew::{Crew, Left, work_on_new_tree};
 use bw_delta::NoMemory;
-use bw_keys::Key;
+use bw_keys::{Fence, Key};
 use bw_snap::{Naming, ReadTree, Reader};
 use bw_step::Receipt;
 use bw_test_kit::{LARGE, Worked};
@@ -21,6 +21,9 @@ use std::thread;
 const RUNS: u64 = 100;
 
 const KEYS: u32 = 16;
+
+/// How many keys a range has that is removed.
+const RANGE: u64 = 4;
 
 /// How many calls a writer makes at least, and how many more at most.
 const FEWEST_CALLS: u32 = 20;
@@ -56,7 +59,7 @@ impl Trail {
     }
 }
 
-/// The writers draw puts and deletes, and publish one time in four. The readers look until the writers
+/// The writers draw puts, sets, deletes and removals of ranges, and publish one time in four. The readers look until the writers
 /// have ended, and once more.
 #[derive(Drop)]
 struct Drawn {
@@ -105,9 +108,14 @@ impl Crew<Trail, Trail> for Drawn {
         let calls = FEWEST_CALLS + rng.next_u32() % MORE_CALLS;
         for _ in 0..calls {
             let key = drawn_key(&mut rng);
-            trail.count(match rng.next_u32() % 2 {
-                0 => hand.put(key, rng.next_u64()).is_ok(),
-                _ => hand.delete(key).is_ok(),
+            trail.count(match rng.next_u32() % 10 {
+                0..=2 => hand.put(key, rng.next_u64()).is_ok(),
+                3..=5 => hand.set(key, rng.next_u64()).is_ok(),
+                6..=8 => hand.delete(key).is_ok(),
+                _ => {
+                    let high = Fence::Key(key.saturating_add(RANGE));
+                    hand.clear(machine, key, high).fault.is_none()
+                }
             });
             if rng.next_u32().is_multiple_of(4) {
                 trail.count(tree.publish().is_ok());
@@ -164,6 +172,14 @@ fn changes_of(machine: Global, (zero, one): (&Trail, &Trail)) -> Result<Vec<Chan
         match *receipt {
             Receipt::Inserted { number, key, value } => changes.push((number, key, Some(value)))?,
             Receipt::Deleted { number, key, .. } => changes.push((number, key, None))?,
+            Receipt::Modified {
+                number,
+                key,
+                value,
+                ..
+            } => {
+                changes.push((number, key, Some(value)))?;
+            }
             _ => {}
         }
     }
@@ -181,6 +197,24 @@ fn value_after(changes: &[Change], last: u64, key: Key) -> Option<u64> {
         }
     }
     left
+}
+
+/// Whether each modification tells the value that the changes before it leave at its key.
+fn are_modified(changes: &[Change], receipts: &[Receipt]) -> bool {
+    for receipt in receipts {
+        if let Receipt::Modified {
+            number,
+            key,
+            old,
+            ..
+        } = *receipt
+        {
+            if value_after(changes, number.saturating_sub(1), key) != Some(old) {
+                return false;
+            }
+        }
+    }
+    true
 }
 
 /// Whether each look found what the changes that it saw leave at its key, and none saw fewer changes
@@ -235,7 +269,7 @@ fn what_readers_see_beside_writers_is_explained(rt: HostRuntime) -> Result<(), F
         for trail in [&written.0, &written.1, &read.0, &read.1] {
             assert_eq!(rt; trail.unanswered, 0, "run {run}");
             assert!(rt;
-                are_explained(&changes, &trail.receipts),
+                are_explained(&changes, &trail.receipts) && are_modified(&changes, &trail.receipts),
                 "run {run}: {trail:?}"
             );
         }

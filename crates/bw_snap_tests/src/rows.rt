@@ -5,7 +5,7 @@ use bw_delta::NoMemory;
 use bw_keys::{Fence, Key};
 use bw_step::{Book, Look};
 use bw_test_kit::{Call, Reply, SMALL, leaves_of};
-use bw_work::{Del, Put};
+use bw_work::{Del, Put, Set};
 use std::alloc::Global;
 use std::test::Fail;
 
@@ -13,13 +13,13 @@ struct Row {
     name: &'static str,
     acts: &'static [Act],
     leaves: &'static [(Key, Fence, u64)],
-    /// How many pairs were inserted, and how many removed.
-    book: (u64, u64),
+    /// How many pairs were inserted, how many removed, and how many modified.
+    book: (u64, u64, u64),
 }
 
 const INSERTED: Reply = Reply::Put(Put::Inserted);
 
-static ROWS: [Row; 9] = [
+static ROWS: [Row; 14] = [
     Row {
         name: "a reader answers what was published",
         acts: &[
@@ -34,7 +34,7 @@ static ROWS: [Row; 9] = [
             Act::Scan(0, 10, &[(5, 50)]),
         ],
         leaves: &[(0, Fence::Top, 2)],
-        book: (2, 0),
+        book: (2, 0, 0),
     },
     Row {
         name: "a scan begins at its key and ends at its limit",
@@ -60,7 +60,7 @@ static ROWS: [Row; 9] = [
             (3, Fence::Key(5), 1),
             (5, Fence::Top, 3),
         ],
-        book: (7, 1),
+        book: (7, 1, 0),
     },
     Row {
         name: "two publications with nothing between change no answer",
@@ -75,7 +75,7 @@ static ROWS: [Row; 9] = [
             Act::Get(7, None),
         ],
         leaves: &[(0, Fence::Top, 2)],
-        book: (2, 0),
+        book: (2, 0, 0),
     },
     Row {
         name: "the least and the greatest key are found and listed",
@@ -96,7 +96,7 @@ static ROWS: [Row; 9] = [
             Act::Scan(1, 10, &[(Key::MAX, 8)]),
         ],
         leaves: &[(0, Fence::Top, 2)],
-        book: (2, 0),
+        book: (2, 0, 0),
     },
     Row {
         name: "a key that is put again has its new value",
@@ -121,13 +121,79 @@ static ROWS: [Row; 9] = [
             ),
         ],
         leaves: &[(0, Fence::Top, 1)],
-        book: (2, 1),
+        book: (2, 1, 0),
+    },
+    Row {
+        name: "a set is seen once it is published",
+        acts: &[
+            Act::Calls(&[Call::Set(9, 1)], &[Reply::Set(Set::Inserted)]),
+            Act::Get(9, None),
+            Act::Publish,
+            Act::Get(9, Some(1)),
+            Act::Calls(&[Call::Set(9, 2)], &[Reply::Set(Set::Replaced(1))]),
+            Act::Get(9, Some(1)),
+            Act::Look(
+                9,
+                Look {
+                    found: Some(1),
+                    at: 1,
+                },
+            ),
+            Act::Publish,
+            Act::Get(9, Some(2)),
+            Act::Look(
+                9,
+                Look {
+                    found: Some(2),
+                    at: 2,
+                },
+            ),
+            Act::Calls(&[Call::Set(9, 3)], &[Reply::Set(Set::Replaced(2))]),
+            Act::Scan(0, 10, &[(9, 2)]),
+            Act::ScanAfter(0, 10, &[(9, 3)]),
+        ],
+        leaves: &[(0, Fence::Top, 1)],
+        book: (1, 0, 2),
+    },
+    Row {
+        name: "sets before and after a split, and beside a delete",
+        acts: &[
+            Act::Puts(1, 4),
+            Act::Publish,
+            Act::Calls(
+                &[
+                    Call::Set(2, 20),
+                    Call::Set(5, 50),
+                    Call::Set(2, 21),
+                    Call::Delete(2),
+                    Call::Set(2, 22),
+                ],
+                &[
+                    Reply::Set(Set::Replaced(2)),
+                    Reply::Set(Set::Inserted),
+                    Reply::Set(Set::Replaced(20)),
+                    Reply::Delete(Del::Removed(21)),
+                    Reply::Set(Set::Inserted),
+                ],
+            ),
+            Act::Scan(0, 10, &[(1, 1), (2, 2), (3, 3), (4, 4)]),
+            Act::ScanAfter(0, 10, &[(1, 1), (2, 22), (3, 3), (4, 4), (5, 50)]),
+            Act::Look(
+                2,
+                Look {
+                    found: Some(22),
+                    at: 9,
+                },
+            ),
+        ],
+        leaves: &[(0, Fence::Key(3), 2), (3, Fence::Top, 3)],
+        book: (6, 1, 2),
     },
     Row {
         name: "the fifth put splits the leaf",
         acts: &[Act::Puts(1, 5)],
         leaves: &[(0, Fence::Key(3), 2), (3, Fence::Top, 3)],
-        book: (5, 0),
+        book: (5, 0, 0),
     },
     Row {
         name: "the seventh put splits the upper leaf",
@@ -137,7 +203,7 @@ static ROWS: [Row; 9] = [
             (3, Fence::Key(5), 2),
             (5, Fence::Top, 3),
         ],
-        book: (7, 0),
+        book: (7, 0, 0),
     },
     Row {
         name: "an empty leaf is merged",
@@ -155,7 +221,7 @@ static ROWS: [Row; 9] = [
             Act::ScanAfter(2, 3, &[(2, 2), (5, 5), (6, 6)]),
         ],
         leaves: &[(0, Fence::Key(5), 2), (5, Fence::Top, 3)],
-        book: (7, 2),
+        book: (7, 2, 0),
     },
     Row {
         name: "a leftmost leaf stays",
@@ -170,17 +236,72 @@ static ROWS: [Row; 9] = [
             ),
         ],
         leaves: &[(0, Fence::Key(3), 0), (3, Fence::Top, 3)],
-        book: (5, 2),
+        book: (5, 2, 0),
+    },
+    Row {
+        name: "the removal of a range is seen once it is published",
+        acts: &[
+            Act::Puts(1, 7),
+            Act::Publish,
+            Act::Calls(&[Call::Clear(2, Fence::Key(5))], &[Reply::Clear(3)]),
+            Act::Scan(2, 3, &[(2, 2), (3, 3), (4, 4)]),
+            Act::ScanAfter(0, 10, &[(1, 1), (5, 5), (6, 6), (7, 7)]),
+            Act::Look(
+                4,
+                Look {
+                    found: None,
+                    at: 10,
+                },
+            ),
+        ],
+        leaves: &[(0, Fence::Key(5), 1), (5, Fence::Top, 3)],
+        book: (7, 3, 0),
+    },
+    Row {
+        name: "the removal of all keys",
+        acts: &[
+            Act::Puts(1, 7),
+            Act::Calls(&[Call::Clear(0, Fence::Top)], &[Reply::Clear(7)]),
+            Act::Get(3, None),
+            Act::LookAfter(
+                3,
+                Look {
+                    found: None,
+                    at: 14,
+                },
+            ),
+            Act::Scan(0, 10, &[]),
+        ],
+        leaves: &[(0, Fence::Top, 0)],
+        book: (7, 7, 0),
+    },
+    Row {
+        name: "the removal of a range without keys",
+        acts: &[
+            Act::Puts(1, 7),
+            Act::Calls(&[Call::Clear(5, Fence::Key(5))], &[Reply::Clear(0)]),
+            Act::ScanAfter(4, 2, &[(4, 4), (5, 5)]),
+        ],
+        leaves: &[
+            (0, Fence::Key(3), 2),
+            (3, Fence::Key(5), 2),
+            (5, Fence::Top, 3),
+        ],
+        book: (7, 0, 0),
     },
 ];
 
 /// Whether the script left the row's leaves, its book and as many pairs as that counts.
 fn is_left(machine: Global, row: &Row, played: &Played) -> Result<bool, NoMemory> {
-    let Book { inserted, removed } = played.table.survey(machine)?.book;
+    let Book {
+        inserted,
+        removed,
+        modified,
+    } = played.table.survey(machine)?.book;
     let many = played.table.pairs(machine)?.len() as u64;
     Ok(
         leaves_of(machine, &played.table)?.as_slice() == row.leaves
-            && (inserted, removed) == row.book
+            && (inserted, removed, modified) == row.book
             && inserted.checked_sub(removed) == Some(many),
     )
 }

@@ -3,6 +3,7 @@ use Rattle.bw_step.specs.declared.step.Step.{Step}
 use Rattle.bw_step.specs.declared.step.Step.TheVariants as steps
 use Rattle.bw_step.specs.declared.steps.insert.Insert.{Insert}
 use Rattle.bw_step.specs.declared.steps.delete.Delete.{Delete}
+use Rattle.bw_step.specs.declared.steps.modify.Modify.{Modify}
 use Rattle.bw_step.specs.declared.steps.consolidate.Consolidate.{Consolidate}
 use Rattle.bw_step.specs.declared.steps.split.Split.{Split}
 use Rattle.bw_step.specs.declared.steps.term_add.TermAdd.{TermAdd}
@@ -10,13 +11,16 @@ use Rattle.bw_step.specs.declared.steps.grow.Grow.{Grow}
 use Rattle.bw_step.specs.declared.steps.mark.Mark.{Mark}
 use Rattle.bw_step.specs.declared.steps.merge.Merge.{Merge}
 use Rattle.bw_step.specs.declared.steps.term_delete.TermDelete.{TermDelete}
-use Rattle.bw_step.specs.Proposals.{Proposal, insert, delete, consolidate, split, term_add, grow, mark, merge, term_delete}
+use Rattle.bw_step.specs.Proposals.{Proposal, insert, delete, modify, consolidate, split, term_add, grow, mark, merge, term_delete}
 
 abbrev pub insert_of : {A : Type 0} → Insert A → Proposal
 insert_of step = insert step.page.0 step.seen.0 step.key step.value
 
 abbrev pub delete_of : {A : Type 0} → Delete A → Proposal
 delete_of step = delete step.page.0 step.seen.0 step.key
+
+abbrev pub modify_of : {A : Type 0} → Modify A → Proposal
+modify_of step = modify step.page.0 step.seen.0 step.key step.value
 
 abbrev pub consolidate_of : {A : Type 0} → Consolidate A → Proposal
 consolidate_of step = consolidate step.page.0 step.seen.0 step.base
@@ -42,6 +46,7 @@ term_delete_of step = term_delete step.parent.0 step.parent_seen.0 step.child.0 
 abbrev pub proposal_of : {A : Type 0} → Step A → Proposal
 proposal_of (steps.Insert step) = insert_of step
 proposal_of (steps.Delete step) = delete_of step
+proposal_of (steps.Modify step) = modify_of step
 proposal_of (steps.Consolidate step) = consolidate_of step
 proposal_of (steps.Split step) = split_of step
 proposal_of (steps.TermAdd step) = term_add_of step

@@ -5,6 +5,7 @@ use Rattle.bw_delta.specs.Pages.{Page}
 pub data Proposal : Type 0 where
   insert : (page seen key value : ℕ) → Proposal
   delete : (page seen key : ℕ) → Proposal
+  modify : (page seen key value : ℕ) → Proposal
   consolidate : (page seen : ℕ) (base : Page) → Proposal
   split : (page seen separator : ℕ) (base : Page) → Proposal
   term_add : (parent parent_seen child child_seen : ℕ) → Proposal

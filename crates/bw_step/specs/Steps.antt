@@ -7,9 +7,9 @@ use Rattle.bw_step.specs.declared.place.Go.{Go}
 use Rattle.bw_step.specs.declared.place.Go.TheVariants.{Gone, Right, Down, Here}
 use Rattle.bw_step.specs.declared.receipt.Kind.TheVariants as kinds
 use Rattle.bw_step.specs.declared.receipt.Receipt.{Receipt}
-use Rattle.bw_step.specs.declared.receipt.Receipt.TheVariants.{Inserted, Deleted, Shaped}
+use Rattle.bw_step.specs.declared.receipt.Receipt.TheVariants.{Inserted, Deleted, Modified, Shaped}
 use Rattle.bw_step.specs.declared.view.View.{View}
-use Rattle.bw_step.specs.Proposals.{Proposal, insert, delete, consolidate, split, term_add, grow, mark, merge, term_delete}
+use Rattle.bw_step.specs.Proposals.{Proposal, insert, delete, modify, consolidate, split, term_add, grow, mark, merge, term_delete}
 use Rattle.bw_step.specs.Stages.{is_in_row}
 use Rattle.bw_step.specs.declared.fault.Denied.{Denied}
 use Rattle.bw_step.specs.declared.fault.Denied.TheVariants.{Refused, NoMemory}
@@ -34,6 +34,7 @@ IsNext place key goal (Here view) = IsViewAt place key goal view
 abbrev pub IsReceiptOf : Proposal → Receipt → Type 0
 IsReceiptOf (insert page seen key value) (Inserted number k v) = (k ≡ key) × (v ≡ value)
 IsReceiptOf (delete page seen key) (Deleted number k v) = k ≡ key
+IsReceiptOf (modify page seen key value) (Modified number k old v) = (k ≡ key) × (v ≡ value)
 IsReceiptOf (consolidate page seen base) (Shaped kind at other) = (kind ≡ kinds.Consolidate) × (at.0 ≡ page) × (other ≡ None)
 IsReceiptOf (split page seen separator base) (Shaped kind at other) = (kind ≡ kinds.Split) × (at.0 ≡ page) × (new : Pid) × (other ≡ Some new)
 IsReceiptOf (term_add parent parent_seen child child_seen) (Shaped kind at other) = (kind ≡ kinds.TermAdd) × (at.0 ≡ parent) × (other ≡ Some (record { 0 = child }))

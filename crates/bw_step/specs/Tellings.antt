@@ -1,7 +1,7 @@
 -- What a receipt tells, by which trails, shares, histories and runs have it.
 use Rattle.std.specs.Prelude.{ℕ, List, [], ◌∷◌, ◌++◌, Option, Some, None}
 use Rattle.bw_step.specs.declared.receipt.Receipt.{Receipt}
-use Rattle.bw_step.specs.declared.receipt.Receipt.TheVariants.{Inserted, Deleted, Looked, Shaped}
+use Rattle.bw_step.specs.declared.receipt.Receipt.TheVariants.{Inserted, Deleted, Modified, Looked, Shaped}
 
 -- A receipt tells of the change of a key, with its number and with what the key had before it and has after it; or of a look, with the
 -- number of the changes that it saw and with what it found; or of a step of the tree's shape.
@@ -13,6 +13,7 @@ pub data Telling : Type 0 where
 abbrev pub telling_of : Receipt → Telling
 telling_of (Inserted number key value) = change number key None (Some value)
 telling_of (Deleted number key value) = change number key (Some value) None
+telling_of (Modified number key old value) = change number key (Some old) (Some value)
 telling_of (Looked at key found) = look at key found
 telling_of (Shaped kind page other) = shape
 

@@ -18,6 +18,8 @@ pub use proposes::Proposes;
 pub use receipt::{Kind, Receipt};
 pub use refused::Refused;
 pub use step::Step;
-pub use steps::{Consolidate, Delete, Grow, Insert, Mark, Merge, Split, TermAdd, TermDelete};
+pub use steps::{
+    Consolidate, Delete, Grow, Insert, Mark, Merge, Modify, Split, TermAdd, TermDelete,
+};
 pub use survey::{Book, Leaf, Summary, Survey};
 pub use view::{Look, Stage, View};

@@ -27,6 +27,13 @@ pub enum Receipt {
         key: Key,
         value: u64,
     },
+    /// The key had the old value and got the other, by the change with this number.
+    Modified {
+        number: u64,
+        key: Key,
+        old: u64,
+        value: u64,
+    },
     /// The key had this value, or none, after the change with the number `at`.
     Looked {
         at: u64,

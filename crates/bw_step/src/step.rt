@@ -1,6 +1,8 @@
 ghost use Rattle.std.specs.Prelude.{◌≡◌, IfOk};
 
-use crate::steps::{Consolidate, Delete, Grow, Insert, Mark, Merge, Split, TermAdd, TermDelete};
+use crate::steps::{
+    Consolidate, Delete, Grow, Insert, Mark, Merge, Modify, Split, TermAdd, TermDelete,
+};
 use bw_delta::NoMemory;
 use std::alloc::Allocator;
 
@@ -10,6 +12,7 @@ use std::alloc::Allocator;
 pub enum Step<A: Allocator> {
     Insert(Insert<A>),
     Delete(Delete<A>),
+    Modify(Modify<A>),
     Consolidate(Consolidate<A>),
     Split(Split<A>),
     TermAdd(TermAdd<A>),
@@ -27,6 +30,7 @@ impl<A: Allocator + Copy> Step<A> {
         match self {
             Step::Insert(step) => Ok(Step::Insert(step.twin(alloc)?)),
             Step::Delete(step) => Ok(Step::Delete(step.twin(alloc)?)),
+            Step::Modify(step) => Ok(Step::Modify(step.twin(alloc)?)),
             Step::Consolidate(step) => Ok(Step::Consolidate(step.twin(alloc)?)),
             Step::Split(step) => Ok(Step::Split(step.twin(alloc)?)),
             Step::TermAdd(step) => Ok(Step::TermAdd(step.twin(alloc)?)),

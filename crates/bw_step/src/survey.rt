@@ -7,6 +7,7 @@ use std::fmt;
 pub struct Book {
     pub inserted: u64,
     pub removed: u64,
+    pub modified: u64,
 }
 
 /// What the table keeps of a page beside its chain, so that no chain is walked for it.

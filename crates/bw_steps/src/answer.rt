@@ -77,6 +77,12 @@ fn write_receipt<W: fmt::Write>(f: &mut fmt::Formatter<W>, receipt: Receipt) -> 
     match receipt {
         Receipt::Inserted { number, key, value } => write!(f, "inserted {number} {key} {value}"),
         Receipt::Deleted { number, key, value } => write!(f, "deleted {number} {key} {value}"),
+        Receipt::Modified {
+            number,
+            key,
+            old,
+            value,
+        } => write!(f, "modified {number} {key} {old} {value}"),
         Receipt::Looked { at, key, found } => write!(f, "looked {at} {key} {found:?}"),
         Receipt::Shaped { kind, page, other } => {
             write!(f, "shaped {kind:?} {page} {}", OrDash(other))

@@ -5,7 +5,9 @@ use crate::entries::base;
 use crate::line::Unread;
 use crate::numbers::{number, page, version};
 use bw_delta::Spare;
-use bw_step::{Consolidate, Delete, Grow, Insert, Mark, Merge, Split, Step, TermAdd, TermDelete};
+use bw_step::{
+    Consolidate, Delete, Grow, Insert, Mark, Merge, Modify, Split, Step, TermAdd, TermDelete,
+};
 use std::alloc::Global;
 
 fn insert(alloc: Global, words: &[&str]) -> Result<Step<Global>, Unread> {
@@ -13,6 +15,19 @@ fn insert(alloc: Global, words: &[&str]) -> Result<Step<Global>, Unread> {
         return Err(Unread::Words);
     };
     Ok(Step::Insert(Insert {
+        page: page(pid)?,
+        seen: version(seen)?,
+        key: number(key)?,
+        value: number(value)?,
+        spare: Spare::new(alloc)?,
+    }))
+}
+
+fn modify(alloc: Global, words: &[&str]) -> Result<Step<Global>, Unread> {
+    let [pid, seen, key, value] = words else {
+        return Err(Unread::Words);
+    };
+    Ok(Step::Modify(Modify {
         page: page(pid)?,
         seen: version(seen)?,
         key: number(key)?,
@@ -127,6 +142,7 @@ pub(crate) fn step(alloc: Global, words: &[&str]) -> Result<Step<Global>, Unread
     };
     match *kind {
         "insert" => insert(alloc, rest),
+        "modify" => modify(alloc, rest),
         "delete" => delete(alloc, rest),
         "consolidate" => consolidate(alloc, rest),
         "split" => split(alloc, rest),

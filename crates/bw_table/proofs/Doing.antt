@@ -1,26 +1,28 @@
 -- What the code that does an accepted step finds: pages that are there, numbers that can rise, chains that can grow.
 use Rattle.std.proofs.Common.{◌≡◌, ◌≢◌, ℕ, ◌+◌, ◌<◌, ◌≤◌, ◌^◌, true, length, Some, None, ap, arith}
 use Rattle.bw_keys.specs.declared.page.TheConstants.{MAX_DEPTH}
+use Rattle.bw_keys.specs.Reasons.{first_reason}
 use Rattle.bw_delta.specs.Pages.{Page, listed_length}
 use Rattle.bw_delta.specs.Records.{depth}
-use Rattle.bw_step.specs.Proposals.{insert, delete, consolidate, split, term_add, grow, mark, merge, term_delete}
+use Rattle.bw_step.specs.Proposals.{insert, consolidate, split, term_add, grow, mark, merge, term_delete}
 use Rattle.bw_step.specs.Stages.{is_in_row}
-use Rattle.bw_law.specs.Tables.{TableValue, slot_at, Lawful}
-use Rattle.bw_law.specs.Refusals.{refusal, new_id, last_id}
-use Rattle.bw_law.proofs.Accepted.{insert_accepted, delete_accepted, consolidate_accepted, split_accepted, term_add_accepted, grow_accepted, mark_accepted, merge_accepted, term_delete_accepted}
-use Rattle.bw_law.proofs.Room.{CanRise, insert_room, delete_room, consolidate_room, split_room, term_add_room, grow_room, mark_room, merge_room, term_delete_room}
+use Rattle.bw_law.specs.Tables.{TableValue, slot_at, number_of, Lawful}
+use Rattle.bw_law.specs.Refusals.{refusal, found_reasons, new_id, last_id}
+use Rattle.bw_law.proofs.Accepted.{insert_accepted, found_accepted, consolidate_accepted, split_accepted, term_add_accepted, grow_accepted, mark_accepted, merge_accepted, term_delete_accepted}
+use Rattle.bw_law.proofs.Room.{CanRise, insert_room, found_room, consolidate_room, split_room, term_add_room, grow_room, mark_room, merge_room, term_delete_room}
 use Rattle.bw_table.specs.SlotFacts.{MayGrowDeeper}
 use Rattle.bw_table.specs.Whole.{IsWhole}
 
 pub record DoesInsert (table : TableValue) (page : ℕ) : Type 0 where
   pub deeper : MayGrowDeeper (slot_at table page)
   pub count : (slot_at table page).count + 1 < 2 ^ 64
-  pub number : table.book.inserted + table.book.removed + 1 < 2 ^ 64
+  pub number : number_of table.book + 1 < 2 ^ 64
 
-pub record DoesDelete (table : TableValue) (page : ℕ) : Type 0 where
+-- what Delete and Modify find alike
+pub record DoesFound (table : TableValue) (page : ℕ) : Type 0 where
   pub deeper : MayGrowDeeper (slot_at table page)
   pub count : 0 < (slot_at table page).count
-  pub number : table.book.inserted + table.book.removed + 1 < 2 ^ 64
+  pub number : number_of table.book + 1 < 2 ^ 64
 
 pub record DoesSplit (table : TableValue) (page : ℕ) (base : Page) : Type 0 where
   pub exists : page < length table.slots
@@ -83,10 +85,10 @@ module _ (table : TableValue) (room : ℕ) (whole : IsWhole table room) where
         number = omega (arith, may.change.number, whole.lawful.bounds.number);
       }
 
-  pub does_delete : (page seen key : ℕ) → refusal table (delete page seen key) ≡ None → DoesDelete table page
-  does_delete page seen key none =
-      let may = delete_accepted table page seen key none in
-      let has = delete_room table whole.lawful whole.booked page seen key may in record {
+  pub does_found : (page seen key : ℕ) → first_reason (found_reasons (slot_at table page) (number_of table.book) seen key) ≡ None → DoesFound table page
+  does_found page seen key none =
+      let may = found_accepted table page seen key none in
+      let has = found_room table whole.lawful whole.booked page seen key may in record {
         deeper = may_grow_deeper table page whole.lawful may.change.open_page.in_row has.raised may.change.shallow;
         count = has.count;
         number = omega (arith, may.change.number, whole.lawful.bounds.number);

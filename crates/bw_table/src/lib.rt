@@ -2,6 +2,7 @@
 //! step (Levandoski et al., ICDE 2013, "mapping table").
 #![tactic(auto)]
 
+mod book;
 mod copy;
 mod fault;
 mod free;
@@ -15,8 +16,9 @@ mod table;
 mod visit;
 
 pub use bw_step::{
-    Book, Consolidate, CopyFault, Delete, Go, Grow, Insert, Kind, Leaf, Look, Mark, Merge, Next,
-    Place, Receipt, Refused, Split, Stage, Step, Summary, Survey, TermAdd, TermDelete, Todo, View,
+    Book, Consolidate, CopyFault, Delete, Go, Grow, Insert, Kind, Leaf, Look, Mark, Merge, Modify,
+    Next, Place, Receipt, Refused, Split, Stage, Step, Summary, Survey, TermAdd, TermDelete, Todo,
+    View,
 };
 pub use fault::NewFault;
 pub use table::Table;

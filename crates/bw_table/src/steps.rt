@@ -13,6 +13,7 @@ mod grow;
 mod insert;
 mod mark;
 mod merge;
+mod modify;
 mod shared;
 mod split;
 mod term_add;
@@ -31,6 +32,7 @@ impl<A: Allocator + Copy> Table<A> {
         match step {
             Step::Insert(step) => self.check_insert(step),
             Step::Delete(step) => self.check_delete(step),
+            Step::Modify(step) => self.check_modify(step),
             Step::Consolidate(step) => self.check_consolidate(step),
             Step::Split(step) => self.check_split(step),
             Step::TermAdd(step) => self.check_term_add(step),
@@ -54,6 +56,7 @@ impl<A: Allocator + Copy> Table<A> {
         Ok(match step {
             Step::Insert(step) => self.insert(step),
             Step::Delete(step) => self.delete(step),
+            Step::Modify(step) => self.modify(step),
             Step::Consolidate(step) => self.consolidate(step),
             Step::Split(step) => self.split(step),
             Step::TermAdd(step) => self.term_add(step),

@@ -9,6 +9,7 @@ ghost use Rattle.bw_table.specs.SlotFacts.{HasSoundChain};
 ghost use Rattle.bw_table.specs.Views.{view_at, summary_at, look_at, root_place};
 ghost use Rattle.bw_table.specs.Visits.{IsOnTheWay};
 
+use crate::book::number_of;
 use crate::fault::NewFault;
 use crate::free::FreeList;
 use crate::fresh::first_slots;
@@ -74,6 +75,7 @@ impl<A: Allocator + Copy> Table<A> {
             book: Book {
                 inserted: 0,
                 removed: 0,
+                modified: 0,
             },
             config,
         })
@@ -148,7 +150,7 @@ impl<A: Allocator + Copy> Table<A> {
     pub(crate) fn number(&self) -> u64
         ensures { result ≡ number_of self.now.book }
     {
-        self.book.inserted + self.book.removed
+        number_of(self.book)
     }
 
     /// The slot of a page, if the id isn't past the end.

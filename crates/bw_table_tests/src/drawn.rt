@@ -2,7 +2,7 @@
 
 use crate::picture::refusal;
 use bw_keys::Key;
-use bw_table::{Receipt, Refused, Step, Table};
+use bw_table::{Book, Receipt, Refused, Step, Table};
 use bw_test_kit::{SMALL, Tally, drawn_step, partition_the_keys};
 use rand_core::SeedableRng;
 use rand_pcg::Pcg32;
@@ -28,6 +28,12 @@ impl Told {
             Receipt::Deleted { number, key, value } => {
                 number == self.number() && self.map.remove(&key) == Some(value)
             }
+            Receipt::Modified {
+                number,
+                key,
+                old,
+                value,
+            } => number == self.number() && self.map.insert(key, value)? == Some(old),
             Receipt::Shaped { .. } => true,
             Receipt::Looked { .. } => false,
         };
@@ -39,7 +45,13 @@ impl Told {
     }
 
     fn number(&self) -> u64 {
-        self.tally.inserted.saturating_add(self.tally.deleted)
+        let Tally {
+            inserted,
+            deleted,
+            modified,
+            ..
+        } = self.tally;
+        inserted.saturating_add(deleted).saturating_add(modified)
     }
 }
 
@@ -55,13 +67,19 @@ fn is_as_told(machine: Global, table: &Table<Global>, told: &Told) -> Result<boo
     let Tally {
         inserted,
         deleted,
+        modified,
         ..
     } = told.tally;
+    let book = Book {
+        inserted,
+        removed: deleted,
+        modified,
+    };
     Ok(
         partition_the_keys(&survey.leaves)
             && counted == many
             && inserted.checked_sub(deleted) == Some(many)
-            && (survey.book.inserted, survey.book.removed) == (inserted, deleted)
+            && survey.book == book
             && survey.levels == table.root().level.saturating_add(1)
             && are_pairs_of(&told.map, &pairs),
     )

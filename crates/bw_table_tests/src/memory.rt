@@ -165,7 +165,7 @@ fn a_copy_lasts_when_the_table_is_gone(rt: HostRuntime) -> Result<(), Fail> {
 }
 
 /// Steps of each kind, each with what its twin is told where it is taken in its place.
-static TWINS: [(Change, Receipt); 13] = [
+static TWINS: [(Change, Receipt); 14] = [
     (Change::Insert(0, 1, 1), receipt!(inserted 1, 1)),
     (Change::Insert(0, 2, 2), receipt!(inserted 2, 2)),
     (Change::Insert(0, 3, 3), receipt!(inserted 3, 3)),
@@ -175,7 +175,8 @@ static TWINS: [(Change, Receipt); 13] = [
     (Change::Grow(1), receipt!(Grow 2, 1)),
     (Change::Split(1), receipt!(Split 1, 3)),
     (Change::TermAdd(2, 3), receipt!(TermAdd 2, 3)),
-    (Change::Delete(1, 3), receipt!(deleted 5, 3)),
+    (Change::Modify(0, 1, 10), receipt!(modified 5, 1, 1 => 10)),
+    (Change::Delete(1, 3), receipt!(deleted 6, 3)),
     (Change::Mark(1, 2), receipt!(Mark 1)),
     (Change::Merge(0, 1), receipt!(Merge 0, 1)),
     (Change::TermDelete(2, 1), receipt!(TermDelete 2, 1)),
@@ -201,14 +202,15 @@ fn twins_are_taken_as_their_steps_are(rt: HostRuntime) -> Result<(), Fail> {
         assert_eq!(rt; take_twin(alloc, &mut table, *change)?, Some(*receipt));
     }
     let pairs = table.pairs(alloc)?;
-    assert_eq!(rt; pairs.as_slice(), [(1, 1), (2, 2), (4, 4)].as_slice());
+    assert_eq!(rt; pairs.as_slice(), [(1, 10), (2, 2), (4, 4)].as_slice());
     Ok(())
 }
 
 /// A step of each kind for a tree of three leaves.
-static ONE_OF_EACH: [Change; 9] = [
+static ONE_OF_EACH: [Change; 10] = [
     Change::Insert(0, 0, 0),
     Change::Delete(0, 1),
+    Change::Modify(0, 1, 10),
     Change::Consolidate(1),
     Change::Split(3),
     Change::TermAdd(2, 3),

@@ -5,7 +5,8 @@ use bw_chain::{HalveFault, consolidate, halve};
 use bw_delta::{Base, BaseFault, NoMemory, Spare};
 use bw_keys::{Fence, Key, Pid, Version};
 use bw_step::{
-    Consolidate, Delete, Grow, Insert, Mark, Merge, Receipt, Split, Step, TermAdd, TermDelete,
+    Consolidate, Delete, Grow, Insert, Mark, Merge, Modify, Receipt, Split, Step, TermAdd,
+    TermDelete,
 };
 use bw_table::{CopyFault, Table};
 use std::alloc::{Allocator, Global};
@@ -17,6 +18,7 @@ use std::test::Fail;
 pub enum Change {
     Insert(u32, Key, u64),
     Delete(u32, Key),
+    Modify(u32, Key, u64),
     Consolidate(u32),
     /// In the middle of the page's entries.
     Split(u32),
@@ -32,9 +34,10 @@ impl Change {
     /// The pages whose versions the step names. Where it names one, that page twice.
     pub fn pages(self) -> (u32, u32) {
         match self {
-            Change::Insert(page, _, _) | Change::Delete(page, _) | Change::Mark(page, _) => {
-                (page, page)
-            }
+            Change::Insert(page, _, _)
+            | Change::Delete(page, _)
+            | Change::Modify(page, _, _)
+            | Change::Mark(page, _) => (page, page),
             Change::Consolidate(page) | Change::Split(page) | Change::Grow(page) => (page, page),
             Change::TermAdd(first, second)
             | Change::Merge(first, second)
@@ -164,6 +167,13 @@ pub fn step_with<A: Allocator + Copy, S: Pages<A>>(
             page: Pid(page),
             seen: first,
             key,
+            spare: Spare::new(alloc)?,
+        })),
+        Change::Modify(page, key, value) => Ok(Step::Modify(Modify {
+            page: Pid(page),
+            seen: first,
+            key,
+            value,
             spare: Spare::new(alloc)?,
         })),
         Change::Consolidate(page) => consolidation(alloc, pages, page, first),

@@ -107,7 +107,8 @@ fn drawn_change<S: Pages<Global>>(rng: &mut Pcg32, pages: &S) -> Change {
     let key = Key::from(below(rng, KEYS));
     match below(rng, 32) {
         0..=9 => Change::Insert(id_of(rng, holder(pages, key, 0)), key, rng.next_u64()),
-        10..=14 => Change::Delete(id_of(rng, holder(pages, key, 0)), key),
+        10..=12 => Change::Delete(id_of(rng, holder(pages, key, 0)), key),
+        13..=14 => Change::Modify(id_of(rng, holder(pages, key, 0)), key, rng.next_u64()),
         15..=18 => Change::Consolidate(any_holder(rng, pages, key)),
         19..=22 => Change::Split(any_holder(rng, pages, key)),
         kind => naming(rng, pages, kind),

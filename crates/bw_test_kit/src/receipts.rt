@@ -21,6 +21,14 @@ macro_rules! receipt {
             value: $value,
         }
     };
+    (modified $number:expr, $key:expr, $old:expr => $value:expr) => {
+        $crate::Receipt::Modified {
+            number: $number,
+            key: $key,
+            old: $old,
+            value: $value,
+        }
+    };
     (looked $at:expr, $key:expr, $found:expr) => {
         $crate::Receipt::Looked {
             at: $at,

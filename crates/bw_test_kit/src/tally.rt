@@ -8,6 +8,7 @@ use bw_step::{Kind, Leaf, Receipt};
 pub struct Tally {
     pub inserted: u64,
     pub deleted: u64,
+    pub modified: u64,
     /// For each kind of the steps that change the shape.
     pub shaped: [(Kind, u64); 7],
     pub refused: u64,
@@ -17,6 +18,7 @@ impl Tally {
     pub const NOTHING: Tally = Tally {
         inserted: 0,
         deleted: 0,
+        modified: 0,
         shaped: [
             (Kind::Consolidate, 0),
             (Kind::Split, 0),
@@ -34,6 +36,7 @@ impl Tally {
         match answer {
             Some(Receipt::Inserted { .. }) => self.inserted = self.inserted.saturating_add(1),
             Some(Receipt::Deleted { .. }) => self.deleted = self.deleted.saturating_add(1),
+            Some(Receipt::Modified { .. }) => self.modified = self.modified.saturating_add(1),
             Some(Receipt::Shaped { kind, .. }) => self.count_shape(kind),
             Some(Receipt::Looked { .. }) => {}
             None => self.refused = self.refused.saturating_add(1),
@@ -51,7 +54,7 @@ impl Tally {
     /// How many steps were answered.
     pub fn total(&self) -> u64 {
         let mut total = self.inserted;
-        for more in [self.deleted, self.refused] {
+        for more in [self.deleted, self.modified, self.refused] {
             total = total.saturating_add(more);
         }
         for (_, count) in self.shaped {
@@ -62,7 +65,7 @@ impl Tally {
 
     /// Whether steps of each sort that changes the map were answered, and some were refused.
     pub fn has_changes(&self) -> bool {
-        self.inserted > 0 && self.deleted > 0 && self.refused > 0
+        self.inserted > 0 && self.deleted > 0 && self.modified > 0 && self.refused > 0
     }
 }
 

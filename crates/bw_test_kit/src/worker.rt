@@ -2,28 +2,38 @@
 
 use crate::play::Worked;
 use bw_delta::NoMemory;
-use bw_keys::Key;
+use bw_keys::{Fence, Key};
 use bw_step::{Receipt, Step};
 use bw_tree::{Share, Shared};
-use bw_work::{Del, Done, Fault, Gate, Hand, Put, Slice, Steps, delete, get, page_from, put};
+use bw_work::{
+    Cleared, Del, Done, Fault, Gate, Hand, Put, Set, Slice, Steps, clear, delete, get, page_from,
+    put, set,
+};
 use std::alloc::Global;
 
 /// A call of a worker.
 #[derive(Clone, Copy, Debug, PartialEq, Eq)]
 pub enum Call {
     Put(Key, u64),
+    Set(Key, u64),
     Delete(Key),
     Get(Key),
     Slice(Key),
+    /// From the key on and below the fence.
+    Clear(Key, Fence),
 }
 
-/// What a call answers: one reply, and behind it the fault that ended helping or tending, if there was
-/// one. A slice is answered by each of its pairs, and by where the next leaf begins.
+/// What a call answers: one reply, and behind it the fault that ended helping or tending, or the removal
+/// of a range, if there was one. A slice is answered by each of its pairs, and by where the next leaf
+/// begins.
 #[derive(Clone, Copy, Debug, PartialEq, Eq)]
 pub enum Reply {
     Put(Put),
+    Set(Set),
     Delete(Del),
     Get(Option<u64>),
+    /// How many keys were taken out.
+    Clear(u64),
     Pair(Key, u64),
     Next(Option<Key>),
     But(Fault),
@@ -105,12 +115,20 @@ fn answer<S: Steps<Global, Step<Global>>>(
             let Done { reply, fault } = put(steps, key, value)?;
             add(replies, Reply::Put(reply), fault)
         }
+        Call::Set(key, value) => {
+            let Done { reply, fault } = set(steps, key, value)?;
+            add(replies, Reply::Set(reply), fault)
+        }
         Call::Delete(key) => {
             let Done { reply, fault } = delete(steps, key)?;
             add(replies, Reply::Delete(reply), fault)
         }
         Call::Get(key) => add(replies, Reply::Get(get(steps, key)?), None),
         Call::Slice(key) => add_slice(replies, &page_from(steps, machine, key)?),
+        Call::Clear(low, high) => {
+            let Cleared { removed, fault } = clear(steps, machine, low, high);
+            add(replies, Reply::Clear(removed), fault)
+        }
     };
     added.map_err(|_| Fault::NoMemory)
 }

@@ -4,7 +4,7 @@ use Rattle.std.specs.Option.{option_eq}
 use Rattle.std.specs.Bool.{nat_eq}
 use Rattle.bw_delta.specs.Entries.{last_entry}
 use Rattle.bw_step.specs.declared.receipt.Receipt.{Receipt}
-use Rattle.bw_step.specs.declared.receipt.Receipt.TheVariants.{Inserted, Deleted, Looked}
+use Rattle.bw_step.specs.declared.receipt.Receipt.TheVariants.{Inserted, Deleted, Modified, Looked}
 use Rattle.bw_texts.specs.declared.history.line.Line.{Line}
 use Rattle.bw_texts.specs.declared.history.line.Line.TheVariants.{Reply, Pair}
 use Rattle.bw_texts.specs.declared.history.line.Form.{Form}
@@ -18,29 +18,38 @@ abbrev pub form_of : List ℕ → Option Form
 form_of text =
     cond (is_text text (codes "ins")) (Some form.Inserted)
     (cond (is_text text (codes "del")) (Some form.Deleted)
+    (cond (is_text text (codes "mod")) (Some form.Modified)
     (cond (is_text text (codes "hit")) (Some form.Found)
-    (cond (is_text text (codes "none")) (Some form.Missing) None)))
+    (cond (is_text text (codes "none")) (Some form.Missing) None))))
+
+-- a modification has the value that the key has, and then the one that it had
+abbrev pub modified_read : ℕ → ℕ → List ℕ → List ℕ → Result Receipt Part
+modified_read number key value old = do
+  value ← ok_or (number_of value) part.Value
+  old ← ok_or (number_of old) part.Old
+  Ok (Modified number key old value)
 
 -- all but a look that found nothing have a value
-abbrev pub receipt_read : Form → ℕ → ℕ → List ℕ → Option Receipt
-receipt_read form.Inserted at key value = option_map (λ v. Inserted at key v) (number_of value)
-receipt_read form.Deleted at key value = option_map (λ v. Deleted at key v) (number_of value)
-receipt_read form.Found at key value = option_map (λ v. Looked at key (Some v)) (number_of value)
-receipt_read form.Missing at key value = cond (length value == 0) (Some (Looked at key None)) None
+abbrev pub receipt_read : Form → ℕ → ℕ → List ℕ → List ℕ → Result Receipt Part
+receipt_read form.Inserted at key value old = ok_or (option_map (λ v. Inserted at key v) (number_of value)) part.Value
+receipt_read form.Deleted at key value old = ok_or (option_map (λ v. Deleted at key v) (number_of value)) part.Value
+receipt_read form.Modified at key value old = modified_read at key value old
+receipt_read form.Found at key value old = ok_or (option_map (λ v. Looked at key (Some v)) (number_of value)) part.Value
+receipt_read form.Missing at key value old = ok_or (cond (length value == 0) (Some (Looked at key None)) None) part.Value
 
 -- a test that is passed, or the part that it is of
 abbrev pub check : Bool → Part → Result Bool Part
 check passed faulty = cond passed (Ok true) (Err faulty)
 
 -- a worker's row, of which none stands after an `end` row
-abbrev pub reply_line : Option ℕ → List ℕ → List ℕ → List ℕ → List ℕ → List ℕ → Result Line Part
-reply_line last first op at key value = do
+abbrev pub reply_line : Option ℕ → List ℕ → List ℕ → List ℕ → List ℕ → List ℕ → List ℕ → Result Line Part
+reply_line last first op at key value old = do
   passed ← check (not (is_some last)) part.Worker
   worker ← ok_or (worker_of 64 first) part.Worker
   form ← ok_or (form_of op) part.Op
   at ← ok_or (number_of at) part.Key
   key ← ok_or (number_of key) part.Key
-  receipt ← ok_or (receipt_read form at key value) part.Value
+  receipt ← receipt_read form at key value old
   Ok (Reply worker receipt)
 
 -- a key above that of the `end` row before it
@@ -58,15 +67,19 @@ pair_line last op zero key value = do
   value ← ok_or (number_of value) part.Value
   Ok (Pair key value)
 
-abbrev pub line_of_fields : Option ℕ → List ℕ → List ℕ → List ℕ → List ℕ → List ℕ → Result Line Part
-line_of_fields last first op at key value =
-    cond (is_text first (codes "end")) (pair_line last op at key value) (reply_line last first op at key value)
+abbrev pub line_of_fields : Option ℕ → List ℕ → List ℕ → List ℕ → List ℕ → List ℕ → List ℕ → Result Line Part
+line_of_fields last first op at key value old =
+    cond (is_text first (codes "end")) (pair_line last op at key value) (reply_line last first op at key value old)
+
+-- a row of a modification has a field more than the others
+abbrev pub field_count : List ℕ → ℕ
+field_count op = cond (is_text op (codes "mod")) 6 5
 
 -- the row of a record after an `end` row with this key, if there is one, or its first faulty part
 abbrev pub line_of : Option ℕ → List (List ℕ) → Result Line Part
 line_of last fields =
-    cond (length fields == 5)
-    (line_of_fields last (slice_index_or fields 0 []) (slice_index_or fields 1 []) (slice_index_or fields 2 []) (slice_index_or fields 3 []) (slice_index_or fields 4 []))
+    cond (length fields == field_count (slice_index_or fields 1 []))
+    (line_of_fields last (slice_index_or fields 0 []) (slice_index_or fields 1 []) (slice_index_or fields 2 []) (slice_index_or fields 3 []) (slice_index_or fields 4 []) (slice_index_or fields 5 []))
     (Err part.Fields)
 
 -- the pairs of the final map

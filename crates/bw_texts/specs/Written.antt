@@ -3,9 +3,11 @@ use Rattle.std.specs.Prelude.{ℕ, ◌≡◌, ◌∷◌, [], List, codes, decima
 use Rattle.csv.specs.Writing.{default_writer, fields_written, has_written, row_text, with_flexible, writer_setup}
 use Rattle.csv.specs.declared.writer.Writer.{Writer}
 use Rattle.csv.specs.declared.writer.WriterBuilder.{WriterBuilder}
+use Rattle.bw_keys.specs.declared.range.Fence.{Fence}
+use Rattle.bw_keys.specs.declared.range.Fence.TheVariants as fences
 use Rattle.bw_texts.specs.declared.trace.row.Row.{Row}
 use Rattle.bw_procedures.specs.declared.act.Act.{Act}
-use Rattle.bw_procedures.specs.declared.act.Act.TheVariants.{Put, Get, Delete}
+use Rattle.bw_procedures.specs.declared.act.Act.TheVariants.{Put, Set, Get, Delete, Clear}
 
 -- how records are written: by the defaults, but of any length
 abbrev pub flexible_writer : WriterBuilder
@@ -17,10 +19,17 @@ pub record IsBetween {W : Type 0} (writer : Writer W) : Type 0 where
   pub shown : has_written writer ≡ false
   pub flexible : writer_setup writer ≡ flexible_writer
 
+-- where a range ends; nothing stands for Top
+abbrev pub fence_text : Fence → List ℕ
+fence_text (fences.Key high) = decimal high
+fence_text fences.Top = []
+
 abbrev pub fields_of_act : Act → List (List ℕ)
 fields_of_act (Put key value) = codes "put" ∷ decimal key ∷ decimal value ∷ []
+fields_of_act (Set key value) = codes "set" ∷ decimal key ∷ decimal value ∷ []
 fields_of_act (Get key) = codes "get" ∷ decimal key ∷ [] ∷ []
 fields_of_act (Delete key) = codes "del" ∷ decimal key ∷ [] ∷ []
+fields_of_act (Clear low high) = codes "clr" ∷ decimal low ∷ fence_text high ∷ []
 
 -- the fields of a row, with its numbers in decimal digits
 abbrev pub fields_of_row : Row → List (List ℕ)

@@ -2,7 +2,7 @@
 use Rattle.std.specs.Prelude.{ℕ, ◌+◌, ◌∷◌, ◌++◌, [], List, Option, Some, None, codes, decimal, flat_map}
 use Rattle.csv.specs.Writing.{row_text}
 use Rattle.bw_step.specs.declared.receipt.Receipt.{Receipt}
-use Rattle.bw_step.specs.declared.receipt.Receipt.TheVariants.{Inserted, Deleted, Looked, Shaped}
+use Rattle.bw_step.specs.declared.receipt.Receipt.TheVariants.{Inserted, Deleted, Modified, Looked, Shaped}
 use Rattle.bw_texts.specs.Written.{flexible_writer}
 
 abbrev pub look_fields : ℕ → ℕ → ℕ → Option ℕ → List (List ℕ)
@@ -13,6 +13,8 @@ look_fields worker seen key (Some value) = decimal worker ∷ codes "hit" ∷ de
 abbrev pub receipt_text : ℕ → Receipt → List ℕ
 receipt_text worker (Inserted number key value) = row_text flexible_writer (decimal worker ∷ codes "ins" ∷ decimal number ∷ decimal key ∷ decimal value ∷ [])
 receipt_text worker (Deleted number key value) = row_text flexible_writer (decimal worker ∷ codes "del" ∷ decimal number ∷ decimal key ∷ decimal value ∷ [])
+receipt_text worker (Modified number key old value) =
+    row_text flexible_writer (decimal worker ∷ codes "mod" ∷ decimal number ∷ decimal key ∷ decimal value ∷ decimal old ∷ [])
 receipt_text worker (Looked seen key found) = row_text flexible_writer (look_fields worker seen key found)
 receipt_text worker (Shaped kind page other) = []
 

@@ -15,6 +15,8 @@ pub enum Part {
     Op,
     Key,
     Value,
+    /// The value that a modified key had.
+    Old,
 }
 
 impl fmt::Display for Part {
@@ -27,6 +29,7 @@ impl fmt::Display for Part {
             Part::Op => "op",
             Part::Key => "key",
             Part::Value => "value",
+            Part::Old => "old",
         })
     }
 }

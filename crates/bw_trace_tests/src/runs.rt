@@ -22,6 +22,20 @@ fn a_table_has_4096_pages_where_no_number_is_asked_for(rt: HostRuntime) -> Resul
 }
 
 #[test]
+fn twenty_thousand_keys_are_removed_by_one_row(rt: HostRuntime) -> Result<(), Fail> {
+    let mut trace = String::new(rt.alloc());
+    for key in 1..=20_000u32 {
+        writeln!(trace, "0,put,{key},{key}")?;
+    }
+    writeln!(trace, "0,clr,0,")?;
+    let output = printed(&rt, &["run", "--replies"], trace.as_str())?;
+    let end = "inserted 20000 removed 20000 pairs 0\naudit yes\n";
+    assert!(rt; output.as_str().contains("\ncleared 20000\n0 "));
+    assert!(rt; output.as_str().ends_with(end));
+    Ok(())
+}
+
+#[test]
 fn the_help_of_run_tells_the_usual_values(rt: HostRuntime) -> Result<(), Fail> {
     let help = printed(&rt, &["run", "--help"], "")?;
     for (option, usual) in [

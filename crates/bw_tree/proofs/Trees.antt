@@ -1,21 +1,22 @@
 -- The law of a table gives what is told of a tree.
-use Rattle.std.proofs.Common.{◌≡◌, ℕ, zero, suc, ◌<◌, ◌^◌, None, refl, sym, subst, ◌∙◌, ap, arith}
+use Rattle.std.proofs.Common.{◌≡◌, ℕ, zero, suc, ◌<◌, ◌^◌, Some, None, refl, sym, subst, ◌∙◌, ap, arith}
 use Rattle.bw_keys.specs.declared.config.Config.{Config}
 use Rattle.bw_keys.specs.Limits.{first_bad_field}
 use Rattle.bw_step.specs.declared.receipt.Receipt.{Receipt}
 use Rattle.bw_step.specs.declared.survey.Book.{Book}
 use Rattle.bw_step.specs.Proposals.{Proposal}
-use Rattle.bw_law.specs.Effects.{TakesStep, after}
+use Rattle.bw_step.specs.Tellings.{Telling, change, look, shape, telling_of}
+use Rattle.bw_law.specs.Effects.{TakesStep, after, receipt_of}
 use Rattle.bw_law.specs.Laws.{MapAfter}
 use Rattle.bw_law.specs.Refusals.{refusal}
-use Rattle.bw_law.specs.Tables.{TableValue, Lawful, Booked, new_table}
+use Rattle.bw_law.specs.Tables.{TableValue, Lawful, Booked, book_with, new_table}
 use Rattle.bw_law.proofs.AllSteps.{step_law}
 use Rattle.bw_law.proofs.Count.{joined_count}
 use Rattle.bw_law.proofs.MapAndTerms.{map_law}
 use Rattle.bw_law.proofs.NewTable.{new_law}
 use Rattle.bw_law.proofs.RowList.{row_law}
 use Rattle.bw_law.proofs.Walk.{walk_law}
-use Rattle.bw_tree.specs.Shares.{book_of, counted}
+use Rattle.bw_tree.specs.Shares.{ShareValue, share_of, shared_in, share_with, counted}
 use Rattle.bw_tree.specs.Trees.{IsTree, CountsPairs, IsBookOf, MayBeMade}
 
 pub is_tree : (table : TableValue) → Lawful table → Booked table → IsTree table
@@ -40,14 +41,23 @@ new_book config table is fine fits =
     let empty = new_law config fine fits in
     rw is (record { lawful = empty.lawful; booked = empty.booked; totals = refl })
 
+-- what is counted in a book is counted so in what the shares hold of it
+shares_count : (book : Book) (told : Telling) → shared_in (book_with book told) ≡ share_with (shared_in book) told
+shares_count book (change number key None None) = refl
+shares_count book (change number key None (Some value)) = refl
+shares_count book (change number key (Some value) None) = refl
+shares_count book (change number key (Some old) (Some value)) = refl
+shares_count book (look at key found) = refl
+shares_count book shape = refl
+
 -- the table after an accepted step, whose receipt was counted
 pub book_kept : (old new : TableValue) (step : Proposal) (receipt : Receipt) (inserted removed more_inserted more_removed : ℕ)
     → IsBookOf old inserted removed → refusal old step ≡ None → TakesStep old step receipt new
-    → book_of more_inserted more_removed ≡ counted (book_of inserted removed) receipt → IsBookOf new more_inserted more_removed
+    → share_of more_inserted more_removed ≡ counted (share_of inserted removed) receipt → IsBookOf new more_inserted more_removed
 book_kept old new step receipt inserted removed more_inserted more_removed kept none taken is =
     let law = step_law old step kept.lawful kept.booked none in
-    let same : (after old step).book ≡ book_of more_inserted more_removed =
-    ap (counted old.book) (sym taken.told) ∙ ap (λ book. counted book receipt) kept.totals ∙ sym is in
+    let same : shared_in (after old step).book ≡ share_of more_inserted more_removed =
+    shares_count old.book (telling_of (receipt_of old step)) ∙ ap (counted (shared_in old.book)) (sym taken.told) ∙ ap (λ share. counted share receipt) kept.totals ∙ sym is in
     rw taken.leads (record { lawful = law.lawful; booked = law.booked; totals = same })
 
 -- what an accepted step makes of the map
@@ -58,10 +68,10 @@ map_after table step inserted removed kept none = (step_law table step kept.lawf
 pub tree_of : (table : TableValue) (inserted removed : ℕ) → IsBookOf table inserted removed → IsTree table
 tree_of table inserted removed kept = is_tree table kept.lawful kept.booked
 
-pub book_is : (table : TableValue) (inserted removed : ℕ) (sum : Book) → IsBookOf table inserted removed → inserted ≡ sum.inserted → removed ≡ sum.removed → table.book ≡ sum
-book_is table inserted removed sum kept more less = kept.totals ∙ ap (λ (n : ℕ). book_of n removed) more ∙ ap (book_of sum.inserted) less
+pub book_is : (table : TableValue) (inserted removed : ℕ) (sum : ShareValue) → IsBookOf table inserted removed → inserted ≡ sum.inserted → removed ≡ sum.removed → shared_in table.book ≡ sum
+book_is table inserted removed sum kept more less = kept.totals ∙ ap (λ (n : ℕ). share_of n removed) more ∙ ap (share_of sum.inserted) less
 
-pub pairs_are : (table : TableValue) (inserted removed : ℕ) (sum : Book) → IsBookOf table inserted removed → inserted ≡ sum.inserted → removed ≡ sum.removed → CountsPairs table sum
+pub pairs_are : (table : TableValue) (inserted removed : ℕ) (sum : ShareValue) → IsBookOf table inserted removed → inserted ≡ sum.inserted → removed ≡ sum.removed → CountsPairs table sum
 pairs_are table inserted removed sum kept more less = subst (CountsPairs table) (book_is table inserted removed sum kept more less) (tree_of table inserted removed kept).pairs
 
 -- no step changes the configuration

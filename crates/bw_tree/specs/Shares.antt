@@ -1,25 +1,44 @@
--- The shares of a tree's workers: each is a part of the book.
-use Rattle.std.specs.Prelude.{◌≡◌, ℕ, List, sum_by}
+-- The shares of a tree's workers: each is a part of the book's insertions and removals.
+use Rattle.std.specs.Prelude.{◌≡◌, ℕ, ◌+◌, List, sum_by, Some, None, refl}
+use Rattle.std.specs.Coded.{Coded, code_by, coded×, coded_ℕ}
 use Rattle.std.specs.declared.sync.ledger.Blank.{Blank}
 use Rattle.bw_step.specs.declared.survey.Book.{Book}
 use Rattle.bw_step.specs.declared.receipt.Receipt.{Receipt}
-use Rattle.bw_step.specs.Tellings.{telling_of}
-use Rattle.bw_law.specs.Tables.{book_with}
+use Rattle.bw_step.specs.Tellings.{Telling, change, telling_of}
 
-abbrev pub book_of : ℕ → ℕ → Book
-book_of inserted removed = record { inserted = inserted; removed = removed }
+-- so many insertions and removals; modifications are no part of a share
+pub record ShareValue : Type 0 where
+  pub inserted : ℕ
+  pub removed : ℕ
+
+-- how the logic tells shares apart
+abbrev pub share_code : Coded ShareValue
+share_code = code_by (ℕ × ℕ) (coded× coded_ℕ coded_ℕ) (λ s. (s.inserted, s.removed)) (λ p. record { inserted = p.0; removed = p.1 }) (λ _. refl)
+
+abbrev pub share_of : ℕ → ℕ → ShareValue
+share_of inserted removed = record { inserted = inserted; removed = removed }
+
+-- what of a book the shares hold
+abbrev pub shared_in : Book → ShareValue
+shared_in book = share_of book.inserted book.removed
 
 -- the share of a worker that has changed nothing
-abbrev pub no_changes : Book
-no_changes = record { inserted = 0; removed = 0 }
+abbrev pub no_changes : ShareValue
+no_changes = share_of 0 0
 
--- the share after an accepted step with this receipt: it counts what the book counts
-abbrev pub counted : Book → Receipt → Book
-counted share receipt = book_with share (telling_of receipt)
+-- the share with what a receipt tells: a key that got a value was inserted, and one that lost its value was removed
+abbrev pub share_with : ShareValue → Telling → ShareValue
+share_with share (change number key None (Some value)) = record share { inserted = share.inserted + 1 }
+share_with share (change number key (Some value) None) = record share { removed = share.removed + 1 }
+share_with share told = share
+
+-- the share after an accepted step with this receipt
+abbrev pub counted : ShareValue → Receipt → ShareValue
+counted share receipt = share_with share (telling_of receipt)
 
 -- all insertions and all removals of the shares
-abbrev pub sum_of : List Book → Book
-sum_of shares = book_of (sum_by (λ (share : Book). share.inserted) shares) (sum_by (λ (share : Book). share.removed) shares)
+abbrev pub sum_of : List ShareValue → ShareValue
+sum_of shares = share_of (sum_by (λ (share : ShareValue). share.inserted) shares) (sum_by (λ (share : ShareValue). share.removed) shares)
 
 -- a type with this name and so many parts may stand for the blank ledger
 abbrev pub Opens : ℕ → ℕ → Blank → Type 0

@@ -3,18 +3,17 @@ use Rattle.std.specs.Prelude.{◌≡◌, ℕ, ◌+◌, ◌<◌, Bool, true, fals
 use Rattle.bw_keys.specs.declared.config.Config.{Config}
 use Rattle.bw_keys.specs.Limits.{first_bad_field, is_out_of}
 use Rattle.bw_keys.specs.Ranges.{key_count}
-use Rattle.bw_step.specs.declared.survey.Book.{Book}
 use Rattle.bw_law.specs.Laws.{HasOneRow, HasOneWalk, IsTheMap}
 use Rattle.bw_law.specs.Tables.{TableValue, Lawful, Booked, outlines, joined_pairs}
 use Rattle.bw_law.specs.Walks.{IsRowOf}
-use Rattle.bw_tree.specs.Shares.{book_of}
+use Rattle.bw_tree.specs.Shares.{ShareValue, share_of, shared_in}
 use Rattle.bw_tree.specs.declared.fault.NewFault.{NewFault}
 use Rattle.bw_tree.specs.declared.fault.NewFault.TheVariants.{BadConfig, BadWorkers, NoMemory}
 
 -- the leaf row's pairs are as many as the insertions less the removals
-abbrev pub CountsPairs : TableValue → Book → Type 0
-CountsPairs table book =
-    (row : List ℕ) → IsRowOf (outlines table.slots) key_count 0 row → book.inserted ≡ book.removed + length (joined_pairs table.slots row)
+abbrev pub CountsPairs : TableValue → ShareValue → Type 0
+CountsPairs table share =
+    (row : List ℕ) → IsRowOf (outlines table.slots) key_count 0 row → share.inserted ≡ share.removed + length (joined_pairs table.slots row)
 
 -- The table is lawful. So its leaves, along the side links, partition the keys; each search from the root ends at the one leaf whose range
 -- holds its key; and the leaves' pairs are the map, and as many as the book says.
@@ -24,13 +23,13 @@ pub record IsTree (table : TableValue) : Type 0 where
   pub leaves : HasOneRow table 0
   pub searches : (key : ℕ) → key < key_count → HasOneWalk table key
   pub map : IsTheMap table (joined_pairs table.slots leaves.row)
-  pub pairs : CountsPairs table table.book
+  pub pairs : CountsPairs table (shared_in table.book)
 
--- the table is lawful, and its book is these insertions and removals
+-- the table is lawful, and its book has these insertions and removals
 pub record IsBookOf (table : TableValue) (inserted removed : ℕ) : Type 0 where
   pub lawful : Lawful table
   pub booked : Booked table
-  pub totals : table.book ≡ book_of inserted removed
+  pub totals : shared_in table.book ≡ share_of inserted removed
 
 -- there are no workers, or too many
 abbrev pub is_bad_number : ℕ → Bool

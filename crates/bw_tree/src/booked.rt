@@ -6,7 +6,7 @@ ghost use Rattle.bw_law.specs.Tables.{new_table};
 ghost use Rattle.bw_law.specs.Laws.{MapAfter};
 ghost use Rattle.bw_law.specs.Refusals.{refusal};
 ghost use Rattle.bw_law.specs.Effects.{TakesStep};
-ghost use Rattle.bw_tree.specs.Shares.{no_changes, counted, sum_of, Opens};
+ghost use Rattle.bw_tree.specs.Shares.{no_changes, counted, shared_in, sum_of, Opens};
 ghost use Rattle.bw_step.specs.Steps.{IsReceiptOf};
 ghost use Rattle.bw_tree.specs.Trees.{IsTree, IsBookOf, CountsPairs, IsNewFault, MayBeMade, is_bad_number};
 
@@ -147,7 +147,7 @@ impl<A: Allocator + Copy, I: MadeBy, D: Ledger> Booked<A, I, D> {
         ensures table { IfOk result (λ table. table ≡ self) }
         ensures config { IfOk result (λ table. table.config ≡ I.config) }
         ensures tree { IfOk result IsTree }
-        ensures book { IfOk result (λ table. table.book ≡ sum_of shares.items) }
+        ensures book { IfOk result (λ table. shared_in table.book ≡ sum_of shares.items) }
         ensures pairs { IfOk result (λ table. CountsPairs table (sum_of shares.items)) }
         ensures all { IsOk result ↔ (length shares.items ≡ I.parts) }
         ensures missing { OnErr result (length shares.items < I.parts) }

@@ -2,7 +2,7 @@
 //! share counts is known to contracts alone.
 
 ghost use Rattle.std.specs.Prelude.{◌≡◌, ◌<◌, ◌≤◌, ◌↔◌, [], length, IsOk, OnOk, OnErr, IfSome, IfNone};
-ghost use Rattle.bw_tree.specs.Shares.{sum_of, counted, book_of};
+ghost use Rattle.bw_tree.specs.Shares.{sum_of, counted, share_of};
 
 use crate::fault::MissingShare;
 use bw_step::Receipt;
@@ -34,7 +34,8 @@ impl Blanks {
     }
 }
 
-/// One worker's insertions and removals. Contracts see it as its part of the book.
+/// One worker's insertions and removals. Contracts see it as its part of the
+/// book, in which modifications are nobody's.
 #[derive(Drop)]
 pub struct Share<I: Ledger, D: Ledger> {
     pub(crate) insertions: ledger::Share<I>,
@@ -43,9 +44,11 @@ pub struct Share<I: Ledger, D: Ledger> {
 
 impl<I: Ledger, D: Ledger> Model for Share<I, D> {
     ghost use Rattle.std.specs.Prelude.{◌≡◌};
-    ghost use Rattle.bw_step.specs.declared.survey.Book.{Book};
+    ghost use Rattle.bw_tree.specs.Shares.{ShareValue, share_code};
 
-    ghost Value = { Book };
+    ghost Value = { ShareValue };
+
+    ghost coded = { share_code };
 
     ghost view = { λ s. record { inserted = s.insertions.amount; removed = s.removals.amount } };
 
@@ -62,12 +65,12 @@ impl<I: Ledger, D: Ledger> Share<I, D> {
         removals: &mut Book<D>,
     )
         ensures share { self.new ≡ counted self.old receipt }
-        ensures totals { book_of insertions.new.total removals.new.total ≡ counted (book_of insertions.old.total removals.old.total) receipt }
+        ensures totals { share_of insertions.new.total removals.new.total ≡ counted (share_of insertions.old.total removals.old.total) receipt }
     {
         match receipt {
             Receipt::Inserted { .. } => insertions.add(&mut self.insertions, 1),
             Receipt::Deleted { .. } => removals.add(&mut self.removals, 1),
-            Receipt::Looked { .. } | Receipt::Shaped { .. } => {}
+            Receipt::Modified { .. } | Receipt::Looked { .. } | Receipt::Shaped { .. } => {}
         }
     }
 }

@@ -2,7 +2,7 @@
 
 ghost use Rattle.std.specs.Prelude.{◌≡◌, ◌<◌, ◌↔◌, IsOk, IfOk, IfErr, OnErr, MatchResult, All, length};
 ghost use Rattle.bw_step.specs.ProposalView.{proposal_of};
-ghost use Rattle.bw_tree.specs.Shares.{no_changes, counted, sum_of, Opens};
+ghost use Rattle.bw_tree.specs.Shares.{no_changes, counted, shared_in, sum_of, Opens};
 ghost use Rattle.bw_step.specs.Steps.{IsReceiptOf, IsRefusal};
 ghost use Rattle.bw_tree.specs.Trees.{IsTree, CountsPairs, IsNewFault, MayBeMade};
 
@@ -60,7 +60,7 @@ impl<R: Wait + Drop, A: Allocator + Copy, I: MadeBy, D: Ledger> Tree<R, A, I, D>
     pub fn close(self, shares: Vec<Share<I, D>>) -> Result<Table<A>, MissingShare>
         ensures config { IfOk result (λ table. table.config ≡ I.config) }
         ensures tree { IfOk result IsTree }
-        ensures book { IfOk result (λ table. table.book ≡ sum_of shares.items) }
+        ensures book { IfOk result (λ table. shared_in table.book ≡ sum_of shares.items) }
         ensures pairs { IfOk result (λ table. CountsPairs table (sum_of shares.items)) }
         ensures all { IsOk result ↔ (length shares.items ≡ I.parts) }
         ensures missing { OnErr result (length shares.items < I.parts) }

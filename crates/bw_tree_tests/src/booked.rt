@@ -50,7 +50,19 @@ fn the_first_fault_of_a_making_is_named(rt: HostRuntime) {
     }
 }
 
-/// What a table was after two insertions by one of two workers, and what its closing answers where the
+const CHANGES: [Change; 3] = [
+    Change::Insert(0, 1, 1),
+    Change::Insert(0, 2, 2),
+    Change::Modify(0, 1, 10),
+];
+
+const BOOK: Book = Book {
+    inserted: 2,
+    removed: 0,
+    modified: 1,
+};
+
+/// What a table was after two insertions and a modification by one of two workers, and what its closing answers where the
 /// other's share is missing.
 #[derive(Drop)]
 struct Kept {
@@ -67,8 +79,8 @@ fn keep<I: MadeBy, D: Ledger>(machine: Global, config: Config, blanks: Blanks) -
 {
     let (mut booked, mut shares) = Booked::<Global, I, D>::new(machine, machine, config, blanks)?;
     let mut share = shares.pop().ok_or("there is no share")?;
-    for key in 1..3 {
-        let step = step_of(machine, booked.table(), Change::Insert(0, key, key))?;
+    for change in CHANGES {
+        let step = step_of(machine, booked.table(), change)?;
         booked.install(&mut share, step)?;
     }
     let Survey { levels, book, .. } = booked.table().survey(machine)?;
@@ -87,7 +99,7 @@ fn a_closing_asks_for_each_share(rt: HostRuntime) -> Result<(), Fail> {
     let kept = keep::<Brand, Brand>(rt.alloc(), SMALL, Blanks::new(2))?;
     assert_eq!(rt; kept.leaves.as_slice(), [(0, Fence::Top, 2)].as_slice());
     assert_eq!(rt; kept.levels, 1);
-    assert_eq!(rt; (kept.book.inserted, kept.book.removed), (2, 0));
+    assert_eq!(rt; kept.book, BOOK);
     assert_eq!(rt; kept.missing, Some(MissingShare));
     Ok(())
 }

@@ -41,6 +41,12 @@ fn told(receipt: &Receipt) -> Option<(u64, Key, Option<u64>)> {
     match *receipt {
         Receipt::Inserted { number, key, value } => Some((number, key, Some(value))),
         Receipt::Deleted { number, key, .. } => Some((number, key, None)),
+        Receipt::Modified {
+            number,
+            key,
+            value,
+            ..
+        } => Some((number, key, Some(value))),
         _ => None,
     }
 }
@@ -79,7 +85,9 @@ fn count_changes(trails: &[Vec<Receipt>]) -> u64 {
 
 fn position(receipt: &Receipt) -> Option<u64> {
     match *receipt {
-        Receipt::Inserted { number, .. } | Receipt::Deleted { number, .. } => Some(number),
+        Receipt::Inserted { number, .. }
+        | Receipt::Deleted { number, .. }
+        | Receipt::Modified { number, .. } => Some(number),
         Receipt::Looked { at, .. } => Some(at),
         Receipt::Shaped { .. } => None,
     }
@@ -113,6 +121,12 @@ fn is_bad(
         }
         Receipt::Inserted { number, key, .. } => (number, key, None),
         Receipt::Deleted { number, key, value } => (number, key, Some(value)),
+        Receipt::Modified {
+            number,
+            key,
+            old,
+            ..
+        } => (number, key, Some(old)),
     };
     let Some(before) = number.checked_sub(1) else {
         return Ok(true);
@@ -171,6 +185,24 @@ fn drawn_telling(rng: &mut Pcg32) -> Telling {
     }
 }
 
+/// The change with this number, of a key that has this.
+fn drawn_change(rng: &mut Pcg32, number: u64, key: Key, has: Option<u64>) -> Receipt {
+    match has {
+        Some(old) if rng.next_u32() % 2 == 0 => Receipt::Modified {
+            number,
+            key,
+            old,
+            value: drawn_key(rng),
+        },
+        Some(value) => Receipt::Deleted { number, key, value },
+        None => Receipt::Inserted {
+            number,
+            key,
+            value: drawn_key(rng),
+        },
+    }
+}
+
 /// A receipt that is true behind those of its worker, when all trails are these.
 fn drawn_receipt(
     alloc: Global,
@@ -200,15 +232,8 @@ fn drawn_receipt(
             })
         }
         Telling::Change => {
-            let number = count.saturating_add(1);
-            match map_after(alloc, trails, count)?.get(&key).copied() {
-                Some(value) => Ok(Receipt::Deleted { number, key, value }),
-                None => Ok(Receipt::Inserted {
-                    number,
-                    key,
-                    value: drawn_key(rng),
-                }),
-            }
+            let has = map_after(alloc, trails, count)?.get(&key).copied();
+            Ok(drawn_change(rng, count.saturating_add(1), key, has))
         }
     }
 }
@@ -269,6 +294,10 @@ fn alter_change(rng: &mut Pcg32, number: &mut u64, key: &mut Key, value: &mut u6
     }
 }
 
+fn alter_old(rng: &mut Pcg32, old: &mut u64) {
+    *old = other_than(*old, drawn_key(rng));
+}
+
 /// Changes one field of a look.
 fn alter_look(rng: &mut Pcg32, at: &mut u64, key: &mut Key, found: &mut Option<u64>) {
     match rng.next_u32() % 3 {
@@ -283,6 +312,18 @@ fn alter_receipt(rng: &mut Pcg32, receipt: &mut Receipt) {
     match receipt {
         Receipt::Inserted { number, key, value } => alter_change(rng, number, key, value),
         Receipt::Deleted { number, key, value } => alter_change(rng, number, key, value),
+        Receipt::Modified {
+            number,
+            key,
+            old,
+            value,
+        } => {
+            if rng.next_u32() % 4 == 0 {
+                alter_old(rng, old);
+            } else {
+                alter_change(rng, number, key, value);
+            }
+        }
         Receipt::Looked { at, key, found } => alter_look(rng, at, key, found),
         Receipt::Shaped { .. } => {}
     }
@@ -327,6 +368,35 @@ fn altered(alloc: Global, rng: &mut Pcg32, legal: &History) -> Result<History, F
     Ok(History { trails, pairs })
 }
 
+/// The first modification: its worker, and its place in the trail.
+fn first_modification(trails: &[Vec<Receipt>]) -> Option<(usize, usize)> {
+    for (worker, trail) in trails.iter().enumerate() {
+        let place = trail
+            .iter()
+            .position(|receipt| matches!(receipt, Receipt::Modified { .. }));
+        if let Some(place) = place {
+            return Some((worker, place));
+        }
+    }
+    None
+}
+
+/// The history where the first modification tells another old value, and the verdict on it: that very
+/// receipt is bad, and no other. None where there is no modification.
+fn with_another_old(rng: &mut Pcg32, legal: &History) -> Result<Option<(History, Verdict)>, Fail> {
+    let mut trails = legal.trails.clone()?;
+    let pairs = legal.pairs.clone()?;
+    let Some((worker, place)) = first_modification(&trails) else {
+        return Ok(None);
+    };
+    if let Some(trail) = trails.get_mut(worker) {
+        if let Some(Receipt::Modified { old, .. }) = trail.get_mut(place) {
+            alter_old(rng, old);
+        }
+    }
+    Ok(Some((History { trails, pairs }, Verdict::No(worker, place))))
+}
+
 /// The auditor's verdict, where the keys of the pairs rise.
 fn audited(alloc: Global, history: &History) -> Result<Verdict, Fail> {
     if is_ascending(history.pairs.as_slice()) {
@@ -353,5 +423,22 @@ fn legal_histories_and_altered_ones_are_judged_alike(rt: HostRuntime) -> Result<
         was_legal = was_legal || expected == Verdict::Yes;
     }
     assert!(rt; was_bad && was_legal);
+    Ok(())
+}
+
+#[test]
+fn a_modification_of_another_value_is_found_out(rt: HostRuntime) -> Result<(), Fail> {
+    let alloc = rt.alloc();
+    let mut rng = Pcg32::seed_from_u64(8);
+    let mut many = 0u32;
+    for _ in 0..1000 {
+        let legal = drawn_history(alloc, &mut rng)?;
+        if let Some((other, verdict)) = with_another_old(&mut rng, &legal)? {
+            assert_eq!(rt; audited(alloc, &other)?, verdict);
+            assert_eq!(rt; judged(alloc, &other)?, verdict);
+            many = many.saturating_add(1);
+        }
+    }
+    assert!(rt; many > 500, "{many}");
     Ok(())
 }

@@ -55,10 +55,15 @@ fn drawn_steps_from_two_threads_are_counted(rt: HostRuntime) -> Result<(), Fail>
     assert!(rt; zero.has_changes() && one.has_changes(), "{zero:?} {one:?}");
     let inserted = zero.inserted.saturating_add(one.inserted);
     let deleted = zero.deleted.saturating_add(one.deleted);
+    let modified = zero.modified.saturating_add(one.modified);
     let survey = table.survey(machine)?;
     assert_eq!(rt;
-        (survey.book.inserted, survey.book.removed),
-        (inserted, deleted)
+        (
+            survey.book.inserted,
+            survey.book.removed,
+            survey.book.modified
+        ),
+        (inserted, deleted, modified)
     );
     let many = table.pairs(machine)?.len() as u64;
     assert_eq!(rt; inserted.checked_sub(deleted), Some(many));

@@ -5,7 +5,7 @@ ghost use Rattle.std.specs.Prelude.{◌≡◌};
 use bw_audit::{Act, Event, ReplayFault, Replayed, Verdict, audit, is_ascending, replay};
 use bw_delta::{NoMemory, Spare};
 use bw_keys::{BadConfig, Config, Field, Key, Pid, Version};
-use bw_step::{Insert, Receipt, Step};
+use bw_step::{Insert, Modify, Receipt, Step};
 use bw_test_kit::{SMALL, receipt};
 use std::alloc::Global;
 use std::test::Fail;
@@ -21,7 +21,7 @@ type Row = (
 /// A pair that comes and goes.
 const CHANGES: [Receipt; 2] = [receipt!(inserted 1, 5 => 50), receipt!(deleted 2, 5 => 50)];
 
-static ROWS: [Row; 12] = [
+static ROWS: [Row; 18] = [
     // another worker sees a pair while it is there
     (
         0,
@@ -39,6 +39,74 @@ static ROWS: [Row; 12] = [
             &[receipt!(looked 1, 5, None), receipt!(looked 2, 5, None)],
         ],
         &[],
+        Verdict::No(1, 0),
+    ),
+    // a modification tells the value that was there, and the map has the other one from then on
+    (
+        0,
+        &[
+            &[
+                receipt!(inserted 1, 5 => 50),
+                receipt!(modified 2, 5, 50 => 51),
+                receipt!(modified 3, 5, 51 => 52),
+            ],
+            &[
+                receipt!(looked 1, 5, Some(50)),
+                receipt!(looked 2, 5, Some(51)),
+                receipt!(looked 3, 5, Some(52)),
+                receipt!(deleted 4, 5 => 52),
+            ],
+        ],
+        &[],
+        Verdict::Yes,
+    ),
+    (
+        0,
+        &[&[
+            receipt!(inserted 1, 5 => 50),
+            receipt!(modified 2, 5, 49 => 51),
+        ]],
+        &[(5, 51)],
+        Verdict::No(0, 1),
+    ),
+    (
+        0,
+        &[&[receipt!(modified 1, 5, 50 => 51)]],
+        &[(5, 51)],
+        Verdict::No(0, 0),
+    ),
+    (
+        0,
+        &[
+            &[
+                receipt!(inserted 1, 5 => 50),
+                receipt!(modified 2, 5, 50 => 51),
+            ],
+            &[receipt!(looked 2, 5, Some(50))],
+        ],
+        &[(5, 51)],
+        Verdict::No(1, 0),
+    ),
+    (
+        0,
+        &[&[
+            receipt!(inserted 1, 5 => 50),
+            receipt!(modified 2, 5, 50 => 51),
+        ]],
+        &[(5, 50)],
+        Verdict::No(1, 0),
+    ),
+    // of two modifications of one value only one can be
+    (
+        0,
+        &[
+            &[
+                receipt!(inserted 1, 5 => 50),
+                receipt!(modified 2, 5, 50 => 51),
+            ],
+            &[receipt!(modified 3, 5, 50 => 52)],
+        ],
+        &[(5, 52)],
         Verdict::No(1, 0),
     ),
     // positions rise, and the pairs are those left
@@ -164,6 +232,22 @@ fn put(worker: u32, key: Key, value: u64, spare: Spare<Global>) -> Event
     }
 }
 
+/// A worker gives a key of page 0 another value, as it saw the page after one change.
+fn modify(worker: u32, key: Key, value: u64, spare: Spare<Global>) -> Event
+    ensures { result.worker ≡ worker }
+{
+    Event {
+        worker,
+        act: Act::Step(Step::Modify(Modify {
+            page: Pid(0),
+            seen: Version(1),
+            key,
+            value,
+            spare,
+        })),
+    }
+}
+
 fn look(worker: u32, key: Key) -> Event
     ensures { result.worker ≡ worker }
 {
@@ -180,14 +264,22 @@ fn a_replay_leaves_the_receipts_of_its_interleaving(rt: HostRuntime) -> Result<(
     events.push(put(0, 5, 50, Spare::new(alloc)?))?;
     events.push(look(1, 5))?;
     events.push(put(1, 6, 60, Spare::new(alloc)?))?;
+    events.push(modify(0, 5, 51, Spare::new(alloc)?))?;
+    events.push(look(1, 5))?;
     let Replayed { table, trails } = replay(alloc, SMALL, 2, events)?;
     let listed: [&[Receipt]; 2] = [
-        &[receipt!(inserted 1, 5 => 50)],
-        &[receipt!(looked 1, 5, Some(50))],
+        &[
+            receipt!(inserted 1, 5 => 50),
+            receipt!(modified 2, 5, 50 => 51),
+        ],
+        &[
+            receipt!(looked 1, 5, Some(50)),
+            receipt!(looked 2, 5, Some(51)),
+        ],
     ];
     assert_eq!(rt; trails, trails_of(alloc, 0, &listed)?);
     let pairs = table.pairs(alloc)?;
-    assert_eq!(rt; pairs.as_slice(), [(5, 50)].as_slice());
+    assert_eq!(rt; pairs.as_slice(), [(5, 51)].as_slice());
     assert_eq!(rt; audit(alloc, &trails, &pairs)?, Verdict::Yes);
     Ok(())
 }

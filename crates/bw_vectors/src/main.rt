@@ -13,8 +13,9 @@ use std::process::ExitCode;
 
 /// The traces in the folder `data`. Of each there are the options and the rows, and what was foretold:
 /// the lines of replies, leaves and counts, and the history.
-const NAMES: [&str; 10] = [
+const NAMES: [&str; 13] = [
     "churn",
+    "clear_all",
     "extreme_keys",
     "falling_small_pages",
     "few_tries",
@@ -23,6 +24,8 @@ const NAMES: [&str; 10] = [
     "mixed_deep_chain",
     "mixed_default",
     "rising_small_pages",
+    "set_and_clear",
+    "sets",
     "table_full",
 ];
 

@@ -74,7 +74,7 @@ fn work<S: Steps<Global, Step<Global>>>(
 ) -> Result<String> {
     let mut lines = String::new(alloc);
     for row in rows {
-        let reply = do_act(steps, row.act)?;
+        let reply = do_act(steps, alloc, row.act)?;
         writeln!(lines, "{reply}")?;
     }
     Ok(lines)

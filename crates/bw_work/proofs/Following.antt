@@ -8,7 +8,7 @@ use Rattle.bw_step.specs.declared.receipt.Receipt.{Receipt}
 use Rattle.bw_step.specs.declared.receipt.Receipt.TheVariants.{Looked}
 use Rattle.bw_step.specs.declared.view.Look.{Look}
 use Rattle.bw_step.specs.Stages.{is_in_row}
-use Rattle.bw_step.specs.Proposals.{Proposal, insert, delete}
+use Rattle.bw_step.specs.Proposals.{Proposal, insert, delete, modify}
 use Rattle.bw_step.specs.Tellings.{telling_of}
 use Rattle.bw_law.specs.Slots.{pairs_in}
 use Rattle.bw_law.specs.Tables.{TableValue, slot_at, number_of, Lawful, Booked, is_leaf_in_row}
@@ -27,6 +27,7 @@ use Rattle.bw_work.specs.Leading.{BearsNumber, Tells, Leads, leads_stay}
 step_number : (table : TableValue) (step : Proposal) → BearsNumber (telling_of (receipt_of table step)) (after table step).book
 step_number table (insert page seen key value) = omega arith
 step_number table (delete page seen key) = omega arith
+step_number table (modify page seen key value) = omega arith
 step_number table step = tt
 
 -- what an accepted step makes of the table is what its receipt tells

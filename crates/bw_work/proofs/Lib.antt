@@ -2,3 +2,4 @@ pub mod Calming
 pub mod Copies
 pub mod Following
 pub mod Sharing
+pub mod Removals

@@ -4,8 +4,7 @@ use Rattle.std.proofs.Common.{◌∙◌, ap, sym, subst, append_assoc, append-ni
 use Rattle.bw_step.specs.declared.receipt.Receipt.{Receipt}
 use Rattle.bw_step.specs.declared.survey.Book.{Book}
 use Rattle.bw_step.specs.Tellings.{Telling, change, look, shape, telling_of}
-use Rattle.bw_law.specs.Tables.{TableValue, number_of, TellsMap}
-use Rattle.bw_tree.specs.Shares.{counted}
+use Rattle.bw_law.specs.Tables.{TableValue, number_of, book_with, TellsMap}
 
 -- a change bears the number that the book has with it, and a look the number that the book had
 abbrev pub BearsNumber : Telling → Book → Type 0
@@ -16,7 +15,7 @@ BearsNumber shape book = Unit {0}
 -- what a receipt tells of the table before it and after it
 pub record Tells (receipt : Receipt) (old new : TableValue) : Type 0 where
   pub map : TellsMap (telling_of receipt) old.slots new.slots
-  pub book : new.book ≡ counted old.book receipt
+  pub book : new.book ≡ book_with old.book (telling_of receipt)
   pub number : BearsNumber (telling_of receipt) new.book
 
 -- the receipts, one after the other, lead from the old table to the new, and where there is none nothing has changed

@@ -187,6 +187,9 @@ impl<'t, A: Allocator + Copy, S: Shared<A, Step<A>>, G: Gate> Steps<A, Step<A>>
 fn pass<G: Gate>(gate: &G, worker: u32, receipt: Receipt) {
     match receipt {
         Receipt::Shaped { kind, .. } => gate.at(worker, kind),
-        Receipt::Inserted { .. } | Receipt::Deleted { .. } | Receipt::Looked { .. } => {}
+        Receipt::Inserted { .. }
+        | Receipt::Deleted { .. }
+        | Receipt::Modified { .. }
+        | Receipt::Looked { .. } => {}
     }
 }

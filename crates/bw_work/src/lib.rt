@@ -10,8 +10,8 @@ mod hand;
 
 pub use alone::Alone;
 pub use bw_procedures::{
-    Act, Del, Done, Ends, Fault, Keep, Put, Reply, Slice, Steps, delete, do_act, get, help,
-    page_from, put, tend,
+    Act, Cleared, Del, Done, Ends, Fault, Keep, Put, Reply, Set, Slice, Steps, clear, delete,
+    do_act, get, help, page_from, put, set, tend,
 };
 pub use gate::{Gate, Open};
 pub use hand::Hand;

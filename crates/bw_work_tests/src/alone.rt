@@ -113,6 +113,44 @@ const WORN: [Row; 1] = [(
     1,
 )];
 
+/// A key that is modified, and back; a modification of a key that isn't there, and one that is stale.
+const MODIFY: [Row; 6] = [
+    (Ask::Take(Change::Insert(0, 1, 1)), taken!(inserted 1, 1), 0),
+    (
+        Ask::Take(Change::Modify(0, 1, 10)),
+        taken!(modified 2, 1, 1 => 10),
+        0,
+    ),
+    (
+        Ask::Take(Change::Modify(0, 2, 20)),
+        Answer::Taken(Err(Denied::Refused(Refused::NoKey))),
+        1,
+    ),
+    (
+        Ask::TakeStale(Change::Modify(0, 1, 11)),
+        Answer::Taken(Err(Denied::Refused(Refused::Stale))),
+        2,
+    ),
+    (Ask::Look(0, 1, Keep::IfFound), Answer::Looked(TEN), 2),
+    (
+        Ask::Take(Change::Modify(0, 1, 1)),
+        taken!(modified 3, 1, 10 => 1),
+        2,
+    ),
+];
+
+const TEN: Option<Look> = Some(Look {
+    found: Some(10),
+    at: 2,
+});
+
+const MODIFIED: [Receipt; 4] = [
+    receipt!(inserted 1, 1),
+    receipt!(modified 2, 1, 1 => 10),
+    receipt!(looked 2, 1, Some(10)),
+    receipt!(modified 3, 1, 10 => 1),
+];
+
 /// Takes the step, and lets the table beside take one like it, whose pages it fits.
 fn take<S: Steps<Global, Step<Global>>>(
     machine: Global,
@@ -196,8 +234,9 @@ const ONE_WORN: Ends = Ends {
 /// there.
 type Case = (Config, &'static [Row], &'static [Receipt], Ends, Key);
 
-static CASES: [Case; 2] = [
+static CASES: [Case; 3] = [
     (SMALL, &PUT_FIVE, &TRAIL, NO_ENDS, 5),
+    (SMALL, &MODIFY, &MODIFIED, NO_ENDS, 1),
     (LAST, &WORN, &[], ONE_WORN, 0),
 ];
 

@@ -5,6 +5,14 @@
 #[cfg(test)]
 mod alone;
 #[cfg(test)]
+mod clear_beside;
+#[cfg(test)]
+mod clear_memory;
+#[cfg(test)]
+mod clear_rows;
+#[cfg(test)]
+mod clears;
+#[cfg(test)]
 mod counts;
 #[cfg(test)]
 mod lone_calls;

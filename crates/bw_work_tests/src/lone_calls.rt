@@ -1,30 +1,36 @@
 //! Each call of a worker that is alone, and of one by its hand, by its own name.
 
-use bw_keys::Pid;
+use bw_keys::{Fence, Pid};
 use bw_step::{Step, Todo};
 use bw_table::Table;
 use bw_test_kit::{Pages, Play, Reply, SMALL, Turns, Worked, play_on_new_tree};
 use bw_tree::{Share, Shared};
-use bw_work::{Alone, Del, Fault, Hand, Open, Put, Steps};
+use bw_work::{Alone, Cleared, Del, Fault, Hand, Open, Put, Set, Steps};
 use std::alloc::Global;
 use std::test::Fail;
 
 /// Makes the calls that change and show pairs.
-fn replies(machine: Global, alone: &mut Alone<'_, Global>) -> Result<[Reply; 5], Fault> {
+fn replies(machine: Global, alone: &mut Alone<'_, Global>) -> Result<[Reply; 7], Fault> {
     let first = alone.put(9, 1)?.reply;
     let second = alone.put(9, 2)?.reply;
+    let third = alone.set(9, 3)?.reply;
     let found = alone.get(9)?;
     let slice = alone.page_from(machine, 0)?;
     let pair = match slice.pairs.as_slice() {
         [(key, value)] => Reply::Pair(*key, *value),
         _ => Reply::Next(slice.next),
     };
+    let deleted = alone.delete(9)?.reply;
+    alone.put(8, 4)?;
+    let Cleared { removed, .. } = alone.clear(machine, 0, Fence::Top);
     Ok([
         Reply::Put(first),
         Reply::Put(second),
+        Reply::Set(third),
         Reply::Get(found),
         pair,
-        Reply::Delete(alone.delete(9)?.reply),
+        Reply::Delete(deleted),
+        Reply::Clear(removed),
     ])
 }
 
@@ -44,26 +50,35 @@ fn a_lone_worker_has_each_call(rt: HostRuntime) -> Result<(), Fail> {
     let wanted = [
         Reply::Put(Put::Inserted),
         Reply::Put(Put::Present(1)),
-        Reply::Get(Some(1)),
-        Reply::Pair(9, 1),
-        Reply::Delete(Del::Removed(1)),
+        Reply::Set(Set::Replaced(1)),
+        Reply::Get(Some(3)),
+        Reply::Pair(9, 3),
+        Reply::Delete(Del::Removed(3)),
+        Reply::Clear(1),
     ];
     assert_eq!(rt; replies(machine, &mut alone), Ok(wanted));
-    assert_eq!(rt; efforts(&mut alone), Ok((0, 1)));
-    assert_eq!(rt; alone.finish().len(), 4);
+    // the second pair was put over three records, and the page consolidated
+    assert_eq!(rt; efforts(&mut alone), Ok((1, 2)));
+    assert_eq!(rt; alone.finish().len(), 8);
     Ok(())
 }
 
-/// Tends and helps where there is nothing to do. The effort that this costs, if it leaves no receipt.
+/// Tends, helps and removes all keys where there is nothing to do. The effort that this costs, if it
+/// leaves no receipt.
 #[derive(Drop)]
 struct Idle {
     machine: Global,
 }
 
 fn idle_effort<S: Shared<Global, Step<Global>>>(
+    machine: Global,
     hand: &mut Hand<'_, Global, S, Open>,
 ) -> Result<Option<u64>, Fault> {
     hand.tend(Pid(0))?;
+    let Cleared { removed, fault } = hand.clear(machine, 0, Fence::Top);
+    if removed > 0 || fault.is_some() {
+        return Ok(None);
+    }
     for todo in [
         Todo::Post(Pid(1)),
         Todo::Merge(Pid(0)),
@@ -82,7 +97,7 @@ impl Play<Result<Option<u64>, Fault>> for Idle {
         share: Share<S::Insertions, S::Removals>,
     ) -> Worked<S::Insertions, S::Removals, Result<Option<u64>, Fault>> {
         let mut hand = Hand::new(self.machine, self.machine, tree, share, worker, &Open);
-        let told = idle_effort(&mut hand);
+        let told = idle_effort(self.machine, &mut hand);
         let (share, _) = hand.finish();
         Worked { share, told }
     }

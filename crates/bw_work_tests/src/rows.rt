@@ -4,7 +4,7 @@
 use bw_keys::{Config, Fence, Key};
 use bw_step::Receipt;
 use bw_test_kit::{Call, Change, Reply, SMALL, receipt};
-use bw_work::{Del, Fault, Put};
+use bw_work::{Del, Fault, Put, Set};
 
 pub(crate) struct Row {
     pub(crate) name: &'static str,
@@ -19,14 +19,14 @@ pub(crate) struct Row {
     /// What the calls leave on the trail.
     pub(crate) trail: &'static [Receipt],
     pub(crate) leaves: &'static [(Key, Fence, u64)],
-    /// How many pairs were inserted, and how many removed.
-    pub(crate) book: (u64, u64),
+    /// How many pairs were inserted, how many removed, and how many modified.
+    pub(crate) book: (u64, u64, u64),
     /// Steps that the table takes in the end, with their receipts.
     pub(crate) then: &'static [(Change, Receipt)],
 }
 
 /// A row without puts, calls and steps.
-const EMPTY: Row = Row {
+pub(crate) const EMPTY: Row = Row {
     name: "nothing",
     config: SMALL,
     puts: 0,
@@ -35,11 +35,11 @@ const EMPTY: Row = Row {
     replies: &[],
     trail: &[],
     leaves: &[(0, Fence::Top, 0)],
-    book: (0, 0),
+    book: (0, 0, 0),
     then: &[],
 };
 
-const FEW_PAGES: Config = Config {
+pub(crate) const FEW_PAGES: Config = Config {
     fanout: 4,
     chain: 4,
     pages: 8,
@@ -47,7 +47,7 @@ const FEW_PAGES: Config = Config {
     first_version: 0,
 };
 
-const ONE_TRY: Config = Config {
+pub(crate) const ONE_TRY: Config = Config {
     fanout: 4,
     chain: 4,
     pages: 64,
@@ -55,14 +55,14 @@ const ONE_TRY: Config = Config {
     first_version: 0,
 };
 
-const INSERTED: Reply = Reply::Put(Put::Inserted);
+pub(crate) const INSERTED: Reply = Reply::Put(Put::Inserted);
 
-pub(crate) static ROWS: [Row; 14] = [
+pub(crate) static ROWS: [Row; 21] = [
     Row {
         name: "the fifth put splits the leaf",
         puts: 5,
         leaves: &[(0, Fence::Key(3), 2), (3, Fence::Top, 3)],
-        book: (5, 0),
+        book: (5, 0, 0),
         ..EMPTY
     },
     Row {
@@ -87,7 +87,7 @@ pub(crate) static ROWS: [Row; 14] = [
             receipt!(Grow 2, 1),
         ],
         leaves: &[(0, Fence::Key(3), 2), (3, Fence::Top, 3)],
-        book: (5, 0),
+        book: (5, 0, 0),
         ..EMPTY
     },
     Row {
@@ -98,7 +98,7 @@ pub(crate) static ROWS: [Row; 14] = [
             (3, Fence::Key(5), 2),
             (5, Fence::Top, 3),
         ],
-        book: (7, 0),
+        book: (7, 0, 0),
         ..EMPTY
     },
     Row {
@@ -117,7 +117,7 @@ pub(crate) static ROWS: [Row; 14] = [
             receipt!(TermDelete 2, 1),
         ],
         leaves: &[(0, Fence::Key(5), 2), (5, Fence::Top, 3)],
-        book: (7, 2),
+        book: (7, 2, 0),
         ..EMPTY
     },
     Row {
@@ -130,7 +130,7 @@ pub(crate) static ROWS: [Row; 14] = [
         ],
         trail: &[receipt!(deleted 6, 1), receipt!(deleted 7, 2)],
         leaves: &[(0, Fence::Key(3), 0), (3, Fence::Top, 3)],
-        book: (5, 2),
+        book: (5, 2, 0),
         ..EMPTY
     },
     Row {
@@ -147,7 +147,7 @@ pub(crate) static ROWS: [Row; 14] = [
             (7, Fence::Key(9), 2),
             (9, Fence::Top, 5),
         ],
-        book: (13, 0),
+        book: (13, 0, 0),
         ..EMPTY
     },
     Row {
@@ -158,7 +158,7 @@ pub(crate) static ROWS: [Row; 14] = [
         replies: &[INSERTED, Reply::But(Fault::Contended)],
         trail: &[receipt!(inserted 5, 5), receipt!(Consolidate 0)],
         leaves: &[(0, Fence::Top, 5)],
-        book: (5, 0),
+        book: (5, 0, 0),
         ..EMPTY
     },
     Row {
@@ -178,7 +178,7 @@ pub(crate) static ROWS: [Row; 14] = [
             (3, Fence::Key(5), 2),
             (5, Fence::Top, 3),
         ],
-        book: (7, 0),
+        book: (7, 0, 0),
         ..EMPTY
     },
     Row {
@@ -197,7 +197,7 @@ pub(crate) static ROWS: [Row; 14] = [
             receipt!(looked 2, Key::MAX, Some(8)),
         ],
         leaves: &[(0, Fence::Top, 2)],
-        book: (2, 0),
+        book: (2, 0, 0),
         ..EMPTY
     },
     Row {
@@ -236,7 +236,187 @@ pub(crate) static ROWS: [Row; 14] = [
             receipt!(looked 3, Key::MAX, Some(8)),
         ],
         leaves: &[(0, Fence::Top, 1)],
-        book: (2, 1),
+        book: (2, 1, 0),
+        ..EMPTY
+    },
+    Row {
+        name: "a set gives a key a value, whether it has one or none",
+        calls: &[
+            Call::Set(9, 1),
+            Call::Set(9, 2),
+            Call::Get(9),
+            Call::Delete(9),
+        ],
+        replies: &[
+            Reply::Set(Set::Inserted),
+            Reply::Set(Set::Replaced(1)),
+            Reply::Get(Some(2)),
+            Reply::Delete(Del::Removed(2)),
+        ],
+        trail: &[
+            receipt!(inserted 1, 9 => 1),
+            receipt!(modified 2, 9, 1 => 2),
+            receipt!(looked 2, 9, Some(2)),
+            receipt!(deleted 3, 9 => 2),
+        ],
+        book: (1, 1, 1),
+        ..EMPTY
+    },
+    Row {
+        name: "the least and the greatest key are set, also to a value that is there",
+        calls: &[
+            Call::Set(0, u64::MAX),
+            Call::Set(Key::MAX, 0),
+            Call::Set(0, u64::MAX),
+            Call::Set(Key::MAX, u64::MAX),
+            Call::Put(0, 7),
+            Call::Slice(0),
+        ],
+        replies: &[
+            Reply::Set(Set::Inserted),
+            Reply::Set(Set::Inserted),
+            Reply::Set(Set::Replaced(u64::MAX)),
+            Reply::Set(Set::Replaced(0)),
+            Reply::Put(Put::Present(u64::MAX)),
+            Reply::Pair(0, u64::MAX),
+            Reply::Pair(Key::MAX, u64::MAX),
+            Reply::Next(None),
+        ],
+        trail: &[
+            receipt!(inserted 1, 0 => u64::MAX),
+            receipt!(inserted 2, Key::MAX => 0),
+            receipt!(modified 3, 0, u64::MAX => u64::MAX),
+            receipt!(modified 4, Key::MAX, 0 => u64::MAX),
+            receipt!(Consolidate 0),
+            receipt!(looked 4, 0, Some(u64::MAX)),
+        ],
+        leaves: &[(0, Fence::Top, 2)],
+        book: (2, 0, 2),
+        ..EMPTY
+    },
+    Row {
+        name: "sets of a key make a chain long, and no page big",
+        calls: &[
+            Call::Set(9, 1),
+            Call::Set(9, 2),
+            Call::Set(9, 3),
+            Call::Set(9, 4),
+            Call::Set(9, 5),
+        ],
+        replies: &[
+            Reply::Set(Set::Inserted),
+            Reply::Set(Set::Replaced(1)),
+            Reply::Set(Set::Replaced(2)),
+            Reply::Set(Set::Replaced(3)),
+            Reply::Set(Set::Replaced(4)),
+        ],
+        trail: &[
+            receipt!(inserted 1, 9 => 1),
+            receipt!(modified 2, 9, 1 => 2),
+            receipt!(modified 3, 9, 2 => 3),
+            receipt!(modified 4, 9, 3 => 4),
+            receipt!(Consolidate 0),
+            receipt!(modified 5, 9, 4 => 5),
+        ],
+        leaves: &[(0, Fence::Top, 1)],
+        book: (1, 0, 4),
+        ..EMPTY
+    },
+    Row {
+        name: "a full page is split by a set of a new key, and not of one that it has",
+        puts: 4,
+        calls: &[
+            Call::Set(2, 20),
+            Call::Set(2, 21),
+            Call::Set(5, 5),
+            Call::Get(2),
+        ],
+        replies: &[
+            Reply::Set(Set::Replaced(2)),
+            Reply::Set(Set::Replaced(20)),
+            Reply::Set(Set::Inserted),
+            Reply::Get(Some(21)),
+        ],
+        trail: &[
+            receipt!(modified 5, 2, 2 => 20),
+            receipt!(modified 6, 2, 20 => 21),
+            receipt!(inserted 7, 5),
+            receipt!(Consolidate 0),
+            receipt!(Split 0, 1),
+            receipt!(Grow 2, 1),
+            receipt!(looked 7, 2, Some(21)),
+        ],
+        leaves: &[(0, Fence::Key(3), 2), (3, Fence::Top, 3)],
+        book: (5, 0, 2),
+        ..EMPTY
+    },
+    Row {
+        name: "sets in a full table are answered",
+        config: FEW_PAGES,
+        puts: 12,
+        calls: &[Call::Set(13, 13), Call::Set(13, 14), Call::Set(1, 2)],
+        replies: &[
+            Reply::Set(Set::Inserted),
+            Reply::But(Fault::TableFull),
+            Reply::Set(Set::Replaced(13)),
+            Reply::But(Fault::TableFull),
+            Reply::Set(Set::Replaced(1)),
+        ],
+        trail: &[
+            receipt!(inserted 13, 13),
+            receipt!(Consolidate 5),
+            receipt!(modified 14, 13, 13 => 14),
+            receipt!(Consolidate 5),
+            receipt!(modified 15, 1, 1 => 2),
+        ],
+        leaves: &[
+            (0, Fence::Key(3), 2),
+            (3, Fence::Key(5), 2),
+            (5, Fence::Key(7), 2),
+            (7, Fence::Key(9), 2),
+            (9, Fence::Top, 5),
+        ],
+        book: (13, 0, 2),
+        ..EMPTY
+    },
+    Row {
+        name: "a split is finished by a set",
+        puts: 4,
+        unfinished: &[
+            Change::Insert(0, 5, 5),
+            Change::Consolidate(0),
+            Change::Split(0),
+        ],
+        calls: &[Call::Set(1, 9), Call::Set(4, 9), Call::Set(6, 6)],
+        replies: &[
+            Reply::Set(Set::Replaced(1)),
+            Reply::Set(Set::Replaced(4)),
+            Reply::Set(Set::Inserted),
+        ],
+        trail: &[
+            receipt!(modified 6, 1, 1 => 9),
+            receipt!(Grow 2, 1),
+            receipt!(modified 7, 4, 4 => 9),
+            receipt!(inserted 8, 6),
+        ],
+        leaves: &[(0, Fence::Key(3), 2), (3, Fence::Top, 4)],
+        book: (6, 0, 2),
+        ..EMPTY
+    },
+    Row {
+        name: "a merge is finished by a set",
+        puts: 7,
+        unfinished: &[Change::Mark(1, 2)],
+        calls: &[Call::Set(4, 9)],
+        replies: &[Reply::Set(Set::Replaced(4))],
+        trail: &[
+            receipt!(Merge 0, 1),
+            receipt!(TermDelete 2, 1),
+            receipt!(modified 8, 4, 4 => 9),
+            receipt!(Consolidate 0),
+        ],
+        leaves: &[(0, Fence::Key(5), 4), (5, Fence::Top, 3)],
+        book: (7, 0, 1),
         ..EMPTY
     },
     Row {
@@ -263,7 +443,7 @@ pub(crate) static ROWS: [Row; 14] = [
             receipt!(inserted 6, 6),
         ],
         leaves: &[(0, Fence::Key(3), 2), (3, Fence::Top, 4)],
-        book: (6, 0),
+        book: (6, 0, 0),
         ..EMPTY
     },
     Row {
@@ -278,7 +458,7 @@ pub(crate) static ROWS: [Row; 14] = [
             receipt!(looked 7, 4, Some(4)),
         ],
         leaves: &[(0, Fence::Key(5), 4), (5, Fence::Top, 3)],
-        book: (7, 0),
+        book: (7, 0, 0),
         ..EMPTY
     },
     Row {
@@ -295,7 +475,7 @@ pub(crate) static ROWS: [Row; 14] = [
             receipt!(looked 7, 6, Some(6)),
         ],
         leaves: &[(0, Fence::Top, 7)],
-        book: (7, 0),
+        book: (7, 0, 0),
         then: &[
             (Change::Consolidate(0), receipt!(Consolidate 0)),
             (Change::Split(0), receipt!(Split 0, 1)),

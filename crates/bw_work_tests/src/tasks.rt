@@ -1,5 +1,6 @@
 //! The rows, done alone and by hand.
 
+use crate::clear_rows::CLEARS;
 use crate::rows::{ROWS, Row};
 use bw_delta::NoMemory;
 use bw_step::{Book, Step};
@@ -85,14 +86,18 @@ fn is_as_foretold(
     told: &Told,
     table: &Table<Global>,
 ) -> Result<bool, NoMemory> {
-    let Book { inserted, removed } = table.survey(machine)?.book;
+    let Book {
+        inserted,
+        removed,
+        modified,
+    } = table.survey(machine)?.book;
     let many = table.pairs(machine)?.len() as u64;
     Ok(
         told.fault.is_none()
             && told.replies.as_slice() == row.replies
             && told.trail.as_slice() == row.trail
             && leaves_of(machine, table)?.as_slice() == row.leaves
-            && (inserted, removed) == row.book
+            && (inserted, removed, modified) == row.book
             && inserted.checked_sub(removed) == Some(many),
     )
 }
@@ -118,7 +123,7 @@ fn expect<R: Abort>(
 #[test]
 fn a_worker_alone_does_the_rows(rt: HostRuntime) -> Result<(), Fail> {
     let machine = rt.alloc();
-    for row in ROWS.iter() {
+    for row in ROWS.iter().chain(CLEARS.iter()) {
         if row.unfinished.is_empty() {
             let mut table = Table::new(machine, machine, row.config)?;
             let told = do_alone(machine, &mut table, row);
@@ -131,7 +136,7 @@ fn a_worker_alone_does_the_rows(rt: HostRuntime) -> Result<(), Fail> {
 #[test]
 fn workers_do_the_rows_by_hand(rt: HostRuntime) -> Result<(), Fail> {
     let machine = rt.alloc();
-    for row in ROWS.iter() {
+    for row in ROWS.iter().chain(CLEARS.iter()) {
         let play = ByHand { machine, row };
         let Ended {
             mut table,

@@ -73,7 +73,7 @@ impl EntryValue for u64 {
 
     fn change_by(delta: Delta) -> Change<u64> {
         match delta {
-            Delta::Insert(key, value) => Change::Put(key, value),
+            Delta::Insert(key, value) | Delta::Modify(key, value) => Change::Put(key, value),
             Delta::Delete(key) => Change::Without(key),
             Delta::Split(separator, _) => Change::Below(separator),
             Delta::Remove | Delta::TermAdd(_, _) | Delta::TermDelete(_) => Change::Nothing,
@@ -114,7 +114,9 @@ impl EntryValue for Pid {
             Delta::TermAdd(separator, child) => Change::Put(separator, child),
             Delta::TermDelete(separator) => Change::Without(separator),
             Delta::Split(separator, _) => Change::Below(separator),
-            Delta::Remove | Delta::Insert(_, _) | Delta::Delete(_) => Change::Nothing,
+            Delta::Insert(_, _) | Delta::Modify(_, _) | Delta::Delete(_) | Delta::Remove => {
+                Change::Nothing
+            }
         }
     }
 

@@ -76,7 +76,7 @@ fn newest_end<'a, A: Allocator + Copy>(chain: &'a Chain<A>, room: &mut usize) ->
         Node::Bare(_) | Node::Merged(_, _, _) => chain,
         Node::Above(delta, below) => match *delta {
             Delta::Split(_, _) => chain,
-            Delta::Insert(_, _) | Delta::TermAdd(_, _) => {
+            Delta::Insert(_, _) | Delta::Modify(_, _) | Delta::TermAdd(_, _) => {
                 *room = room.saturating_add(1);
                 newest_end(below, room)
             }
@@ -96,7 +96,7 @@ fn first_base<'a, A: Allocator + Copy>(chain: &'a Chain<A>, room: &mut usize) ->
             base
         }
         Node::Above(delta, below) => match *delta {
-            Delta::Insert(_, _) | Delta::TermAdd(_, _) => {
+            Delta::Insert(_, _) | Delta::Modify(_, _) | Delta::TermAdd(_, _) => {
                 *room = room.saturating_add(1);
                 first_base(below, room)
             }

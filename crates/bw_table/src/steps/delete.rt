@@ -1,18 +1,18 @@
 //! delete: a record on the leaf; the book's removals rise.
 
 ghost use Rattle.std.specs.Prelude.{◌≡◌, ◌-◌, ◌<◌, None, length, slice_set, unwrap_or};
-ghost use Rattle.bw_keys.specs.Reasons.{first_reason};
 ghost use Rattle.bw_delta.specs.Entries.{at};
 ghost use Rattle.bw_delta.specs.declared.chain.Delta.TheVariants as deltas;
 ghost use Rattle.bw_step.specs.ProposalView.{delete_of};
 ghost use Rattle.bw_law.specs.Effects.{TakesStep, with_record};
-ghost use Rattle.bw_law.specs.Refusals.{refusal, delete_reasons};
+ghost use Rattle.bw_law.specs.Refusals.{refusal};
 ghost use Rattle.bw_law.specs.Slots.{slot_in, pairs_in};
 ghost use Rattle.bw_table.specs.Answers.{fine_unless};
 ghost use Rattle.bw_table.specs.SlotFacts.{MayGrowDeeper};
 
+use crate::book::number_of;
 use crate::slot::Slot;
-use crate::steps::shared::{check_change, check_leaf};
+use crate::steps::shared::check_found;
 use crate::table::Table;
 use bw_delta::{Delta, Spare};
 use bw_keys::{Key, Pid};
@@ -28,7 +28,7 @@ impl<A: Allocator + Copy> Table<A> {
         let Some(slot) = self.slot(step.page) else {
             return Err(Refused::Absent);
         };
-        may_delete(slot, self.number(), step)
+        check_found(slot, self.number(), step.seen, step.key)
     }
 
     /// Does a deletion that isn't refused.
@@ -46,27 +46,11 @@ impl<A: Allocator + Copy> Table<A> {
         let value = delete_at(&mut self.slots, page, key, spare);
         self.book.removed += 1;
         Receipt::Deleted {
-            number: self.book.inserted + self.book.removed,
+            number: number_of(self.book),
             key,
             value,
         }
     }
-}
-
-/// Why the deletion is refused on the slot of its page, at the book's number.
-#[inline(always)]
-fn may_delete<A: Allocator + Copy>(
-    slot: &Slot<A>,
-    number: u64,
-    step: &Delete<A>,
-) -> Result<(), Refused>
-    ensures { result ≡ fine_unless (first_reason (delete_reasons slot.now number step.now.seen.0 step.now.key)) }
-{
-    check_leaf(slot, step.seen, step.key)?;
-    if slot.find(step.key).is_none() {
-        return Err(Refused::NoKey);
-    }
-    check_change(slot, number)
 }
 
 /// Deletes a key that the leaf has, and answers its value.

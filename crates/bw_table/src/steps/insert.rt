@@ -10,6 +10,7 @@ ghost use Rattle.bw_law.specs.Slots.{slot_in};
 ghost use Rattle.bw_table.specs.Answers.{fine_unless};
 ghost use Rattle.bw_table.specs.SlotFacts.{MayGrowDeeper};
 
+use crate::book::number_of;
 use crate::slot::Slot;
 use crate::steps::shared::{check_change, check_leaf};
 use crate::table::Table;
@@ -46,7 +47,7 @@ impl<A: Allocator + Copy> Table<A> {
         insert_at(&mut self.slots, page, key, value, spare);
         self.book.inserted += 1;
         Receipt::Inserted {
-            number: self.book.inserted + self.book.removed,
+            number: number_of(self.book),
             key,
             value,
         }

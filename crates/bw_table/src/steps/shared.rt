@@ -6,7 +6,7 @@ ghost use Rattle.bw_delta.specs.Records.{bare};
 ghost use Rattle.bw_step.specs.declared.refused.Refused.TheVariants.{WrongKind, OutOfRange, Deep, TableFull};
 ghost use Rattle.bw_step.specs.declared.view.Stage.TheVariants.{Posted};
 ghost use Rattle.bw_law.specs.Effects.{with_record, with_stage};
-ghost use Rattle.bw_law.specs.Refusals.{absent, stale, frozen, worn, worn_change, is_full, is_outside};
+ghost use Rattle.bw_law.specs.Refusals.{absent, stale, frozen, worn, worn_change, is_full, is_outside, found_reasons};
 ghost use Rattle.bw_law.specs.Slots.{SlotValue};
 ghost use Rattle.bw_table.specs.Answers.{fine_unless};
 ghost use Rattle.bw_table.specs.SlotFacts.{MayGrowDeeper};
@@ -82,6 +82,22 @@ pub(super) fn check_room<A: Allocator + Copy>(
         return Err(Refused::Worn);
     }
     Ok(())
+}
+
+/// Why a key of the leaf, which is to be there, can't be changed, at the book's number.
+pub(super) fn check_found<A: Allocator + Copy>(
+    slot: &Slot<A>,
+    number: u64,
+    seen: Version,
+    key: Key,
+) -> Result<(), Refused>
+    ensures { result ≡ fine_unless (first_reason (found_reasons slot.now number seen.0 key)) }
+{
+    check_leaf(slot, seen, key)?;
+    if slot.find(key).is_none() {
+        return Err(Refused::NoKey);
+    }
+    check_change(slot, number)
 }
 
 impl<A: Allocator + Copy> Slot<A> {

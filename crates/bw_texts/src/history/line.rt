@@ -1,9 +1,10 @@
 //! The rows of a history.
 
-ghost use Rattle.std.specs.Prelude.{◌≡◌, IfOk};
+ghost use Rattle.std.specs.Prelude.{◌≡◌, ◌==◌, None, Some, IfOk, cond, length};
+ghost use Rattle.bw_step.specs.declared.receipt.Receipt.TheVariants.{Looked};
 ghost use Rattle.csv.specs.Records.{fields_of};
 ghost use Rattle.bw_texts.specs.Histories.{IsAfter};
-ghost use Rattle.bw_texts.specs.Lines.{form_of, line_of, line_of_fields, pair_line, receipt_read, reply_line};
+ghost use Rattle.bw_texts.specs.Lines.{field_count, form_of, line_of, line_of_fields, modified_read, pair_line, receipt_read, reply_line};
 
 use crate::number::{field, number, worker};
 use crate::part::Part;
@@ -20,13 +21,13 @@ pub(crate) enum Line {
     Pair { key: Key, value: u64 },
 }
 
-/// The row that a record of five fields writes, where `last` is the key of the last `end` row before
+/// The row that a record writes, where `last` is the key of the last `end` row before
 /// it, or its first faulty part.
 pub(crate) fn read_line(fields: &ByteRecord, last: Option<Key>) -> Result<Line, Part>
     ensures line { result ≡ line_of last (fields_of fields.now) }
     ensures above { IfOk result (λ line. IsAfter last line) }
 {
-    if fields.len() != 5 {
+    if fields.len() != field_count(field(fields, 1)) {
         return Err(Part::Fields);
     }
     read_fields(
@@ -36,7 +37,18 @@ pub(crate) fn read_line(fields: &ByteRecord, last: Option<Key>) -> Result<Line, 
         field(fields, 2),
         field(fields, 3),
         field(fields, 4),
+        field(fields, 5),
     )
+}
+
+/// How many fields a row has: one of a modification has a field more than the others.
+fn field_count(op: &[u8]) -> usize
+    ensures { result ≡ field_count op.now }
+{
+    match op {
+        b"mod" => 6,
+        _ => 5,
+    }
 }
 
 fn read_fields(
@@ -46,13 +58,14 @@ fn read_fields(
     at: &[u8],
     key: &[u8],
     value: &[u8],
+    old: &[u8],
 ) -> Result<Line, Part>
-    ensures line { result ≡ line_of_fields last first.now op.now at.now key.now value.now }
+    ensures line { result ≡ line_of_fields last first.now op.now at.now key.now value.now old.now }
     ensures above { IfOk result (λ line. IsAfter last line) }
 {
     match first {
         b"end" => read_pair(last, op, at, key, value),
-        _ => read_reply(last, first, op, at, key, value),
+        _ => read_reply(last, first, op, at, key, value, old),
     }
 }
 
@@ -64,8 +77,9 @@ fn read_reply(
     at: &[u8],
     key: &[u8],
     value: &[u8],
+    old: &[u8],
 ) -> Result<Line, Part>
-    ensures line { result ≡ reply_line last first.now op.now at.now key.now value.now }
+    ensures line { result ≡ reply_line last first.now op.now at.now key.now value.now old.now }
     ensures above { IfOk result (λ line. IsAfter last line) }
 {
     if last.is_some() {
@@ -75,7 +89,7 @@ fn read_reply(
     let form = read_form(op).ok_or(Part::Op)?;
     let at = number(at).ok_or(Part::Key)?;
     let key = number(key).ok_or(Part::Key)?;
-    let receipt = read_receipt(form, at, key, value).ok_or(Part::Value)?;
+    let receipt = read_receipt(form, at, key, value, old)?;
     Ok(Line::Reply { worker, receipt })
 }
 
@@ -108,6 +122,7 @@ fn read_pair(
 enum Form {
     Inserted,
     Deleted,
+    Modified,
     Found,
     Missing,
 }
@@ -118,38 +133,66 @@ fn read_form(text: &[u8]) -> Option<Form>
     match text {
         b"ins" => Some(Form::Inserted),
         b"del" => Some(Form::Deleted),
+        b"mod" => Some(Form::Modified),
         b"hit" => Some(Form::Found),
         b"none" => Some(Form::Missing),
         _ => None,
     }
 }
 
-fn read_receipt(form: Form, at: u64, key: Key, value: &[u8]) -> Option<Receipt>
-    ensures { result ≡ receipt_read form at key value.now }
+fn read_receipt(form: Form, at: u64, key: Key, value: &[u8], old: &[u8]) -> Result<Receipt, Part>
+    ensures { result ≡ receipt_read form at key value.now old.now }
 {
-    if form == Form::Missing {
-        return value.is_empty().then_some(Receipt::Looked {
-            at,
-            key,
-            found: None,
-        });
+    match form {
+        Form::Missing => read_missing(at, key, value).ok_or(Part::Value),
+        Form::Modified => read_modified(at, key, value, old),
+        Form::Inserted => {
+            let value = number(value).ok_or(Part::Value)?;
+            Ok(Receipt::Inserted {
+                number: at,
+                key,
+                value,
+            })
+        }
+        Form::Deleted => {
+            let value = number(value).ok_or(Part::Value)?;
+            Ok(Receipt::Deleted {
+                number: at,
+                key,
+                value,
+            })
+        }
+        Form::Found => {
+            let value = number(value).ok_or(Part::Value)?;
+            Ok(Receipt::Looked {
+                at,
+                key,
+                found: Some(value),
+            })
+        }
     }
-    let value = number(value)?;
-    Some(match form {
-        Form::Inserted => Receipt::Inserted {
-            number: at,
-            key,
-            value,
-        },
-        Form::Deleted => Receipt::Deleted {
-            number: at,
-            key,
-            value,
-        },
-        Form::Found | Form::Missing => Receipt::Looked {
-            at,
-            key,
-            found: Some(value),
-        },
+}
+
+fn read_missing(at: u64, key: Key, value: &[u8]) -> Option<Receipt>
+    ensures { result ≡ cond (length value.now == 0) (Some (Looked at key None)) None }
+{
+    value.is_empty().then_some(Receipt::Looked {
+        at,
+        key,
+        found: None,
+    })
+}
+
+/// A modification tells the value that the key has, and then the one that it had.
+fn read_modified(at: u64, key: Key, value: &[u8], old: &[u8]) -> Result<Receipt, Part>
+    ensures { result ≡ modified_read at key value.now old.now }
+{
+    let value = number(value).ok_or(Part::Value)?;
+    let old = number(old).ok_or(Part::Old)?;
+    Ok(Receipt::Modified {
+        number: at,
+        key,
+        old,
+        value,
     })
 }

@@ -28,7 +28,8 @@ pub struct History {
 }
 
 /// Reads a history. A row has five fields: a worker below 64; `ins`, `del`, `hit` or `none`; the
-/// number of the change, or how many changes a look saw; the key; and the value, empty for `none`.
+/// number of the change, or how many changes a look saw; the key; and the value, empty for `none`. A
+/// row with `mod` has six: the number of the change, the key, its value, and the value that it had.
 /// After them come the pairs of the final map, with rising keys: `end`, `pair`, 0, the key and the
 /// value. A number is one to twenty decimal digits, and below 2^64. After a fault nothing of the
 /// history is handed out.

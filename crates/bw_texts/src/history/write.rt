@@ -77,6 +77,12 @@ fn write_receipt<W: Write + Drop>(
         Receipt::Deleted { number, key, value } => {
             put_reply(writer, worker, b"del", number, key, value)
         }
+        Receipt::Modified {
+            number,
+            key,
+            old,
+            value,
+        } => put_modified(writer, worker, number, key, (old, value)),
         Receipt::Looked {
             at,
             key,
@@ -110,6 +116,30 @@ fn put_reply<W: Write + Drop>(
     let key = key_digits.format(key).as_bytes();
     let value = value_digits.format(value).as_bytes();
     put_record(writer, &[first, op, at, key, value])
+}
+
+/// A modification has the value that the key had in a field more.
+fn put_modified<W: Write + Drop>(
+    writer: &mut Writer<W>,
+    worker: &[u8],
+    number: u64,
+    key: Key,
+    values: (u64, u64),
+) -> Result<(), OutFault>
+    requires { IsBetween writer.old }
+    ensures between { OnOk result (IsBetween writer.new) }
+    ensures text { OnOk result (Appends (text_written W.contents writer.old) (text_written W.contents writer.new) (row_text flexible_writer (worker.now ∷ codes "mod" ∷ decimal number ∷ decimal key ∷ decimal values.1 ∷ decimal values.0 ∷ []))) }
+{
+    let (old, value) = values;
+    let mut number_digits = Buffer::new();
+    let mut key_digits = Buffer::new();
+    let mut value_digits = Buffer::new();
+    let mut old_digits = Buffer::new();
+    let number = number_digits.format(number).as_bytes();
+    let key = key_digits.format(key).as_bytes();
+    let value = value_digits.format(value).as_bytes();
+    let old = old_digits.format(old).as_bytes();
+    put_record(writer, &[worker, b"mod", number, key, value, old])
 }
 
 fn put_missing<W: Write + Drop>(

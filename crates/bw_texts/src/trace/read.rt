@@ -15,9 +15,10 @@ use std::io::Read;
 /// The most rows that a trace may have.
 pub const MOST_TRACE_ROWS: u64 = 1_000_000;
 
-/// Reads a trace for so many workers. A row has four fields: the worker, counted from 0; `put`,
-/// `get` or `del`; the key; and the value of a put, empty for the others. A number is one to twenty
-/// decimal digits, and below 2^64. After a fault nothing of the trace is handed out.
+/// Reads a trace for so many workers. A row has four fields: the worker, counted from 0; `put`, `set`,
+/// `get`, `del` or `clr`; the key; and the value of a put or a set, empty for a get or a delete. A `clr`
+/// has the low of its range for a key and the high for a value, empty for a range up to the top. A number
+/// is one to twenty decimal digits, and below 2^64. After a fault nothing of the trace is handed out.
 pub fn read_trace<R: Read + Drop>(
     alloc: Global,
     input: R,

@@ -1,6 +1,6 @@
 //! Writing of traces.
 
-ghost use Rattle.std.specs.Prelude.{IfOk, OnOk};
+ghost use Rattle.std.specs.Prelude.{[], ◌∷◌, IfOk, OnOk, decimal};
 ghost use Rattle.std.specs.Io.KnownBytes.{Appends};
 ghost use Rattle.csv.specs.Writing.{row_text, text_written};
 ghost use Rattle.bw_texts.specs.Written.{IsBetween, fields_of_row, flexible_writer, trace_text};
@@ -8,6 +8,7 @@ ghost use Rattle.bw_texts.specs.Written.{IsBetween, fields_of_row, flexible_writ
 use crate::fault::OutFault;
 use crate::output::{finish, put_record, start};
 use crate::trace::row::Row;
+use bw_keys::{Fence, Key};
 use bw_procedures::Act;
 use csv::Writer;
 use itoa::Buffer;
@@ -29,23 +30,58 @@ fn write_row<W: Write + Drop>(writer: &mut Writer<W>, row: &Row) -> Result<(), O
     ensures between { OnOk result (IsBetween writer.new) }
     ensures text { OnOk result (Appends (text_written W.contents writer.old) (text_written W.contents writer.new) (row_text flexible_writer (fields_of_row row.now))) }
 {
-    let mut digits = Buffer::new();
-    let worker = digits.format(row.worker).as_bytes();
+    let worker = row.worker;
+    match row.act {
+        Act::Put { key, value } => put_valued(writer, worker, b"put", key, value),
+        Act::Set { key, value } => put_valued(writer, worker, b"set", key, value),
+        Act::Get { key } => put_bare(writer, worker, b"get", key),
+        Act::Delete { key } => put_bare(writer, worker, b"del", key),
+        Act::Clear {
+            low,
+            high: Fence::Key(high),
+        } => put_valued(writer, worker, b"clr", low, high),
+        Act::Clear {
+            low,
+            high: Fence::Top,
+        } => put_bare(writer, worker, b"clr", low),
+    }
+}
+
+/// A row with a number in its last field.
+fn put_valued<W: Write + Drop>(
+    writer: &mut Writer<W>,
+    worker: u32,
+    op: &[u8],
+    key: Key,
+    value: u64,
+) -> Result<(), OutFault>
+    requires { IsBetween writer.old }
+    ensures between { OnOk result (IsBetween writer.new) }
+    ensures text { OnOk result (Appends (text_written W.contents writer.old) (text_written W.contents writer.new) (row_text flexible_writer (decimal worker ∷ op.now ∷ decimal key ∷ decimal value ∷ []))) }
+{
+    let mut worker_digits = Buffer::new();
     let mut key_digits = Buffer::new();
     let mut value_digits = Buffer::new();
-    match row.act {
-        Act::Put { key, value } => {
-            let key = key_digits.format(key).as_bytes();
-            let value = value_digits.format(value).as_bytes();
-            put_record(writer, &[worker, b"put", key, value])
-        }
-        Act::Get { key } => {
-            let key = key_digits.format(key).as_bytes();
-            put_record(writer, &[worker, b"get", key, b""])
-        }
-        Act::Delete { key } => {
-            let key = key_digits.format(key).as_bytes();
-            put_record(writer, &[worker, b"del", key, b""])
-        }
-    }
+    let worker = worker_digits.format(worker).as_bytes();
+    let key = key_digits.format(key).as_bytes();
+    let value = value_digits.format(value).as_bytes();
+    put_record(writer, &[worker, op, key, value])
+}
+
+/// A row with nothing in its last field.
+fn put_bare<W: Write + Drop>(
+    writer: &mut Writer<W>,
+    worker: u32,
+    op: &[u8],
+    key: Key,
+) -> Result<(), OutFault>
+    requires { IsBetween writer.old }
+    ensures between { OnOk result (IsBetween writer.new) }
+    ensures text { OnOk result (Appends (text_written W.contents writer.old) (text_written W.contents writer.new) (row_text flexible_writer (decimal worker ∷ op.now ∷ decimal key ∷ [] ∷ []))) }
+{
+    let mut worker_digits = Buffer::new();
+    let mut key_digits = Buffer::new();
+    let worker = worker_digits.format(worker).as_bytes();
+    let key = key_digits.format(key).as_bytes();
+    put_record(writer, &[worker, op, key, b""])
 }

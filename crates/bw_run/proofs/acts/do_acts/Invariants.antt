@@ -1,14 +1,14 @@
-use Rattle.std.proofs.Common.{◌≡◌, ◌≤◌, Some, length, vec_len}
+use Rattle.std.proofs.Common.{◌≡◌, ◌≤◌, length, vec_len}
 use Rattle.std.specs.Prelude.{vec_capacity}
 use Rattle.bw_work.specs.Hands.{Sums}
 use Rattle.bw_step.specs.Tellings.{told_in}
-use Rattle.bw_procedures.specs.Told.{answers}
+use Rattle.bw_procedures.specs.Told.{GoWith}
 use Rattle.bw_run.proofs.acts.do_acts.Given as goal
 
 abbrev pub invariant-loop-act : goal.invariant-loop-act
 invariant-loop-act g l = record {
   follows : Sums l.fn.hand.account.seen.trail l.fn.hand.share l.hand.account.seen.trail l.hand.share;
-  told : Some (told_in l.hand.account.seen.trail) ≡ answers l.acts l.replies.items;
+  told : GoWith l.acts l.replies.items (told_in l.hand.account.seen.trail);
   count : vec_len l.replies ≡ l.act-index;
   room : length l.acts ≤ vec_capacity l.replies;
 }

@@ -1,11 +1,14 @@
-use Rattle.std.proofs.Common.{rules, ◌≡◌, ◌<◌, length, map, refl, ap, sym, subst, ◌∙◌}
-use Rattle.std.specs.Prelude.{sum_by}
+use Rattle.std.proofs.Common.{rules, ◌≡◌, ◌<◌, [], length, map, refl, ap, sym, subst, ◌∙◌}
+use Rattle.std.specs.Prelude.{slice_index_or, sum_by}
 use Rattle.std.proofs.lemmas.List.{length-map}
+use Rattle.bw_step.specs.Tellings.{told_in}
 use Rattle.bw_step.specs.Trails.{lists_of}
-use Rattle.bw_tree.specs.Shares.{book_of}
+use Rattle.bw_procedures.specs.Told.{GoWith}
+use Rattle.bw_tree.specs.Shares.{share_of}
 use Rattle.bw_audit.specs.Legal.{IsLegal}
 use Rattle.bw_run.specs.Counts.{insertions, removals}
 use Rattle.bw_run.specs.Faults.{EndsBadly}
+use Rattle.bw_run.specs.Rows.{acts_of}
 use Rattle.bw_run.proofs.Runs.{verdict_found}
 use Rattle.bw_run.proofs.Verdicts.{changes_counted}
 use Rattle.bw_run.proofs.ending.finish.Goals as goal
@@ -28,8 +31,8 @@ returns-clause-finished c =
       trailed = length-map c.args.trails.items (λ trail. trail.items) ∙ c.requires.trails;
       told = λ worker inside.
           let within : worker < length (map (λ column. column.items) c.args.replies.items) = subst (λ n. worker < n) (sym columns) inside in
-          c.requires.answered.told worker within ∙ sym (c.in_ok-replies.ensures.told worker within);
+          subst (λ replies. GoWith (acts_of worker c.args.rows.now) replies (told_in (slice_index_or trails worker []))) (sym (c.in_ok-replies.ensures.own worker within)) (c.requires.answered.told worker within);
       tree = c.requires.tree;
       legal = λ pairs are. subst (λ ts. IsLegal (lists_of ts) pairs) c.deref.ensures.value (c.in_ok-judge.ensures.legal pairs are);
-      count = λ pairs are. changes_counted c.args.table (book_of (sum_by insertions trails) (sum_by removals trails)) trails pairs c.requires.counted refl are;
+      count = λ pairs are. changes_counted c.args.table (share_of (sum_by insertions trails) (sum_by removals trails)) trails pairs c.requires.counted refl are;
     }

@@ -1,6 +1,8 @@
-use Rattle.std.proofs.Common.{rules, ◌≡◌, ◌∷◌, ◌+◌, ◌<◌, [], length, ap, refl, ◌∙◌, arith, length-append}
+use Rattle.std.proofs.Common.{rules, ◌≡◌, ◌∷◌, ◌+◌, ◌<◌, [], length, ap, refl, subst, ◌∙◌, arith, length-append}
+use Rattle.std.proofs.lemmas.List.Elements.{All-head, All-tail}
 use Rattle.bw_run.specs.Rows.{acts_of}
-use Rattle.bw_procedures.specs.Told.{answers}
+use Rattle.bw_step.specs.Tellings.{told_in}
+use Rattle.bw_procedures.specs.Told.{GoWith}
 use Rattle.bw_run.proofs.Gatherings.{answered_next, planned_first, planned_rest, sums_next}
 use Rattle.bw_run.proofs.gathering.gather.Goals as goal
 
@@ -32,6 +34,7 @@ loop-worked-preserved g c =
     let first = planned_first (λ worked. worked.acts.items) rest after w n rows split inv.planned in
     let others = planned_rest (λ worked. worked.acts.items) rest after w n rows split inv.planned in
     let full : length w.replies.items ≡ length w.acts.items = w.all c.in_default.is in
+    let told = rw split at inv.told in
     let trailed = c.in_ok-push-3.ensures.items in
     let next : length c.push-in-loop-worked-2.new.self.items ≡ n + 1 = ap length trailed ∙ omega (arith, length-append c.loop-worked.trails.items (w.trail ∷ [])) in
     record {
@@ -39,8 +42,9 @@ loop-worked-preserved g c =
       shares = omega (arith, next, ap length c.in_ok-push.ensures.items, length-append c.loop-worked.shares.items (w.share ∷ []), inv.shares);
       columns = omega (arith, next, ap length c.in_ok-push-2.ensures.items, length-append c.loop-worked.columns.items (w.replies ∷ []), inv.columns);
       planned = rw next others;
+      told = All-tail (λ worked. GoWith worked.acts.items worked.replies.items (told_in worked.trail.items)) w after told;
       answered = rw (c.in_ok-push-2.ensures.items, trailed)
           (answered_next rows (λ column. column.items) (λ trail. trail.items) c.loop-worked.columns.items c.loop-worked.trails.items w.replies w.trail n inv.columns refl inv.answered
-          (full ∙ ap length first) (w.told ∙ ap (λ acts. answers acts w.replies.items) first));
+          (full ∙ ap length first) (subst (λ acts. GoWith acts w.replies.items (told_in w.trail.items)) first (All-head (λ worked. GoWith worked.acts.items worked.replies.items (told_in worked.trail.items)) w after told)));
       sums = rw (c.in_ok-push.ensures.items, trailed) (sums_next (λ trail. trail.items) c.loop-worked.shares.items w.share c.loop-worked.trails.items w.trail inv.sums w.counted);
     }

@@ -2,9 +2,8 @@ use Rattle.std.proofs.Common.{◌≡◌, ◌∷◌, ◌++◌, ◌+◌, ℕ, List
 use Rattle.std.proofs.lemmas.List.{drop_more, take_more}
 use Rattle.bw_procedures.specs.declared.act.Act.TheVariants as acts
 use Rattle.bw_texts.specs.declared.trace.row.Row.{Row}
-use Rattle.bw_run.specs.Rows.{acts_of, told_to}
-use Rattle.bw_procedures.specs.Told.{answers, joined}
-use Rattle.bw_run.proofs.Merges.{told_step, full_step, own_act}
+use Rattle.bw_run.specs.Rows.{acts_of}
+use Rattle.bw_run.proofs.Merges.{own_step, full_step, own_act}
 use Rattle.bw_run.proofs.merging.merge.Goals as goal
 
 pub take_reply-requires : goal.take_reply-requires
@@ -39,8 +38,8 @@ loop-row-preserved c =
       full = λ worker inside.
           full_step worker row rest c.take_reply.result (here worker) (left worker) (c.take_reply.ensures.taken worker)
           (inv.full worker (omega (arith, inside, count)) ∙ ap (λ (rs : List Row). length (acts_of worker rs)) split);
-      told = λ worker inside.
+      own = λ worker inside.
           rw (more, c.in_ok-push.ensures.items)
-          (told_step worker (take place rows) row rest c.loop-row.merged.items c.take_reply.result (here worker) (left worker) same (c.take_reply.ensures.taken worker)
-          ∙ (ap (λ (rs : List Row). joined (told_to worker (take place rows) c.loop-row.merged.items) (answers (acts_of worker rs) (here worker))) (sym split) ∙ inv.told worker (omega (arith, inside, count))));
+          (own_step worker (take place rows) row c.loop-row.merged.items c.take_reply.result (here worker) (left worker) same (c.take_reply.ensures.taken worker)
+          ∙ inv.own worker (omega (arith, inside, count)));
     }

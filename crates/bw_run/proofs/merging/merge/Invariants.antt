@@ -1,7 +1,6 @@
-use Rattle.std.proofs.Common.{◌≡◌, ◌<◌, ℕ, [], drop, get_or, length, map, take}
+use Rattle.std.proofs.Common.{◌≡◌, ◌<◌, ◌++◌, ℕ, [], drop, get_or, length, map, take}
 use Rattle.std.specs.List.{AllByRecursion}
-use Rattle.bw_run.specs.Rows.{acts_of, told_to}
-use Rattle.bw_procedures.specs.Told.{answers, joined}
+use Rattle.bw_run.specs.Rows.{acts_of, replies_to}
 use Rattle.bw_run.proofs.merging.merge.Given as goal
 
 abbrev pub invariant-loop-row : goal.invariant-loop-row
@@ -10,8 +9,8 @@ invariant-loop-row l = record {
   workers : AllByRecursion (λ row. row.worker < length l.columns.items) (drop l.row-index l.rows);
   same : length l.columns.items ≡ length l.fn.replies.items;
   full : (worker : ℕ) → worker < length l.columns.items → length (get_or (map (λ column. column.rest.items) l.columns.items) worker []) ≡ length (acts_of worker (drop l.row-index l.rows));
-  -- what a worker was told so far, and what goes with its rows to come
-  told : (worker : ℕ) → worker < length l.columns.items
-      → joined (told_to worker (take l.row-index l.rows) l.merged.items) (answers (acts_of worker (drop l.row-index l.rows)) (get_or (map (λ column. column.rest.items) l.columns.items) worker []))
-      ≡ answers (acts_of worker l.rows) (get_or (map (λ column. column.items) l.fn.replies.items) worker []);
+  -- a worker's own replies so far, and those that are left
+  own : (worker : ℕ) → worker < length l.columns.items
+      → replies_to worker (take l.row-index l.rows) l.merged.items ++ get_or (map (λ column. column.rest.items) l.columns.items) worker []
+      ≡ get_or (map (λ column. column.items) l.fn.replies.items) worker [];
 }

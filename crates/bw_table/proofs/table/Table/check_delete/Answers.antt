@@ -2,4 +2,4 @@ use Rattle.std.proofs.Common.{refl}
 use Rattle.bw_table.proofs.table.Table.check_delete.Goals as goal
 
 pub returns : goal.returns
-returns g c = rw (c.may_delete.ensures, c.number.ensures, c.in-Some.ensures.there) refl
+returns g c = rw (c.check_found.ensures, c.number.ensures, c.in-Some.ensures.there) refl

@@ -13,8 +13,8 @@ insert_at-requires-clause-count g c = (does_insert _ _ c.self.invariant c.args.s
 pub overflow_add-self : goal.overflow_add-self
 overflow_add-self g c = omega (arith, (does_insert _ _ c.self.invariant c.args.step.page.0 c.args.step.seen.0 c.args.step.key c.args.step.value (rw (← c.self.view_is) at c.requires)).number)
 
-pub overflow_add-result : goal.overflow_add-result
-overflow_add-result g c = omega (arith, (does_insert _ _ c.self.invariant c.args.step.page.0 c.args.step.seen.0 c.args.step.key c.args.step.value (rw (← c.self.view_is) at c.requires)).number)
+pub number_of-requires : goal.number_of-requires
+number_of-requires g c = omega (arith, (does_insert _ _ c.self.invariant c.args.step.page.0 c.args.step.seen.0 c.args.step.key c.args.step.value (rw (← c.self.view_is) at c.requires)).number)
 
 pub invariant_of-self : goal.invariant_of-self
 invariant_of-self g c =

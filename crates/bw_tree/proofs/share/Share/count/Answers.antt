@@ -7,14 +7,14 @@ returns-in-Deleted-clause-share g c = search rules
 pub returns-in-Deleted-clause-totals : goal.returns-in-Deleted-clause-totals
 returns-in-Deleted-clause-totals g c = search rules
 
-pub returns-in-Looked-clause-share : goal.returns-in-Looked-clause-share
-returns-in-Looked-clause-share g c = search rules
-
-pub returns-in-Looked-clause-totals : goal.returns-in-Looked-clause-totals
-returns-in-Looked-clause-totals g c = search rules
-
 pub returns-in-Inserted-clause-share : goal.returns-in-Inserted-clause-share
 returns-in-Inserted-clause-share g c = search rules
 
 pub returns-in-Inserted-clause-totals : goal.returns-in-Inserted-clause-totals
 returns-in-Inserted-clause-totals g c = search rules
+
+pub returns-in-Modified-clause-share : goal.returns-in-Modified-clause-share
+returns-in-Modified-clause-share g c = search rules
+
+pub returns-in-Modified-clause-totals : goal.returns-in-Modified-clause-totals
+returns-in-Modified-clause-totals g c = search rules
