@@ -1,0 +1,73 @@
+//! How a trial ends.
+
+use bw_audit::AuditFault;
+use bw_delta::NoMemory;
+use bw_snap::Closed;
+use std::alloc::{AllocError, AllocFailed};
+
+/// How a trial ended of which everything held.
+#[derive(Clone, Copy, Debug, PartialEq, Eq)]
+pub(crate) enum Ending {
+    /// Nothing was refused.
+    Whole,
+    /// A request was refused, and what was asked for was done again.
+    Refused,
+}
+
+impl Ending {
+    /// The ending of two parts.
+    pub(crate) fn and(self, other: Ending) -> Ending {
+        match self {
+            Ending::Whole => other,
+            Ending::Refused => Ending::Refused,
+        }
+    }
+}
+
+/// Why a trial came to no end.
+#[derive(Clone, Copy, Debug, PartialEq, Eq)]
+pub(crate) enum Stop {
+    /// A request was refused where there was nothing to lose by it: the trial may begin again.
+    Memory,
+    /// What must hold, and didn't.
+    Broken(&'static str),
+}
+
+impl From<NoMemory> for Stop {
+    fn from(_: NoMemory) -> Stop {
+        Stop::Memory
+    }
+}
+
+impl From<AllocError> for Stop {
+    fn from(_: AllocError) -> Stop {
+        Stop::Memory
+    }
+}
+
+impl<T: Drop> From<AllocFailed<T>> for Stop {
+    fn from(_: AllocFailed<T>) -> Stop {
+        Stop::Memory
+    }
+}
+
+impl From<AuditFault> for Stop {
+    fn from(_: AuditFault) -> Stop {
+        Stop::Memory
+    }
+}
+
+impl From<Closed> for Stop {
+    fn from(_: Closed) -> Stop {
+        Stop::Broken("an open tree has an answer for its readers")
+    }
+}
+
+/// That it holds, or that the sentence is broken.
+pub(crate) fn hold(holds: bool, sentence: &'static str) -> Result<(), Stop> {
+    if holds {
+        Ok(())
+    } else {
+        Err(Stop::Broken(sentence))
+    }
+}

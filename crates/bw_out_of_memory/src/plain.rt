@@ -1,0 +1,130 @@
+//! A plain map beside a tree.
+
+use crate::ending::{Ending, Stop, hold};
+use bw_keys::{Fence, Key};
+use bw_work::{Act, Cleared, Del, Fault, Put, Reply, Set};
+
+/// The keys of the trials are below this one.
+const KEYS: usize = 10;
+
+/// What each key has. It takes no memory.
+#[derive(Clone, Copy, Debug, PartialEq, Eq)]
+pub(crate) struct Plain {
+    values: [Option<u64>; KEYS],
+}
+
+impl Plain {
+    pub(crate) const EMPTY: Plain = Plain {
+        values: [None; KEYS],
+    };
+
+    pub(crate) fn get(&self, key: Key) -> Option<u64> {
+        self.values
+            .get(usize::try_from(key).ok()?)
+            .copied()
+            .flatten()
+    }
+
+    /// Gives the key the value, or takes it out. What it had.
+    fn change(&mut self, key: Key, value: Option<u64>) -> Option<u64> {
+        let had = self.get(key);
+        if let Ok(place) = usize::try_from(key) {
+            if let Some(slot) = self.values.get_mut(place) {
+                *slot = value;
+            }
+        }
+        had
+    }
+
+    /// Takes the first keys of the range out, up to so many. How many they were.
+    fn clear(&mut self, low: Key, high: Fence, most: u64) -> u64 {
+        let mut removed = 0u64;
+        for key in 0..KEYS as u64 {
+            if low <= key
+                && Fence::Key(key) < high
+                && removed < most
+                && self.change(key, None).is_some()
+            {
+                removed += 1;
+            }
+        }
+        removed
+    }
+
+    /// Takes a put, as a reply of a tree must have it.
+    fn put(&mut self, key: Key, value: u64) -> Put {
+        match self.get(key) {
+            Some(old) => Put::Present(old),
+            None => {
+                self.change(key, Some(value));
+                Put::Inserted
+            }
+        }
+    }
+
+    fn set(&mut self, key: Key, value: u64) -> Set {
+        match self.change(key, Some(value)) {
+            Some(old) => Set::Replaced(old),
+            None => Set::Inserted,
+        }
+    }
+
+    fn delete(&mut self, key: Key) -> Del {
+        match self.change(key, None) {
+            Some(old) => Del::Removed(old),
+            None => Del::NoKey,
+        }
+    }
+
+    /// Takes the removal of a range, which may have ended early where memory was refused.
+    fn take_clear(&mut self, low: Key, high: Fence, cleared: Cleared) -> bool {
+        match cleared.fault {
+            None => self.clear(low, high, u64::MAX) == cleared.removed,
+            Some(_) => self.clear(low, high, cleared.removed) == cleared.removed,
+        }
+    }
+
+    /// Takes the act that a tree replied to. Whether memory was refused behind the reply; broken, if it is
+    /// another reply than that of this map, or another fault.
+    pub(crate) fn take(&mut self, act: Act, reply: Reply) -> Result<Ending, Stop> {
+        let (is_right, fault) = match (act, reply) {
+            (Act::Put { key, value }, Reply::Put(done)) => {
+                (self.put(key, value) == done.reply, done.fault)
+            }
+            (Act::Set { key, value }, Reply::Set(done)) => {
+                (self.set(key, value) == done.reply, done.fault)
+            }
+            (Act::Delete { key }, Reply::Delete(done)) => {
+                (self.delete(key) == done.reply, done.fault)
+            }
+            (Act::Clear { low, high }, Reply::Clear(cleared)) => {
+                (self.take_clear(low, high, cleared), cleared.fault)
+            }
+            (Act::Get { key }, Reply::Get(found)) => (self.get(key) == found, None),
+            _ => (false, None),
+        };
+        hold(is_right, "a reply is a plain map's")?;
+        match fault {
+            None => Ok(Ending::Whole),
+            Some(Fault::NoMemory) => Ok(Ending::Refused),
+            Some(_) => Err(Stop::Broken("memory alone is wanting")),
+        }
+    }
+
+    /// Whether these are its pairs, in the order of their keys.
+    pub(crate) fn has(&self, pairs: &[(Key, u64)]) -> bool {
+        let mut rest = pairs;
+        for key in 0..KEYS as u64 {
+            if let Some(value) = self.get(key) {
+                let Some((first, others)) = rest.split_first() else {
+                    return false;
+                };
+                if *first != (key, value) {
+                    return false;
+                }
+                rest = others;
+            }
+        }
+        rest.is_empty()
+    }
+}

@@ -1,0 +1,129 @@
+//! Workers that are refused memory: one alone, and one by hand on either shared tree.
+
+ghost use Rattle.std.specs.Prelude.{◌≡◌};
+ghost use Rattle.bw_tree.specs.Shares.{Opens};
+
+use crate::acts::act_all;
+use crate::ending::{Ending, Stop, hold};
+use crate::plain::Plain;
+use bw_audit::{Verdict, audit, is_ascending};
+use bw_keys::Config;
+use bw_snap::{BlankBook, Naming, ReadTree};
+use bw_step::{Receipt, Survey};
+use bw_table::Table;
+use bw_test_kit::{SMALL, partition_the_keys};
+use bw_tree::{Blanks, MadeBy, Tree};
+use bw_work::{Alone, Hand, Open};
+use std::alloc::Global;
+use std::marker::Brand;
+use std::sync::Wait;
+use std::sync::ledger::Ledger;
+
+/// Whether the table has the map's pairs, in leaves that partition the keys and by its book, and the
+/// audit explains the trail.
+fn judge(
+    machine: Global,
+    table: &Table<Global>,
+    trail: Vec<Receipt>,
+    plain: &Plain,
+) -> Result<(), Stop> {
+    let pairs = table.pairs(machine)?;
+    hold(plain.has(&pairs), "the pairs are the script's")?;
+    let Survey { leaves, book, .. } = table.survey(machine)?;
+    hold(partition_the_keys(&leaves), "the leaves partition the keys")?;
+    let counted = book.inserted.checked_sub(book.removed);
+    hold(
+        counted == Some(pairs.len() as u64),
+        "the book counts the pairs",
+    )?;
+    if !is_ascending(&pairs) {
+        return Err(Stop::Broken("the pairs' keys rise"));
+    }
+    let verdict = audit(machine, &[trail], &pairs)?;
+    hold(verdict == Verdict::Yes, "the audit says yes")
+}
+
+/// A worker that has its table for itself.
+pub(crate) fn alone(machine: Global) -> Result<Ending, Stop> {
+    let Ok(mut table) = Table::new(machine, machine, SMALL) else {
+        return Err(Stop::Memory);
+    };
+    let mut plain = Plain::EMPTY;
+    let mut worker = Alone::new(machine, machine, &mut table);
+    let ending = act_all(&mut worker, machine, &mut plain)?;
+    let trail = worker.finish();
+    judge(machine, &table, trail, &plain)?;
+    Ok(ending)
+}
+
+fn by_hand_over<R: Wait + Copy, I: MadeBy, D: Ledger>(
+    rt: R,
+    machine: Global,
+    config: Config,
+    blanks: Blanks,
+) -> Result<Ending, Stop>
+    requires insertions { Opens I.name I.parts blanks.insertions }
+    requires removals { Opens D.name D.parts blanks.removals }
+    requires config { I.config ≡ config }
+{
+    let Ok((tree, mut shares)) = Tree::<R, Global, I, D>::new(rt, machine, machine, config, blanks)
+    else {
+        return Err(Stop::Memory);
+    };
+    let share = shares
+        .pop()
+        .ok_or(Stop::Broken("a tree has a share for its worker"))?;
+    let mut plain = Plain::EMPTY;
+    let mut hand = Hand::new(machine, machine, &tree, share, 0, &Open);
+    let ending = act_all(&mut hand, machine, &mut plain)?;
+    let (share, trail) = hand.finish();
+    // The list has had room for the share.
+    shares.push(share).map_err(|_| Stop::Memory)?;
+    let table = tree
+        .close(shares)
+        .map_err(|_| Stop::Broken("a tree is closed by all its shares"))?;
+    judge(machine, &table, trail, &plain)?;
+    Ok(ending)
+}
+
+/// A worker on a tree under its lock.
+pub(crate) fn by_hand<R: Wait + Copy>(rt: R, machine: Global) -> Result<Ending, Stop> {
+    by_hand_over::<R, Brand, Brand>(rt, machine, SMALL, Blanks::new(1))
+}
+
+fn beside_readers_over<R: Wait + Copy, N: Naming, D: Ledger>(
+    rt: R,
+    machine: Global,
+    config: Config,
+    blanks: Blanks,
+    book: BlankBook,
+) -> Result<Ending, Stop>
+    requires insertions { Opens N.name N.parts blanks.insertions }
+    requires removals { Opens D.name D.parts blanks.removals }
+    requires book { book.seen.book ≡ N.book }
+    requires config { N.config ≡ config }
+{
+    let Ok((tree, mut shares, _readers)) = ReadTree::<R, N, D>::with_readers(
+        rt, machine, config, blanks, book, 1,
+    ) else {
+        return Err(Stop::Memory);
+    };
+    let share = shares
+        .pop()
+        .ok_or(Stop::Broken("a tree has a share for its worker"))?;
+    let mut plain = Plain::EMPTY;
+    let mut hand = Hand::new(machine, machine, &tree, share, 0, &Open);
+    let ending = act_all(&mut hand, machine, &mut plain)?;
+    let (share, trail) = hand.finish();
+    shares.push(share).map_err(|_| Stop::Memory)?;
+    let table = tree
+        .close(shares)
+        .map_err(|_| Stop::Broken("a tree is closed by all its shares"))?;
+    judge(machine, &table, trail, &plain)?;
+    Ok(ending)
+}
+
+/// A worker on a tree that has a reader.
+pub(crate) fn beside_readers<R: Wait + Copy>(rt: R, machine: Global) -> Result<Ending, Stop> {
+    beside_readers_over::<R, Brand, Brand>(rt, machine, SMALL, Blanks::new(1), BlankBook::new())
+}
