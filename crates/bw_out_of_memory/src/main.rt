@@ -5,10 +5,15 @@
 #![tactic(auto)]
 
 mod acts;
+mod cases;
+mod commands;
 mod ending;
 mod lists;
 mod plain;
 mod readers;
+mod rows;
+mod runs;
+mod texts;
 mod trial;
 mod workers;
 

@@ -1,8 +1,14 @@
 //! The trials, by their names.
 
+use crate::cases::{
+    CHECK, Case, MAKE, RUN, RUN_HISTORY, RUN_PUTS, RUN_READERS, RUN_REPLIES, SHOW_HELP,
+};
+use crate::commands::command_of;
 use crate::ending::{Ending, Stop};
 use crate::lists::replays;
 use crate::readers::publications;
+use crate::runs::run_with;
+use crate::texts::texts;
 use crate::workers::{alone, beside_readers, by_hand};
 use std::alloc::Global;
 use std::fmt;
@@ -17,14 +23,29 @@ pub(crate) enum Trial {
     BesideReaders,
     Publications,
     Replays,
+    Texts,
+    Run,
+    RunWithReader,
+    Command(Case),
 }
 
-pub(crate) const TRIALS: [Trial; 5] = [
+pub(crate) const TRIALS: [Trial; 16] = [
     Trial::Alone,
     Trial::ByHand,
     Trial::BesideReaders,
     Trial::Publications,
     Trial::Replays,
+    Trial::Texts,
+    Trial::Run,
+    Trial::RunWithReader,
+    Trial::Command(RUN),
+    Trial::Command(RUN_REPLIES),
+    Trial::Command(RUN_PUTS),
+    Trial::Command(RUN_HISTORY),
+    Trial::Command(RUN_READERS),
+    Trial::Command(CHECK),
+    Trial::Command(MAKE),
+    Trial::Command(SHOW_HELP),
 ];
 
 impl Trial {
@@ -39,6 +60,10 @@ impl Trial {
             Trial::BesideReaders => beside_readers(rt, machine),
             Trial::Publications => publications(rt, machine),
             Trial::Replays => replays(machine),
+            Trial::Texts => texts(machine),
+            Trial::Run => run_with(rt, machine, 0),
+            Trial::RunWithReader => run_with(rt, machine, 1),
+            Trial::Command(case) => command_of(rt, machine, &case),
         }
     }
 }
@@ -51,6 +76,10 @@ impl fmt::Display for Trial {
             Trial::BesideReaders => "a worker beside readers",
             Trial::Publications => "publications",
             Trial::Replays => "replays",
+            Trial::Texts => "texts",
+            Trial::Run => "a run",
+            Trial::RunWithReader => "a run with a reader",
+            Trial::Command(case) => return write!(f, "the command {}", case.name),
         };
         write!(f, "{name}")
     }

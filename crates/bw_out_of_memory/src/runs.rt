@@ -1,0 +1,68 @@
+//! Runs that are refused memory.
+
+use crate::ending::{Ending, Stop, hold};
+use crate::plain::Plain;
+use crate::rows::row;
+use bw_run::{Act, Finished, Reply, Row, RunFault, is_trace_for, run};
+use bw_test_kit::SMALL;
+use bw_work::{Fault, Open};
+use std::alloc::Global;
+use std::sync::Wait;
+use std::thread::Threads;
+
+/// The puts split a leaf twice, and at the last row a worker with a reader publishes them.
+const ROWS: [Row; 8] = [
+    row!(0 put 1 => 1),
+    row!(0 put 2 => 2),
+    row!(0 put 3 => 3),
+    row!(0 put 4 => 4),
+    row!(0 put 5 => 5),
+    row!(0 put 6 => 6),
+    row!(0 put 7 => 7),
+    row!(0 get 4),
+];
+
+/// Takes what the rows were replied to.
+fn take_replies(plain: &mut Plain, replies: &[Reply]) -> Result<Ending, Stop> {
+    hold(replies.len() == ROWS.len(), "each row has a reply")?;
+    let mut ending = Ending::Whole;
+    for (row, reply) in ROWS.iter().zip(replies.iter()) {
+        ending = ending.and(plain.take(row.act, *reply)?);
+    }
+    Ok(ending)
+}
+
+fn judge(machine: Global, finished: &Finished) -> Result<Ending, Stop> {
+    let mut plain = Plain::EMPTY;
+    let ending = take_replies(&mut plain, &finished.replies)?;
+    let pairs = finished.table.pairs(machine)?;
+    hold(plain.has(&pairs), "the pairs are the script's")?;
+    Ok(ending)
+}
+
+/// Why a run that has no end to show may begin again.
+fn refused(fault: RunFault, readers: u32) -> Stop {
+    match fault {
+        RunFault::Memory | RunFault::Threads => Stop::Memory,
+        RunFault::NoReader if readers > 0 => Stop::Memory,
+        RunFault::Stopped(0, row, Fault::NoMemory) if (1..=ROWS.len()).contains(&row) => {
+            Stop::Memory
+        }
+        _ => Stop::Broken("memory alone is wanting"),
+    }
+}
+
+/// A run of one worker, which has a reader or none.
+pub(crate) fn run_with<R: Threads + Wait + Sync + Send + Copy>(
+    rt: R,
+    machine: Global,
+    readers: u32,
+) -> Result<Ending, Stop> {
+    if !is_trace_for(&ROWS, 1) {
+        return Err(Stop::Broken("the rows are one worker's"));
+    }
+    match run(rt, machine, SMALL, 1, readers, &ROWS, &Open) {
+        Ok(finished) => judge(machine, &finished),
+        Err(fault) => Err(refused(fault, readers)),
+    }
+}
