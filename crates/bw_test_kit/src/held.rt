@@ -5,7 +5,7 @@ use crate::play::Worked;
 use crate::worker::{Call, Reply, Task, Told, work_by_hand};
 use bw_delta::NoMemory;
 use bw_keys::Key;
-use bw_step::{Book, Kind, Step};
+use bw_step::{Book, Kind, Receipt, Step};
 use bw_table::Table;
 use bw_tree::{Share, Shared};
 use bw_work::{Del, Gate, Put};
@@ -74,15 +74,16 @@ impl Gate for HeldAfter {
     }
 }
 
-/// The kinds of the steps that change the tree's shape.
-pub const KINDS: [Kind; 7] = [
-    Kind::Consolidate,
-    Kind::Split,
-    Kind::TermAdd,
-    Kind::Grow,
-    Kind::Mark,
-    Kind::Merge,
-    Kind::TermDelete,
+/// Where worker 0 is held in turn: after its first step of each kind that changes the tree's shape. How
+/// many pairs it has put or deleted by then.
+pub const HOLDS: [(Kind, u64); 7] = [
+    (Kind::Consolidate, 4),
+    (Kind::Split, 5),
+    (Kind::TermAdd, 7),
+    (Kind::Grow, 5),
+    (Kind::Mark, 9),
+    (Kind::Merge, 9),
+    (Kind::TermDelete, 9),
 ];
 
 /// Calls for worker 0 that take a step of each kind in a small tree, so that it is held after any.
@@ -143,10 +144,26 @@ const HELD_BOOK: Book = Book {
     modified: 0,
 };
 
-/// Whether both workers were answered as they were to be, and the table has the pairs of both.
+/// Whether the insertions on the trail are numbered one by one, behind so many changes.
+fn are_numbered_behind(trail: &[Receipt], changes: u64) -> bool {
+    let mut last = changes;
+    for receipt in trail {
+        if let Receipt::Inserted { number, .. } = receipt {
+            if *number != last.saturating_add(1) {
+                return false;
+            }
+            last = *number;
+        }
+    }
+    true
+}
+
+/// Whether both workers were answered as they were to be, worker 1 did all behind so many changes of
+/// worker 0, and the table has the pairs of both.
 pub fn are_both_done(
     machine: Global,
     table: &Table<Global>,
+    before: u64,
     (zero, one): (&Told, &Told),
 ) -> Result<bool, NoMemory> {
     Ok(
@@ -154,6 +171,7 @@ pub fn are_both_done(
             && one.fault.is_none()
             && zero.replies.as_slice() == &HELD_REPLIES[..]
             && one.replies.as_slice() == &BESIDE_REPLIES[..]
+            && are_numbered_behind(&one.trail, before)
             && table.survey(machine)?.book == HELD_BOOK
             && table.pairs(machine)?.as_slice() == &HELD_PAIRS[..],
     )

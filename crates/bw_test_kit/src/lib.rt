@@ -22,7 +22,7 @@ pub use change::{Change, THREE_LEAVES, step_of, step_with, take, take_all};
 pub use configs::{LARGE, SMALL};
 pub use dice::drawn_step;
 pub use heaps::{Rooms, growing_heaps};
-pub use held::{BESIDE_CALLS, HELD_CALLS, HELD_PAIRS, HeldAfter, KINDS, are_both_done};
+pub use held::{BESIDE_CALLS, HELD_CALLS, HELD_PAIRS, HOLDS, HeldAfter, are_both_done};
 pub use hooked::{Hook, Hooked};
 pub use meeting::Meeting;
 pub use pages::{Pages, seen};

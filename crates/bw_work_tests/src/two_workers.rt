@@ -3,8 +3,9 @@
 use bw_audit::{Verdict, audit, is_ascending};
 use bw_keys::{Fence, Key};
 use bw_step::{Kind, Receipt, Step};
+use bw_table::Table;
 use bw_test_kit::{
-    BESIDE_CALLS, Call, Ended, HELD_CALLS, HeldAfter, KINDS, LARGE, Pages, Play, Reply, SMALL,
+    BESIDE_CALLS, Call, Ended, HELD_CALLS, HOLDS, HeldAfter, LARGE, Pages, Play, Reply, SMALL,
     Task, Told, Turns, Worked, are_both_done, are_own_pairs, leaves_of, play_on_new_tree, receipt,
     work_by_hand,
 };
@@ -114,15 +115,15 @@ fn a_worker_helps_the_split_of_one_that_is_held(rt: HostRuntime) -> Result<(), F
     Ok(())
 }
 
-/// What an audit says of the receipts of both workers and of the pairs that they left.
-fn verdict_on(machine: Global, ended: Ended<Told>) -> Result<Verdict, Fail> {
-    let Ended { table, zero, one } = ended;
-    let mut trails = Vec::new(machine);
-    trails.push(zero.trail)?;
-    trails.push(one.trail)?;
+/// What an audit says of the trails and of the pairs that are left.
+fn verdict_on(
+    machine: Global,
+    table: &Table<Global>,
+    trails: &[Vec<Receipt>],
+) -> Result<Verdict, Fail> {
     let pairs = table.pairs(machine)?;
     if is_ascending(&pairs) {
-        Ok(audit(machine, &trails, &pairs)?)
+        Ok(audit(machine, trails, &pairs)?)
     } else {
         Err("the keys of the pairs don't rise".into())
     }
@@ -131,21 +132,27 @@ fn verdict_on(machine: Global, ended: Ended<Told>) -> Result<Verdict, Fail> {
 #[test]
 fn a_worker_does_all_while_another_is_held_after_any_step(rt: HostRuntime) -> Result<(), Fail> {
     let machine = rt.alloc();
-    for kind in KINDS {
+    for (kind, before) in HOLDS {
         let play = Both {
             machine,
             held: HeldAfter::new(kind),
             zero: Task::calls(&HELD_CALLS),
             one: Task::calls(&BESIDE_CALLS),
         };
-        let ended = play_on_new_tree(rt, machine, SMALL, Turns::SideBySide, &play)?;
+        let Ended { table, zero, one } = play_on_new_tree(
+            rt,
+            machine,
+            SMALL,
+            Turns::SideBySide,
+            &play,
+        )?;
         assert!(rt; play.held.came_about(), "{kind:?}");
-        let told = (&ended.zero, &ended.one);
         assert!(rt;
-            are_both_done(machine, &ended.table, told)?,
-            "{kind:?}: {told:?}"
+            are_both_done(machine, &table, before, (&zero, &one))?,
+            "{kind:?}: {zero:?} {one:?}"
         );
-        assert_eq!(rt; verdict_on(machine, ended)?, Verdict::Yes, "{kind:?}");
+        let verdict = verdict_on(machine, &table, &[zero.trail, one.trail])?;
+        assert_eq!(rt; verdict, Verdict::Yes, "{kind:?}");
     }
     Ok(())
 }
