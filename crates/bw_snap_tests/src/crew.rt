@@ -1,4 +1,4 @@
-//! Two writers and two readers of one tree, each in a thread of its own.
+//! Two writers and one or two readers of one tree, each in a thread of its own.
 
 ghost use Rattle.std.specs.Prelude.{◌≡◌};
 ghost use Rattle.bw_tree.specs.Shares.{Opens};
@@ -34,7 +34,7 @@ pub(crate) trait Crew<W: Drop, L: Drop> {
 pub(crate) struct Left<W, L> {
     pub(crate) table: Table<Global>,
     pub(crate) written: (W, W),
-    pub(crate) read: (L, L),
+    pub(crate) read: Vec<L>,
 }
 
 /// Lets both writers do their work.
@@ -58,15 +58,21 @@ fn write_both<
     )
 }
 
-/// Lets both readers do theirs.
-fn read_both<
+/// Lets one reader do its work, or both.
+fn read_all<
     N: Naming + Send + Sync,
     R: Threads + Copy,
     W: Drop + Send,
     L: Drop + Send,
     C: Crew<W, L> + Sync,
->(rt: R, (zero, one): (Reader<N>, Reader<N>), crew: &C) -> (L, L) {
-    join(&rt, move || crew.read(zero, 0), move || crew.read(one, 1))
+>(rt: R, (zero, one): (Reader<N>, Option<Reader<N>>), crew: &C) -> (L, Option<L>) {
+    match one {
+        Some(one) => {
+            let (zero, one) = join(&rt, move || crew.read(zero, 0), move || crew.read(one, 1));
+            (zero, Some(one))
+        }
+        None => (crew.read(zero, 0), None),
+    }
 }
 
 /// Lets all do their work side by side.
@@ -81,13 +87,13 @@ fn work_all<
     rt: R,
     tree: &ReadTree<R, N, D>,
     shares: (Share<N, D>, Share<N, D>),
-    readers: (Reader<N>, Reader<N>),
+    readers: (Reader<N>, Option<Reader<N>>),
     crew: &C,
-) -> ((Worked<N, D, W>, Worked<N, D, W>), (L, L)) {
+) -> ((Worked<N, D, W>, Worked<N, D, W>), (L, Option<L>)) {
     join(
         &rt,
         move || write_both(rt, tree, shares, crew),
-        move || read_both(rt, readers, crew),
+        move || read_all(rt, readers, crew),
     )
 }
 
@@ -104,6 +110,7 @@ fn work_over<
     config: Config,
     blanks: Blanks,
     book: BlankBook,
+    readers: u32,
     crew: &C,
 ) -> Result<Left<W, L>, Fail>
     requires insertions { Opens N.name N.parts blanks.insertions }
@@ -112,17 +119,19 @@ fn work_over<
     requires config { N.config ≡ config }
 {
     let (tree, mut shares, mut readers) = ReadTree::<R, N, D>::with_readers(
-        rt, machine, config, blanks, book, 2,
+        rt, machine, config, blanks, book, readers,
     )?;
     let own = (
         shares.pop().ok_or("there is no share")?,
         shares.pop().ok_or("there is no second share")?,
     );
-    let looking = (
-        readers.pop().ok_or("there is no reader")?,
-        readers.pop().ok_or("there is no second reader")?,
-    );
-    let ((zero, one), read) = work_all(rt, &tree, own, looking, crew);
+    let looking = (readers.pop().ok_or("there is no reader")?, readers.pop());
+    let ((zero, one), (first, second)) = work_all(rt, &tree, own, looking, crew);
+    let mut read = Vec::new(machine);
+    read.push(first).ok().ok_or("no memory")?;
+    if let Some(told) = second {
+        read.push(told).ok().ok_or("no memory")?;
+    }
     shares.push(zero.share).ok().ok_or("no memory")?;
     shares.push(one.share).ok().ok_or("no memory")?;
     let table = tree.close(shares)?;
@@ -133,19 +142,20 @@ fn work_over<
     })
 }
 
-/// Lets a crew work on a new tree.
+/// Lets a crew with so many readers, one or two, work on a new tree.
 pub(crate) fn work_on_new_tree<
     R: Threads + Wait + Sync + Send + Copy,
     W: Drop + Send,
     L: Drop + Send,
     C: Crew<W, L> + Sync,
->(rt: R, machine: Global, config: Config, crew: &C) -> Result<Left<W, L>, Fail> {
+>(rt: R, machine: Global, config: Config, readers: u32, crew: &C) -> Result<Left<W, L>, Fail> {
     work_over::<Brand, Brand, R, W, L, C>(
         rt,
         machine,
         config,
         Blanks::new(2),
         BlankBook::new(),
+        readers,
         crew,
     )
 }

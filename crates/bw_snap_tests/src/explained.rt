@@ -263,17 +263,17 @@ fn what_readers_see_beside_writers_is_explained(rt: HostRuntime) -> Result<(), F
             run,
             ended: AtomicU64::new(0),
         };
-        let Left { written, read, .. } = work_on_new_tree(rt, machine, LARGE, &crew)?;
+        let Left { written, read, .. } = work_on_new_tree(rt, machine, LARGE, 2, &crew)?;
         let changes = changes_of(machine, (&written.0, &written.1))?;
         let all = changes.len() as u64;
-        for trail in [&written.0, &written.1, &read.0, &read.1] {
+        for trail in [&written.0, &written.1].into_iter().chain(read.iter()) {
             assert_eq!(rt; trail.unanswered, 0, "run {run}");
             assert!(rt;
                 are_explained(&changes, &trail.receipts) && are_modified(&changes, &trail.receipts),
                 "run {run}: {trail:?}"
             );
         }
-        for trail in [&read.0, &read.1] {
+        for trail in read.iter() {
             assert_eq!(rt; last_seen(&trail.receipts), Some(all), "run {run}");
             were_between = were_between || is_between(&trail.receipts, all);
         }

@@ -16,3 +16,7 @@ mod rows;
 mod scripts;
 #[cfg(test)]
 mod two_workers;
+#[cfg(test)]
+mod verdicts;
+#[cfg(test)]
+mod watched;

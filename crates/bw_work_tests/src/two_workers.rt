@@ -1,59 +1,46 @@
 //! Two workers at one tree.
 
+use bw_audit::{Verdict, audit, is_ascending};
 use bw_keys::{Fence, Key};
 use bw_step::{Kind, Receipt, Step};
+use bw_table::Table;
 use bw_test_kit::{
-    Call, Ended, LARGE, Meeting, Pages, Play, Reply, SMALL, Task, Told, Turns, Worked,
-    are_own_pairs, leaves_of, play_on_new_tree, receipt, work_by_hand,
+    BESIDE_CALLS, Call, Ended, HELD_CALLS, HOLDS, HeldAfter, LARGE, Pages, Play, Reply, SMALL,
+    Task, Told, Turns, Worked, are_both_done, are_own_pairs, leaves_of, play_on_new_tree, receipt,
+    work_by_hand,
 };
 use bw_tree::{Share, Shared};
-use bw_work::{Gate, Put};
+use bw_work::{Open, Put};
 use std::alloc::Global;
 use std::test::Fail;
 
-/// When the workers make their calls: at any time, or worker 1 while worker 0 is held after its split.
+/// Each worker puts a hundred keys, at any time.
 #[derive(Drop)]
-struct Pace {
-    meeting: Option<Meeting>,
+struct Hundreds {
+    machine: Global,
 }
 
-impl Pace {
-    /// Called before a worker's calls.
-    fn begin(&self, worker: u32) {
-        match &self.meeting {
-            Some(meeting) if worker == 1 => meeting.wait_for(0),
-            _ => {}
-        }
-    }
-
-    /// Called after a worker's calls.
-    fn end(&self, worker: u32) {
-        match &self.meeting {
-            Some(meeting) if worker == 1 => {
-                meeting.arrive(1);
-            }
-            _ => {}
-        }
+impl Play<Told> for Hundreds {
+    fn work<S: Shared<Global, Step<Global>> + Pages<Global>>(
+        &self,
+        tree: &S,
+        worker: u32,
+        share: Share<S::Insertions, S::Removals>,
+    ) -> Worked<S::Insertions, S::Removals, Told> {
+        let task = if worker == 0 {
+            Task::puts(1, 100)
+        } else {
+            Task::puts(101, 200)
+        };
+        work_by_hand(self.machine, tree, share, (worker, &Open), task)
     }
 }
 
-impl Gate for Pace {
-    fn at(&self, worker: u32, kind: Kind) {
-        match &self.meeting {
-            Some(meeting) if worker == 0 && kind == Kind::Split => {
-                meeting.arrive(0);
-                meeting.wait_for(1);
-            }
-            _ => {}
-        }
-    }
-}
-
-/// Each worker does a task, and the pace is told when it begins and when it ends.
+/// Each worker does a task, worker 1 while worker 0 is held.
 #[derive(Drop)]
 struct Both {
     machine: Global,
-    pace: Pace,
+    held: HeldAfter,
     zero: Task<'static>,
     one: Task<'static>,
 }
@@ -66,22 +53,14 @@ impl Play<Told> for Both {
         share: Share<S::Insertions, S::Removals>,
     ) -> Worked<S::Insertions, S::Removals, Told> {
         let task = if worker == 0 { self.zero } else { self.one };
-        self.pace.begin(worker);
-        let worked = work_by_hand(self.machine, tree, share, (worker, &self.pace), task);
-        self.pace.end(worker);
-        worked
+        self.held.work(self.machine, tree, share, worker, task)
     }
 }
 
 #[test]
 fn two_workers_put_a_hundred_keys_each(rt: HostRuntime) -> Result<(), Fail> {
     let machine = rt.alloc();
-    let play = Both {
-        machine,
-        pace: Pace { meeting: None },
-        zero: Task::puts(1, 100),
-        one: Task::puts(101, 200),
-    };
+    let play = Hundreds { machine };
     let Ended { table, zero, one } = play_on_new_tree(
         rt,
         machine,
@@ -106,11 +85,7 @@ const LEAVES: [(Key, Fence, u64); 2] = [(0, Fence::Key(3), 2), (3, Fence::Top, 4
 
 /// Whether the two met, and worker 1 replied and left that.
 fn has_helped(play: &Both, ended: &Ended<Told>) -> bool {
-    let have_met = match &play.pace.meeting {
-        Some(meeting) => meeting.came_about(),
-        None => false,
-    };
-    have_met
+    play.held.came_about()
         && ended.zero.is_plain()
         && ended.one.replies.as_slice() == &REPLIED[..]
         && ended.one.trail.as_slice() == &HELPED[..]
@@ -121,9 +96,7 @@ fn a_worker_helps_the_split_of_one_that_is_held(rt: HostRuntime) -> Result<(), F
     let machine = rt.alloc();
     let play = Both {
         machine,
-        pace: Pace {
-            meeting: Some(Meeting::new()),
-        },
+        held: HeldAfter::new(Kind::Split),
         zero: Task::puts(1, 5),
         one: Task::calls(&ASKED),
     };
@@ -139,5 +112,47 @@ fn a_worker_helps_the_split_of_one_that_is_held(rt: HostRuntime) -> Result<(), F
         LEAVES.as_slice()
     );
     assert!(rt; are_own_pairs(&ended.table.pairs(machine)?, 6));
+    Ok(())
+}
+
+/// What an audit says of the trails and of the pairs that are left.
+fn verdict_on(
+    machine: Global,
+    table: &Table<Global>,
+    trails: &[Vec<Receipt>],
+) -> Result<Verdict, Fail> {
+    let pairs = table.pairs(machine)?;
+    if is_ascending(&pairs) {
+        Ok(audit(machine, trails, &pairs)?)
+    } else {
+        Err("the keys of the pairs don't rise".into())
+    }
+}
+
+#[test]
+fn a_worker_does_all_while_another_is_held_after_any_step(rt: HostRuntime) -> Result<(), Fail> {
+    let machine = rt.alloc();
+    for (kind, before) in HOLDS {
+        let play = Both {
+            machine,
+            held: HeldAfter::new(kind),
+            zero: Task::calls(&HELD_CALLS),
+            one: Task::calls(&BESIDE_CALLS),
+        };
+        let Ended { table, zero, one } = play_on_new_tree(
+            rt,
+            machine,
+            SMALL,
+            Turns::SideBySide,
+            &play,
+        )?;
+        assert!(rt; play.held.came_about(), "{kind:?}");
+        assert!(rt;
+            are_both_done(machine, &table, before, (&zero, &one))?,
+            "{kind:?}: {zero:?} {one:?}"
+        );
+        let verdict = verdict_on(machine, &table, &[zero.trail, one.trail])?;
+        assert_eq!(rt; verdict, Verdict::Yes, "{kind:?}");
+    }
     Ok(())
 }
