@@ -108,7 +108,7 @@ impl Watched {
         self.missed.fetch_add(1, Ordering::SeqCst);
     }
 
-    /// Publishes all changes. As the workers take turns, there are no more of them by then.
+    /// Publishes all changes. As the workers take turns, none comes between.
     fn publish<R: Wait + Copy, N: Naming, D: Ledger>(
         &self,
         tree: &ReadTree<R, N, D>,
@@ -120,8 +120,8 @@ impl Watched {
         Some(())
     }
 
-    /// Makes the calls, and publishes before and behind each two of them. Before a publication the reader
-    /// looks, so that it can't but see that what isn't published yet isn't there.
+    /// Makes the calls, and publishes before and behind each two of them. The reader looks before a
+    /// publication, when there are changes that it mustn't see yet.
     fn call_each<R: Wait + Copy, N: Naming, D: Ledger>(
         &self,
         tree: &ReadTree<R, N, D>,

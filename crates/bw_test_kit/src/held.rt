@@ -74,8 +74,8 @@ impl Gate for HeldAfter {
     }
 }
 
-/// Where worker 0 is held in turn: after its first step of each kind that changes the tree's shape. How
-/// many pairs it has put or deleted by then.
+/// After which steps worker 0 is held in turn, the first of each kind that changes the tree's shape, and
+/// how many pairs it has put or deleted by then.
 pub const HOLDS: [(Kind, u64); 7] = [
     (Kind::Consolidate, 4),
     (Kind::Split, 5),
