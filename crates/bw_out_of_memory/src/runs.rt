@@ -58,10 +58,11 @@ pub(crate) fn run_with<R: Threads + Wait + Sync + Send + Copy>(
     machine: Global,
     readers: u32,
 ) -> Result<Ending, Stop> {
-    if !is_trace_for(&ROWS, 1) {
+    let rows = ROWS;
+    if !is_trace_for(&rows, 1) {
         return Err(Stop::Broken("the rows are one worker's"));
     }
-    match run(rt, machine, SMALL, 1, readers, &ROWS, &Open) {
+    match run(rt, machine, SMALL, 1, readers, &rows, &Open) {
         Ok(finished) => judge(machine, &finished),
         Err(fault) => Err(refused(fault, readers)),
     }
