@@ -6,7 +6,6 @@ ghost use Rattle.bw_tree.specs.Shares.{Opens};
 use crate::ending::{Ending, Stop, hold};
 use bw_keys::{Config, Key};
 use bw_snap::{BlankBook, Naming, ReadTree, Reader, ScanFault};
-use bw_test_kit::SMALL;
 use bw_tree::Blanks;
 use bw_work::{Done, Fault, Hand, Open, Put, put};
 use std::alloc::Global;
@@ -14,10 +13,20 @@ use std::marker::Brand;
 use std::sync::Wait;
 use std::sync::ledger::Ledger;
 
-/// How many groups of keys are put and published, and how many keys a group has.
-const GROUPS: u64 = 5;
+/// How many groups of keys are put and published, and how many keys a group has: as many as there is room
+/// for in the first piece of memory that what is pending takes, so that a publication wants room for its mark.
+const GROUPS: u64 = 4;
 
-const GROUP: u64 = 3;
+const GROUP: u64 = 4;
+
+/// Chains so long that the puts of the first group are all that is pending.
+const CONFIG: Config = Config {
+    fanout: 4,
+    chain: 8,
+    pages: 64,
+    tries: 100,
+    first_version: 0,
+};
 
 type Worker<'t, R, N, D> = Hand<'t, Global, ReadTree<R, N, D>, Open>;
 
@@ -181,5 +190,5 @@ fn published_over<R: Wait + Copy, N: Naming, D: Ledger>(
 
 /// Puts, publications and scans.
 pub(crate) fn publications<R: Wait + Copy>(rt: R, machine: Global) -> Result<Ending, Stop> {
-    published_over::<R, Brand, Brand>(rt, machine, SMALL, Blanks::new(1), BlankBook::new())
+    published_over::<R, Brand, Brand>(rt, machine, CONFIG, Blanks::new(1), BlankBook::new())
 }
