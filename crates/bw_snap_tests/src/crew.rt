@@ -58,6 +58,17 @@ fn write_both<
     )
 }
 
+/// Lets both readers do their work.
+fn read_both<
+    N: Naming + Send + Sync,
+    R: Threads + Copy,
+    W: Drop + Send,
+    L: Drop + Send,
+    C: Crew<W, L> + Sync,
+>(rt: R, (zero, one): (Reader<N>, Reader<N>), crew: &C) -> (L, L) {
+    join(&rt, move || crew.read(zero, 0), move || crew.read(one, 1))
+}
+
 /// Lets one reader do its work, or both.
 fn read_all<
     N: Naming + Send + Sync,
@@ -68,7 +79,7 @@ fn read_all<
 >(rt: R, (zero, one): (Reader<N>, Option<Reader<N>>), crew: &C) -> (L, Option<L>) {
     match one {
         Some(one) => {
-            let (zero, one) = join(&rt, move || crew.read(zero, 0), move || crew.read(one, 1));
+            let (zero, one) = read_both(rt, (zero, one), crew);
             (zero, Some(one))
         }
         None => (crew.read(zero, 0), None),
