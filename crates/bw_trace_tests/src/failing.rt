@@ -25,15 +25,17 @@ impl Failure {
 
     /// Counts a call, and fails where it is the one.
     fn count(&mut self) -> io::Result<()> {
-        let Failure::Behind(calls) = *self else {
-            return Ok(());
-        };
-        let Some(left) = calls.checked_sub(1) else {
-            *self = Failure::Met;
-            return Err(io::Error::from(io::ErrorKind::BrokenPipe));
-        };
-        *self = Failure::Behind(left);
-        Ok(())
+        match *self {
+            Failure::Behind(0) => {
+                *self = Failure::Met;
+                Err(io::Error::from(io::ErrorKind::BrokenPipe))
+            }
+            Failure::Behind(calls) => {
+                *self = Failure::Behind(calls - 1);
+                Ok(())
+            }
+            Failure::Met => Ok(()),
+        }
     }
 }
 
