@@ -27,6 +27,7 @@ use std::alloc::Allocator;
 /// none does (Levandoski et al., ICDE 2013, "page search"). The base page is searched by quarters.
 /// An inner page has no values.
 #[tactic(auto, using(crate::proofs::Bridges::both_kinds))]
+#[inline(always)]
 pub fn find<A: Allocator + Copy>(chain: &Chain<A>, key: Key) -> Option<u64>
     ensures { result ≡ at key (pairs chain.now) }
 {
@@ -54,6 +55,7 @@ pub fn route_at<A: Allocator + Copy>(chain: &Chain<A>, separator: Key) -> Option
 /// The route with the greatest separator at or below the key: the page that a search for the key
 /// goes down to. There is none below the least separator, and none on a leaf.
 #[tactic(auto, using(crate::proofs::Bridges::both_kinds))]
+#[inline(always)]
 pub fn child<A: Allocator + Copy>(chain: &Chain<A>, key: Key) -> Option<(Key, Pid)>
     requires sound { IsSound chain.now }
     ensures { result ≡ last_upto key (routes chain.now) }

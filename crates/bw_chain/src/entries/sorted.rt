@@ -72,6 +72,7 @@ fn one_if_below<X: Copy>(entries: &[(Key, X)], place: usize, key: Key) -> usize
 }
 
 /// The entries below the fence.
+#[inline(always)]
 pub(crate) fn below_fence<X: Copy>(entries: &[(Key, X)], fence: Fence) -> &[(Key, X)]
     requires ascending { IsAscending entries.now }
     ensures { result.now ≡ below (end_of fence) entries.now }
@@ -96,6 +97,7 @@ pub(crate) fn first_listed<X: Copy>(entries: &[(Key, X)], fence: Fence) -> Optio
 }
 
 /// The last entry below the fence.
+#[inline(always)]
 pub(crate) fn last_listed<X: Copy>(entries: &[(Key, X)], fence: Fence) -> Option<(Key, X)>
     requires ascending { IsAscending entries.now }
     ensures { result ≡ last_below (end_of fence) entries.now }
@@ -105,6 +107,7 @@ pub(crate) fn last_listed<X: Copy>(entries: &[(Key, X)], fence: Fence) -> Option
 
 /// What stands at the key.
 #[tactic(auto, using(crate::proofs::Firsts::stands_at))]
+#[inline(always)]
 pub(crate) fn value_at<X: Copy>(entries: &[(Key, X)], key: Key) -> Option<X>
     requires ascending { IsAscending entries.now }
     ensures { result ≡ at key entries.now }

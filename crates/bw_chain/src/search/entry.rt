@@ -14,6 +14,7 @@ use std::alloc::Allocator;
 
 /// What stands at the key: the newest record for it decides, and the search stops there.
 #[tactic(auto, using(bw_delta::proofs::At::ats))]
+#[inline(always)]
 pub(crate) fn find_entry<A: Allocator + Copy, X: EntryValue>(
     chain: &Chain<A>,
     key: Key,

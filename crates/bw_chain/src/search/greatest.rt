@@ -20,6 +20,7 @@ use std::alloc::Allocator;
 
 /// The greatest entry up to the key. Where no deletion and no merge is in the way it takes one walk
 /// over the records and one search of the base page.
+#[inline(always)]
 pub(crate) fn last_upto<A: Allocator + Copy, X: EntryValue>(
     chain: &Chain<A>,
     key: Key,

@@ -19,6 +19,7 @@ pub(crate) struct Reach<X> {
 
 impl<X: Copy> Reach<X> {
     /// A search that has found nothing yet.
+    #[inline(always)]
     pub(crate) fn new(upto: Key) -> Reach<X>
         ensures upto { result.upto ≡ upto }
         ensures none { result.best ≡ None }
@@ -27,6 +28,7 @@ impl<X: Copy> Reach<X> {
     }
 
     /// Whether an entry at the key would be better than the best one.
+    #[inline(always)]
     fn is_open(self, key: Key) -> bool
         ensures { result ≡ is_open self.upto self.best key }
     {
@@ -39,6 +41,7 @@ impl<X: Copy> Reach<X> {
 
     /// Takes account of a change, and tells whether the search may go on below it. It may not below a
     /// deletion that could hide what it finds.
+    #[inline(always)]
     pub(crate) fn passes(&mut self, change: Change<X>) -> bool
         ensures passed { result ≡ true → (es : List (ℕ × X)) → (answer : Option (ℕ × X)) →
             IsGreatest self.new.upto self.new.best es answer →
@@ -65,6 +68,7 @@ impl<X: Copy> Reach<X> {
     }
 
     /// The greatest entry, where only those of a base page are left.
+    #[inline(always)]
     pub(crate) fn greatest(self, entries: &[(Key, X)]) -> Option<(Key, X)>
         requires ascending { IsAscending entries.now }
         ensures { IsGreatest self.upto self.best entries.now result }
