@@ -9,4 +9,5 @@ pub mod Listing
 pub mod Merges
 pub mod Notes
 pub mod Passes
+pub mod Taking
 pub mod Writes

@@ -3,5 +3,6 @@ pub mod Appends
 pub mod Counts
 pub mod Cuts
 pub mod Edited
+pub mod Firsts
 pub mod Heads
 pub mod Rests

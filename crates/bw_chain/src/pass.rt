@@ -7,6 +7,7 @@ mod comparison;
 mod consolidation;
 mod counting;
 mod edits;
+mod first;
 mod listing;
 mod sink;
 mod stripping;
@@ -33,6 +34,7 @@ use bw_keys::{Fence, Key};
 pub use comparison::{is_upper_part, same};
 pub use consolidation::consolidate;
 pub use counting::count;
+pub use first::append_first_pairs;
 pub use listing::append_pairs;
 use std::alloc::Allocator;
 

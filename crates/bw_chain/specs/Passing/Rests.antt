@@ -15,7 +15,7 @@ abbrev pub BeginsOtherwise : {X : Type 0} → Fence → List (ℕ × X) → List
 BeginsOtherwise {X} fence list es = (rest : List (ℕ × X)) → list ≢ from (end_of fence) es ++ rest
 
 module _ {X : Type 0} where
-  from-append : (bound : ℕ) (es fs : List (ℕ × X)) → from bound (es ++ fs) ≡ from bound es ++ from bound fs
+  pub from-append : (bound : ℕ) (es fs : List (ℕ × X)) → from bound (es ++ fs) ≡ from bound es ++ from bound fs
   from-append bound [] fs = refl
   from-append bound (e ∷ es) fs = grind (arith, nat_tests, from-append bound es fs)
 

@@ -81,11 +81,27 @@ pub(crate) fn below_fence<X: Copy>(entries: &[(Key, X)], fence: Fence) -> &[(Key
 }
 
 /// The entries from the fence on.
-pub(crate) fn from_fence<X: Copy>(entries: &[(Key, X)], fence: Fence) -> &[(Key, X)]
+fn from_fence<X: Copy>(entries: &[(Key, X)], fence: Fence) -> &[(Key, X)]
     requires ascending { IsAscending entries.now }
     ensures { result.now ≡ from (end_of fence) entries.now }
 {
     &entries[count_below(entries, fence)..]
+}
+
+/// The entries from the fence on, which mostly all of them are.
+#[inline(always)]
+pub(crate) fn entries_from<X: Copy>(entries: &[(Key, X)], fence: Fence) -> &[(Key, X)]
+    requires ascending { IsAscending entries.now }
+    ensures { result.now ≡ from (end_of fence) entries.now }
+{
+    let Some(least) = entries.first() else {
+        return entries;
+    };
+    if fence.is_above(least.0) {
+        from_fence(entries, fence)
+    } else {
+        entries
+    }
 }
 
 /// The first entry from the fence on.

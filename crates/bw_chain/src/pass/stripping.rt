@@ -7,7 +7,7 @@ ghost use Rattle.bw_chain.specs.Ascends.{IsAscending};
 ghost use Rattle.bw_chain.specs.Passing.Edited.{edited, entry_of, falls};
 ghost use Rattle.bw_chain.specs.Passing.Rests.{Begins, BeginsOtherwise};
 
-use crate::entries::sorted::from_fence;
+use crate::entries::sorted::entries_from;
 use crate::entries::value::EntryValue;
 use crate::pass::around::split_around;
 use crate::pass::sink::Sink;
@@ -83,22 +83,6 @@ fn strip_edited<'a, X: EntryValue>(
     match strip_front(list, entries_from(rest, fence)) {
         Some(behind) => Some(behind),
         None => None,
-    }
-}
-
-/// The entries from the fence on, which mostly all of them are.
-#[inline(always)]
-fn entries_from<X: Copy>(entries: &[(Key, X)], fence: Fence) -> &[(Key, X)]
-    requires ascending { IsAscending entries.now }
-    ensures { result.now ≡ from (end_of fence) entries.now }
-{
-    let Some(least) = entries.first() else {
-        return entries;
-    };
-    if fence.is_above(least.0) {
-        from_fence(entries, fence)
-    } else {
-        entries
     }
 }
 

@@ -1,7 +1,7 @@
 use Rattle.std.proofs.Common.{◌≤◌, sym, arith}
 use Rattle.bw_keys.specs.Ranges.{end_of}
 use Rattle.bw_chain.proofs.Passing.Around.{from-least}
-use Rattle.bw_chain.proofs.pass.stripping.entries_from.Goals as goal
+use Rattle.bw_chain.proofs.entries.sorted.entries_from.Goals as goal
 
 pub returns-else-is_above : goal.returns-else-is_above
 returns-else-is_above g c =

@@ -1,0 +1,132 @@
+//! The first pairs of a chain from a key on, until a list has as many as a limit. The entries are
+//! handed on in stretches, so a page is listed in one pass, whatever its chain.
+
+ghost use Rattle.std.specs.Prelude.{◌≡◌, ◌≤◌, ◌++◌, true, length, take, vec_capacity, OnOk, OnErr};
+ghost use Rattle.bw_keys.specs.Ranges.{key_count};
+ghost use Rattle.bw_delta.specs.Entries.{from};
+ghost use Rattle.bw_delta.specs.Pairs.{pairs};
+ghost use Rattle.bw_delta.specs.Sound.{IsSound};
+ghost use Rattle.bw_chain.specs.Ascends.{IsAscending};
+ghost use Rattle.bw_chain.specs.Passing.Edited.{edited, entry_of, falls};
+ghost use Rattle.bw_chain.specs.Passing.Firsts.{Takes, HasNoRoom};
+
+use crate::entries::sorted::entries_from;
+use crate::page::shape::{Extent, allocator, extent_of};
+use crate::pass::around::split_around;
+use crate::pass::edits::{Edits, MOST_EDITS};
+use crate::pass::pass;
+use crate::pass::sink::Sink;
+use bw_delta::{Chain, Fences, NoMemory};
+use bw_keys::{Fence, Key};
+use std::alloc::Allocator;
+
+/// Appends the chain's pairs from the key on to the list, in the order of their keys, until it has
+/// as many as the limit. It has room for them, so no memory is asked for.
+#[tactic(auto, using(crate::proofs::Bridges::both_kinds))]
+pub fn append_first_pairs<A: Allocator + Copy, B: Allocator>(
+    chain: &Chain<A>,
+    low: Key,
+    limit: usize,
+    list: Vec<(Key, u64), B>,
+) -> Vec<(Key, u64), B>
+    requires sound { IsSound chain.now }
+    requires few { length list.items ≤ limit }
+    requires room { length (take limit (list.items ++ from low (pairs chain.now))) ≤ vec_capacity list }
+    ensures items { result.items ≡ take limit (list.items ++ from low (pairs chain.now)) }
+    ensures capacity { vec_capacity list ≤ vec_capacity result }
+{
+    let Fences { high, .. } = extent_of(chain).fences;
+    let mut edits: Edits<'_, u64, A> = Edits::from_buf(allocator(chain), [(0, None); MOST_EDITS]);
+    let from = Fence::Key(low);
+    let mut first = FirstPairs { list, from, limit };
+    match pass(chain, high, edits.as_mut_slice(), 0, &mut first) {
+        Ok(()) => first.list,
+        Err(NoMemory) => unreachable!(),
+    }
+}
+
+/// A list that takes pairs from the fence on, until it has as many as the limit.
+#[derive(Drop)]
+struct FirstPairs<B: Allocator> {
+    list: Vec<(Key, u64), B>,
+    from: Fence,
+    limit: usize,
+}
+
+impl<B: Allocator> Sink<u64> for FirstPairs<B> {
+    ghost use Rattle.std.specs.Prelude.{vec_capacity};
+    ghost use Rattle.bw_chain.specs.Passing.Firsts.{Takes, HasNoRoom, takes_joined, no_room_for_more, no_room_later};
+
+    type Stop = NoMemory;
+
+    ghost takes = { λ s es t. Takes s.limit s.from (vec_capacity s.list) s.list.items es t.limit t.from (vec_capacity t.list) t.list.items };
+
+    ghost refuses = { λ s es. HasNoRoom s.limit s.from (vec_capacity s.list) s.list.items es };
+
+    fn take_edited(
+        &mut self,
+        entries: &[(Key, u64)],
+        edits: &[(Key, Option<u64>)],
+    ) -> Result<(), NoMemory> {
+        take_first(self, entries, edits)
+    }
+
+    ghost takes_joined = { λ s t u es fs first second. takes_joined s.limit t.limit u.limit s.from t.from u.from (vec_capacity s.list) (vec_capacity t.list) (vec_capacity u.list) s.list.items t.list.items u.list.items es fs first second };
+
+    ghost refuses_more = { λ s es fs refused. no_room_for_more s.limit s.from (vec_capacity s.list) s.list.items es fs refused };
+
+    ghost refuses_later = { λ s t es fs first refused. no_room_later s.limit t.limit s.from t.from (vec_capacity s.list) (vec_capacity t.list) s.list.items t.list.items es fs first refused };
+}
+
+/// Takes the entries with the edits, which come with the greatest key first.
+fn take_first<B: Allocator>(
+    first: &mut FirstPairs<B>,
+    entries: &[(Key, u64)],
+    edits: &[(Key, Option<u64>)],
+) -> Result<(), NoMemory>
+    requires ascending { IsAscending entries.now }
+    requires falling { falls 0 key_count edits.now ≡ true }
+    ensures taken { OnOk result (Takes first.old.limit first.old.from (vec_capacity first.old.list) first.old.list.items (edited edits.now entries.now) first.new.limit first.new.from (vec_capacity first.new.list) first.new.list.items) }
+    ensures refused { OnErr result (HasNoRoom first.old.limit first.old.from (vec_capacity first.old.list) first.old.list.items (edited edits.now entries.now)) }
+{
+    let (mut rest, mut left) = (entries, edits);
+    'edits: while let Some((edit, greater)) = left.split_last() {
+        let (key, value) = *edit;
+        let (before, after) = split_around(rest, key);
+        take_run(first, before)?;
+        take_edit(first, key, value)?;
+        rest = after;
+        left = greater;
+    }
+    take_run(first, rest)
+}
+
+/// Takes entries that no edit changes.
+#[inline(always)]
+fn take_run<B: Allocator>(first: &mut FirstPairs<B>, run: &[(Key, u64)]) -> Result<(), NoMemory>
+    requires ascending { IsAscending run.now }
+    ensures taken { OnOk result (Takes first.old.limit first.old.from (vec_capacity first.old.list) first.old.list.items run.now first.new.limit first.new.from (vec_capacity first.new.list) first.new.list.items) }
+    ensures refused { OnErr result (HasNoRoom first.old.limit first.old.from (vec_capacity first.old.list) first.old.list.items run.now) }
+{
+    let listed = entries_from(run, first.from);
+    let room = first.limit.saturating_sub(first.list.len());
+    let (wanted, _) = listed.split_at(listed.len().min(room));
+    first.list.extend_from_slice(wanted)?;
+    Ok(())
+}
+
+/// Takes the entry that the edit puts, if it does.
+#[inline(always)]
+fn take_edit<B: Allocator>(
+    first: &mut FirstPairs<B>,
+    key: Key,
+    edit: Option<u64>,
+) -> Result<(), NoMemory>
+    ensures taken { OnOk result (Takes first.old.limit first.old.from (vec_capacity first.old.list) first.old.list.items (entry_of key edit) first.new.limit first.new.from (vec_capacity first.new.list) first.new.list.items) }
+    ensures refused { OnErr result (HasNoRoom first.old.limit first.old.from (vec_capacity first.old.list) first.old.list.items (entry_of key edit)) }
+{
+    match edit {
+        Some(value) => take_run(first, &[(key, value)]),
+        None => Ok(()),
+    }
+}
