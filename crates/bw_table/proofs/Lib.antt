@@ -9,3 +9,4 @@ pub mod Whole
 pub mod Writes
 pub mod Gets
 pub mod Listings
+pub mod Rests

@@ -1,15 +1,13 @@
 -- The first pairs of the map from a key on, listed page by page along the leaf row.
-use Rattle.std.proofs.Common.{◌≡◌, ℕ, ◌+◌, ◌-◌, ◌<◌, ◌≤◌, true, List, [], ◌∷◌, ◌++◌, length, take, Option, Some, None, refl, sym, ◌∙◌, ap, subst, arith, append_assoc, append-nil, inl, inr, length-take, length-append}
-use Rattle.std.specs.Prelude.{min, option_map, unwrap_or}
+use Rattle.std.proofs.Common.{◌≡◌, ℕ, ◌<◌, ◌≤◌, true, List, [], ◌∷◌, ◌++◌, length, take, Option, Some, None, refl, sym, ◌∙◌, ap, subst, arith, append_assoc, inl, inr, length-take, length-append}
+use Rattle.std.specs.Prelude.{min}
 use Rattle.std.proofs.lemmas.Bool.Decides.{nat_tests}
 use Rattle.std.proofs.lemmas.List.{take_all, take-append-le}
 use Rattle.std.proofs.lemmas.List.Elements.{filter-append}
 use Rattle.bw_keys.specs.declared.page.Pid.{Pid}
 use Rattle.bw_keys.specs.Ranges.{key_count}
-use Rattle.bw_delta.specs.Entries.{from, first_from, first_entry, rises}
-use Rattle.bw_delta.specs.Pairs.{pairs}
-use Rattle.bw_chain.proofs.Ascending.{pairs_ascend}
-use Rattle.bw_chain.proofs.Firsts.{from_past, from_step, first_from-bound}
+use Rattle.bw_delta.specs.Entries.{from}
+use Rattle.bw_chain.proofs.Firsts.{from_past}
 use Rattle.bw_step.specs.Stages.{is_in_row}
 use Rattle.bw_law.specs.Laws.{IsLeafOf}
 use Rattle.bw_law.specs.Rows.{Outline}
@@ -20,7 +18,6 @@ use Rattle.bw_law.proofs.Count.{joined_count}
 use Rattle.bw_law.proofs.Joined.{joined, EachRises, joined_rise}
 use Rattle.bw_law.proofs.MapAndTerms.{map_law, leaf_pairs_rise}
 use Rattle.bw_law.proofs.RowList.{row_of}
-use Rattle.bw_table.specs.SlotFacts.{HasSoundChain}
 use Rattle.bw_table.specs.Gets.{IsListing}
 use Rattle.bw_table.proofs.RowWalk.{IsListedBefore, at_next, listing_goes_on, whole_is_listed, joined_pairs-one, joined_pairs-append}
 
@@ -35,81 +32,6 @@ from-append low xs ys = filter-append _ xs ys
 pub length-from : {X : Type 0} (low : ℕ) (xs : List (ℕ × X)) → length (from low xs) ≤ length xs
 length-from low [] = omega arith
 length-from low (x ∷ xs) = grind (arith, nat_tests, length-from low xs)
-
--- One page.
-
--- of the page's pairs from `low` on these are listed, and the next is the first at or above some bound
-pub record IsListedInPage (pairs old : List (ℕ × ℕ)) (low limit : ℕ) (next : Option (ℕ × ℕ)) (list : List (ℕ × ℕ)) : Type 0 where
-  pub bound : ℕ
-  pub left : next ≡ first_from bound pairs
-  pub same : take limit (old ++ from low pairs) ≡ take limit (list ++ from bound pairs)
-  pub few : length list ≤ limit
-
-abbrev pub pairs_left : Option (ℕ × ℕ) → ℕ
-pairs_left None = 0
-pairs_left (Some pair) = key_count - pair.0
-
--- the pairs of a page in a row rise
-pub pairs_in_rise : (slot : SlotValue) → is_in_row slot.stage ≡ true → HasSoundChain slot → rises 0 key_count (pairs_in slot) ≡ true
-pairs_in_rise slot in_row sound =
-    let own = sound in_row in
-    let same : pairs own.0 ≡ pairs_in slot = sym (ap (λ o. unwrap_or (option_map pairs o) []) own.1) in
-    subst (λ (es : List (ℕ × ℕ)). rises 0 key_count es ≡ true) same (pairs_ascend own.0 own.2.built)
-
--- nothing is above the greatest key
-pub none_past_keys : (slot : SlotValue) → is_in_row slot.stage ≡ true → HasSoundChain slot → (bound : ℕ) → key_count ≤ bound → None ≡ first_from bound (pairs_in slot)
-none_past_keys slot in_row sound bound past = sym (ap first_entry (from_past 0 key_count bound (pairs_in slot) (pairs_in_rise slot in_row sound) past))
-
-first_is_within : {X : Type 0} (low end bound : ℕ) (e : ℕ × X) (es : List (ℕ × X)) → rises low end es ≡ true → first_from bound es ≡ Some e → e.0 < end
-first_is_within low end bound e [] rising first = cc
-first_is_within low end bound e (d ∷ es) rising first = grind (arith, nat_tests, first_is_within (d.0 + 1) end bound e es)
-
-no_first : {X : Type 0} (es : List (ℕ × X)) → first_entry es ≡ None → es ≡ []
-no_first [] none = refl
-no_first (e ∷ es) none = absurd (cc (none))
-
-module _ (pairs old : List (ℕ × ℕ)) (low limit : ℕ) (rising : rises 0 key_count pairs ≡ true) where
-  pub page_begins : (next : Option (ℕ × ℕ)) → length old ≤ limit → next ≡ first_from low pairs → IsListedInPage pairs old low limit next old
-  page_begins next few is = record { bound = low; left = is; same = refl; few = few }
-
-  module _ (next : Option (ℕ × ℕ)) (list : List (ℕ × ℕ)) (so_far : IsListedInPage pairs old low limit next list) where
-    -- one pair more
-    rest_is : (key value : ℕ) → next ≡ Some (key, value) → from so_far.bound pairs ≡ (key, value) ∷ from (key + 1) pairs
-    rest_is key value is = from_step 0 key_count so_far.bound (key, value) pairs rising (sym so_far.left ∙ is)
-
-    pub pair_has_room : (key value capacity : ℕ) → next ≡ Some (key, value) → length list < limit → length (take limit (old ++ from low pairs)) ≤ capacity → length list < capacity
-    pair_has_room key value capacity is more room =
-        let listed : take limit (old ++ from low pairs) ≡ take limit (list ++ (key, value) ∷ from (key + 1) pairs) = so_far.same ∙ ap (λ (es : List (ℕ × ℕ)). take limit (list ++ es)) (rest_is key value is) in
-        omega (arith, room, ap length listed, length-take limit (list ++ (key, value) ∷ from (key + 1) pairs), length-append list ((key, value) ∷ from (key + 1) pairs))
-
-    pub pair_listed : (key value : ℕ) (after : Option (ℕ × ℕ)) (longer : List (ℕ × ℕ)) → next ≡ Some (key, value) → length list < limit → longer ≡ list ++ (key, value) ∷ [] → after ≡ first_from (key + 1) pairs
-        → IsListedInPage pairs old low limit after longer
-    pair_listed key value after longer is more longer_is after_is = record {
-      bound = key + 1;
-      left = after_is;
-      same =
-          so_far.same ∙ ap (λ (es : List (ℕ × ℕ)). take limit (list ++ es)) (rest_is key value is)
-          ∙ ap (take limit) (sym (append_assoc list ((key, value) ∷ []) (from (key + 1) pairs)))
-          ∙ ap (λ (es : List (ℕ × ℕ)). take limit (es ++ from (key + 1) pairs)) (sym longer_is);
-      few = omega (arith, ap length longer_is, length-append list ((key, value) ∷ []));
-    }
-
-    pub fewer_pairs_left : (key value : ℕ) (after : Option (ℕ × ℕ)) → next ≡ Some (key, value) → after ≡ first_from (key + 1) pairs → pairs_left after < pairs_left next
-    fewer_pairs_left key value None is after_is =
-        let within : key < key_count = first_is_within 0 key_count so_far.bound (key, value) pairs rising (sym so_far.left ∙ is) in
-        rw is (omega arith)
-    fewer_pairs_left key value (Some pair) is after_is =
-        let within : key < key_count = first_is_within 0 key_count so_far.bound (key, value) pairs rising (sym so_far.left ∙ is) in
-        rw is (omega (arith, first_from-bound (key + 1) pair pairs (sym after_is)))
-
-    -- the limit is reached, or the page has no more pairs
-    pub limit_is_reached : limit ≤ length list → list ≡ take limit (old ++ from low pairs)
-    limit_is_reached full = sym (so_far.same ∙ take-append-le limit list (from so_far.bound pairs) full ∙ take_all limit list so_far.few)
-
-    pub page_is_listed : next ≡ None → list ≡ take limit (old ++ from low pairs)
-    page_is_listed is =
-        let none : from so_far.bound pairs ≡ [] = no_first (from so_far.bound pairs) (sym so_far.left ∙ is) in
-        sym (so_far.same ∙ ap (λ (es : List (ℕ × ℕ)). take limit (list ++ es)) none ∙ ap (take limit) (append-nil list) ∙ take_all limit list so_far.few)
 
 -- The leaf row.
 

@@ -7,3 +7,4 @@ pub mod Views
 pub mod Visits
 pub mod Whole
 pub mod Gets
+pub mod Rests

@@ -91,7 +91,7 @@ impl<A: Allocator + Copy> Table<A> {
 
     /// Whether the page was taken in to its left neighbour.
     #[inline(always)]
-    fn is_taken_in(&self, pid: Pid) -> bool
+    pub(crate) fn is_taken_in(&self, pid: Pid) -> bool
         ensures { result ≡ is_merged (slot_at self.now pid.0).stage }
     {
         match self.slot(pid) {

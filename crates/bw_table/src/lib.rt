@@ -9,6 +9,7 @@ mod free;
 mod fresh;
 mod get;
 mod listing;
+mod rest;
 mod slot;
 mod steps;
 mod survey;

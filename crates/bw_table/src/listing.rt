@@ -1,7 +1,7 @@
 //! The first pairs of the map from a key on, read along the leaf row.
 
 ghost use Rattle.std.specs.Prelude.{◌≡◌, ◌+◌, ◌≤◌, ◌++◌, [], min, length, take, true, vec_capacity, OnOk, OnErr};
-ghost use Rattle.bw_delta.specs.Entries.{from, first_from};
+ghost use Rattle.bw_delta.specs.Entries.{from};
 ghost use Rattle.bw_step.specs.Stages.{is_in_row};
 ghost use Rattle.bw_law.specs.Slots.{pairs_in};
 ghost use Rattle.bw_law.specs.Tables.{Lawful, pair_count, slot_at};
@@ -10,10 +10,11 @@ ghost use Rattle.bw_table.specs.Gets.{IsListing};
 
 use crate::slot::Slot;
 use crate::table::Table;
-use bw_chain::next_at;
+use bw_chain::append_first_pairs;
 use bw_delta::NoMemory;
 use bw_keys::{Key, Pid};
 use std::alloc::Allocator;
+use std::mem::replace;
 
 impl<A: Allocator + Copy> Table<A> {
     /// Makes the list the first pairs of the map from the key on, in the order of their keys, and no
@@ -31,7 +32,8 @@ impl<A: Allocator + Copy> Table<A> {
         let room = self.pair_count().min(limit);
         list.reserve(room.saturating_sub(list.len()))?;
         list.clear();
-        self.fill(low, limit, list);
+        let empty = Vec::new(*list.allocator());
+        *list = self.fill(low, limit, replace(list, empty));
         Ok(())
     }
 
@@ -42,65 +44,39 @@ impl<A: Allocator + Copy> Table<A> {
         (self.book.inserted - self.book.removed) as usize
     }
 
-    /// Lists the pairs in the list, which is empty and has room for them.
-    fn fill(&self, low: Key, limit: usize, list: &mut Vec<(Key, u64)>)
-        requires empty { list.old.items ≡ [] }
-        requires room { min (pair_count self.now.slots) limit ≤ vec_capacity list.old }
-        ensures { IsListing self.now low limit list.new.items }
+    /// The list with the pairs, which is empty and has room for them.
+    fn fill(&self, low: Key, limit: usize, list: Vec<(Key, u64)>) -> Vec<(Key, u64)>
+        requires empty { list.items ≡ [] }
+        requires room { min (pair_count self.now.slots) limit ≤ vec_capacity list }
+        ensures { IsListing self.now low limit result.items }
     {
+        let mut listed = list;
         let mut next = Some(self.page_for(low));
         'leaves: while let Some(pid) = next {
-            if list.len() >= limit {
-                return;
+            if listed.len() >= limit {
+                return listed;
             }
             let slot = self.slot_in_row(pid);
-            slot.list_from(low, limit, list);
+            listed = slot.list_from(low, limit, listed);
             next = slot.summary.right;
         }
+        listed
     }
 }
 
 impl<A: Allocator + Copy> Slot<A> {
-    /// Appends the page's pairs from the key on, as many as the limit leaves.
-    fn list_from(&self, low: Key, limit: usize, list: &mut Vec<(Key, u64)>)
+    /// The list, and behind its pairs those of the page from the key on, as many as the limit leaves.
+    fn list_from(&self, low: Key, limit: usize, list: Vec<(Key, u64)>) -> Vec<(Key, u64)>
         requires in_row { is_in_row self.now.stage ≡ true }
         requires sound { HasSoundChain self.now }
-        requires few { length list.old.items ≤ limit }
-        requires room { length (take limit (list.old.items ++ from low (pairs_in self.now))) ≤ vec_capacity list.old }
-        ensures items { list.new.items ≡ take limit (list.old.items ++ from low (pairs_in self.now)) }
-        ensures capacity { vec_capacity list.new ≡ vec_capacity list.old }
-    {
-        let mut next = self.first_from(low);
-        'pairs: while let Some((key, value)) = next {
-            if list.len() >= limit {
-                return;
-            }
-            list.push_reserved((key, value));
-            next = self.first_after(key);
-        }
-    }
-
-    /// The page's first pair at or above the key.
-    fn first_from(&self, key: Key) -> Option<(Key, u64)>
-        requires in_row { is_in_row self.now.stage ≡ true }
-        requires sound { HasSoundChain self.now }
-        ensures { result ≡ first_from key (pairs_in self.now) }
+        requires few { length list.items ≤ limit }
+        requires room { length (take limit (list.items ++ from low (pairs_in self.now))) ≤ vec_capacity list }
+        ensures items { result.items ≡ take limit (list.items ++ from low (pairs_in self.now)) }
+        ensures capacity { vec_capacity list ≤ vec_capacity result }
     {
         match &self.chain {
-            Some(chain) => next_at(chain, key),
-            None => None,
+            Some(chain) => append_first_pairs(chain, low, limit, list),
+            None => list,
         }
-    }
-
-    /// The page's first pair above the key.
-    fn first_after(&self, key: Key) -> Option<(Key, u64)>
-        requires in_row { is_in_row self.now.stage ≡ true }
-        requires sound { HasSoundChain self.now }
-        ensures { result ≡ first_from (key + 1) (pairs_in self.now) }
-    {
-        if key == Key::MAX {
-            return None;
-        }
-        self.first_from(key + 1)
     }
 }

@@ -1,4 +1,4 @@
-use Rattle.std.proofs.Common.{◌<◌, ◌≤◌, length, refl, ◌∙◌, ap, arith}
+use Rattle.std.proofs.Common.{◌<◌, ◌≤◌, length, ap, arith}
 use Rattle.std.specs.Prelude.{vec_capacity}
 use Rattle.bw_law.specs.Slots.{SlotValue}
 use Rattle.bw_table.proofs.Listings.{row_begins, row_goes_on, page_has_room, listing_is_full, listing_is_whole}
@@ -7,36 +7,37 @@ use Rattle.bw_table.proofs.table.Table.fill.Goals as goal
 pub leaves-init : goal.leaves-init
 leaves-init g c = record {
   lawful = c.page_for.ensures.lawful;
-  up_to = row_begins c.args.self.now c.page_for.ensures.lawful c.args.low c.args.limit c.page_for.result c.args.list.now.items c.page_for.ensures.leaf c.requires.empty;
-  capacity = refl;
+  up_to = row_begins c.args.self.now c.page_for.ensures.lawful c.args.low c.args.limit c.page_for.result c.args.list.items c.page_for.ensures.leaf c.requires.empty;
+  capacity = omega arith;
 }
 
 pub returns-then-len-limit : goal.returns-then-len-limit
 returns-then-len-limit g c =
     let so_far = c.leaves.invariant in
-    let full : c.args.limit ≤ length c.leaves.list.items = omega (arith, c.len.ensures, c.leaves.list.ok.0) in
-    listing_is_full c.args.self.now so_far.lawful c.args.low c.args.limit c.leaves.next c.leaves.list.items so_far.up_to full
+    let full : c.args.limit ≤ length c.leaves.listed.items = omega (arith, c.len.ensures, c.leaves.listed.ok.0) in
+    listing_is_full c.args.self.now so_far.lawful c.args.low c.args.limit c.leaves.next c.leaves.listed.items so_far.up_to full
 
-pub list_from-requires-clause-room : goal.list_from-requires-clause-room
-list_from-requires-clause-room g c =
+pub list_from-listed-requires-clause-room : goal.list_from-listed-requires-clause-room
+list_from-listed-requires-clause-room g c =
     let so_far = c.leaves.invariant in
-    let more : length c.leaves.list.items < c.args.limit = omega (arith, c.len.ensures, c.leaves.list.ok.0) in
-    rw so_far.capacity
-    (page_has_room c.args.self.now so_far.lawful c.args.low c.args.limit c.leaves.next c.leaves.list.items so_far.up_to c.in-Some.pid c.slot_in_row-slot.result.now
-    (vec_capacity c.args.list.now) c.in-Some.is c.slot_in_row-slot.ensures.there more c.requires.room)
+    let more : length c.leaves.listed.items < c.args.limit = omega (arith, c.len.ensures, c.leaves.listed.ok.0) in
+    let room =
+    page_has_room c.args.self.now so_far.lawful c.args.low c.args.limit c.leaves.next c.leaves.listed.items so_far.up_to c.in-Some.pid c.slot_in_row-slot.result.now
+    (vec_capacity c.args.list) c.in-Some.is c.slot_in_row-slot.ensures.there more c.requires.room in
+    omega (arith, room, so_far.capacity)
 
 pub leaves-preserved : goal.leaves-preserved
 leaves-preserved g c =
     let so_far = c.leaves.invariant in
-    let more : length c.leaves.list.items < c.args.limit = omega (arith, c.len.ensures, c.leaves.list.ok.0) in
+    let more : length c.leaves.listed.items < c.args.limit = omega (arith, c.len.ensures, c.leaves.listed.ok.0) in
     let slot = c.slot_in_row-slot in record {
       lawful = so_far.lawful;
-      up_to = row_goes_on c.args.self.now so_far.lawful c.args.low c.args.limit c.leaves.next c.leaves.list.items so_far.up_to c.in-Some.pid slot.result.now c.slot.inside.summary.right
-          c.list_from.new.list.items c.in-Some.is slot.ensures.there (ap (λ (s : SlotValue). s.right) c.slot.view_is) more c.list_from.ensures.items;
-      capacity = c.list_from.ensures.capacity ∙ so_far.capacity;
+      up_to = row_goes_on c.args.self.now so_far.lawful c.args.low c.args.limit c.leaves.next c.leaves.listed.items so_far.up_to c.in-Some.pid slot.result.now c.slot.inside.summary.right
+          c.list_from-listed.result.items c.in-Some.is slot.ensures.there (ap (λ (s : SlotValue). s.right) c.slot.view_is) more c.list_from-listed.ensures.items;
+      capacity = omega (arith, c.list_from-listed.ensures.capacity, so_far.capacity);
     }
 
 pub returns : goal.returns
 returns g c =
     let so_far = c.leaves.invariant in
-    listing_is_whole c.args.self.now so_far.lawful c.args.low c.args.limit c.leaves.next c.leaves.list.items so_far.up_to c.in_default.is
+    listing_is_whole c.args.self.now so_far.lawful c.args.low c.args.limit c.leaves.next c.leaves.listed.items so_far.up_to c.in_default.is
