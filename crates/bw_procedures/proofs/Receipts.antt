@@ -1,5 +1,5 @@
 -- What one more receipt tells.
-use Rattle.std.proofs.Common.{◌≡◌, ℕ, zero, suc, ◌<◌, List, [], ◌∷◌, ◌++◌, length, get_or, Option, Some, None, Ok, refl, ap, sym, ◌∙◌, append_assoc, append-nil, arith}
+use Rattle.std.proofs.Common.{◌≡◌, ℕ, zero, suc, ◌<◌, List, [], ◌∷◌, ◌++◌, length, get_or, Option, Ok, refl, ap, sym, ◌∙◌, append_assoc, append-nil, arith}
 use Rattle.bw_keys.specs.Ranges.{end_of}
 use Rattle.bw_keys.specs.declared.range.Fence.{Fence}
 use Rattle.bw_step.specs.declared.receipt.Receipt.{Receipt}

@@ -1,18 +1,15 @@
 -- The removal of a range, part by part.
-use Rattle.std.proofs.Common.{◌≡◌, ◌⊎◌, inl, inr, ℕ, ◌+◌, ◌<◌, ◌≤◌, ◌==◌, min, Bool, true, false, List, [], ◌∷◌, ◌++◌, length, Option, Some, None, IfSome, refl, ap, sym, subst, ◌∙◌, append_assoc, append-nil, length-append, arith}
+use Rattle.std.proofs.Common.{◌≡◌, ◌⊎◌, inl, inr, ℕ, ◌+◌, ◌<◌, ◌≤◌, ◌==◌, min, Bool, true, false, List, [], ◌∷◌, ◌++◌, length, Option, Some, None, refl, ap, sym, subst, ◌∙◌, append_assoc, append-nil, length-append, arith}
 use Rattle.std.specs.Prelude.{nat_lt, is_some}
 use Rattle.std.proofs.lemmas.Bool.Decides.{nat_tests}
-use Rattle.bw_keys.specs.declared.config.Config.{Config}
 use Rattle.bw_delta.specs.Entries.{at, rises}
 use Rattle.bw_step.specs.declared.receipt.Receipt.{Receipt}
-use Rattle.bw_step.specs.declared.receipt.Receipt.TheVariants.{Deleted, Looked}
-use Rattle.bw_step.specs.Tellings.{Telling, change, look, shape, telling_of, Told, changed, looked, told_by, told_in, without_shapes}
+use Rattle.bw_step.specs.Tellings.{Telling, change, look, shape, telling_of, Told, changed, told_by, told_in, without_shapes}
 use Rattle.bw_procedures.specs.declared.reply.Del.{Del}
 use Rattle.bw_procedures.specs.declared.reply.Del.TheVariants.{Removed, NoKey}
 use Rattle.bw_procedures.specs.declared.fault.Fault.{Fault}
-use Rattle.bw_procedures.specs.declared.fault.Fault.TheVariants.{Contended, NoMemory, TableFull, TooTall, Worn}
 use Rattle.bw_procedures.specs.Seen.{Seen, Grows}
-use Rattle.bw_procedures.specs.Calls.{limit_of, IsEarned, OnlySpends}
+use Rattle.bw_procedures.specs.Calls.{OnlySpends}
 use Rattle.bw_procedures.specs.Told.{told_of_delete}
 use Rattle.bw_procedures.specs.Writing.{AddsReceipt, IsReceiptOfDelete}
 use Rattle.bw_procedures.specs.Clearing.{IsRemovalOf, AreRemovals, removal_in, removals_in, AddsRemovals, HasRemovalOf, IsSwept, AreRemovalsOf, LieBelow, StartFrom, RemovesFirst, RemovesBelow, RemovesOne, RemovesKey}

@@ -1,5 +1,5 @@
 -- What steps that change only the tree's shape leave.
-use Rattle.std.proofs.Common.{◌≡◌, ℕ, ◌≤◌, List, [], ◌∷◌, ◌++◌, Result, Ok, Err, IfErr, OnOk, refl, ap, ◌∙◌, append-nil, arith}
+use Rattle.std.proofs.Common.{ℕ, ◌≤◌, [], ◌∷◌, Result, Ok, Err, IfErr, OnOk, ap, ◌∙◌, append-nil, arith}
 use Rattle.bw_step.specs.Proposals.{Proposal, insert, delete, modify}
 use Rattle.bw_step.specs.declared.receipt.Receipt.{Receipt}
 use Rattle.bw_step.specs.declared.receipt.Receipt.TheVariants.{Shaped}

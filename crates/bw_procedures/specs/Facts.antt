@@ -4,7 +4,8 @@ use Rattle.bw_keys.specs.declared.page.Pid.{Pid}
 use Rattle.bw_keys.specs.declared.page.Version.{Version}
 use Rattle.bw_keys.specs.Ranges.{end_of}
 use Rattle.bw_delta.specs.declared.fault.NoMemory.{NoMemory}
-use Rattle.bw_delta.specs.Records.{Records}
+use Rattle.bw_delta.specs.Pages.{Page}
+use Rattle.bw_delta.specs.Records.{Records, bare}
 use Rattle.bw_delta.specs.Fence.{fences, is_leaf}
 use Rattle.bw_delta.specs.Pairs.{pairs}
 use Rattle.bw_step.specs.declared.place.Go.{Go}
@@ -59,6 +60,15 @@ IsCopied key (Err fault) = fault ≡ copy_faults.NoMemory
 -- the key's leaf is copied, if it is fresh
 abbrev pub CalmCopy : (Fact → Type 0) → Pid → Version → Result Records CopyFault → Type 0
 CalmCopy calm pid version result = (key : ℕ) → calm (holds key 0 pid) → calm (fresh pid version) → IsCopied key result
+
+-- memory apart, the page is made anew
+abbrev pub IsMadeAnew : ℕ → Result Page CopyFault → Type 0
+IsMadeAnew key (Ok page) = IsLeafAround key (bare page)
+IsMadeAnew key (Err fault) = fault ≡ copy_faults.NoMemory
+
+-- the key's leaf is made anew, if it is fresh
+abbrev pub CalmAnew : (Fact → Type 0) → Pid → Version → Result Page CopyFault → Type 0
+CalmAnew calm pid version result = (key : ℕ) → calm (holds key 0 pid) → calm (fresh pid version) → IsMadeAnew key result
 
 -- a copy of a leaf shows all pairs of its range
 abbrev pub ShowsCopy : (ℕ → ℕ → List (ℕ × ℕ) → Type 0) → Records → Type 0

@@ -4,10 +4,10 @@ ghost use Rattle.std.specs.Prelude.{◌≡◌, ◌<◌, ◌∷◌, ◌++◌, [],
 ghost use Rattle.bw_procedures.specs.Seen.{ends_of, one_more, visit_effort, look_effort, trail_after_look, copy_effort, receipt_effort, full_after, tall_after, worn_after};
 
 use crate::steps::{Ends, Keep};
-use bw_delta::{Chain, NoMemory};
+use bw_delta::NoMemory;
 use bw_keys::{Config, Key};
 use bw_step::{CopyFault, Go, Look, Receipt, Refused};
-use std::alloc::{Allocator, Global};
+use std::alloc::Global;
 use std::marker::Model;
 
 /// A worker's account: its configuration, the receipts on its trail, its effort, and how often a
@@ -140,9 +140,9 @@ impl Account {
         }
     }
 
-    /// A page was copied, which costs effort where it was absent or has changed.
+    /// A page was copied, or made anew, which costs effort where it was absent or has changed.
     #[inline(always)]
-    pub fn copied<A: Allocator + Copy>(&mut self, copy: &Result<Chain<A>, CopyFault>)
+    pub fn copied<T>(&mut self, copy: &Result<T, CopyFault>)
         ensures { self.new.seen ≡ record self.old.seen { effort = copy_effort copy.now self.old.seen.effort } }
     {
         match copy {

@@ -21,12 +21,11 @@ pub(crate) fn consolidation<A: Allocator + Copy, S: Steps<A, Step<A>>>(
     ensures reads { Reads result (S.seen steps.old) (S.seen steps.new) }
     ensures shape { IfOk result (λ step. IfSome step (λ it. ChangesShape (proposal_of it))) }
 {
-    let chain = match steps.copy_page(view.pid, view.version) {
-        Ok(chain) => chain,
+    let base = match steps.consolidated_page(view.pid, view.version) {
+        Ok(base) => base,
         Err(CopyFault::NoMemory) => return Err(NoMemory),
         Err(CopyFault::Absent | CopyFault::Stale) => return Ok(None),
     };
-    let base = bw_chain::consolidate(steps.alloc(), &chain)?;
     Ok(Some(Step::Consolidate(Consolidate {
         page: view.pid,
         seen: view.version,

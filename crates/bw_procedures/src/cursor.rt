@@ -13,7 +13,7 @@ use crate::effort::{is_spent, limit};
 use crate::fault::Fault;
 use crate::reply::Slice;
 use crate::steps::Steps;
-use crate::walk::descend;
+use crate::walk::leaf;
 use bw_chain::{append_pairs, fences, is_leaf};
 use bw_delta::{Chain, Fences, NoMemory};
 use bw_keys::{Fence, Key};
@@ -62,8 +62,7 @@ fn read_page<A: Allocator + Copy, S: Steps<A, Step<A>>>(
     ensures calm { S.calm steps.old quiet → IsAnswered result }
     ensures no_effort { S.calm steps.old quiet → (S.seen steps.new).effort ≡ (S.seen steps.old).effort }
 {
-    let root = steps.root();
-    let Some(view) = descend(steps, root, key, 0) else {
+    let Some(view) = leaf(steps, key) else {
         return Ok(None);
     };
     match steps.copy_page(view.pid, view.version) {

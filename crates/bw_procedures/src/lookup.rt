@@ -9,7 +9,7 @@ ghost use Rattle.bw_procedures.specs.Calls.{limit_of, IsEarned, Sought, AddsLook
 use crate::effort::{is_spent, limit};
 use crate::fault::Fault;
 use crate::steps::{Keep, Steps};
-use crate::walk::descend;
+use crate::walk::leaf;
 use bw_delta::NoMemory;
 use bw_keys::Key;
 use bw_step::{Look, Step};
@@ -55,8 +55,7 @@ fn seek<A: Allocator + Copy, S: Steps<A, Step<A>>>(
     ensures calm { S.calm steps.old quiet → IsLooked result }
     ensures no_effort { S.calm steps.old quiet → (S.seen steps.new).effort ≡ (S.seen steps.old).effort }
 {
-    let root = steps.root();
-    match descend(steps, root, key, 0) {
+    match leaf(steps, key) {
         Some(view) => steps.look(view.pid, key, Keep::Always),
         None => Ok(None),
     }

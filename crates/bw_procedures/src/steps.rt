@@ -3,7 +3,8 @@
 ghost use Rattle.std.specs.Prelude.{◌≡◌};
 ghost use Rattle.bw_procedures.specs.Seen.{is_kept};
 
-use bw_delta::{Chain, NoMemory};
+use bw_chain::consolidate;
+use bw_delta::{Base, Chain, NoMemory};
 use bw_keys::{Config, Key, Pid, Version};
 use bw_step::{CopyFault, Denied, Look, Next, Place, Proposes, Receipt, View};
 use std::alloc::Allocator;
@@ -54,11 +55,13 @@ pub struct Ends {
 /// `P` is the step over `A`.
 pub trait Steps<A: Allocator + Copy, P: Proposes> {
     ghost use Rattle.std.specs.Prelude.{◌≡◌, ◌≤◌, ℕ, List, IfOk, IfSome};
+    ghost use Rattle.bw_delta.specs.Records.{bare};
     ghost use Rattle.bw_delta.specs.Entries.{from};
     ghost use Rattle.bw_delta.specs.Sound.{IsSound};
     ghost use Rattle.bw_step.specs.Steps.{IsNext};
     ghost use Rattle.bw_procedures.specs.Seen.{Seen, ends_of, Visited, Looked, Copied, Installed, Idled};
-    ghost use Rattle.bw_procedures.specs.Facts.{Fact, quiet, on_the_way, CalmNext, CalmPeek, CalmLook, CalmCopy, ShowsCopy};
+    ghost use Rattle.bw_procedures.specs.Calls.{IsAtLevel};
+    ghost use Rattle.bw_procedures.specs.Facts.{Fact, quiet, on_the_way, holds, fresh, CalmNext, CalmPeek, CalmLook, CalmCopy, CalmAnew, ShowsCopy};
 
     // the worker's configuration, its trail, its effort and its counts
     ghost seen: { Self → Seen };
@@ -83,6 +86,15 @@ pub trait Steps<A: Allocator + Copy, P: Proposes> {
     fn root(&self) -> Place
         ensures from { result.from ≡ 0 }
         ensures calm { calm self.now quiet → (key goal : ℕ) → goal ≤ result.level → calm self.now (on_the_way key goal result) };
+
+    /// The leaf whose range holds the key, where the worker can tell it in one step and nothing on the
+    /// way to it is unfinished. A worker that can't says none, and then walks there by visits.
+    fn leaf_at_once(&self, _key: Key) -> Option<View>
+        ensures level { IsAtLevel 0 result }
+        ensures calm { calm self.now quiet → IfSome result (λ view. calm self.now (holds _key 0 view.pid) × calm self.now (fresh view.pid view.version)) }
+    {
+        None
+    }
 
     /// Where a search for the key, down to the goal's level, goes from a place. A place that is gone
     /// costs effort.
@@ -114,6 +126,24 @@ pub trait Steps<A: Allocator + Copy, P: Proposes> {
         ensures sound { IfOk result IsSound }
         ensures shows { IfOk result (ShowsCopy (shows self.new)) }
         ensures calm { CalmCopy (calm self.old) pid version result };
+
+    /// The page that the chain of a page stands for, made anew, if the page is in a row and still has
+    /// the version that was seen; if it isn't or hasn't, that costs effort.
+    #[tactic(auto, using(crate::proofs::Anew::page_shows, crate::proofs::Anew::page_around))]
+    fn consolidated_page(&mut self, pid: Pid, version: Version) -> Result<Base<A>, CopyFault>
+        ensures follows { follows self.old self.new }
+        ensures seen { Copied result (seen self.old) (seen self.new) }
+        ensures shows { IfOk result (λ base. ShowsCopy (shows self.new) (bare base)) }
+        ensures calm { CalmAnew (calm self.old) pid version result }
+    {
+        match self.copy_page(pid, version) {
+            Ok(chain) => match consolidate(self.alloc(), &chain) {
+                Ok(base) => Ok(base),
+                Err(NoMemory) => Err(CopyFault::NoMemory),
+            },
+            Err(fault) => Err(fault),
+        }
+    }
 
     /// Takes the step, or tells why not. The receipt of an accepted step is added to the trail. A
     /// refusal costs effort, and so does an accepted step that changes the tree's shape.

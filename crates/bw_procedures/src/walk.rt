@@ -2,7 +2,7 @@
 //! place is gone.
 
 ghost use Rattle.std.specs.Prelude.{◌≡◌, ◌≤◌, IfSome, IfOk, IfErr};
-ghost use Rattle.bw_procedures.specs.Facts.{on_the_way};
+ghost use Rattle.bw_procedures.specs.Facts.{quiet, on_the_way};
 ghost use Rattle.bw_procedures.specs.Calls.{OnlySpends, CostsIfNone, IsAtLevel, FindsFresh, IsEarned};
 
 use crate::effort::is_spent;
@@ -36,6 +36,29 @@ pub(crate) fn descend<A: Allocator + Copy, S: Steps<A, Step<A>>>(
             Go::Here(view) => return Some(view),
             Go::Right(next) => place = next,
             Go::Down(next) => place = next,
+        }
+    }
+}
+
+/// The leaf whose range holds the key: at once, where the worker can tell it. None where a place on
+/// the way was gone.
+#[inline(always)]
+pub(crate) fn leaf<A: Allocator + Copy, S: Steps<A, Step<A>>>(
+    steps: &mut S,
+    key: Key,
+) -> Option<View>
+    ensures follows { S.follows steps.old steps.new }
+    ensures seen { OnlySpends (S.seen steps.old) (S.seen steps.new) }
+    ensures gone { CostsIfNone result (S.seen steps.old) (S.seen steps.new) }
+    ensures level { IsAtLevel 0 result }
+    ensures calm { S.calm steps.old quiet → FindsFresh (S.calm steps.new) key 0 result }
+    ensures no_effort { S.calm steps.old quiet → (S.seen steps.new).effort ≡ (S.seen steps.old).effort }
+{
+    match steps.leaf_at_once(key) {
+        Some(view) => Some(view),
+        None => {
+            let root = steps.root();
+            descend(steps, root, key, 0)
         }
     }
 }

@@ -86,11 +86,30 @@ fn try_once<A: Allocator + Copy, S: Steps<A, Step<A>>, W: Wish>(
     ensures follows { S.follows steps.old steps.new }
     ensures attempts { Attempts (W.is_receipt_of wish) passes_posts limit result (S.seen steps.old) (S.seen steps.new) }
 {
-    let root = steps.root();
-    match approach(steps, root, wish.key(), passes_posts) {
+    match arrive(steps, wish.key(), passes_posts) {
         Arrival::Gone => Ok(Tried::Again),
         Arrival::Help(todo) => help_on(steps, limit, passes_posts, todo),
         Arrival::Here(view) => write_at(steps, limit, view, wish),
+    }
+}
+
+/// The key's leaf at once, where the worker can tell it; otherwise the writer's walk from the root.
+#[inline(always)]
+fn arrive<A: Allocator + Copy, S: Steps<A, Step<A>>>(
+    steps: &mut S,
+    key: Key,
+    passes_posts: bool,
+) -> Arrival
+    ensures follows { S.follows steps.old steps.new }
+    ensures seen { OnlySpends (S.seen steps.old) (S.seen steps.new) }
+    ensures cost { ArrivalCosts result (S.seen steps.old) (S.seen steps.new) }
+{
+    match steps.leaf_at_once(key) {
+        Some(view) => Arrival::Here(view),
+        None => {
+            let root = steps.root();
+            approach(steps, root, key, passes_posts)
+        }
     }
 }
 

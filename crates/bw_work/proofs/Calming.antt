@@ -1,6 +1,6 @@
 -- A worker that has the table for itself isn't lost: its next place is on the way, and its page is there.
-use Rattle.std.proofs.Common.{◌≡◌, ◌<◌, ◌≤◌, ℕ, true, Option, Some, None, Ok, refl, subst, arith}
-use Rattle.std.specs.Prelude.{nat_le, nat_lt, ◌==◌}
+use Rattle.std.proofs.Common.{◌≡◌, ◌<◌, ◌≤◌, ℕ, true, Option, Some, None, Ok, refl, sym, ap, ◌∙◌, subst, arith}
+use Rattle.std.specs.Prelude.{nat_le, nat_lt, ◌==◌, IfSome}
 use Rattle.std.proofs.lemmas.Bool.Decides.{nat_tests}
 use Rattle.bw_keys.specs.Ranges.{end_of}
 use Rattle.bw_delta.specs.Entries.{at}
@@ -10,10 +10,12 @@ use Rattle.bw_step.specs.declared.place.Go.TheVariants.{Gone, Right, Down, Here}
 use Rattle.bw_step.specs.declared.view.Look.{Look}
 use Rattle.bw_step.specs.declared.view.View.{View}
 use Rattle.bw_step.specs.Stages.{is_in_row}
+use Rattle.bw_law.specs.Laws.{IsLeafOf}
 use Rattle.bw_law.specs.Slots.{pairs_in}
 use Rattle.bw_law.specs.Tables.{TableValue, slot_at, number_of}
-use Rattle.bw_table.specs.Views.{look_at}
+use Rattle.bw_table.specs.Views.{look_at, view_of}
 use Rattle.bw_table.specs.Visits.{IsOnTheWay, IsFound, TellsWhetherOnTheWay, StaysOnTheWay, FindsPage}
+use Rattle.bw_procedures.specs.Calls.{IsAtLevel}
 use Rattle.bw_procedures.specs.Facts.{CalmNext, IsLooked}
 use Rattle.bw_work.specs.Calm.{HoldsKey, IsTrueOf}
 
@@ -48,3 +50,14 @@ not_nothing table key page none has = cc (none, look_is_answered table key page 
 pub look_is_calm : (table : TableValue) (key page : ℕ) (look : Option Look) → look_at table page key ≡ look → HoldsKey table key 0 page → IsLooked (Ok look)
 look_is_calm table key page None seen has = not_nothing table key page seen has
 look_is_calm table key page (Some look) seen has = tt
+
+-- the leaf that is told at once holds the key, and has the version of its view
+pub rest_is_calm : (table : TableValue) (key : ℕ) (answer : Option View) → IfSome answer (λ view. view ≡ view_of view.pid (slot_at table view.pid.0)) → IfSome answer (λ view. IsLeafOf table key view.pid.0)
+    → IfSome answer (λ view. HoldsKey table key 0 view.pid.0 × ((slot_at table view.pid.0).version ≡ view.version.0))
+rest_is_calm table key None its_view leaf = tt
+rest_is_calm table key (Some view) its_view leaf =
+    (record { in_row = leaf.in_row; on_level = leaf.is_leaf; from_low = leaf.spans.0; below_high = leaf.spans.1 }, ap (λ (v : View). v.version.0) (sym its_view))
+
+pub rest_is_at_level : (table : TableValue) (key : ℕ) (answer : Option View) → IfSome answer (λ view. view ≡ view_of view.pid (slot_at table view.pid.0)) → IfSome answer (λ view. IsLeafOf table key view.pid.0) → IsAtLevel 0 answer
+rest_is_at_level table key None its_view leaf = tt
+rest_is_at_level table key (Some view) its_view leaf = ap (λ (v : View). v.level) its_view ∙ leaf.is_leaf

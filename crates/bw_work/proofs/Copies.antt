@@ -1,12 +1,14 @@
 -- A copy of a leaf's chain shows the map in the leaf's range.
 use Rattle.std.proofs.Common.{◌≡◌, ℕ, Bool, true, false, Some, Result, Ok, Err, refl, sym, ◌∙◌, ap, subst, arith}
-use Rattle.std.specs.Prelude.{◌↔◌, ◌≢◌, IfOk}
+use Rattle.std.specs.Prelude.{◌↔◌, ◌≢◌, IfOk, IfSome}
 use Rattle.std.proofs.lemmas.Bool.Decides.{nat_tests}
 use Rattle.bw_keys.specs.Ranges.{end_of}
 use Rattle.bw_delta.specs.Entries.{at}
-use Rattle.bw_delta.specs.Records.{Records}
+use Rattle.bw_delta.specs.Pages.{Page}
+use Rattle.bw_delta.specs.Records.{Records, bare}
 use Rattle.bw_delta.specs.Fence.{fences, is_leaf}
 use Rattle.bw_delta.specs.Pairs.{pairs}
+use Rattle.bw_delta.specs.Sound.{page_for}
 use Rattle.bw_delta.proofs.Stands.{pairs_rise}
 use Rattle.bw_step.specs.declared.fault.CopyFault.{CopyFault}
 use Rattle.bw_step.specs.declared.fault.CopyFault.TheVariants.{Absent, Stale, NoMemory}
@@ -15,7 +17,8 @@ use Rattle.bw_law.specs.Tables.{TableValue, slot_at, Lawful, IsPageOf}
 use Rattle.bw_law.proofs.Accepted.{Holds}
 use Rattle.bw_law.proofs.Chains.{low_is, high_is, pairs_are, leaf_chain}
 use Rattle.bw_law.proofs.Facts.{leaf_decides}
-use Rattle.bw_procedures.specs.Facts.{IsLeafAround, IsCopied, ShowsCopy}
+use Rattle.bw_procedures.specs.Facts.{IsLeafAround, IsCopied, IsMadeAnew, ShowsCopy}
+use Rattle.bw_procedures.proofs.Anew.{page_shows, page_around}
 use Rattle.bw_work.specs.Calm.{HoldsKey}
 use Rattle.bw_work.specs.Showing.{Shows}
 
@@ -71,3 +74,25 @@ copy_is_calm table page version (Ok chain) law absent stale copied key has fresh
 copy_is_calm table page version (Err Absent) law absent stale copied key has fresh = absurd (cc (absent.0 refl, has.in_row))
 copy_is_calm table page version (Err Stale) law absent stale copied key has fresh = absurd ((stale.0 refl).1 fresh)
 copy_is_calm table page version (Err NoMemory) law absent stale copied key has fresh = refl
+
+-- a page that is made anew shows the map too
+pub pages_show : (table : TableValue) (page : ℕ) (made : Result Page CopyFault) → Lawful table → ((made ≡ Err Absent) ↔ (is_in_row (slot_at table page).stage ≡ false))
+    → IfOk made (λ base. IfSome (slot_at table page).chain (λ chain. base ≡ page_for chain)) → IfOk made (λ base. ShowsCopy (Shows table) (bare base))
+pages_show table page (Ok base) law absent made =
+    let here : is_in_row (slot_at table page).stage ≡ true = not_outside _ (λ outside. cc (absent.1 outside)) in
+    let own = law.pages page here in
+    let is : base ≡ page_for own.0 = rw own.1.its_chain at made in
+    page_shows (Shows table) own.0 base is (copy_shows table law page own.0 here own.1.its_chain)
+pages_show table page (Err fault) law absent made = tt
+
+-- the leaf that holds a key is made anew, unless it has changed or memory is wanting
+pub anew_is_calm : (table : TableValue) (page version : ℕ) (made : Result Page CopyFault) → Lawful table → ((made ≡ Err Absent) ↔ (is_in_row (slot_at table page).stage ≡ false))
+    → ((made ≡ Err Stale) ↔ ((is_in_row (slot_at table page).stage ≡ true) × ((slot_at table page).version ≢ version))) → IfOk made (λ base. IfSome (slot_at table page).chain (λ chain. base ≡ page_for chain))
+    → (key : ℕ) → HoldsKey table key 0 page → (slot_at table page).version ≡ version → IsMadeAnew key made
+anew_is_calm table page version (Ok base) law absent stale made key has fresh =
+    let own = law.pages page has.in_row in
+    let is : base ≡ page_for own.0 = rw own.1.its_chain at made in
+    page_around key own.0 base is (copy_is_around table law page own.0 has.in_row own.1.its_chain key has)
+anew_is_calm table page version (Err Absent) law absent stale made key has fresh = absurd (cc (absent.0 refl, has.in_row))
+anew_is_calm table page version (Err Stale) law absent stale made key has fresh = absurd ((stale.0 refl).1 fresh)
+anew_is_calm table page version (Err NoMemory) law absent stale made key has fresh = refl

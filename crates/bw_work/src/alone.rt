@@ -1,7 +1,7 @@
 ghost use Rattle.std.specs.Prelude.{◌≡◌, []};
 ghost use Rattle.bw_procedures.specs.Seen.{ends_of};
 
-use bw_delta::{Chain, NoMemory};
+use bw_delta::{Base, Chain, NoMemory};
 use bw_keys::{Config, Key, Pid, Version};
 use bw_procedures::{Account, Ends, Keep, Steps};
 use bw_step::{CopyFault, Denied, Look, Next, Place, Receipt, Step, View};
@@ -84,6 +84,11 @@ impl<'t, A: Allocator + Copy> Steps<A, Step<A>> for Alone<'t, A> {
         self.table.root()
     }
 
+    #[inline(always)]
+    fn leaf_at_once(&self, key: Key) -> Option<View> {
+        self.table.leaf_at_rest(key)
+    }
+
     #[tactic(auto, using(crate::proofs::Calming::next_is_calm))]
     #[inline(always)]
     fn visit(&mut self, place: Place, key: Key, goal: u8) -> Next {
@@ -114,6 +119,15 @@ impl<'t, A: Allocator + Copy> Steps<A, Step<A>> for Alone<'t, A> {
         let copy = self.table.copy_page(self.alloc, pid, version);
         self.account.copied(&copy);
         copy
+    }
+
+    #[inline(always)]
+    fn consolidated_page(&mut self, pid: Pid, version: Version) -> Result<Base<A>, CopyFault> {
+        // The law of the table is told with its configuration.
+        let _config = self.table.config();
+        let base = self.table.consolidated_page(self.alloc, pid, version);
+        self.account.copied(&base);
+        base
     }
 
     #[inline(always)]
