@@ -5,7 +5,9 @@ ghost use Rattle.bw_delta.specs.Fence.{fences, is_leaf};
 ghost use Rattle.bw_delta.specs.Sound.{IsSound};
 
 use crate::worked::lists_pairs;
-use bw_chain::{append_pairs, consolidate, count, depth, fences, find, next_at, same};
+use bw_chain::{
+    append_first_pairs, append_pairs, consolidate, count, depth, fences, find, next_at, same,
+};
 use bw_delta::{Base, Chain, Delta, Fences, Spare};
 use bw_keys::{Fence, Key, Pid, Range};
 use rand_core::Rng;
@@ -194,6 +196,17 @@ fn lists_agree(alloc: Global, chain: &Chain<Global>, pairs: &[(Key, u64)]) -> Re
     Ok(lists_pairs(&whole, pairs) && appended.as_slice() == pairs && whole.len() == pairs.len())
 }
 
+/// Whether the first pairs from the key on, so many at most, are the map's.
+fn first_pairs_agree(alloc: Global, leaf: &Leaf, key: Key, limit: usize) -> Result<bool, Fail>
+    requires sound { IsSound leaf.now.chain }
+{
+    let mut wanted = listed(alloc, &leaf.pairs)?;
+    wanted.retain(|pair: &(Key, u64)| key <= pair.0);
+    wanted.truncate(limit);
+    let list = Vec::with_capacity(alloc, limit)?;
+    Ok(append_first_pairs(&leaf.chain, key, limit, list) == wanted)
+}
+
 /// Whether the chain stands for the page that the map makes, and for no page with another value
 /// or one pair more.
 fn page_agrees(alloc: Global, leaf: &Leaf) -> Result<bool, Fail>
@@ -222,9 +235,15 @@ fn page_agrees(alloc: Global, leaf: &Leaf) -> Result<bool, Fail>
 fn drawn_chains_agree_with_a_map(rt: HostRuntime) -> Result<(), Fail> {
     let alloc = rt.alloc();
     let mut rng = Pcg32::new(2, 3);
+    let mut places = Pcg32::new(4, 5);
     let (mut deepest, mut has_merge, mut has_modification) = (0, false, false);
     for round in 0..2000u32 {
         let leaf = drawn_chain(alloc, &mut rng)?;
+        let (key, limit) = (drawn_key(&mut places), places.next_u32() % KEYS);
+        assert!(rt;
+            first_pairs_agree(alloc, &leaf, key, limit as usize)?,
+            "in round {round}"
+        );
         assert!(rt; searches_agree(&leaf), "in round {round}");
         assert!(rt; page_agrees(alloc, &leaf)?, "in round {round}");
         deepest = deepest.max(depth(&leaf.chain));

@@ -1,5 +1,5 @@
 //! Tests of the mapping table with the crates that it stands on: what scripts of steps can't say. The
-//! summaries that it lends, drawn steps against a plain map, and memory that runs out.
+//! summaries that it lends, leaves at rest, drawn steps against a plain map, and memory that runs out.
 #![tactic(auto)]
 
 #[cfg(test)]
@@ -8,5 +8,7 @@ mod drawn;
 mod memory;
 #[cfg(test)]
 mod picture;
+#[cfg(test)]
+mod rest;
 #[cfg(test)]
 mod summaries;
