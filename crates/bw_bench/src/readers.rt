@@ -6,9 +6,9 @@ ghost use Rattle.bw_tree.specs.Shares.{Opens};
 use crate::Stop;
 use crate::tally::Tally;
 use crate::task::{Task, Work};
-use crate::trees::{CONFIG, PART, Timed, fill_by_hand};
+use crate::trees::{PART, Timed, fill_by_hand};
 use crate::work::{drawn_key, drawn_part};
-use bw_keys::Config;
+use bw_keys::{Config, Key};
 use bw_snap::{BlankBook, Naming, ReadTree, Reader, ScanFault};
 use bw_tree::{Blanks, Share};
 use rand_core::Rng;
@@ -86,9 +86,20 @@ pub(crate) fn read_timed<
 pub(crate) struct Reads {
     pub(crate) alloc: Global,
     pub(crate) task: Task,
+    /// The keys of all operations, where readers don't draw them as they go.
+    keys: Vec<u32>,
 }
 
 impl Reads {
+    pub(crate) fn new(alloc: Global, task: &Task) -> Result<Reads, Stop> {
+        let keys = task.known_keys(alloc, Vec::new(alloc))?;
+        Ok(Reads {
+            alloc,
+            task: *task,
+            keys,
+        })
+    }
+
     /// Looks drawn keys up.
     fn get_often<N: Naming>(
         &self,
@@ -100,13 +111,23 @@ impl Reads {
             let key = drawn_key(rng, &self.task);
             // workers draw once more, for what they do
             let _draw = rng.next_u32();
-            let Ok(found) = reader.get(key) else {
-                return Err(ScanFault::Closed);
-            };
-            tally = tally.plus(Tally {
-                found: u64::from(found.is_some()),
-                ..Tally::default()
-            });
+            tally = tally.plus(get_one(reader, key)?);
+        }
+        Ok(tally)
+    }
+
+    /// Looks the reader's part of the keys up.
+    fn get_known<N: Naming>(
+        &self,
+        reader: &mut Reader<N>,
+        number: u32,
+    ) -> Result<Tally, ScanFault> {
+        let mut tally = Tally::default();
+        let Some(part) = self.task.part(number, self.keys.as_slice()) else {
+            return Err(ScanFault::Closed);
+        };
+        for key in part {
+            tally = tally.plus(get_one(reader, u64::from(*key))?);
         }
         Ok(tally)
     }
@@ -131,13 +152,25 @@ impl Reads {
     }
 }
 
+#[inline]
+fn get_one<N: Naming>(reader: &mut Reader<N>, key: Key) -> Result<Tally, ScanFault> {
+    let Ok(found) = reader.get(key) else {
+        return Err(ScanFault::Closed);
+    };
+    Ok(Tally {
+        found: u64::from(found.is_some()),
+        ..Tally::default()
+    })
+}
+
 impl Reading for Reads {
     fn read<N: Naming>(&self, reader: Reader<N>, number: u32) -> Result<Tally, ScanFault> {
         let mut reader = reader;
         let mut rng = Pcg32::new(u64::from(number), 1);
         match self.task.work {
-            Work::Load | Work::Mix { .. } | Work::Set => self.get_often(&mut reader, &mut rng),
-            Work::Scan | Work::List => self.scan_often(&mut reader, &mut rng),
+            Work::Zipf { .. } => self.get_known(&mut reader, number),
+            Work::Load(_) | Work::Mix { .. } | Work::Set => self.get_often(&mut reader, &mut rng),
+            Work::Fill(_) | Work::Scan | Work::List => self.scan_often(&mut reader, &mut rng),
         }
     }
 }
@@ -173,6 +206,6 @@ pub(crate) fn run_readers<R: Clock + Threads + Wait + Sync + Send + Copy>(
     alloc: Global,
     task: &Task,
 ) -> Result<Timed, Stop> {
-    let reads = Reads { alloc, task: *task };
-    read_over::<Brand, Brand, R>(rt, CONFIG, Blanks::new(1), BlankBook::new(), &reads)
+    let reads = Reads::new(alloc, task)?;
+    read_over::<Brand, Brand, R>(rt, task.config, Blanks::new(1), BlankBook::new(), &reads)
 }

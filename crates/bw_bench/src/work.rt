@@ -19,7 +19,7 @@ pub(crate) fn fill<S: Steps<Global, Step<Global>>>(
     task: &Task,
     order: &[u32],
 ) -> Result<(), Stop> {
-    if task.work == Work::Load {
+    if matches!(task.work, Work::Load(_)) {
         return Ok(());
     }
     for key in order {
@@ -28,19 +28,20 @@ pub(crate) fn fill<S: Steps<Global, Step<Global>>>(
     Ok(())
 }
 
-/// Does one worker's part of the task.
+/// Does one worker's part of the task, whose keys are given where they are known.
 pub(crate) fn work<S: Steps<Global, Step<Global>>>(
     steps: &mut S,
     alloc: Global,
     task: &Task,
     worker: u32,
-    order: &[u32],
+    keys: &[u32],
 ) -> Result<Tally, Stop> {
     match task.work {
-        Work::Load => load(steps, task, worker, order),
+        Work::Load(_) => load(steps, task, worker, keys),
         Work::Mix { gets } => mix(steps, task, worker, gets),
+        Work::Zipf { gets } => mix_known(steps, task, worker, gets, keys),
         Work::Set => set_often(steps, task, worker),
-        Work::Scan | Work::List => scan_often(steps, alloc, task, worker),
+        Work::Fill(_) | Work::Scan | Work::List => scan_often(steps, alloc, task, worker),
     }
 }
 
@@ -72,17 +73,46 @@ fn mix<S: Steps<Global, Step<Global>>>(
     let mut rng = Pcg32::new(u64::from(worker), 1);
     for _ in 0..task.turns() {
         let key = drawn_key(&mut rng, task);
-        let draw = rng.next_u32() % 200;
-        let answered = if draw / 2 < gets {
-            get_one(steps, key)?
-        } else if draw % 2 == 0 {
-            put_one(steps, key)?
-        } else {
-            delete_one(steps, key)?
-        };
-        tally = tally.plus(answered);
+        tally = tally.plus(mix_one(steps, &mut rng, gets, key)?);
     }
     Ok(tally)
+}
+
+/// Gets, puts and deletes of the worker's part of the keys.
+fn mix_known<S: Steps<Global, Step<Global>>>(
+    steps: &mut S,
+    task: &Task,
+    worker: u32,
+    gets: u32,
+    keys: &[u32],
+) -> Result<Tally, Stop> {
+    let mut tally = Tally::default();
+    let mut rng = Pcg32::new(u64::from(worker), 1);
+    let Some(part) = task.part(worker, keys) else {
+        return Err(Stop::Wrong);
+    };
+    for key in part {
+        tally = tally.plus(mix_one(steps, &mut rng, gets, u64::from(*key))?);
+    }
+    Ok(tally)
+}
+
+/// A get, a put or a delete, which is drawn.
+#[inline]
+fn mix_one<S: Steps<Global, Step<Global>>>(
+    steps: &mut S,
+    rng: &mut Pcg32,
+    gets: u32,
+    key: Key,
+) -> Result<Tally, Stop> {
+    let draw = rng.next_u32() % 200;
+    if draw / 2 < gets {
+        get_one(steps, key)
+    } else if draw % 2 == 0 {
+        put_one(steps, key)
+    } else {
+        delete_one(steps, key)
+    }
 }
 
 fn get_one<S: Steps<Global, Step<Global>>>(steps: &mut S, key: Key) -> Result<Tally, Stop> {
@@ -155,8 +185,7 @@ pub(crate) fn change_one<S: Steps<Global, Step<Global>>>(
 
 /// A key below twice their number.
 pub(crate) fn drawn_key(rng: &mut Pcg32, task: &Task) -> Key {
-    let end = task.keys.saturating_mul(2).max(1);
-    u64::from(rng.next_u32() % end)
+    u64::from(rng.next_u32() % task.end())
 }
 
 /// A key that the map was filled with.
@@ -168,9 +197,12 @@ fn filled_key(rng: &mut Pcg32, task: &Task) -> Key {
 pub(crate) fn drawn_part(rng: &mut Pcg32, task: &Task) -> (Key, usize) {
     match task.work {
         Work::List => (0, usize::MAX),
-        Work::Load | Work::Mix { .. } | Work::Set | Work::Scan => {
-            (drawn_key(rng, task), SCANNED)
-        }
+        Work::Load(_)
+        | Work::Fill(_)
+        | Work::Mix { .. }
+        | Work::Zipf { .. }
+        | Work::Set
+        | Work::Scan => (drawn_key(rng, task), SCANNED),
     }
 }
 
