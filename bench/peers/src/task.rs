@@ -156,9 +156,17 @@ impl Task {
     /// the order of its puts, and Zipf's take too long to be drawn while a clock runs.
     pub fn known_keys(&self, order: Vec<u32>) -> Vec<u32> {
         match self.work {
+            Work::Load(_) => order,
             Work::Zipf { .. } => zipf::draw(2 * self.keys, self.count()),
-            _ => order,
+            _ => Vec::new(),
         }
+    }
+
+    /// The keys of the worker's turns, of the known keys of all operations. None where these aren't known.
+    fn part<'a>(&self, worker: u32, keys: &'a [u32]) -> &'a [u32] {
+        let turns = self.turns() as usize;
+        let start = turns * worker as usize;
+        keys.get(start..start + turns).unwrap_or_default()
     }
 
     /// A map with every second key of those that are drawn later, put one by one, where the work
@@ -177,8 +185,7 @@ impl Task {
     pub fn work(&self, worker: u32, keys: &[u32], mut index: impl Worker) -> Tally {
         match self.work {
             Work::Load(_) => self.load(worker, keys, &mut index),
-            Work::Mix { gets } => self.mix(worker, gets, &mut index),
-            Work::Zipf { gets } => self.mix_known(worker, gets, keys, &mut index),
+            Work::Mix { gets } | Work::Zipf { gets } => self.mix(worker, gets, keys, &mut index),
             Work::Set => self.set_often(worker, &mut index),
             Work::Fill(_) | Work::Scan | Work::List => self.scan_often(worker, &mut index),
         }
@@ -193,22 +200,23 @@ impl Task {
         tally
     }
 
-    fn mix(&self, worker: u32, gets: u32, index: &mut impl Worker) -> Tally {
+    fn mix(&self, worker: u32, gets: u32, keys: &[u32], index: &mut impl Worker) -> Tally {
         let mut tally = Tally::default();
         let mut dice = Dice::new(u64::from(worker), 1);
-        for _ in 0..self.turns() {
-            let key = self.drawn_key(&mut dice);
-            mix_one(&mut tally, &mut dice, gets, key, index);
-        }
-        tally
-    }
-
-    fn mix_known(&self, worker: u32, gets: u32, keys: &[u32], index: &mut impl Worker) -> Tally {
-        let mut tally = Tally::default();
-        let mut dice = Dice::new(u64::from(worker), 1);
-        let turns = self.turns() as usize;
-        for key in &keys[turns * worker as usize..][..turns] {
-            mix_one(&mut tally, &mut dice, gets, u64::from(*key), index);
+        let part = self.part(worker, keys);
+        for turn in 0..self.turns() {
+            let key = match part.get(turn as usize) {
+                Some(key) => u64::from(*key),
+                None => self.drawn_key(&mut dice),
+            };
+            let draw = dice.below(200);
+            if draw / 2 < gets {
+                tally.found += u64::from(black_box(index.get(key)).is_some());
+            } else if draw % 2 == 0 {
+                tally.inserted += u64::from(index.put(key, key));
+            } else {
+                tally.removed += u64::from(black_box(index.delete(key)).is_some());
+            }
         }
         tally
     }
@@ -248,18 +256,5 @@ impl Task {
     /// A key below twice their number.
     pub fn drawn_key(&self, dice: &mut Dice) -> u64 {
         u64::from(dice.below(2 * self.keys))
-    }
-}
-
-/// A get, a put or a delete, which is drawn.
-#[inline]
-fn mix_one(tally: &mut Tally, dice: &mut Dice, gets: u32, key: u64, index: &mut impl Worker) {
-    let draw = dice.below(200);
-    if draw / 2 < gets {
-        tally.found += u64::from(black_box(index.get(key)).is_some());
-    } else if draw % 2 == 0 {
-        tally.inserted += u64::from(index.put(key, key));
-    } else {
-        tally.removed += u64::from(black_box(index.delete(key)).is_some());
     }
 }

@@ -7,8 +7,8 @@ use crate::Stop;
 use crate::tally::Tally;
 use crate::task::{Task, Work};
 use crate::trees::{PART, Timed, fill_by_hand};
-use crate::work::{drawn_key, drawn_part};
-use bw_keys::{Config, Key};
+use crate::work::{drawn_part, key_at};
+use bw_keys::Config;
 use bw_snap::{BlankBook, Naming, ReadTree, Reader, ScanFault};
 use bw_tree::{Blanks, Share};
 use rand_core::Rng;
@@ -100,34 +100,26 @@ impl Reads {
         })
     }
 
-    /// Looks drawn keys up.
+    /// Looks known or drawn keys up.
     fn get_often<N: Naming>(
         &self,
         reader: &mut Reader<N>,
         rng: &mut Pcg32,
-    ) -> Result<Tally, ScanFault> {
-        let mut tally = Tally::default();
-        for _ in 0..self.task.turns() {
-            let key = drawn_key(rng, &self.task);
-            // workers draw once more, for what they do
-            let _draw = rng.next_u32();
-            tally = tally.plus(get_one(reader, key)?);
-        }
-        Ok(tally)
-    }
-
-    /// Looks the reader's part of the keys up.
-    fn get_known<N: Naming>(
-        &self,
-        reader: &mut Reader<N>,
         number: u32,
     ) -> Result<Tally, ScanFault> {
         let mut tally = Tally::default();
-        let Some(part) = self.task.part(number, self.keys.as_slice()) else {
-            return Err(ScanFault::Closed);
-        };
-        for key in part {
-            tally = tally.plus(get_one(reader, u64::from(*key))?);
+        let part = self.task.part(number, self.keys.as_slice());
+        for turn in 0..self.task.turns() {
+            let key = key_at(rng, &self.task, part, turn);
+            // workers draw once more, for what they do
+            let _draw = rng.next_u32();
+            let Ok(found) = reader.get(key) else {
+                return Err(ScanFault::Closed);
+            };
+            tally = tally.plus(Tally {
+                found: u64::from(found.is_some()),
+                ..Tally::default()
+            });
         }
         Ok(tally)
     }
@@ -152,24 +144,14 @@ impl Reads {
     }
 }
 
-#[inline]
-fn get_one<N: Naming>(reader: &mut Reader<N>, key: Key) -> Result<Tally, ScanFault> {
-    let Ok(found) = reader.get(key) else {
-        return Err(ScanFault::Closed);
-    };
-    Ok(Tally {
-        found: u64::from(found.is_some()),
-        ..Tally::default()
-    })
-}
-
 impl Reading for Reads {
     fn read<N: Naming>(&self, reader: Reader<N>, number: u32) -> Result<Tally, ScanFault> {
         let mut reader = reader;
         let mut rng = Pcg32::new(u64::from(number), 1);
         match self.task.work {
-            Work::Zipf { .. } => self.get_known(&mut reader, number),
-            Work::Load(_) | Work::Mix { .. } | Work::Set => self.get_often(&mut reader, &mut rng),
+            Work::Load(_) | Work::Mix { .. } | Work::Zipf { .. } | Work::Set => {
+                self.get_often(&mut reader, &mut rng, number)
+            }
             Work::Fill(_) | Work::Scan | Work::List => self.scan_often(&mut reader, &mut rng),
         }
     }

@@ -194,21 +194,19 @@ impl Task {
         order: Vec<u32>,
     ) -> Result<Vec<u32>, AllocError> {
         match self.work {
+            Work::Load(_) => Ok(order),
             Work::Zipf { .. } => zipf::draw(alloc, self.end(), self.count()),
-            Work::Load(_)
-            | Work::Fill(_)
-            | Work::Mix { .. }
-            | Work::Set
-            | Work::Scan
-            | Work::List => Ok(order),
+            Work::Fill(_) | Work::Mix { .. } | Work::Set | Work::Scan | Work::List => {
+                Ok(Vec::new(alloc))
+            }
         }
     }
 
-    /// The worker's part of the keys of all operations.
-    pub(crate) fn part<'a>(&self, worker: u32, keys: &'a [u32]) -> Option<&'a [u32]> {
+    /// The keys of the worker's turns, of the known keys of all operations. None where these aren't known.
+    pub(crate) fn part<'a>(&self, worker: u32, keys: &'a [u32]) -> &'a [u32] {
         let turns = self.turns() as usize;
         let start = turns.saturating_mul(worker as usize);
-        keys.get(start..start.saturating_add(turns))
+        keys.get(start..start.saturating_add(turns)).unwrap_or(&[])
     }
 }
 

@@ -38,8 +38,7 @@ pub(crate) fn work<S: Steps<Global, Step<Global>>>(
 ) -> Result<Tally, Stop> {
     match task.work {
         Work::Load(_) => load(steps, task, worker, keys),
-        Work::Mix { gets } => mix(steps, task, worker, gets),
-        Work::Zipf { gets } => mix_known(steps, task, worker, gets, keys),
+        Work::Mix { gets } | Work::Zipf { gets } => mix(steps, task, worker, gets, keys),
         Work::Set => set_often(steps, task, worker),
         Work::Fill(_) | Work::Scan | Work::List => scan_often(steps, alloc, task, worker),
     }
@@ -68,51 +67,24 @@ fn mix<S: Steps<Global, Step<Global>>>(
     task: &Task,
     worker: u32,
     gets: u32,
-) -> Result<Tally, Stop> {
-    let mut tally = Tally::default();
-    let mut rng = Pcg32::new(u64::from(worker), 1);
-    for _ in 0..task.turns() {
-        let key = drawn_key(&mut rng, task);
-        tally = tally.plus(mix_one(steps, &mut rng, gets, key)?);
-    }
-    Ok(tally)
-}
-
-/// Gets, puts and deletes of the worker's part of the keys.
-fn mix_known<S: Steps<Global, Step<Global>>>(
-    steps: &mut S,
-    task: &Task,
-    worker: u32,
-    gets: u32,
     keys: &[u32],
 ) -> Result<Tally, Stop> {
     let mut tally = Tally::default();
     let mut rng = Pcg32::new(u64::from(worker), 1);
-    let Some(part) = task.part(worker, keys) else {
-        return Err(Stop::Wrong);
-    };
-    for key in part {
-        tally = tally.plus(mix_one(steps, &mut rng, gets, u64::from(*key))?);
+    let part = task.part(worker, keys);
+    for turn in 0..task.turns() {
+        let key = key_at(&mut rng, task, part, turn);
+        let draw = rng.next_u32() % 200;
+        let answered = if draw / 2 < gets {
+            get_one(steps, key)?
+        } else if draw % 2 == 0 {
+            put_one(steps, key)?
+        } else {
+            delete_one(steps, key)?
+        };
+        tally = tally.plus(answered);
     }
     Ok(tally)
-}
-
-/// A get, a put or a delete, which is drawn.
-#[inline]
-fn mix_one<S: Steps<Global, Step<Global>>>(
-    steps: &mut S,
-    rng: &mut Pcg32,
-    gets: u32,
-    key: Key,
-) -> Result<Tally, Stop> {
-    let draw = rng.next_u32() % 200;
-    if draw / 2 < gets {
-        get_one(steps, key)
-    } else if draw % 2 == 0 {
-        put_one(steps, key)
-    } else {
-        delete_one(steps, key)
-    }
 }
 
 fn get_one<S: Steps<Global, Step<Global>>>(steps: &mut S, key: Key) -> Result<Tally, Stop> {
@@ -180,6 +152,14 @@ pub(crate) fn change_one<S: Steps<Global, Step<Global>>>(
         put_one(steps, key)
     } else {
         delete_one(steps, key)
+    }
+}
+
+/// The key of a turn, drawn now where it isn't known.
+pub(crate) fn key_at(rng: &mut Pcg32, task: &Task, part: &[u32], turn: u32) -> Key {
+    match part.get(turn as usize) {
+        Some(key) => u64::from(*key),
+        None => drawn_key(rng, task),
     }
 }
 
