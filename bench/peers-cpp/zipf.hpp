@@ -15,7 +15,7 @@ namespace zipf {
 // ten-thousandth up to millions of ranks, and so small that no sum or product here reaches 2^64.
 constexpr std::uint64_t first_weight = std::uint64_t{1} << 54;
 
-// A prime above the greatest number of keys, so that keys a step apart come by each key once.
+// A prime above every `end`, so that the ranks times this, modulo `end`, are all the keys.
 constexpr std::uint64_t step = 2'654'435'761;
 
 // The weights of the ranks, each with those of the ranks before it. Those of all ranks r are as r^-0.99 to

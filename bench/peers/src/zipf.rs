@@ -6,7 +6,7 @@ use crate::dice::Dice;
 /// ten-thousandth up to millions of ranks, and so small that no sum or product here reaches 2^64.
 const FIRST_WEIGHT: u64 = 1 << 54;
 
-/// A prime above the greatest number of keys, so that keys a step apart come by each key once.
+/// A prime above every `end`, so that the ranks times this, modulo `end`, are all the keys.
 const STEP: u64 = 2_654_435_761;
 
 /// So many keys, each below `end`. Those that are drawn often don't lie side by side.

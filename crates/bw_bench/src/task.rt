@@ -89,7 +89,7 @@ impl Work {
     fn read_mixture(word: &str) -> Option<Work> {
         match word.strip_prefix("zipf") {
             Some(gets) => Some(Work::Zipf {
-                gets: number(gets, 0, 99)?,
+                gets: number(gets, 0, 100)?,
             }),
             None => Some(Work::Mix {
                 gets: number(word, 0, 100)?,
