@@ -34,6 +34,12 @@ impl Dice {
         word.rotate_right(turn)
     }
 
+    /// Two words, the lower one first.
+    pub fn long_word(&mut self) -> u64 {
+        let low = u64::from(self.word());
+        low | u64::from(self.word()) << 32
+    }
+
     /// A number below `end`.
     pub fn below(&mut self, end: u32) -> u32 {
         self.word() % end

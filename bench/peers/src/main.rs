@@ -5,6 +5,7 @@ mod dice;
 mod index;
 mod tally;
 mod task;
+mod zipf;
 
 use beside::{run_beside, Beside};
 use index::Worker;
@@ -19,7 +20,8 @@ const USAGE: &str = "usage: peers STRUCTURE WORK THREADS KEYS OPERATIONS
        peers beside STRUCTURE WORK THREADS KEYS OPERATIONS
        peers tallies KEYS OPERATIONS
 STRUCTURE is btree (one thread, and no other beside it), mutex or rwlock;
-WORK is load, set, scan, list, or the percent of gets beside puts and deletes.";
+WORK is load, rising, set, scan, list, the percent of gets beside puts and deletes, or zipf with a percent
+behind it (100 if there is none), and fill or fill-rising are scans after the one or other load.";
 
 #[derive(Clone, Copy, PartialEq, Eq)]
 enum Structure {
@@ -49,19 +51,20 @@ impl Structure {
     fn run(self, task: &Task) -> (Tally, Duration) {
         let order = task.order();
         let mut map = task.map(&order);
+        let keys = task.known_keys(order);
         match self {
             Structure::Btree => {
                 let start = Instant::now();
-                let tally = task.work(0, &order, &mut map);
+                let tally = task.work(0, &keys, &mut map);
                 (tally, start.elapsed())
             }
             Structure::Mutex => {
                 let shared = Mutex::new(map);
-                run_together(task, &order, || &shared)
+                run_together(task, &keys, || &shared)
             }
             Structure::Rwlock => {
                 let shared = RwLock::new(map);
-                run_together(task, &order, || &shared)
+                run_together(task, &keys, || &shared)
             }
         }
     }
@@ -70,15 +73,16 @@ impl Structure {
     fn run_beside(self, task: &Task) -> Option<Beside> {
         let order = task.order();
         let map = task.map(&order);
+        let keys = task.known_keys(order);
         match self {
             Structure::Btree => None,
             Structure::Mutex => {
                 let shared = Mutex::new(map);
-                Some(run_beside(task, &order, || &shared))
+                Some(run_beside(task, &keys, || &shared))
             }
             Structure::Rwlock => {
                 let shared = RwLock::new(map);
-                Some(run_beside(task, &order, || &shared))
+                Some(run_beside(task, &keys, || &shared))
             }
         }
     }
@@ -87,7 +91,7 @@ impl Structure {
 /// The workers side by side, each with what it is handed of the map.
 fn run_together<W: Worker + Send>(
     task: &Task,
-    order: &[u32],
+    keys: &[u32],
     handed: impl Fn() -> W,
 ) -> (Tally, Duration) {
     let start = Instant::now();
@@ -95,7 +99,7 @@ fn run_together<W: Worker + Send>(
         let workers: Vec<_> = (0..task.threads)
             .map(|worker| {
                 let index = handed();
-                scope.spawn(move || task.work(worker, order, index))
+                scope.spawn(move || task.work(worker, keys, index))
             })
             .collect();
         workers

@@ -3,18 +3,31 @@
 use crate::dice::Dice;
 use crate::index::{Map, Worker};
 use crate::tally::Tally;
+use crate::zipf;
 use std::fmt;
 use std::hint::black_box;
 
 /// How many pairs a scan asks for.
 const SCANNED: usize = 100;
 
+/// The order in which keys are put.
+#[derive(Clone, Copy, PartialEq, Eq)]
+pub enum Order {
+    Drawn,
+    Rising,
+}
+
 #[derive(Clone, Copy, PartialEq, Eq)]
 pub enum Work {
-    /// Each key is put once, in an order that was drawn.
-    Load,
+    /// Each key is put once.
+    Load(Order),
+    /// Scans of a map that was filled in this order. Without an operation the filling is left, for
+    /// the memory that it takes.
+    Fill(Order),
     /// Gets in so many of a hundred operations; of the others half are puts, half deletes.
     Mix { gets: u32 },
+    /// The same by Zipf's distribution, so that a few keys are drawn often.
+    Zipf { gets: u32 },
     /// Keys that are there are given other values.
     Set,
     /// The first hundred pairs from a key on.
@@ -25,34 +38,65 @@ pub enum Work {
 
 impl Work {
     /// The kinds that `bench/compare` times.
-    pub const ALL: [Work; 6] = [
-        Work::Load,
+    pub const ALL: [Work; 12] = [
+        Work::Load(Order::Drawn),
+        Work::Load(Order::Rising),
+        Work::Fill(Order::Drawn),
+        Work::Fill(Order::Rising),
         Work::Mix { gets: 100 },
         Work::Mix { gets: 95 },
         Work::Mix { gets: 50 },
+        Work::Zipf { gets: 100 },
+        Work::Zipf { gets: 95 },
+        Work::Zipf { gets: 50 },
         Work::Set,
         Work::Scan,
     ];
 
     fn read(word: &str) -> Option<Work> {
         match word {
-            "load" => Some(Work::Load),
+            "load" => Some(Work::Load(Order::Drawn)),
+            "rising" => Some(Work::Load(Order::Rising)),
+            "fill" => Some(Work::Fill(Order::Drawn)),
+            "fill-rising" => Some(Work::Fill(Order::Rising)),
             "set" => Some(Work::Set),
             "scan" => Some(Work::Scan),
             "list" => Some(Work::List),
-            percent => {
-                let gets = percent.parse().ok().filter(|gets| *gets <= 100)?;
-                Some(Work::Mix { gets })
-            }
+            "zipf" => Some(Work::Zipf { gets: 100 }),
+            mixture => match mixture.strip_prefix("zipf") {
+                Some(gets) => Some(Work::Zipf {
+                    gets: percent(gets)?,
+                }),
+                None => Some(Work::Mix {
+                    gets: percent(mixture)?,
+                }),
+            },
         }
     }
+
+    /// The order of the puts by which the map is loaded or filled.
+    fn order(self) -> Order {
+        match self {
+            Work::Load(order) | Work::Fill(order) => order,
+            _ => Order::Drawn,
+        }
+    }
+}
+
+fn percent(word: &str) -> Option<u32> {
+    word.parse().ok().filter(|percent| *percent <= 100)
 }
 
 impl fmt::Display for Work {
     fn fmt(&self, f: &mut fmt::Formatter) -> fmt::Result {
         match self {
-            Work::Load => f.write_str("load"),
+            Work::Load(Order::Drawn) => f.write_str("load"),
+            Work::Load(Order::Rising) => f.write_str("rising"),
+            Work::Fill(Order::Drawn) => f.write_str("fill"),
+            Work::Fill(Order::Rising) => f.write_str("fill-rising"),
             Work::Mix { gets } => write!(f, "{gets}"),
+            Work::Zipf { gets: 100 } => f.write_str("zipf"),
+            Work::Zipf { gets } => write!(f, "zipf{gets}"),
             Work::Set => f.write_str("set"),
             Work::Scan => f.write_str("scan"),
             Work::List => f.write_str("list"),
@@ -90,10 +134,8 @@ impl Task {
     /// How many operations all threads do together.
     pub fn count(&self) -> u32 {
         match self.work {
-            Work::Load => self.keys,
-            Work::Mix { .. } | Work::Set | Work::Scan | Work::List => {
-                self.turns() * self.threads
-            }
+            Work::Load(_) => self.keys,
+            _ => self.turns() * self.threads,
         }
     }
 
@@ -102,16 +144,36 @@ impl Task {
         self.operations / self.threads
     }
 
-    /// The keys, each once, in an order that is drawn.
+    /// The keys, each once, in the order in which they are put.
     pub fn order(&self) -> Vec<u32> {
-        Dice::new(0, 0).order(self.keys)
+        match self.work.order() {
+            Order::Drawn => Dice::new(0, 0).order(self.keys),
+            Order::Rising => (0..self.keys).collect(),
+        }
+    }
+
+    /// The keys of all operations, where workers don't draw them as they go: those of a load are in
+    /// the order of its puts, and Zipf's take too long to be drawn while a clock runs.
+    pub fn known_keys(&self, order: Vec<u32>) -> Vec<u32> {
+        match self.work {
+            Work::Load(_) => order,
+            Work::Zipf { .. } => zipf::draw(2 * self.keys, self.count()),
+            _ => Vec::new(),
+        }
+    }
+
+    /// The keys of the worker's turns, of the known keys of all operations. None where these aren't known.
+    fn part<'a>(&self, worker: u32, keys: &'a [u32]) -> &'a [u32] {
+        let turns = self.turns() as usize;
+        let start = turns * worker as usize;
+        keys.get(start..start + turns).unwrap_or_default()
     }
 
     /// A map with every second key of those that are drawn later, put one by one, where the work
     /// begins with one.
     pub fn map(&self, order: &[u32]) -> Map {
         let mut map = Map::new();
-        if self.work != Work::Load {
+        if !matches!(self.work, Work::Load(_)) {
             for key in order {
                 map.insert(2 * u64::from(*key), u64::from(*key));
             }
@@ -119,30 +181,34 @@ impl Task {
         map
     }
 
-    /// Does one worker's part.
-    pub fn work(&self, worker: u32, order: &[u32], mut index: impl Worker) -> Tally {
+    /// Does one worker's part, whose keys are given where they are known.
+    pub fn work(&self, worker: u32, keys: &[u32], mut index: impl Worker) -> Tally {
         match self.work {
-            Work::Load => self.load(worker, order, &mut index),
-            Work::Mix { gets } => self.mix(worker, gets, &mut index),
+            Work::Load(_) => self.load(worker, keys, &mut index),
+            Work::Mix { gets } | Work::Zipf { gets } => self.mix(worker, gets, keys, &mut index),
             Work::Set => self.set_often(worker, &mut index),
-            Work::Scan | Work::List => self.scan_often(worker, &mut index),
+            Work::Fill(_) | Work::Scan | Work::List => self.scan_often(worker, &mut index),
         }
     }
 
-    fn load(&self, worker: u32, order: &[u32], index: &mut impl Worker) -> Tally {
+    fn load(&self, worker: u32, keys: &[u32], index: &mut impl Worker) -> Tally {
         let mut tally = Tally::default();
-        let own = order.iter().skip(worker as usize);
+        let own = keys.iter().skip(worker as usize);
         for key in own.step_by(self.threads as usize) {
             tally.inserted += u64::from(index.put(u64::from(*key), u64::from(*key)));
         }
         tally
     }
 
-    fn mix(&self, worker: u32, gets: u32, index: &mut impl Worker) -> Tally {
+    fn mix(&self, worker: u32, gets: u32, keys: &[u32], index: &mut impl Worker) -> Tally {
         let mut tally = Tally::default();
         let mut dice = Dice::new(u64::from(worker), 1);
-        for _ in 0..self.turns() {
-            let key = self.drawn_key(&mut dice);
+        let part = self.part(worker, keys);
+        for turn in 0..self.turns() {
+            let key = match part.get(turn as usize) {
+                Some(key) => u64::from(*key),
+                None => self.drawn_key(&mut dice),
+            };
             let draw = dice.below(200);
             if draw / 2 < gets {
                 tally.found += u64::from(black_box(index.get(key)).is_some());

@@ -7,7 +7,7 @@ use crate::Stop;
 use crate::readers::{Reading, Reads, fill_and_publish, read_timed};
 use crate::tally::Tally;
 use crate::task::Task;
-use crate::trees::{CONFIG, Timed};
+use crate::trees::Timed;
 use crate::work::change_one;
 use bw_keys::Config;
 use bw_snap::{BlankBook, Naming, ReadTree, Reader, ScanFault};
@@ -186,13 +186,13 @@ pub(crate) fn report<R: Clock + Threads + Wait + Sync + Send + Copy>(
     every: u32,
 ) -> Result<String, Stop> {
     let beside = Beside {
-        reads: Reads { alloc, task: *task },
+        reads: Reads::new(alloc, task)?,
         every,
         ended: AtomicU64::new(0),
     };
     let (read, written) = run_over::<Brand, Brand, R>(
         rt,
-        CONFIG,
+        task.config,
         Blanks::new(1),
         BlankBook::new(),
         &beside,

@@ -13,6 +13,7 @@ mod task;
 mod traces;
 mod trees;
 mod work;
+mod zipf;
 
 use crate::request::{Request, USAGE};
 use crate::task::{Task, Work};
@@ -126,17 +127,11 @@ fn rate<R: Clock + Threads + Wait + Sync + Send + Copy>(
 fn tallies<R: Clock + Threads + Wait + Sync + Send + Copy>(
     rt: R,
     alloc: Global,
-    keys: u32,
-    operations: u32,
+    task: &Task,
 ) -> Result<String, Stop> {
     let mut text = String::new(alloc);
     for work in Work::ALL {
-        let task = Task {
-            work,
-            workers: 1,
-            keys,
-            operations,
-        };
+        let task = Task { work, ..*task };
         for structure in Structure::ALL {
             if !structure.is_for(&task) {
                 continue;
@@ -160,7 +155,7 @@ fn answer<R: Clock + Threads + Wait + Sync + Send + Copy>(
         Request::Beside { task, every } => beside::report(rt, alloc, &task, every),
         Request::Puts { task, every } => publish::report(rt, alloc, &task, every),
         Request::Pending(task) => publish::leave_pending(rt, alloc, &task),
-        Request::Tallies { keys, operations } => tallies(rt, alloc, keys, operations),
+        Request::Tallies(task) => tallies(rt, alloc, &task),
         Request::Consolidation(rounds) => consolidation::report(&rt, alloc, rounds),
         Request::Audit(receipts) => audit::report(&rt, alloc, receipts),
         Request::Traces(rows) => traces::report(&rt, alloc, rows),

@@ -6,7 +6,7 @@ ghost use Rattle.bw_tree.specs.Shares.{Opens};
 use crate::Stop;
 use crate::tally::Tally;
 use crate::task::Task;
-use crate::trees::{CONFIG, PART, Timed, fill_by_hand};
+use crate::trees::{PART, Timed, fill_by_hand};
 use crate::work::work;
 use bw_keys::Config;
 use bw_snap::{BlankBook, Naming, ReadTree};
@@ -53,9 +53,10 @@ fn run_over<N: Naming, D: Ledger, R: Clock + Wait + Copy, T: Drop, C: Trial<T>>(
 fn run_trial<R: Clock + Wait + Copy, T: Drop, C: Trial<T>>(
     rt: R,
     alloc: Global,
+    config: Config,
     trial: &C,
 ) -> Result<T, Stop> {
-    run_over::<Brand, Brand, R, T, C>(rt, alloc, CONFIG, Blanks::new(1), BlankBook::new(), trial)
+    run_over::<Brand, Brand, R, T, C>(rt, alloc, config, Blanks::new(1), BlankBook::new(), trial)
 }
 
 /// A load by one worker, published every so many puts.
@@ -99,7 +100,7 @@ pub(crate) fn report<R: Clock + Wait + Copy>(
         task: *task,
         every: every as usize,
     };
-    let Timed { seconds, .. } = run_trial(rt, alloc, &puts)?;
+    let Timed { seconds, .. } = run_trial(rt, alloc, task.config, &puts)?;
     let rate = f64::from(task.count()) / 1e6 / seconds;
     Ok(format!(in alloc; "puts {rate:.3}\n")?)
 }
@@ -134,7 +135,7 @@ pub(crate) fn leave_pending<R: Clock + Wait + Copy>(
     task: &Task,
 ) -> Result<String, Stop> {
     let pending = Pending { alloc, task: *task };
-    run_trial(rt, alloc, &pending)?;
+    run_trial(rt, alloc, task.config, &pending)?;
     let pending = task.keys;
     Ok(format!(in alloc; "pending {pending}\n")?)
 }

@@ -6,8 +6,8 @@ ghost use Rattle.bw_tree.specs.Shares.{Opens};
 use crate::Stop;
 use crate::tally::Tally;
 use crate::task::{Task, Work};
-use crate::trees::{CONFIG, PART, Timed, fill_by_hand};
-use crate::work::{drawn_key, drawn_part};
+use crate::trees::{PART, Timed, fill_by_hand};
+use crate::work::{drawn_part, key_at};
 use bw_keys::Config;
 use bw_snap::{BlankBook, Naming, ReadTree, Reader, ScanFault};
 use bw_tree::{Blanks, Share};
@@ -86,18 +86,31 @@ pub(crate) fn read_timed<
 pub(crate) struct Reads {
     pub(crate) alloc: Global,
     pub(crate) task: Task,
+    /// The keys of all operations, where readers don't draw them as they go.
+    keys: Vec<u32>,
 }
 
 impl Reads {
-    /// Looks drawn keys up.
+    pub(crate) fn new(alloc: Global, task: &Task) -> Result<Reads, Stop> {
+        let keys = task.known_keys(alloc, Vec::new(alloc))?;
+        Ok(Reads {
+            alloc,
+            task: *task,
+            keys,
+        })
+    }
+
+    /// Looks known or drawn keys up.
     fn get_often<N: Naming>(
         &self,
         reader: &mut Reader<N>,
         rng: &mut Pcg32,
+        number: u32,
     ) -> Result<Tally, ScanFault> {
         let mut tally = Tally::default();
-        for _ in 0..self.task.turns() {
-            let key = drawn_key(rng, &self.task);
+        let part = self.task.part(number, self.keys.as_slice());
+        for turn in 0..self.task.turns() {
+            let key = key_at(rng, &self.task, part, turn);
             // workers draw once more, for what they do
             let _draw = rng.next_u32();
             let Ok(found) = reader.get(key) else {
@@ -136,8 +149,10 @@ impl Reading for Reads {
         let mut reader = reader;
         let mut rng = Pcg32::new(u64::from(number), 1);
         match self.task.work {
-            Work::Load | Work::Mix { .. } | Work::Set => self.get_often(&mut reader, &mut rng),
-            Work::Scan | Work::List => self.scan_often(&mut reader, &mut rng),
+            Work::Load(_) | Work::Mix { .. } | Work::Zipf { .. } | Work::Set => {
+                self.get_often(&mut reader, &mut rng, number)
+            }
+            Work::Fill(_) | Work::Scan | Work::List => self.scan_often(&mut reader, &mut rng),
         }
     }
 }
@@ -173,6 +188,6 @@ pub(crate) fn run_readers<R: Clock + Threads + Wait + Sync + Send + Copy>(
     alloc: Global,
     task: &Task,
 ) -> Result<Timed, Stop> {
-    let reads = Reads { alloc, task: *task };
-    read_over::<Brand, Brand, R>(rt, CONFIG, Blanks::new(1), BlankBook::new(), &reads)
+    let reads = Reads::new(alloc, task)?;
+    read_over::<Brand, Brand, R>(rt, task.config, Blanks::new(1), BlankBook::new(), &reads)
 }

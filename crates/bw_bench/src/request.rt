@@ -1,21 +1,25 @@
 //! What the program is asked for.
 
 use crate::task::{Task, number};
-use crate::trees::Structure;
+use crate::trees::{CONFIG, Structure};
+use bw_keys::Config;
 
 /// How the words are given.
 pub(crate) const USAGE: &str = "\
 usage: bw_bench STRUCTURE WORK WORKERS KEYS OPERATIONS
        bw_bench beside WORK READERS KEYS OPERATIONS CHANGES
        bw_bench puts KEYS CHANGES
-       bw_bench pending KEYS
+       bw_bench pending WORK KEYS
        bw_bench tallies KEYS OPERATIONS
        bw_bench consolidation ROUNDS
        bw_bench audit RECEIPTS
        bw_bench traces ROWS
-STRUCTURE is alone (one worker), hand, or reader (at most 16, for 100, scan and list);
-WORK is load, set, scan, list, or the percent of gets beside puts and deletes;
-a tree with readers is published every so many CHANGES.
+       bw_bench pages CHAIN FANOUT, and one of the first five behind it
+STRUCTURE is alone (one worker), hand, or reader (at most 16, for what only reads);
+WORK is load, rising, set, scan, list, the percent of gets beside puts and deletes, or zipf with a percent
+behind it (100 if there is none), and fill or fill-rising are scans after the one or other load;
+a tree with readers is published every so many CHANGES;
+CHAIN is the most records of a page (1 to 32), FANOUT the most entries (4 to 64); 2 and 64 without these words.
 ";
 
 #[derive(Clone, Copy, Debug, PartialEq, Eq)]
@@ -28,8 +32,8 @@ pub(crate) enum Request {
     Puts { task: Task, every: u32 },
     /// A tree is to be filled with nothing published.
     Pending(Task),
-    /// What one worker is answered over so many keys, by each structure for each kind of work.
-    Tallies { keys: u32, operations: u32 },
+    /// What one worker is answered by each structure, for each kind of work in this one's place.
+    Tallies(Task),
     /// How long consolidations take, on the average of so many.
     Consolidation(u32),
     /// How long an audit of so many receipts takes.
@@ -42,23 +46,38 @@ impl Request {
     /// None where the words ask for nothing that there is.
     pub(crate) fn read(words: &[&str]) -> Option<Request> {
         match words {
+            ["pages", chain, fanout, rest @ ..] => {
+                let chain = number(chain, 1, 32)?;
+                let fanout = number(fanout, 4, 64)?;
+                let config = Config {
+                    chain,
+                    fanout,
+                    ..CONFIG
+                };
+                Request::read_on(config, rest)
+            }
+            _ => Request::read_on(CONFIG, words),
+        }
+    }
+
+    /// What is asked of trees of this configuration.
+    fn read_on(config: Config, words: &[&str]) -> Option<Request> {
+        match words {
             ["consolidation", rounds] => Some(Request::Consolidation(rounds.parse().ok()?)),
             ["audit", receipts] => Some(Request::Audit(receipts.parse().ok()?)),
             ["traces", rows] => Some(Request::Traces(rows.parse().ok()?)),
             ["puts", keys, every] => Some(Request::Puts {
-                task: Task::read("load", "1", keys, "0")?,
+                task: Task::read(config, "load", "1", keys, "0")?,
                 every: number(every, 1, u32::MAX)?,
             }),
-            ["pending", keys] => Some(Request::Pending(Task::read("100", "1", keys, "0")?)),
-            ["tallies", keys, operations] => {
-                let task = Task::read("load", "1", keys, operations)?;
-                Some(Request::Tallies {
-                    keys: task.keys,
-                    operations: task.operations,
-                })
+            ["pending", work, keys] => {
+                Some(Request::Pending(Task::read(config, work, "1", keys, "0")?))
             }
+            ["tallies", keys, operations] => Some(Request::Tallies(Task::read(
+                config, "load", "1", keys, operations,
+            )?)),
             ["beside", work, readers, keys, operations, every] => {
-                let task = Task::read(work, readers, keys, operations)?;
+                let task = Task::read(config, work, readers, keys, operations)?;
                 let every = number(every, 1, u32::MAX)?;
                 Structure::Reader
                     .is_for(&task)
@@ -66,7 +85,7 @@ impl Request {
             }
             [structure, work, workers, keys, operations] => {
                 let structure = Structure::read(structure)?;
-                let task = Task::read(work, workers, keys, operations)?;
+                let task = Task::read(config, work, workers, keys, operations)?;
                 structure
                     .is_for(&task)
                     .then_some(Request::Rate(structure, task))

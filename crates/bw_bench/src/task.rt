@@ -1,17 +1,33 @@
 //! What workers are to do on an index.
 
+ghost use Rattle.std.specs.Prelude.{◌<◌};
+
+use crate::zipf;
+use bw_keys::Config;
 use rand::seq::SliceRandom;
 use rand_pcg::Pcg32;
 use std::alloc::{AllocError, Global};
 use std::fmt;
 
+/// The order in which keys are put.
+#[derive(Clone, Copy, Debug, PartialEq, Eq)]
+pub(crate) enum Order {
+    Drawn,
+    Rising,
+}
+
 /// The kind of a task's operations.
 #[derive(Clone, Copy, Debug, PartialEq, Eq)]
 pub(crate) enum Work {
-    /// Each key is put once, in an order that was drawn.
-    Load,
+    /// Each key is put once.
+    Load(Order),
+    /// Scans of a map that was filled in this order. Without an operation the filling is left, for
+    /// the memory that it takes.
+    Fill(Order),
     /// Gets in so many of a hundred operations; of the others half are puts, half deletes.
     Mix { gets: u32 },
+    /// The same by Zipf's distribution, so that a few keys are drawn often.
+    Zipf { gets: u32 },
     /// Keys that are there are given other values.
     Set,
     /// The first hundred pairs from a key on.
@@ -22,11 +38,17 @@ pub(crate) enum Work {
 
 impl Work {
     /// The kinds that `bench/compare` times.
-    pub(crate) const ALL: [Work; 6] = [
-        Work::Load,
+    pub(crate) const ALL: [Work; 12] = [
+        Work::Load(Order::Drawn),
+        Work::Load(Order::Rising),
+        Work::Fill(Order::Drawn),
+        Work::Fill(Order::Rising),
         Work::Mix { gets: 100 },
         Work::Mix { gets: 95 },
         Work::Mix { gets: 50 },
+        Work::Zipf { gets: 100 },
+        Work::Zipf { gets: 95 },
+        Work::Zipf { gets: 50 },
         Work::Set,
         Work::Scan,
     ];
@@ -34,20 +56,43 @@ impl Work {
     /// Whether nothing is changed.
     pub(crate) fn only_reads(self) -> bool {
         match self {
-            Work::Load | Work::Set => false,
-            Work::Mix { gets } => gets == 100,
-            Work::Scan | Work::List => true,
+            Work::Load(_) | Work::Set => false,
+            Work::Mix { gets } | Work::Zipf { gets } => gets == 100,
+            Work::Fill(_) | Work::Scan | Work::List => true,
+        }
+    }
+
+    /// The order of the puts by which the map is loaded or filled.
+    fn order(self) -> Order {
+        match self {
+            Work::Load(order) | Work::Fill(order) => order,
+            Work::Mix { .. } | Work::Zipf { .. } | Work::Set | Work::Scan | Work::List => {
+                Order::Drawn
+            }
         }
     }
 
     fn read(word: &str) -> Option<Work> {
         match word {
-            "load" => Some(Work::Load),
+            "load" => Some(Work::Load(Order::Drawn)),
+            "rising" => Some(Work::Load(Order::Rising)),
+            "fill" => Some(Work::Fill(Order::Drawn)),
+            "fill-rising" => Some(Work::Fill(Order::Rising)),
             "set" => Some(Work::Set),
             "scan" => Some(Work::Scan),
             "list" => Some(Work::List),
-            gets => Some(Work::Mix {
+            "zipf" => Some(Work::Zipf { gets: 100 }),
+            mixture => Work::read_mixture(mixture),
+        }
+    }
+
+    fn read_mixture(word: &str) -> Option<Work> {
+        match word.strip_prefix("zipf") {
+            Some(gets) => Some(Work::Zipf {
                 gets: number(gets, 0, 100)?,
+            }),
+            None => Some(Work::Mix {
+                gets: number(word, 0, 100)?,
             }),
         }
     }
@@ -56,8 +101,13 @@ impl Work {
 impl fmt::Display for Work {
     fn fmt<W: fmt::Write>(&self, f: &mut fmt::Formatter<W>) -> fmt::Result {
         match self {
-            Work::Load => f.write_str("load"),
+            Work::Load(Order::Drawn) => f.write_str("load"),
+            Work::Load(Order::Rising) => f.write_str("rising"),
+            Work::Fill(Order::Drawn) => f.write_str("fill"),
+            Work::Fill(Order::Rising) => f.write_str("fill-rising"),
             Work::Mix { gets } => write!(f, "{gets}"),
+            Work::Zipf { gets: 100 } => f.write_str("zipf"),
+            Work::Zipf { gets } => write!(f, "zipf{gets}"),
             Work::Set => f.write_str("set"),
             Work::Scan => f.write_str("scan"),
             Work::List => f.write_str("list"),
@@ -72,6 +122,8 @@ pub(crate) struct Task {
     pub workers: u32,
     pub keys: u32,
     pub operations: u32,
+    /// Of the tree that they are done on.
+    pub config: Config,
 }
 
 /// The greatest number of keys. Operations draw from twice as many.
@@ -81,8 +133,15 @@ const MOST_WORKERS: u32 = 64;
 
 impl Task {
     /// Reads the words for the kind, the workers, the keys and the operations.
-    pub(crate) fn read(work: &str, workers: &str, keys: &str, operations: &str) -> Option<Task> {
+    pub(crate) fn read(
+        config: Config,
+        work: &str,
+        workers: &str,
+        keys: &str,
+        operations: &str,
+    ) -> Option<Task> {
         Some(Task {
+            config,
             work: Work::read(work)?,
             workers: number(workers, 1, MOST_WORKERS)?,
             keys: number(keys, 1, MOST_KEYS)?,
@@ -93,10 +152,13 @@ impl Task {
     /// How many operations all workers do together.
     pub(crate) fn count(&self) -> u32 {
         match self.work {
-            Work::Load => self.keys,
-            Work::Mix { .. } | Work::Set | Work::Scan | Work::List => {
-                self.turns().saturating_mul(self.workers)
-            }
+            Work::Load(_) => self.keys,
+            Work::Fill(_)
+            | Work::Mix { .. }
+            | Work::Zipf { .. }
+            | Work::Set
+            | Work::Scan
+            | Work::List => self.turns().saturating_mul(self.workers),
         }
     }
 
@@ -105,14 +167,46 @@ impl Task {
         self.operations.checked_div(self.workers).unwrap_or(0)
     }
 
-    /// The keys, each once, in an order that is drawn.
+    /// The keys, each once, in the order in which they are put.
     pub(crate) fn order(&self, alloc: Global) -> Result<Vec<u32>, AllocError> {
         let mut order = Vec::new(alloc);
         for key in 0..self.keys {
             order.push(key)?;
         }
-        order.as_mut_slice().shuffle(&mut Pcg32::new(0, 0));
+        if self.work.order() == Order::Drawn {
+            order.as_mut_slice().shuffle(&mut Pcg32::new(0, 0));
+        }
         Ok(order)
+    }
+
+    /// Operations draw keys below this, half of which a map that was filled has.
+    pub(crate) fn end(&self) -> u32
+        ensures { 0 < result }
+    {
+        self.keys.saturating_mul(2).max(1)
+    }
+
+    /// The keys of all operations, where workers don't draw them as they go: those of a load are in
+    /// the order of its puts, and Zipf's take too long to be drawn while a clock runs.
+    pub(crate) fn known_keys(
+        &self,
+        alloc: Global,
+        order: Vec<u32>,
+    ) -> Result<Vec<u32>, AllocError> {
+        match self.work {
+            Work::Load(_) => Ok(order),
+            Work::Zipf { .. } => zipf::draw(alloc, self.end(), self.count()),
+            Work::Fill(_) | Work::Mix { .. } | Work::Set | Work::Scan | Work::List => {
+                Ok(Vec::new(alloc))
+            }
+        }
+    }
+
+    /// The keys of the worker's turns, of the known keys of all operations. None where these aren't known.
+    pub(crate) fn part<'a>(&self, worker: u32, keys: &'a [u32]) -> &'a [u32] {
+        let turns = self.turns() as usize;
+        let start = turns.saturating_mul(worker as usize);
+        keys.get(start..start.saturating_add(turns)).unwrap_or(&[])
     }
 }
 

@@ -87,8 +87,8 @@ pub(crate) struct Timed {
     pub seconds: f64,
 }
 
-/// The configuration for the greatest number of keys that there is room for. Short chains suit it, as
-/// each record is a piece of memory of its own, which gets have to pass.
+/// The usual configuration, for the greatest number of keys that there is room for. Short chains suit
+/// it, as each record is a piece of memory of its own, which gets have to pass.
 pub(crate) const CONFIG: Config = Config {
     fanout: 64,
     chain: 2,
@@ -114,13 +114,14 @@ fn fill_alone(
 
 fn run_alone(rt: &impl Clock, alloc: Global, task: &Task) -> Result<Timed, Stop> {
     let order = task.order(alloc)?;
-    let mut table = Table::new(alloc, alloc, CONFIG)?;
+    let mut table = Table::new(alloc, alloc, task.config)?;
     for part in order.chunks(PART) {
         fill_alone(alloc, &mut table, task, part)?;
     }
+    let keys = task.known_keys(alloc, order)?;
     let mut steps = Alone::new(alloc, alloc, &mut table);
     let start = Instant::now(rt)?;
-    let tally = work(&mut steps, alloc, task, 0, order.as_slice())?;
+    let tally = work(&mut steps, alloc, task, 0, keys.as_slice())?;
     let seconds = start.elapsed(rt)?.as_secs_f64();
     Ok(Timed { tally, seconds })
 }
@@ -145,7 +146,7 @@ fn run_shared<R: Clock + Threads + Wait + Sync + Send + Copy>(
     task: &Task,
 ) -> Result<Timed, Stop> {
     let blanks = Blanks::new(task.workers);
-    shared::<Brand, Brand, R>(rt, alloc, task, CONFIG, blanks)
+    shared::<Brand, Brand, R>(rt, alloc, task, task.config, blanks)
 }
 
 fn shared<
@@ -166,8 +167,9 @@ fn shared<
     if shares.push(first).is_err() {
         return Err(Stop::Memory);
     }
+    let keys = task.known_keys(alloc, order)?;
     let start = Instant::now(&rt)?;
-    let tally = work_together(&rt, alloc, &tree, task, order.as_slice(), shares)?;
+    let tally = work_together(&rt, alloc, &tree, task, keys.as_slice(), shares)?;
     let seconds = start.elapsed(&rt)?.as_secs_f64();
     Ok(Timed { tally, seconds })
 }
@@ -182,13 +184,13 @@ fn work_together<
     alloc: Global,
     tree: &Tree<R, Global, I, D>,
     task: &Task,
-    order: &[u32],
+    keys: &[u32],
     shares: Vec<Share<I, D>>,
 ) -> Result<Tally, Stop> {
     thread::scope(thread::scope_env(), rt, |scope| -> Result<Tally, Stop> {
         let mut handles = Vec::new(alloc);
         for (share, worker) in shares.into_iter().zip(0u32..) {
-            let Ok(handle) = scope.spawn(move || work_at(tree, alloc, task, worker, order, share))
+            let Ok(handle) = scope.spawn(move || work_at(tree, alloc, task, worker, keys, share))
             else {
                 return Err(Stop::Wrong);
             };
@@ -210,9 +212,9 @@ fn work_at<S: Shared<Global, Step<Global>>>(
     alloc: Global,
     task: &Task,
     worker: u32,
-    order: &[u32],
+    keys: &[u32],
     share: Share<S::Insertions, S::Removals>,
 ) -> Result<Tally, Stop> {
     let mut hand = Hand::new(alloc, alloc, tree, share, worker, &Open);
-    work(&mut hand, alloc, task, worker, order)
+    work(&mut hand, alloc, task, worker, keys)
 }

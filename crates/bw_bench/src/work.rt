@@ -19,7 +19,7 @@ pub(crate) fn fill<S: Steps<Global, Step<Global>>>(
     task: &Task,
     order: &[u32],
 ) -> Result<(), Stop> {
-    if task.work == Work::Load {
+    if matches!(task.work, Work::Load(_)) {
         return Ok(());
     }
     for key in order {
@@ -28,19 +28,19 @@ pub(crate) fn fill<S: Steps<Global, Step<Global>>>(
     Ok(())
 }
 
-/// Does one worker's part of the task.
+/// Does one worker's part of the task, whose keys are given where they are known.
 pub(crate) fn work<S: Steps<Global, Step<Global>>>(
     steps: &mut S,
     alloc: Global,
     task: &Task,
     worker: u32,
-    order: &[u32],
+    keys: &[u32],
 ) -> Result<Tally, Stop> {
     match task.work {
-        Work::Load => load(steps, task, worker, order),
-        Work::Mix { gets } => mix(steps, task, worker, gets),
+        Work::Load(_) => load(steps, task, worker, keys),
+        Work::Mix { gets } | Work::Zipf { gets } => mix(steps, task, worker, gets, keys),
         Work::Set => set_often(steps, task, worker),
-        Work::Scan | Work::List => scan_often(steps, alloc, task, worker),
+        Work::Fill(_) | Work::Scan | Work::List => scan_often(steps, alloc, task, worker),
     }
 }
 
@@ -67,11 +67,13 @@ fn mix<S: Steps<Global, Step<Global>>>(
     task: &Task,
     worker: u32,
     gets: u32,
+    keys: &[u32],
 ) -> Result<Tally, Stop> {
     let mut tally = Tally::default();
     let mut rng = Pcg32::new(u64::from(worker), 1);
-    for _ in 0..task.turns() {
-        let key = drawn_key(&mut rng, task);
+    let part = task.part(worker, keys);
+    for turn in 0..task.turns() {
+        let key = key_at(&mut rng, task, part, turn);
         let draw = rng.next_u32() % 200;
         let answered = if draw / 2 < gets {
             get_one(steps, key)?
@@ -153,10 +155,17 @@ pub(crate) fn change_one<S: Steps<Global, Step<Global>>>(
     }
 }
 
+/// The key of a turn, drawn now where it isn't known.
+pub(crate) fn key_at(rng: &mut Pcg32, task: &Task, part: &[u32], turn: u32) -> Key {
+    match part.get(turn as usize) {
+        Some(key) => u64::from(*key),
+        None => drawn_key(rng, task),
+    }
+}
+
 /// A key below twice their number.
 pub(crate) fn drawn_key(rng: &mut Pcg32, task: &Task) -> Key {
-    let end = task.keys.saturating_mul(2).max(1);
-    u64::from(rng.next_u32() % end)
+    u64::from(rng.next_u32() % task.end())
 }
 
 /// A key that the map was filled with.
@@ -168,9 +177,12 @@ fn filled_key(rng: &mut Pcg32, task: &Task) -> Key {
 pub(crate) fn drawn_part(rng: &mut Pcg32, task: &Task) -> (Key, usize) {
     match task.work {
         Work::List => (0, usize::MAX),
-        Work::Load | Work::Mix { .. } | Work::Set | Work::Scan => {
-            (drawn_key(rng, task), SCANNED)
-        }
+        Work::Load(_)
+        | Work::Fill(_)
+        | Work::Mix { .. }
+        | Work::Zipf { .. }
+        | Work::Set
+        | Work::Scan => (drawn_key(rng, task), SCANNED),
     }
 }
 
