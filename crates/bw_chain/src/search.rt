@@ -44,6 +44,16 @@ pub fn next_at<A: Allocator + Copy>(chain: &Chain<A>, key: Key) -> Option<(Key, 
     first_from(chain, Fence::Key(key))
 }
 
+/// The pair with the greatest key at or below the key, if there is one. Where no deletion and no
+/// merge is in the way it takes one walk over the records and one search of the base page.
+#[tactic(auto, using(crate::proofs::Bridges::both_kinds))]
+pub fn previous_at<A: Allocator + Copy>(chain: &Chain<A>, key: Key) -> Option<(Key, u64)>
+    requires sound { IsSound chain.now }
+    ensures { result ≡ last_upto key (pairs chain.now) }
+{
+    last_upto::<A, u64>(chain, key)
+}
+
 /// The page that is routed at this very separator, if one is.
 #[tactic(auto, using(crate::proofs::Bridges::both_kinds))]
 pub fn route_at<A: Allocator + Copy>(chain: &Chain<A>, separator: Key) -> Option<Pid>

@@ -18,6 +18,8 @@ pub(crate) struct Case<'a> {
     more: Option<&'a str>,
     input: String,
     has_failure: bool,
+    /// Whether the output has lines above those that are wanted.
+    has_more: bool,
     wanted: Answer,
 }
 
@@ -30,6 +32,7 @@ impl<'a> Case<'a> {
             more: None,
             input: String::new(alloc),
             has_failure: false,
+            has_more: false,
             wanted: Answer::silent(alloc),
         }
     }
@@ -39,6 +42,7 @@ impl<'a> Case<'a> {
         match mark {
             "+" => self.more = Some(text),
             "<!" => self.has_failure = true,
+            ".." => self.has_more = true,
             "=" => self.wanted.status = text.parse::<u8>()?,
             "<" | "<-" => add_line(&mut self.input, mark, text)?,
             ">" | ">-" => add_line(&mut self.wanted.output, mark, text)?,
@@ -67,24 +71,57 @@ impl<'a> Case<'a> {
         alloc: Global,
         more: &str,
     ) -> Result<Option<Difference>> {
-        let mut words: Vec<&str> = self.words.split_whitespace().collect(alloc)?;
-        for word in more.split_whitespace() {
-            words.push(word)?;
-        }
-        let mut output = Vec::new(alloc);
-        let mut faults = Vec::new(alloc);
         let input = Input {
             text: self.input.as_bytes(),
             has_failure: self.has_failure,
         };
-        let status = command(rt, alloc, &words, input, &mut output, &mut faults);
-        let answer = Answer {
-            status,
-            output: String::from_utf8(output)?,
-            faults: String::from_utf8(faults)?,
-        };
+        let (words, next) = self.words.split_once(" | ").unwrap_or((self.words, ""));
+        let mut answer = answer_to(rt, alloc, words, more, input)?;
+        if !next.is_empty() && answer.status == 0 {
+            let given = answer.output;
+            let input = Input {
+                text: given.as_bytes(),
+                has_failure: false,
+            };
+            answer = answer_to(rt, alloc, next, "", input)?;
+        }
+        if self.has_more {
+            let wanted = self.wanted.output.lines().count();
+            answer.output = format!(in alloc; "{}", last_lines(&answer.output, wanted))?;
+        }
         Ok(answer.difference(&self.wanted))
     }
+}
+
+/// What the program answers to these words, with more behind them.
+fn answer_to<R: Threads + Wait + Sync + Send + Copy>(
+    rt: R,
+    alloc: Global,
+    words: &str,
+    more: &str,
+    input: Input,
+) -> Result<Answer> {
+    let mut all: Vec<&str> = words.split_whitespace().collect(alloc)?;
+    for word in more.split_whitespace() {
+        all.push(word)?;
+    }
+    let mut output = Vec::new(alloc);
+    let mut faults = Vec::new(alloc);
+    let status = command(rt, alloc, &all, input, &mut output, &mut faults);
+    Ok(Answer {
+        status,
+        output: String::from_utf8(output)?,
+        faults: String::from_utf8(faults)?,
+    })
+}
+
+/// So many of a text's last lines.
+fn last_lines(text: &str, many: usize) -> &str {
+    let above = text.lines().count().saturating_sub(many);
+    (0..above).fold(
+        text,
+        |rest, _| rest.split_once('\n').map_or("", |(_, below)| below),
+    )
 }
 
 /// Adds a line to a text. Where its mark has a dash, it has no line feed.

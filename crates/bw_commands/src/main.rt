@@ -4,11 +4,12 @@
 //!
 //! | Mark | The line says |
 //! |---|---|
-//! | `$` | a case begins, and these are its words |
+//! | `$` | a case begins, and these are its words; behind a bar are those of a second call, which reads what the first prints |
 //! | `+` | with these words behind its own the answer is the same |
 //! | `<` | a line of the input |
 //! | `<-` | a line of the input, without its line feed |
 //! | `<!` | from here on the input can't be read |
+//! | `..` | the output has any lines, and below them those that follow |
 //! | `>`, `>-` | a line of the output, with its line feed or without |
 //! | `!`, `!-` | a line of the faults, with its line feed or without |
 //! | `=` | the status, where it isn't 0 |
@@ -31,15 +32,19 @@ use std::sync::Wait;
 use std::thread::Threads;
 
 /// The files of cases.
-const NAMES: [&str; 9] = [
+const NAMES: [&str; 13] = [
     "clears",
     "cuts",
+    "draw",
+    "help",
     "histories",
     "options",
     "readers",
     "runs",
     "seeds",
     "sets",
+    "shown",
+    "stats",
     "traces",
 ];
 

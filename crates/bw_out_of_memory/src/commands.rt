@@ -67,6 +67,7 @@ fn leaves_of_noted<'a>(case: &Case, output: &'a str) -> Option<&'a str> {
 /// Whether it is the whole output.
 fn is_whole(case: &Case, output: &str) -> bool {
     match output.strip_prefix(case.replies) {
+        Some(rest) if case.is_drawing => rest.ends_with(case.end),
         Some(rest) => rest.strip_prefix(case.leaves) == Some(case.end),
         None => false,
     }

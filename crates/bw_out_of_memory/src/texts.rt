@@ -12,7 +12,7 @@ use bw_texts::{
 use std::alloc::Global;
 
 /// A writer with room for so many bytes. It takes no memory.
-pub(crate) type Room = ArrayVec<u8, 1024>;
+pub(crate) type Room = ArrayVec<u8, 4096>;
 
 impl From<TextFault> for Stop {
     fn from(fault: TextFault) -> Stop {

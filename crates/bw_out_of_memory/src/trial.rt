@@ -1,7 +1,8 @@
 //! The trials, by their names.
 
 use crate::cases::{
-    CHECK, Case, MAKE, RUN, RUN_HISTORY, RUN_PUTS, RUN_READERS, RUN_REPLIES, SHOW_HELP,
+    CHECK, Case, DRAW_STEPS, MAKE, RUN, RUN_HISTORY, RUN_PUTS, RUN_READERS, RUN_REPLIES, SHOW_HELP,
+    STATS, STATS_STEPS,
 };
 use crate::commands::command_of;
 use crate::ending::{Ending, Stop};
@@ -29,7 +30,7 @@ pub(crate) enum Trial {
     Command(Case),
 }
 
-pub(crate) const TRIALS: [Trial; 16] = [
+pub(crate) const TRIALS: [Trial; 19] = [
     Trial::Alone,
     Trial::ByHand,
     Trial::BesideReaders,
@@ -43,6 +44,9 @@ pub(crate) const TRIALS: [Trial; 16] = [
     Trial::Command(RUN_PUTS),
     Trial::Command(RUN_HISTORY),
     Trial::Command(RUN_READERS),
+    Trial::Command(STATS),
+    Trial::Command(STATS_STEPS),
+    Trial::Command(DRAW_STEPS),
     Trial::Command(CHECK),
     Trial::Command(MAKE),
     Trial::Command(SHOW_HELP),

@@ -9,6 +9,7 @@ use bw_keys::{Config, Key};
 use bw_step::{CopyFault, Go, Look, Receipt, Refused};
 use std::alloc::Global;
 use std::marker::Model;
+use std::mem;
 
 /// A worker's account: its configuration, the receipts on its trail, its effort, and how often a
 /// refusal ended a call. Effort and counts stay at 2^64 - 1 once there.
@@ -89,6 +90,18 @@ impl Account {
     {
         let Account { trail, .. } = self;
         trail
+    }
+
+    /// Gives the receipts out that are on the trail, and goes on with an empty trail in the same
+    /// memory region. The trails given out, one behind the other and with that of
+    /// [`into_trail`](Account::into_trail) as the last, are the trail that `into_trail` alone would
+    /// have given.
+    pub fn take_trail(&mut self) -> Vec<Receipt>
+        ensures trail { result.items ≡ self.old.seen.trail }
+        ensures rest { self.new.seen ≡ record self.old.seen { trail = [] } }
+    {
+        let empty = Vec::new(*self.trail.allocator());
+        mem::replace(&mut self.trail, empty)
     }
 
     /// Makes room for one more receipt.

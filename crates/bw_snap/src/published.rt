@@ -185,6 +185,16 @@ impl<R: Wait + Drop, N: Naming, D: Ledger> Published<R, N, D> {
         Ok(Stamp::over(self.writer.published().front.again()))
     }
 
+    /// Gives the table out, and asks for no share, as `Booked::into_table` does. The published
+    /// copies are given up.
+    pub fn into_table(self) -> Table<Global>
+        ensures table { result ≡ self.table }
+        ensures config { result.config ≡ N.config }
+        ensures tree { IsTree result }
+    {
+        self.into_booked().into_table()
+    }
+
     /// Gives the table out, as `Booked::close` does. The published copies are given up.
     pub fn close(self, shares: Vec<Share<N, D>>) -> Result<Table<Global>, MissingShare>
         ensures table { IfOk result (λ table. table ≡ self.table) }
@@ -195,6 +205,13 @@ impl<R: Wait + Drop, N: Naming, D: Ledger> Published<R, N, D> {
         ensures all { IsOk result ↔ (length shares.items ≡ N.parts) }
         ensures missing { OnErr result (length shares.items < N.parts) }
     {
+        self.into_booked().close(shares)
+    }
+
+    /// Gives the booked table out, and the published copies up.
+    fn into_booked(self) -> Booked<Global, N, D>
+        ensures { result ≡ self.table }
+    {
         let Self {
             booked,
             writer,
@@ -203,7 +220,7 @@ impl<R: Wait + Drop, N: Naming, D: Ledger> Published<R, N, D> {
             rt,
         } = self;
         drop(writer.take(&rt));
-        booked.close(shares)
+        booked
     }
 }
 

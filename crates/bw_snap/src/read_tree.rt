@@ -76,7 +76,20 @@ impl<R: Wait + Copy, N: Naming, D: Ledger> ReadTree<R, N, D> {
         self.published.lock(&self.rt).publish()
     }
 
-    /// Gives the table out, as `Booked::close` does. Its readers answer no more.
+    /// Gives the table out, and asks for no share, as `Booked::into_table` does. Its readers answer
+    /// no more.
+    pub fn into_table(self) -> Table<Global>
+        ensures config { result.config ≡ N.config }
+        ensures tree { IsTree result }
+    {
+        let Self { published, .. } = self;
+        published.into_inner().into_table()
+    }
+
+    /// Gives the table out, as `Booked::close` does. Its readers answer no more. It wants all
+    /// shares: where a worker dropped its own, as by an early `?`, the answer is [`MissingShare`],
+    /// and all pairs are lost. So have each worker hand its share back beside its error, or take the
+    /// table by [`into_table`](ReadTree::into_table).
     pub fn close(self, shares: Vec<Share<N, D>>) -> Result<Table<Global>, MissingShare>
         ensures config { IfOk result (λ table. table.config ≡ N.config) }
         ensures tree { IfOk result IsTree }

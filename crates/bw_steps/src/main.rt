@@ -2,13 +2,7 @@
 //! step or question, from standard input or from files beside which their answers lie.
 #![tactic(auto)]
 
-mod answer;
-mod entries;
-mod line;
-mod numbers;
-mod player;
 mod script;
-mod steps;
 
 use crate::script::{Difference, first_difference, play};
 use anyhow::Result;

@@ -1,9 +1,8 @@
 //! A script as a whole, and what was foretold of it.
 
-use crate::line::Unread;
-use crate::player::Player;
 use anyhow::{Result, bail};
 use bw_lines::line_at;
+use bw_scripts::{Player, ScriptFault};
 use std::alloc::{AllocError, Global};
 use std::fmt;
 
@@ -17,19 +16,17 @@ pub(crate) struct Played {
 }
 
 /// Plays a script from its first line on. A line that can't be read is told by its number, and ends
-/// the script. Empty lines, and those that begin with `#`, ask for nothing.
+/// the script.
 pub(crate) fn play(alloc: Global, script: &str) -> Result<Played> {
     let mut player = Player::new(alloc);
     let mut answers = String::new(alloc);
-    for (before, line) in script.lines().enumerate() {
-        if line.is_empty() || line.starts_with('#') {
-            continue;
-        }
-        match player.answer(line) {
-            Ok(answer) => writeln!(answers, "{answer}")?,
-            Err(Unread::NoMemory) => bail!("there is no memory left"),
-            Err(unread) => {
-                writeln!(answers, "line {}: {unread}", before.saturating_add(1))?;
+    for line in script.lines() {
+        match player.play(line) {
+            Ok(None) => {}
+            Ok(Some(answer)) => writeln!(answers, "{answer}")?,
+            Err(ScriptFault::Memory) => bail!("there is no memory left"),
+            Err(fault) => {
+                writeln!(answers, "{fault}")?;
                 return Ok(Played {
                     answers,
                     is_whole: false,

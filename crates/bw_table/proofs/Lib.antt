@@ -10,3 +10,4 @@ pub mod Writes
 pub mod Gets
 pub mod Listings
 pub mod Rests
+pub mod Orders

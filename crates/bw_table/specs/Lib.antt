@@ -2,6 +2,7 @@ pub mod Answers
 pub mod Codes
 pub mod FreeLists
 pub mod LeafRows
+pub mod Orders
 pub mod SlotFacts
 pub mod Views
 pub mod Visits

@@ -8,7 +8,9 @@ mod fault;
 mod free;
 mod fresh;
 mod get;
+mod leaf;
 mod listing;
+mod order;
 mod rest;
 mod slot;
 mod steps;
@@ -22,4 +24,5 @@ pub use bw_step::{
     View,
 };
 pub use fault::NewFault;
+pub use leaf::LeafRef;
 pub use table::Table;

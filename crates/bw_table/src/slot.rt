@@ -1,6 +1,6 @@
 ghost use Rattle.std.specs.Prelude.{◌≡◌, ◌+◌, ◌==◌, ◌&&◌, ◌||◌, not, is_some, true};
 ghost use Rattle.bw_keys.specs.Ranges.{is_within};
-ghost use Rattle.bw_delta.specs.Entries.{at, starts_at, last_upto, last_below};
+ghost use Rattle.bw_delta.specs.Entries.{at, starts_at, first_from, last_upto, last_below};
 ghost use Rattle.bw_delta.specs.Pages.{upper_part};
 ghost use Rattle.bw_delta.specs.Sound.{IsSound, page_for};
 ghost use Rattle.bw_step.specs.Stages.{is_in_row};
@@ -12,7 +12,9 @@ ghost use Rattle.bw_table.specs.SlotFacts.{HasSoundChain};
 ghost use Rattle.bw_table.specs.Views.{view_of};
 ghost use Rattle.bw_table.specs.Visits.{is_there, own_todo};
 
-use bw_chain::{child, find, is_later_key, is_upper_part, route_at, route_before, same};
+use bw_chain::{
+    child, find, is_later_key, is_upper_part, next_at, previous_at, route_at, route_before, same,
+};
 use bw_delta::{Base, Chain};
 use bw_keys::{Fence, Key, MAX_DEPTH, Pid, Range, Version};
 use bw_step::{Place, Stage, Summary, Todo, View};
@@ -142,6 +144,30 @@ impl<A: Allocator + Copy> Slot<A> {
     {
         match &self.chain {
             Some(chain) => find(chain, key),
+            None => None,
+        }
+    }
+
+    /// The pair with the least key at or above the key.
+    pub(crate) fn next_at(&self, key: Key) -> Option<(Key, u64)>
+        requires in_row { is_in_row self.now.stage ≡ true }
+        requires sound { HasSoundChain self.now }
+        ensures { result ≡ first_from key (pairs_in self.now) }
+    {
+        match &self.chain {
+            Some(chain) => next_at(chain, key),
+            None => None,
+        }
+    }
+
+    /// The pair with the greatest key at or below the key.
+    pub(crate) fn previous_at(&self, key: Key) -> Option<(Key, u64)>
+        requires in_row { is_in_row self.now.stage ≡ true }
+        requires sound { HasSoundChain self.now }
+        ensures { result ≡ last_upto key (pairs_in self.now) }
+    {
+        match &self.chain {
+            Some(chain) => previous_at(chain, key),
             None => None,
         }
     }

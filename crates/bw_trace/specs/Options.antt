@@ -1,9 +1,13 @@
 -- What the words of a command ask for.
-use Rattle.std.specs.Prelude.{◌≡◌, ℕ, List, Bool, true, false, Some, codes}
+use Rattle.std.specs.Prelude.{◌≡◌, ◌≤◌, ℕ, List, Bool, true, false, Some, None, codes}
 use Rattle.std.specs.Str.Parse.{digits_value, without_leading_plus}
 use Rattle.clap.specs.Words.{one_text}
 use Rattle.clap.specs.declared.parser.matches.Found.{Found}
+use Rattle.bw_keys.specs.Limits.{first_bad_field}
+use Rattle.bw_run.specs.Faults.{most_readers}
+use Rattle.bw_trace.specs.declared.program.setting.Setting.{Setting}
 use Rattle.bw_trace.specs.declared.program.run_options.RunOptions.{RunOptions}
+use Rattle.bw_trace.specs.declared.program.show_options.ShowOptions.{ShowOptions}
 
 -- the digits that were found for the name write the number
 abbrev pub IsNumberFor : Found → List ℕ → ℕ → Type 0
@@ -16,12 +20,27 @@ pub record IsFlagFor (found : Found) (name : List ℕ) (is_given : Bool) : Type 
   pub missing : one_text found name ≡ Some (codes "false") → is_given ≡ false
 
 -- each option is what was found for its own name
+pub record IsSettingFor (found : Found) (setting : Setting) : Type 0 where
+  pub fanout : IsNumberFor found (codes "fanout") setting.config.fanout
+  pub chain : IsNumberFor found (codes "chain") setting.config.chain
+  pub pages : IsNumberFor found (codes "pages") setting.config.pages
+  pub tries : IsNumberFor found (codes "tries") setting.config.tries
+  pub workers : IsNumberFor found (codes "workers") setting.workers
+  pub readers : IsNumberFor found (codes "readers") setting.readers
+
+-- a trace can be run so
+pub record IsFit (setting : Setting) : Type 0 where
+  pub config : first_bad_field setting.config ≡ None
+  pub version : setting.config.first_version ≡ 0
+  pub some_workers : 1 ≤ setting.workers
+  pub few_workers : setting.workers ≤ 64
+  pub few_readers : setting.readers ≤ most_readers setting.workers
+
 pub record IsAskedFor (found : Found) (options : RunOptions) : Type 0 where
-  pub fanout : IsNumberFor found (codes "fanout") options.config.fanout
-  pub chain : IsNumberFor found (codes "chain") options.config.chain
-  pub pages : IsNumberFor found (codes "pages") options.config.pages
-  pub tries : IsNumberFor found (codes "tries") options.config.tries
-  pub workers : IsNumberFor found (codes "workers") options.workers
-  pub readers : IsNumberFor found (codes "readers") options.readers
+  pub setting : IsSettingFor found options.setting
   pub replies : IsFlagFor found (codes "replies") options.replies
   pub history : IsFlagFor found (codes "history") options.history
+
+pub record IsShownBy (found : Found) (options : ShowOptions) : Type 0 where
+  pub setting : IsSettingFor found options.setting
+  pub steps : IsFlagFor found (codes "steps") options.steps

@@ -8,6 +8,8 @@ use Rattle.bw_texts.specs.declared.fault.OutFault.{OutFault}
 use Rattle.bw_texts.specs.declared.fault.OutFault.TheVariants as outs
 use Rattle.bw_texts.specs.declared.fault.TextFault.{TextFault}
 use Rattle.bw_texts.specs.declared.fault.TextFault.TheVariants as texts
+use Rattle.bw_scripts.specs.declared.fault.ScriptFault.{ScriptFault}
+use Rattle.bw_scripts.specs.declared.fault.ScriptFault.TheVariants as scripts
 use Rattle.bw_trace.specs.declared.program.fault.Fault.{Fault}
 use Rattle.bw_trace.specs.declared.program.fault.Fault.TheVariants as faults
 
@@ -29,11 +31,20 @@ run_status runs.Memory = 3
 run_status (runs.Stopped worker number fault) = 3
 run_status (runs.Audit worker receipt) = 4
 
+-- so it is with a script, and one that makes no table is bad input
+abbrev pub script_status : ScriptFault → ℕ
+script_status (scripts.Line number) = 1
+script_status scripts.NoTable = 1
+script_status scripts.Read = 1
+script_status scripts.Lines = 3
+script_status scripts.Memory = 3
+
 abbrev pub status_of : Fault → ℕ
 status_of (faults.Usage error) = 2
 status_of (faults.Bad field) = 2
 status_of (faults.Text fault) = text_status fault
 status_of (faults.Run fault) = run_status fault
+status_of (faults.Script fault) = script_status fault
 status_of faults.Write = 1
 status_of faults.Memory = 3
 

@@ -6,14 +6,21 @@ ghost use Rattle.bw_trace.specs.Statuses.{run_status, status_of, verdict_status}
 ghost use Rattle.bw_trace.specs.Verdicts.{IsVerdictOn, verdict_line};
 
 mod fault;
+mod help;
 mod options;
 mod report;
 mod run_options;
+mod setting;
+mod show;
+mod show_options;
 
 use crate::program::fault::{AUDIT_NO, BAD_USAGE, DONE, Fault};
 use crate::program::options::{Field, commands, ranged};
 use crate::program::report::write_report;
 use crate::program::run_options::RunOptions;
+use crate::program::setting::Setting;
+use crate::program::show::{draw, table_of, tell_stats};
+use crate::program::show_options::ShowOptions;
 use bw_audit::{Verdict, audit};
 use bw_keys::MAX_WORKERS;
 use bw_run::{Finished, RunFault, run};
@@ -69,6 +76,8 @@ fn obey<T: Threads + Wait + Sync + Send + Copy, R: Read + Drop, W: Write>(
     let matches = parse(alloc, words)?;
     match matches.subcommand() {
         Some(("run", options)) => do_run(rt, alloc, RunOptions::of(options)?, input, output),
+        Some(("draw", options)) => do_draw(rt, alloc, ShowOptions::of(options)?, input, output),
+        Some(("stats", options)) => do_stats(rt, alloc, ShowOptions::of(options)?, input, output),
         Some(("make", options)) => do_make(alloc, options, output),
         _ => do_check(alloc, input, output),
     }
@@ -93,12 +102,11 @@ fn do_run<T: Threads + Wait + Sync + Send + Copy, R: Read + Drop, W: Write>(
 ) -> Result<u8, Fault>
     ensures { IfOk result (λ status. status ≤ 4) }
 {
-    let RunOptions {
+    let Setting {
         config,
         workers,
         readers,
-        ..
-    } = options;
+    } = options.setting;
     let rows = read_trace(alloc, input, workers)?;
     match run(rt, alloc, config, workers, readers, &rows, &Open) {
         Ok(finished) => print_run(alloc, options, output, &finished),
@@ -125,6 +133,36 @@ fn print_run<W: Write>(
     }
     write_report(alloc, output, finished, options.replies)?;
     print_verdict(output, Verdict::Yes)
+}
+
+/// Draws the table that the trace or the script leaves.
+fn do_draw<T: Threads + Wait + Sync + Send + Copy, R: Read + Drop, W: Write>(
+    rt: T,
+    alloc: Global,
+    options: ShowOptions,
+    input: R,
+    output: &mut W,
+) -> Result<u8, Fault>
+    ensures { IfOk result (λ status. status ≤ 4) }
+{
+    let table = table_of(rt, alloc, options, input)?;
+    draw(alloc, &table, output)?;
+    Ok(DONE)
+}
+
+/// Tells the numbers of the table that the trace or the script leaves.
+fn do_stats<T: Threads + Wait + Sync + Send + Copy, R: Read + Drop, W: Write>(
+    rt: T,
+    alloc: Global,
+    options: ShowOptions,
+    input: R,
+    output: &mut W,
+) -> Result<u8, Fault>
+    ensures { IfOk result (λ status. status ≤ 4) }
+{
+    let table = table_of(rt, alloc, options, input)?;
+    tell_stats(alloc, &table, output)?;
+    Ok(DONE)
 }
 
 fn do_make<W: Write>(alloc: Global, options: &ArgMatches, output: &mut W) -> Result<u8, Fault>

@@ -112,18 +112,60 @@ const REPLIED: &str =
 
 const HISTORY: &str = "0,ins,1,9,1\n0,hit,1,9,1\n0,hit,1,9,1\nend,pair,0,9,1\n";
 
-const HELP: &str = "A Bw-tree in memory: traces, and histories of workers
+/// Of the table that the trace leaves.
+const NUMBERS: &str = "levels 1
+level 0 pages 1
+pairs 1
+unposted 0 marked 0 merged 0
+slots 8 free 7
+leaf entries least 1 mean 1.00 greatest 1
+inner entries none
+chain records least 1 mean 1.00 greatest 1
+bytes slots 1216 pages 0 records 72
+";
+
+/// The first step of a split, with those before it.
+const SCRIPT: &str = "table 4 4 64 100 0
+insert 0 0 1 10
+insert 0 1 5 50
+consolidate 0 2 leaf 0 top - 1:10 5:50
+split 0 3 5 leaf 5 top - 5:50
+";
+
+/// Of the table that the script leaves.
+const SCRIPT_NUMBERS: &str = "levels 1
+level 0 pages 2
+pairs 2
+unposted 1 marked 0 merged 0
+slots 64 free 62
+leaf entries least 1 mean 1.00 greatest 1
+inner entries none
+chain records least 0 mean 0.50 greatest 1
+bytes slots 9728 pages 48 records 72
+";
+
+const HELP: &str = r"A Bw-tree in memory: traces, and histories of workers
 
 Usage: bwtree <COMMAND>
 
 Commands:
   run    Runs the trace on standard input
+  draw   Draws the table that a trace leaves, as SVG
+  stats  Prints the numbers of the table that a trace leaves
   make   Prints a seeded trace
   check  Says whether the history on standard input is legal
   help   Print this message or the help of the given subcommand(s)
 
 Options:
-  -h, --help  Print help
+  -h, --help     Print help
+  -V, --version  Print version
+
+Example:
+  printf '0,put,5,50\n0,get,5,\n' | bwtree run --replies
+
+Status: 0 done, 1 a row that can't be read or a failed read or write, 2 bad words or values,
+3 a limit, no memory or a worker that gave up, 4 a history that isn't legal.
+No words stand for run. 'bwtree run --help' has the rows of a trace.
 ";
 
 const USAGE: &str = "error: unrecognized subcommand 'go'
@@ -133,7 +175,7 @@ Usage: bwtree <COMMAND>
 For more information, try '--help'.
 ";
 
-static CASES: [Case; 11] = [
+static CASES: [Case; 14] = [
     Case {
         words: &["run"],
         input: TRACE,
@@ -163,6 +205,20 @@ static CASES: [Case; 11] = [
         faults: "",
     },
     Case {
+        words: &["stats", "--pages", "8"],
+        input: TRACE,
+        status: 0,
+        output: NUMBERS,
+        faults: "",
+    },
+    Case {
+        words: &["stats", "--steps"],
+        input: SCRIPT,
+        status: 0,
+        output: SCRIPT_NUMBERS,
+        faults: "",
+    },
+    Case {
         words: &["check"],
         input: HISTORY,
         status: 0,
@@ -188,6 +244,13 @@ static CASES: [Case; 11] = [
         input: "",
         status: 0,
         output: HELP,
+        faults: "",
+    },
+    Case {
+        words: &["--version"],
+        input: "",
+        status: 0,
+        output: "bwtree 0.2.0\n",
         faults: "",
     },
     Case {

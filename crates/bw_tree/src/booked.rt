@@ -140,8 +140,18 @@ impl<A: Allocator + Copy, I: MadeBy, D: Ledger> Booked<A, I, D> {
         Ok(receipt)
     }
 
+    /// Gives the table out, and asks for no share. So nothing is known of its book beside the shares.
+    pub fn into_table(self) -> Table<A>
+        ensures table { result ≡ self }
+        ensures config { result.config ≡ I.config }
+        ensures tree { IsTree result }
+    {
+        let Self { table, .. } = self;
+        table
+    }
+
     /// Gives the table out. Its book is the sum of the shares, which are all that there are; where
-    /// one is missing the table is given up.
+    /// one is missing the table is given up. `into_table` gives it out then.
     #[tactic(auto, using(crate::proofs::Trees::book_is))]
     pub fn close(self, shares: Vec<Share<I, D>>) -> Result<Table<A>, MissingShare>
         ensures table { IfOk result (λ table. table ≡ self) }

@@ -36,6 +36,9 @@ impl Blanks {
 
 /// One worker's insertions and removals. Contracts see it as its part of the
 /// book, in which modifications are nobody's.
+///
+/// To close a tree takes the shares of all its workers, so a worker hands its share back however
+/// its work ends. None can be made anew: a share that is dropped is missing from then on.
 #[derive(Drop)]
 pub struct Share<I: Ledger, D: Ledger> {
     pub(crate) insertions: ledger::Share<I>,

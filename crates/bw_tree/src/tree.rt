@@ -56,7 +56,19 @@ impl<R: Wait + Drop, A: Allocator + Copy, I: MadeBy, D: Ledger> Tree<R, A, I, D>
         Ok((tree, shares))
     }
 
-    /// Gives the table out, as `Booked::close` does.
+    /// Gives the table out, and asks for no share, as `Booked::into_table` does.
+    pub fn into_table(self) -> Table<A>
+        ensures config { result.config ≡ I.config }
+        ensures tree { IsTree result }
+    {
+        let Self { booked, .. } = self;
+        booked.into_inner().into_table()
+    }
+
+    /// Gives the table out, as `Booked::close` does. It wants all shares: where a worker dropped
+    /// its own, as by an early `?`, the answer is [`MissingShare`], and all pairs are lost. So have
+    /// each worker hand its share back beside its error, or take the table by
+    /// [`into_table`](Tree::into_table).
     pub fn close(self, shares: Vec<Share<I, D>>) -> Result<Table<A>, MissingShare>
         ensures config { IfOk result (λ table. table.config ≡ I.config) }
         ensures tree { IfOk result IsTree }

@@ -35,7 +35,22 @@ impl<'t, A: Allocator + Copy> Alone<'t, A> {
         }
     }
 
-    /// Gives the receipts of its steps out, in their order.
+    /// Gives the receipts of its steps since the last call of this out, in their order, and goes on
+    /// with an empty trail. A worker that lives long calls it from time to time, since its trail
+    /// keeps a receipt, of some 40 bytes, for each accepted step and each look. The trails that it
+    /// gets, one behind the other and with that of [`finish`](Alone::finish) as the last, are the
+    /// trail that `finish` alone would have given. An auditor wants all of them.
+    pub fn take_trail(&mut self) -> Vec<Receipt>
+        ensures trail { result.items ≡ self.old.account.seen.trail }
+        ensures rest { self.new.account.seen ≡ record self.old.account.seen { trail = [] } }
+        ensures same_reference { self.new.table.ghost_name ≡ self.old.table.ghost_name }
+        ensures table { self.new.table.now ≡ self.old.table.now }
+    {
+        self.account.take_trail()
+    }
+
+    /// Gives the receipts of its steps out, in their order: all of them, or those since the last
+    /// [`take_trail`](Alone::take_trail).
     pub fn finish(self) -> Vec<Receipt>
         ensures trail { result.items ≡ self.entry.account.seen.trail }
     {

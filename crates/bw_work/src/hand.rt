@@ -16,6 +16,24 @@ use std::alloc::{Allocator, Global};
 
 /// A worker: a tree that it shares with others, its share of the tree's book, its gate, and its
 /// account.
+///
+/// Its trail keeps a receipt, of some 40 bytes, for each accepted step and each look. So a worker
+/// that lives long calls [`take_trail`](Hand::take_trail) from time to time. The trails that it
+/// gets, one behind the other and with that of [`finish`](Hand::finish) as the last, are the trail
+/// that `finish` alone would have given. An auditor wants all of them.
+///
+/// The tree's `close` wants the share of each worker. A worker that returns early, as by a `?`
+/// between two calls, drops its hand with the share in it. So have a function do the work with a
+/// borrowed hand, and hand the share back whatever that function answers:
+///
+/// ```text
+/// let mut hand = Hand::new(machine, alloc, &tree, share, worker, &Open);
+/// let done = fill(&mut hand);
+/// let (share, trail) = hand.finish();
+/// (share, trail, done)
+/// ```
+///
+/// Where a share is lost all the same, the tree's `into_table` gives the table out.
 #[derive(Drop)]
 pub struct Hand<'t, A: Allocator + Copy, S: Shared<A, Step<A>>, G: Gate> {
     tree: &'t S,
@@ -66,7 +84,19 @@ impl<'t, A: Allocator + Copy, S: Shared<A, Step<A>>, G: Gate> Hand<'t, A, S, G> 
         Ok(())
     }
 
-    /// Gives the share and the trail out.
+    /// Gives the receipts of its steps since the last call of this out, in their order, and goes on
+    /// with an empty trail. See [`Hand`] for when to call it.
+    pub fn take_trail(&mut self) -> Vec<Receipt>
+        ensures trail { result.items ≡ self.old.account.seen.trail }
+        ensures rest { self.new.account.seen ≡ record self.old.account.seen { trail = [] } }
+        ensures share { self.new.share ≡ self.old.share }
+        ensures worker { self.new.worker ≡ self.old.worker }
+    {
+        self.account.take_trail()
+    }
+
+    /// Gives the share out, and the receipts of its steps, in their order: all of them, or those
+    /// since the last [`take_trail`](Hand::take_trail).
     pub fn finish(self) -> (Share<S::Insertions, S::Removals>, Vec<Receipt>)
         ensures share { result.0 ≡ self.entry.share }
         ensures trail { result.1.items ≡ self.entry.account.seen.trail }

@@ -8,6 +8,7 @@ use crate::program::options::Field;
 use bw_audit::AuditFault;
 use bw_delta::NoMemory;
 use bw_run::RunFault;
+use bw_scripts::ScriptFault;
 use bw_texts::{OutFault, TextFault};
 use clap::error::ErrorKind;
 use std::alloc::AllocError;
@@ -36,6 +37,8 @@ pub(crate) enum Fault {
     Text(TextFault),
     #[error(transparent)]
     Run(RunFault),
+    #[error(transparent)]
+    Script(ScriptFault),
     #[error("write")]
     Write,
     #[error("memory")]
@@ -47,14 +50,17 @@ impl Fault {
         ensures { result ≡ status_of self.now }
     {
         match self {
-            Fault::Text(TextFault::Row(_, _) | TextFault::Read) | Fault::Write => BAD_INPUT,
+            Fault::Text(TextFault::Row(_, _) | TextFault::Read)
+            | Fault::Script(ScriptFault::Line(_) | ScriptFault::NoTable | ScriptFault::Read)
+            | Fault::Write => BAD_INPUT,
             Fault::Usage(_)
             | Fault::Bad(_)
             | Fault::Run(RunFault::Config(_) | RunFault::Workers | RunFault::Readers) => BAD_USAGE,
             Fault::Run(RunFault::Audit(_, _)) => AUDIT_NO,
-            Fault::Text(TextFault::Rows | TextFault::Memory) | Fault::Run(_) | Fault::Memory => {
-                AT_A_LIMIT
-            }
+            Fault::Text(TextFault::Rows | TextFault::Memory)
+            | Fault::Script(ScriptFault::Lines | ScriptFault::Memory)
+            | Fault::Run(_)
+            | Fault::Memory => AT_A_LIMIT,
         }
     }
 }
@@ -102,6 +108,14 @@ impl From<RunFault> for Fault {
 
     fn from(fault: RunFault) -> Fault {
         Fault::Run(fault)
+    }
+}
+
+impl From<ScriptFault> for Fault {
+    ghost from_gives = { λ script fault. fault ≡ program_fault.Script script };
+
+    fn from(fault: ScriptFault) -> Fault {
+        Fault::Script(fault)
     }
 }
 

@@ -4,7 +4,9 @@ ghost use Rattle.std.specs.Prelude.{◌≤◌, IfOk};
 ghost use Rattle.clap.specs.Words.{found_of};
 ghost use Rattle.bw_trace.specs.Options.{IsNumberFor};
 
+use crate::program::help::{OF_ALL, OF_CHECK, OF_MAKE, VERSION};
 use crate::program::run_options::run_command;
+use crate::program::show_options::{draw_command, stats_command};
 use clap::{Arg, ArgMatches, Command};
 use std::alloc::{AllocError, Global};
 use thiserror::Error;
@@ -34,9 +36,14 @@ pub(crate) enum Field {
 pub(crate) fn commands<'a>(alloc: Global) -> Result<Command<'a>, AllocError> {
     Command::new(alloc, "bwtree")
         .about("A Bw-tree in memory: traces, and histories of workers")
+        .after_help(OF_ALL)
+        .version(VERSION)
+        .bin_name("bwtree")?
         .no_binary_name(true)
         .subcommand_required(true)
         .subcommand(run_command(alloc)?)?
+        .subcommand(draw_command(alloc)?)?
+        .subcommand(stats_command(alloc)?)?
         .subcommand(make_command(alloc)?)?
         .subcommand(check_command(alloc))
 }
@@ -44,6 +51,7 @@ pub(crate) fn commands<'a>(alloc: Global) -> Result<Command<'a>, AllocError> {
 fn make_command<'a>(alloc: Global) -> Result<Command<'a>, AllocError> {
     Command::new(alloc, "make")
         .about("Prints a seeded trace")
+        .after_help(OF_MAKE)
         .arg(option(alloc, "seed", "0", "The seed of the generator"))?
         .arg(option(alloc, "rows", "100", "How many rows, at most 1000000"))?
         .arg(option(
@@ -56,7 +64,9 @@ fn make_command<'a>(alloc: Global) -> Result<Command<'a>, AllocError> {
 }
 
 fn check_command<'a>(alloc: Global) -> Command<'a> {
-    Command::new(alloc, "check").about("Says whether the history on standard input is legal")
+    Command::new(alloc, "check")
+        .about("Says whether the history on standard input is legal")
+        .after_help(OF_CHECK)
 }
 
 /// An option whose value is a number.

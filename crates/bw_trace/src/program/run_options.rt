@@ -1,25 +1,19 @@
 //! The words of `run`, and what they ask for.
 
-ghost use Rattle.std.specs.Prelude.{◌≡◌, ◌≤◌, IfOk, None};
+ghost use Rattle.std.specs.Prelude.{IfOk};
 ghost use Rattle.clap.specs.Words.{found_of};
-ghost use Rattle.bw_keys.specs.Limits.{first_bad_field};
-ghost use Rattle.bw_run.specs.Faults.{most_readers};
-ghost use Rattle.bw_trace.specs.Options.{IsAskedFor};
+ghost use Rattle.bw_trace.specs.Options.{IsAskedFor, IsFit};
 
-use crate::program::options::{Field, option, ranged};
-use bw_keys::{Config, MAX_WORKERS};
-use bw_snap::MAX_READERS;
-use clap::{Arg, ArgAction, ArgMatches, Command};
+use crate::program::help::OF_RUN;
+use crate::program::options::Field;
+use crate::program::setting::{Setting, flag, with_setting};
+use clap::{ArgMatches, Command};
 use std::alloc::{AllocError, Global};
 
 /// How a trace is to be run, and what is to be printed of it.
 #[derive(Clone, Copy, Debug, PartialEq, Eq)]
 pub(crate) struct RunOptions {
-    pub config: Config,
-    /// How many workers do the rows, 1 to 64.
-    pub workers: u32,
-    /// How many of the workers have a reader, 0 to all of them and at most 16.
-    pub readers: u32,
+    pub setting: Setting,
     /// Whether the replies are printed, before the leaves.
     pub replies: bool,
     /// Whether the history is printed, in place of all else.
@@ -30,58 +24,22 @@ impl RunOptions {
     /// What the words of `run` ask for, or the first option that is out of its range.
     pub(crate) fn of(matches: &ArgMatches) -> Result<RunOptions, Field>
         ensures asked { IfOk result (IsAskedFor (found_of matches.now)) }
-        ensures config { IfOk result (λ options. first_bad_field options.config ≡ None) }
-        ensures version { IfOk result (λ options. options.config.first_version ≡ 0) }
-        ensures workers { IfOk result (λ options. (1 ≤ options.workers) × (options.workers ≤ MAX_WORKERS)) }
-        ensures readers { IfOk result (λ options. options.readers ≤ most_readers options.workers) }
+        ensures fit { IfOk result (λ options. IsFit options.setting) }
     {
-        let fanout = ranged(matches, "fanout", 4, 64, Field::Fanout)?;
-        let chain = ranged(matches, "chain", 1, 32, Field::Chain)?;
-        let pages = ranged(matches, "pages", 8, 65536, Field::Pages)?;
-        let tries = ranged(matches, "tries", 1, 1000, Field::Tries)?;
-        let most = u64::from(MAX_WORKERS);
-        let workers = ranged(matches, "workers", 1, most, Field::Workers)?;
-        let most = workers.min(u64::from(MAX_READERS));
-        let readers = ranged(matches, "readers", 0, most, Field::Readers)?;
         Ok(RunOptions {
-            config: Config {
-                fanout: fanout as u32,
-                chain: chain as u32,
-                pages: pages as u32,
-                tries: tries as u32,
-                first_version: 0,
-            },
-            workers: workers as u32,
-            readers: readers as u32,
+            setting: Setting::of(matches)?,
             replies: matches.get_flag("replies"),
             history: matches.get_flag("history"),
         })
     }
 }
 
-/// The options of `run` that are numbers, each with its default and what it is.
-const NUMBERS: [(&str, &str, &str); 6] = [
-    ("fanout", "16", "Entries of a page at most, 4 to 64"),
-    ("chain", "8", "Consolidate at this depth, 1 to 32"),
-    ("pages", "4096", "Pages at most, 8 to 65536"),
-    ("tries", "1000", "Effort of one call at most, 1 to 1000"),
-    ("workers", "1", "Workers who do the rows, 1 to 64"),
-    ("readers", "0", "Workers who read without the lock, 0 to 16"),
-];
-
 /// The command `run` with its options and defaults.
 pub(crate) fn run_command<'a>(alloc: Global) -> Result<Command<'a>, AllocError> {
-    let mut run = Command::new(alloc, "run").about("Runs the trace on standard input");
-    for (name, default, help) in NUMBERS {
-        run = run.arg(option(alloc, name, default, help))?;
-    }
-    run.arg(flag(alloc, "replies", "Prints the replies, too"))?
+    let run = Command::new(alloc, "run")
+        .about("Runs the trace on standard input")
+        .after_help(OF_RUN);
+    with_setting(alloc, run)?
+        .arg(flag(alloc, "replies", "Prints the replies, too"))?
         .arg(flag(alloc, "history", "Prints the history alone"))
-}
-
-fn flag<'a>(alloc: Global, name: &'a str, help: &'a str) -> Arg<'a> {
-    Arg::new(alloc, name)
-        .long(name)
-        .help(help)
-        .action(ArgAction::SetTrue)
 }

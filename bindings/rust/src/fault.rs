@@ -1,0 +1,82 @@
+use crate::ffi;
+use std::error::Error;
+use std::fmt;
+
+/// Why a call did not do what it was asked for. Then the map has the pairs that it had.
+#[derive(Clone, Copy, Debug, PartialEq, Eq, Hash)]
+pub enum Fault {
+    /// [`Settings::fanout`](crate::Settings::fanout) is out of its range.
+    BadFanout,
+    /// [`Settings::chain`](crate::Settings::chain) is out of its range.
+    BadChain,
+    /// [`Settings::pages`](crate::Settings::pages) is out of its range.
+    BadPages,
+    /// [`Settings::tries`](crate::Settings::tries) is out of its range.
+    BadTries,
+    /// The allocator gave no memory.
+    NoMemory,
+    /// No page is free: the map has as many as its settings allow. Most calls do their work all the same,
+    /// pages grow longer than their fanout, and [`Map::care`](crate::Map::care) tells it.
+    TableFull,
+    /// The tree has its greatest height.
+    TooTall,
+    /// The version of a page, or the number of changes, is used up (2^64).
+    Worn,
+    /// The call took all tries that its settings allow it.
+    Contended,
+}
+
+impl Fault {
+    /// What a status means; `None` is `NIFFORAN_OK`.
+    pub(crate) fn of(status: u32) -> Option<Fault> {
+        Some(match status {
+            ffi::OK => return None,
+            ffi::BAD_FANOUT => Fault::BadFanout,
+            ffi::BAD_CHAIN => Fault::BadChain,
+            ffi::BAD_PAGES => Fault::BadPages,
+            ffi::BAD_TRIES => Fault::BadTries,
+            ffi::NO_MEMORY => Fault::NoMemory,
+            ffi::TABLE_FULL => Fault::TableFull,
+            ffi::TOO_TALL => Fault::TooTall,
+            ffi::WORN => Fault::Worn,
+            ffi::CONTENDED => Fault::Contended,
+            _ => unreachable!("a map's handle is open, and no other is created on it"),
+        })
+    }
+}
+
+impl fmt::Display for Fault {
+    fn fmt(&self, f: &mut fmt::Formatter<'_>) -> fmt::Result {
+        f.write_str(match self {
+            Fault::BadFanout => "the fanout is not from 4 to 64",
+            Fault::BadChain => "the chain is not from 1 to 32",
+            Fault::BadPages => "the pages are not from 8 to 65536",
+            Fault::BadTries => "the tries are not from 1 to 1000",
+            Fault::NoMemory => "no memory",
+            Fault::TableFull => "no page is free",
+            Fault::TooTall => "the tree has its greatest height",
+            Fault::Worn => "a version or the number of changes is used up",
+            Fault::Contended => "the call took all its tries",
+        })
+    }
+}
+
+impl Error for Fault {}
+
+/// How far the removal of a range came, where it ended early. No key out of the range was touched. The same call
+/// takes out those that are left: it can be made again while it removes any.
+#[derive(Clone, Copy, Debug, PartialEq, Eq, Hash)]
+pub struct Unfinished {
+    /// How many keys were taken out.
+    pub removed: u64,
+    /// What ended the call.
+    pub fault: Fault,
+}
+
+impl fmt::Display for Unfinished {
+    fn fmt(&self, f: &mut fmt::Formatter<'_>) -> fmt::Result {
+        write!(f, "{} after {} keys were taken out", self.fault, self.removed)
+    }
+}
+
+impl Error for Unfinished {}

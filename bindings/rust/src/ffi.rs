@@ -1,0 +1,66 @@
+//! `include/nifforan.h` in Rust's words.
+
+use std::ffi::c_void;
+
+pub const OK: u32 = 0;
+pub const BAD_FANOUT: u32 = 3;
+pub const BAD_CHAIN: u32 = 4;
+pub const BAD_PAGES: u32 = 5;
+pub const BAD_TRIES: u32 = 6;
+pub const NO_MEMORY: u32 = 7;
+pub const TABLE_FULL: u32 = 8;
+pub const TOO_TALL: u32 = 9;
+pub const WORN: u32 = 10;
+pub const CONTENDED: u32 = 11;
+
+#[repr(C)]
+pub struct Handle {
+    pub at: *mut c_void,
+}
+
+#[repr(C)]
+pub struct Reply {
+    pub status: u32,
+    pub care: u16,
+    pub found: bool,
+    pub value: u64,
+}
+
+#[repr(C)]
+pub struct Count {
+    pub status: u32,
+    pub pairs: u64,
+}
+
+#[repr(C)]
+pub struct Cleared {
+    pub status: u32,
+    pub removed: u64,
+}
+
+#[repr(C)]
+#[derive(Clone, Copy, Debug)]
+pub struct Pair {
+    pub key: u64,
+    pub value: u64,
+}
+
+#[repr(C)]
+pub struct Read {
+    pub count: usize,
+    pub next: u64,
+    pub has_next: bool,
+    pub status: u32,
+}
+
+extern "C" {
+    pub fn nifforan_create(map: *mut Handle, settings: *const crate::Settings) -> u32;
+    pub fn nifforan_pairs(map: *mut Handle) -> Count;
+    pub fn nifforan_get(map: *mut Handle, key: u64) -> Reply;
+    pub fn nifforan_put(map: *mut Handle, key: u64, value: u64) -> Reply;
+    pub fn nifforan_set(map: *mut Handle, key: u64, value: u64) -> Reply;
+    pub fn nifforan_delete(map: *mut Handle, key: u64) -> Reply;
+    pub fn nifforan_clear(map: *mut Handle, low: u64, high: u64) -> Cleared;
+    pub fn nifforan_read(map: *mut Handle, key: u64, pairs: *mut Pair, room: usize) -> Read;
+    pub fn nifforan_close(map: *mut Handle);
+}

@@ -1,0 +1,134 @@
+//! A table as a drawing: its mapping table, and its pages level by level with their chains.
+
+mod block;
+mod card;
+mod entries;
+mod legend;
+mod length;
+mod links;
+mod row;
+mod strip;
+mod style;
+mod svg;
+mod text;
+mod tower;
+
+use crate::drawing::legend::Legend;
+use crate::drawing::length::Length;
+use crate::drawing::row::{Row, Window};
+use crate::drawing::strip::Strip;
+use crate::drawing::text::undone;
+use crate::picture::Picture;
+use bw_delta::NoMemory;
+use bw_keys::Key;
+use std::alloc::Global;
+
+/// What stands left of the rows, and on all sides.
+const LEFT: Length = Length(96);
+
+const MARGIN: Length = Length(20);
+
+/// Where the mapping table begins, and what lies between it and the rows.
+const TABLE_TOP: Length = Length(40);
+
+const TABLE_GAP: Length = Length(52);
+
+/// What lies between two rows, and between the last one and the legend.
+const ROW_GAP: Length = Length(64);
+
+const LEGEND_GAP: Length = Length(30);
+
+/// The least width of a drawing.
+const LEAST_WIDTH: Length = Length(580);
+
+/// Up to so many pages, each page of a picture is drawn.
+const FEW: usize = 40;
+
+/// How many leaves are drawn, where a picture has more pages.
+const SOME: usize = 10;
+
+/// A drawing. Its text is an SVG image, which looks right on a light and on a dark ground.
+///
+/// Up to 40 pages each page is drawn. Otherwise ten leaves in a row are, and the pages above them; among
+/// them is the first page of which a split or a merge is half done, if there is one. A page has its id,
+/// its range, its number of entries, its stage while something of it is half done, the newest records of
+/// its chain, and below them the base pages with their first entries and the last one. A number of more
+/// than nine digits is without its middle. The mapping table has the version of each page.
+#[derive(Drop)]
+pub struct Drawing {
+    /// From the leaves up.
+    rows: Vec<Row>,
+    strip: Strip,
+    legend: Legend,
+    width: Length,
+    height: Length,
+}
+
+impl Drawing {
+    /// The drawing of a picture.
+    pub fn of(alloc: Global, picture: &Picture) -> Result<Drawing, NoMemory> {
+        let mut rows = rows_of(alloc, picture)?;
+        let width = place_across(alloc, &mut rows)?;
+        let inner = width - MARGIN * 2;
+        let legend = Legend::of(alloc, &rows, inner)?;
+        let mut strip = Strip::of(alloc, picture)?;
+        strip.place(MARGIN, TABLE_TOP, inner);
+        let end = place_down(&mut rows, strip.bottom() + TABLE_GAP);
+        Ok(Drawing {
+            height: end + LEGEND_GAP + legend.height() + MARGIN.half(),
+            rows,
+            strip,
+            legend,
+            width,
+        })
+    }
+}
+
+/// The rows from the leaves up.
+fn rows_of(alloc: Global, picture: &Picture) -> Result<Vec<Row>, NoMemory> {
+    let mut window = if picture.pages.len() <= FEW {
+        Window::Whole
+    } else {
+        Window::Around(first_undone(picture), SOME)
+    };
+    let mut rows = Vec::new(alloc);
+    for level in 0..=picture.root.level {
+        let row = Row::of(alloc, picture, level, window)?;
+        if picture.pages.len() > FEW {
+            window = row.window_above();
+        }
+        rows.push(row)?;
+    }
+    Ok(rows)
+}
+
+/// The least key of the first page of which something is half done, or else the least key.
+fn first_undone(picture: &Picture) -> Key {
+    let mut pages = picture.pages.iter();
+    match pages.find(|page| undone(page.view.stage).is_some()) {
+        Some(page) => page.view.low,
+        None => 0,
+    }
+}
+
+/// Places each row over the one below it, and answers how wide the drawing is.
+fn place_across(alloc: Global, rows: &mut [Row]) -> Result<Length, NoMemory> {
+    let mut width = LEAST_WIDTH;
+    let mut below = Vec::new(alloc);
+    for row in rows.iter_mut() {
+        row.place(LEFT, &below);
+        below = row.spans(alloc)?;
+        width = width.max(row.right() + MARGIN);
+    }
+    Ok(width)
+}
+
+/// Places the rows from the root's down, and answers where the last one ends.
+fn place_down(rows: &mut [Row], top: Length) -> Length {
+    let mut next = top;
+    for row in rows.iter_mut().rev() {
+        row.set_top(next);
+        next = row.bottom() + ROW_GAP;
+    }
+    next - ROW_GAP
+}

@@ -1,0 +1,64 @@
+//! The boxes of a page.
+
+use crate::drawing::length::Length;
+use bw_delta::NoMemory;
+use std::alloc::Global;
+
+/// The height of a line of text.
+pub(crate) const LINE: Length = Length(15);
+
+/// What stands above and below the lines of a box, together.
+pub(crate) const INSET: Length = Length(6);
+
+/// What lies between two boxes.
+pub(crate) const GAP: Length = Length(4);
+
+/// What a box is for.
+#[derive(Clone, Copy, Debug, PartialEq, Eq)]
+pub(crate) enum Kind {
+    /// A base page.
+    Base,
+    /// A record of an insertion, a modification or a deletion.
+    Change,
+    /// A record that changes the shape of the tree.
+    Shape,
+    /// Records that aren't drawn.
+    More,
+}
+
+/// A box with lines of text.
+#[derive(Drop)]
+pub(crate) struct Block {
+    pub(crate) kind: Kind,
+    /// The first column that it stands in, counted from 0.
+    pub(crate) column: usize,
+    /// How many columns it stands in.
+    pub(crate) columns: usize,
+    /// From the top of the boxes.
+    pub(crate) top: Length,
+    pub(crate) lines: Vec<String>,
+    /// How many of the lines tell of what the page has. The others tell of what a split took away.
+    pub(crate) kept: usize,
+}
+
+impl Block {
+    pub(crate) fn height(&self) -> Length {
+        LINE * self.lines.len() + INSET
+    }
+
+    /// How many characters each of its columns has.
+    pub(crate) fn width(&self) -> usize {
+        let mut longest = 0;
+        for line in self.lines.iter() {
+            longest = longest.max(line.chars().count());
+        }
+        longest.div_ceil(self.columns.max(1))
+    }
+}
+
+/// The lines that are one line.
+pub(crate) fn one_line(alloc: Global, line: String) -> Result<Vec<String>, NoMemory> {
+    let mut lines = Vec::new(alloc);
+    lines.push(line)?;
+    Ok(lines)
+}

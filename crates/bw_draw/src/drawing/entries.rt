@@ -1,0 +1,100 @@
+//! The entries of a base page, a line each.
+
+use crate::drawing::text::Short;
+use bw_delta::{Base, Entries, NoMemory};
+use bw_keys::{Fence, Key, Pid};
+use std::alloc::{Allocator, Global};
+
+/// How many of a page's entries are drawn at most, and how many of those that a split took away.
+const MOST: usize = 6;
+
+const MOST_GONE: usize = 3;
+
+/// The lines of a base page.
+#[derive(Drop)]
+pub(crate) struct Listed {
+    pub(crate) lines: Vec<String>,
+    /// How many of them tell of entries below the end.
+    pub(crate) kept: usize,
+}
+
+/// The entries, first those below the end, and then the others. Where there are many of a kind, all but
+/// the first ones and the last are counted and not drawn.
+pub(crate) fn lines_of<A: Allocator + Copy>(
+    alloc: Global,
+    base: &Base<A>,
+    end: Fence,
+) -> Result<Listed, NoMemory> {
+    let below = entries_below(&base.entries, end);
+    let mut lines = Vec::new(alloc);
+    if below == 0 {
+        lines.push("empty".to_string(alloc)?)?;
+    }
+    list(alloc, &mut lines, &base.entries, (0, below), MOST)?;
+    let kept = lines.len();
+    list(
+        alloc,
+        &mut lines,
+        &base.entries,
+        (below, base.len()),
+        MOST_GONE,
+    )?;
+    Ok(Listed { lines, kept })
+}
+
+/// Lists the entries from a place on, up to another one.
+fn list<A: Allocator + Copy>(
+    alloc: Global,
+    lines: &mut Vec<String>,
+    entries: &Entries<A>,
+    (first, end): (usize, usize),
+    most: usize,
+) -> Result<(), NoMemory> {
+    let is_whole = end.saturating_sub(first) <= most;
+    let gap = first.saturating_add(most.saturating_sub(2));
+    for place in first..end {
+        if is_whole || place < gap || place == end - 1 {
+            lines.push(line_at(alloc, entries, place)?)?;
+        } else if place == gap {
+            lines.push(text(alloc, end.saturating_sub(gap).saturating_sub(1))?)?;
+        }
+    }
+    Ok(())
+}
+
+/// How many entries have keys below the end.
+fn entries_below<A: Allocator + Copy>(entries: &Entries<A>, end: Fence) -> usize {
+    match entries {
+        Entries::Pairs(pairs) => pairs.iter().filter(|pair| end.is_above(pair.0)).count(),
+        Entries::Routes(routes) => routes.iter().filter(|route| end.is_above(route.0)).count(),
+    }
+}
+
+fn line_at<A: Allocator + Copy>(
+    alloc: Global,
+    entries: &Entries<A>,
+    place: usize,
+) -> Result<String, NoMemory> {
+    match entries {
+        Entries::Pairs(pairs) => match pairs.get(place) {
+            Some((key, value)) => pair(alloc, *key, *value),
+            None => Ok(String::new(alloc)),
+        },
+        Entries::Routes(routes) => match routes.get(place) {
+            Some((key, page)) => route(alloc, *key, *page),
+            None => Ok(String::new(alloc)),
+        },
+    }
+}
+
+fn pair(alloc: Global, key: Key, value: u64) -> Result<String, NoMemory> {
+    Ok(format!(in alloc; "{}:{}", Short(key), Short(value))?)
+}
+
+fn route(alloc: Global, key: Key, page: Pid) -> Result<String, NoMemory> {
+    Ok(format!(in alloc; "{} → {page}", Short(key))?)
+}
+
+fn text(alloc: Global, entries: usize) -> Result<String, NoMemory> {
+    Ok(format!(in alloc; "… {entries} more")?)
+}

@@ -1,0 +1,56 @@
+use std::fmt;
+use std::ops::{Add, Mul, Sub};
+
+/// A length or a place of a drawing, in pixels. It never wraps: at its ends it stays.
+#[derive(Clone, Copy, Debug, PartialEq, Eq, PartialOrd, Ord)]
+pub(crate) struct Length(pub(crate) usize);
+
+impl Length {
+    pub(crate) fn half(self) -> Length {
+        Length(self.0 / 2)
+    }
+
+    /// One of the places that divide the length into so many parts and one.
+    pub(crate) fn port(self, place: usize, places: usize) -> Length {
+        (self * place.saturating_add(1)).part_of(places.saturating_add(1))
+    }
+
+    fn part_of(self, parts: usize) -> Length {
+        Length(self.0.checked_div(parts).unwrap_or(0))
+    }
+
+    /// How many lengths of this kind fit, at least one.
+    pub(crate) fn fits(self, other: Length) -> usize {
+        other.0.checked_div(self.0).unwrap_or(1).max(1)
+    }
+}
+
+impl Add for Length {
+    type Output = Length;
+
+    fn add(self, other: Length) -> Length {
+        Length(self.0.saturating_add(other.0))
+    }
+}
+
+impl Sub for Length {
+    type Output = Length;
+
+    fn sub(self, other: Length) -> Length {
+        Length(self.0.saturating_sub(other.0))
+    }
+}
+
+impl Mul<usize> for Length {
+    type Output = Length;
+
+    fn mul(self, times: usize) -> Length {
+        Length(self.0.saturating_mul(times))
+    }
+}
+
+impl fmt::Display for Length {
+    fn fmt<W: fmt::Write>(&self, f: &mut fmt::Formatter<W>) -> fmt::Result {
+        write!(f, "{}", self.0)
+    }
+}

@@ -1,0 +1,138 @@
+//! The mapping table: a cell for each slot, up to the last one that has a page, and one more that is free.
+
+use crate::drawing::card::CHARACTER;
+use crate::drawing::length::Length;
+use crate::drawing::text::{Short, undone};
+use crate::picture::Picture;
+use bw_delta::NoMemory;
+use bw_keys::{Pid, Version};
+use bw_step::{Stage, View};
+use std::alloc::Global;
+
+/// The least width of a cell, what is wider than its text, and its height.
+const LEAST_CELL: Length = Length(38);
+
+const CELL_SIDES: Length = Length(10);
+
+pub(crate) const CELL_HEIGHT: Length = Length(34);
+
+/// What lies between two cells.
+pub(crate) const CELL_GAP: Length = Length(4);
+
+/// How many cells are drawn at most.
+const MOST: usize = 64;
+
+/// A slot as it is drawn.
+#[derive(Drop)]
+pub(crate) struct Cell {
+    pub(crate) stage: Stage,
+    /// The version, or `free` where there is no page.
+    pub(crate) text: String,
+}
+
+/// The mapping table as it is drawn.
+#[derive(Drop)]
+pub(crate) struct Strip {
+    pub(crate) slots: usize,
+    pub(crate) pages: usize,
+    /// Of how many pages a split or a merge isn't done.
+    pub(crate) undone: usize,
+    /// The slots that are drawn, from slot 0 on.
+    pub(crate) cells: Vec<Cell>,
+    /// How many pages have a slot that isn't drawn.
+    pub(crate) hidden: usize,
+    /// The width of a cell.
+    pub(crate) cell: Length,
+    pub(crate) left: Length,
+    pub(crate) top: Length,
+    /// How many cells stand in a line.
+    pub(crate) in_line: usize,
+}
+
+impl Cell {
+    fn free(alloc: Global) -> Result<Cell, NoMemory> {
+        Ok(Cell {
+            stage: Stage::Free,
+            text: "free".to_string(alloc)?,
+        })
+    }
+}
+
+impl Strip {
+    pub(crate) fn of(alloc: Global, picture: &Picture) -> Result<Strip, NoMemory> {
+        let mut strip = Strip {
+            slots: picture.slots as usize,
+            pages: picture.pages.len(),
+            undone: undone_pages(picture),
+            cells: Vec::new(alloc),
+            hidden: 0,
+            cell: LEAST_CELL,
+            left: Length(0),
+            top: Length(0),
+            in_line: 1,
+        };
+        for page in picture.pages.iter() {
+            strip.add(alloc, page.view)?;
+        }
+        if strip.cells.len() < strip.slots.min(MOST) {
+            strip.cells.push(Cell::free(alloc)?)?;
+        }
+        strip.widen();
+        Ok(strip)
+    }
+
+    /// Puts the cell of a page behind the others, and those of the free slots before it.
+    fn add(&mut self, alloc: Global, view: View) -> Result<(), NoMemory> {
+        let Pid(id) = view.pid;
+        for _ in self.cells.len()..(id as usize).min(MOST) {
+            self.cells.push(Cell::free(alloc)?)?;
+        }
+        if self.cells.len() >= MOST {
+            self.hidden = self.hidden.saturating_add(1);
+            return Ok(());
+        }
+        self.cells.push(Cell {
+            stage: view.stage,
+            text: text_of(alloc, view.version)?,
+        })?;
+        Ok(())
+    }
+
+    /// Makes the cells as wide as the longest text wants them.
+    fn widen(&mut self) {
+        let mut characters = 0;
+        for cell in self.cells.iter() {
+            characters = characters.max(cell.text.chars().count());
+        }
+        self.cell = LEAST_CELL.max(CHARACTER * characters + CELL_SIDES);
+    }
+
+    /// How many slots have no page.
+    pub(crate) fn free(&self) -> usize {
+        self.slots.saturating_sub(self.pages)
+    }
+
+    /// Puts it between the two sides, in as many lines as it wants.
+    pub(crate) fn place(&mut self, left: Length, top: Length, width: Length) {
+        self.left = left;
+        self.top = top;
+        self.in_line = (self.cell + CELL_GAP).fits(width + CELL_GAP);
+    }
+
+    /// Where its last line ends.
+    pub(crate) fn bottom(&self) -> Length {
+        let lines = self.cells.len().div_ceil(self.in_line.max(1));
+        self.top + (CELL_HEIGHT + CELL_GAP) * lines
+    }
+}
+
+fn text_of(alloc: Global, version: Version) -> Result<String, NoMemory> {
+    Ok(format!(in alloc; "v{}", Short(version.0))?)
+}
+
+fn undone_pages(picture: &Picture) -> usize {
+    let pages = picture.pages.iter();
+    pages
+        .filter(|page| undone(page.view.stage).is_some())
+        .count()
+}

@@ -1,0 +1,79 @@
+//! What is written in the boxes of a drawing.
+
+use bw_delta::{Delta, Merging};
+use bw_step::Stage;
+use std::fmt;
+
+/// A number of more digits than this one is without its middle.
+const LONGEST: u64 = 999_999_999;
+
+/// A number. A long one has its first three digits and its last three, and between them how many are
+/// left out, as 184‹14›615.
+#[derive(Clone, Copy, Debug)]
+pub(crate) struct Short(pub(crate) u64);
+
+impl fmt::Display for Short {
+    fn fmt<W: fmt::Write>(&self, f: &mut fmt::Formatter<W>) -> fmt::Result {
+        if self.0 <= LONGEST {
+            return write!(f, "{}", self.0);
+        }
+        let mut head = self.0;
+        let mut digits = 0u32;
+        for _ in 0..17 {
+            if head >= 1000 {
+                head /= 10;
+                digits = digits.saturating_add(1);
+            }
+        }
+        let digits = digits.saturating_sub(3);
+        write!(f, "{head}‹{digits}›{:03}", self.0 % 1000)
+    }
+}
+
+/// Whether the text has a number without its middle.
+pub(crate) fn is_cut(text: &str) -> bool {
+    text.contains('‹')
+}
+
+/// What a record does to the page.
+#[derive(Clone, Copy, Debug)]
+pub(crate) struct Told(pub(crate) Delta);
+
+impl fmt::Display for Told {
+    fn fmt<W: fmt::Write>(&self, f: &mut fmt::Formatter<W>) -> fmt::Result {
+        match self.0 {
+            Delta::Insert(key, value) => write!(f, "insert {}:{}", Short(key), Short(value)),
+            Delta::Modify(key, value) => write!(f, "modify {}:{}", Short(key), Short(value)),
+            Delta::Delete(key) => write!(f, "delete {}", Short(key)),
+            Delta::Split(key, page) => write!(f, "split at {} → {page}", Short(key)),
+            Delta::Remove => f.write_str("remove"),
+            Delta::TermAdd(key, page) => write!(f, "add term {} → {page}", Short(key)),
+            Delta::TermDelete(key) => write!(f, "drop term {}", Short(key)),
+        }
+    }
+}
+
+/// What a merge does.
+#[derive(Clone, Copy, Debug)]
+pub(crate) struct Joined(pub(crate) Merging);
+
+impl fmt::Display for Joined {
+    fn fmt<W: fmt::Write>(&self, f: &mut fmt::Formatter<W>) -> fmt::Result {
+        write!(f, "merge at {}", Short(self.0.separator))
+    }
+}
+
+/// What ends the name of things that are so many.
+pub(crate) fn plural(number: usize) -> &'static str {
+    if number == 1 { "" } else { "s" }
+}
+
+/// What is still to be done to a page at this stage.
+pub(crate) fn undone(stage: Stage) -> Option<&'static str> {
+    match stage {
+        Stage::Unposted => Some("unposted"),
+        Stage::Marked => Some("marked"),
+        Stage::Merged => Some("merged"),
+        Stage::Free | Stage::Posted => None,
+    }
+}

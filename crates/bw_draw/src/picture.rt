@@ -1,0 +1,57 @@
+//! The whole of a table, as its public calls tell it.
+
+ghost use Rattle.std.specs.Prelude.{◌≡◌, ◌++◌, IfOk, OnOk, option_to_list};
+ghost use Rattle.bw_draw.specs.Pictures.{IsPictureOf, pages_below};
+
+use crate::page::Page;
+use bw_delta::NoMemory;
+use bw_keys::Pid;
+use bw_step::Place;
+use bw_table::Table;
+use std::alloc::Global;
+
+/// All pages of a table, with copies of their chains.
+#[derive(Drop)]
+pub struct Picture {
+    /// Where every search begins.
+    pub root: Place,
+    /// How many slots the mapping table has.
+    pub slots: u32,
+    /// The page of each slot that isn't free, in the order of their ids.
+    pub pages: Vec<Page>,
+}
+
+impl Picture {
+    /// A picture of the table as it is.
+    pub fn of(alloc: Global, table: &Table<Global>) -> Result<Picture, NoMemory>
+        ensures { IfOk result (IsPictureOf table.now) }
+    {
+        let slots = table.config().pages;
+        Ok(Picture {
+            root: table.root(),
+            slots,
+            pages: pages_below(alloc, table, slots)?,
+        })
+    }
+}
+
+/// The pages whose ids are below the end, in the order of their ids.
+fn pages_below(alloc: Global, table: &Table<Global>, end: u32) -> Result<Vec<Page>, NoMemory>
+    ensures { IfOk result (λ pages. pages.items ≡ pages_below table.now end) }
+{
+    let mut pages = Vec::new(alloc);
+    for id in 0..end {
+        add(&mut pages, Page::of(alloc, table, Pid(id))?)?;
+    }
+    Ok(pages)
+}
+
+/// Puts the page behind the others, if there is one.
+fn add(pages: &mut Vec<Page>, page: Option<Page>) -> Result<(), NoMemory>
+    ensures { OnOk result (pages.new.items ≡ pages.old.items ++ option_to_list page) }
+{
+    if let Some(page) = page {
+        pages.push(page)?;
+    }
+    Ok(())
+}

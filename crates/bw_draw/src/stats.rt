@@ -1,0 +1,122 @@
+//! A table in numbers.
+
+ghost use Rattle.std.specs.Prelude.{◌≡◌, IfOk};
+ghost use Rattle.bw_law.specs.Slots.{is_free};
+ghost use Rattle.bw_law.specs.Tables.{pair_count, slot_at};
+ghost use Rattle.bw_draw.specs.Figures.{IsStatsOf, free_below};
+
+mod memory;
+mod pages;
+mod spread;
+
+use crate::picture::Picture;
+use crate::stats::memory::{entry_bytes, link_bytes, slot_bytes, stored_entries, stored_links};
+use crate::stats::pages::{depths, entries_in, levels_of, pages_at};
+use bw_delta::NoMemory;
+use bw_keys::Pid;
+use bw_step::Stage;
+use bw_table::Table;
+pub use spread::Spread;
+use std::alloc::Global;
+use std::fmt;
+
+/// A table in numbers.
+#[derive(Debug, Drop)]
+pub struct Stats {
+    /// How many pages the row of each level has, from the leaves up.
+    pub levels: Vec<usize>,
+    /// How many pairs the map has.
+    pub pairs: u64,
+    /// How many slots the mapping table has.
+    pub slots: u32,
+    /// How many of them have no page.
+    pub free: u32,
+    /// How many pages wait for their term.
+    pub unposted: usize,
+    /// How many pages wait for their merge.
+    pub marked: usize,
+    /// How many pages that were taken in wait for the end of their term.
+    pub merged: usize,
+    /// How many pairs the leaves have.
+    pub leaves: Spread,
+    /// How many routes the inner pages have.
+    pub inner: Spread,
+    /// How many records the pages in rows have over a base, along the deepest path.
+    pub records: Spread,
+    /// How many entries the base pages list, those too that records have changed.
+    pub stored: u64,
+    /// How many links of chains lie in boxes: one below each record, and two below a merge.
+    pub links: u64,
+}
+
+impl Stats {
+    /// The numbers of the table as it is.
+    pub fn of(alloc: Global, table: &Table<Global>) -> Result<Stats, NoMemory>
+        ensures { IfOk result (IsStatsOf table.now) }
+    {
+        let picture = Picture::of(alloc, table)?;
+        let pages = picture.pages.as_slice();
+        Ok(Stats {
+            levels: levels_of(alloc, pages, picture.root.level)?,
+            pairs: pairs_of(alloc, table)?,
+            slots: picture.slots,
+            free: free_slots(table, picture.slots),
+            unposted: pages_at(pages, Stage::Unposted),
+            marked: pages_at(pages, Stage::Marked),
+            merged: pages_at(pages, Stage::Merged),
+            leaves: Spread::of(&entries_in(alloc, pages, true)?),
+            inner: Spread::of(&entries_in(alloc, pages, false)?),
+            records: Spread::of(&depths(alloc, pages)?),
+            stored: stored_entries(pages),
+            links: stored_links(pages),
+        })
+    }
+}
+
+/// How many pairs the map has, by the book.
+fn pairs_of(alloc: Global, table: &Table<Global>) -> Result<u64, NoMemory>
+    ensures { IfOk result (λ pairs. pairs ≡ pair_count table.now.slots) }
+{
+    let _ = table.config();
+    let book = table.survey(alloc)?.book;
+    Ok(book.inserted - book.removed)
+}
+
+/// How many of the slots below the end have no page.
+#[tactic(auto, using(crate::proofs::Ids::counted_more))]
+fn free_slots(table: &Table<Global>, end: u32) -> u32
+    ensures { result ≡ free_below table.now end }
+{
+    let mut free = 0;
+    for id in 0..end {
+        free += u32::from(is_free(table, Pid(id)));
+    }
+    free
+}
+
+fn is_free(table: &Table<Global>, pid: Pid) -> bool
+    ensures { result ≡ is_free (slot_at table.now pid.0).stage }
+{
+    table.peek(pid).is_none()
+}
+
+/// A line for each number, or for several that belong together. No line feed ends the last one.
+impl fmt::Display for Stats {
+    fn fmt<W: fmt::Write>(&self, f: &mut fmt::Formatter<W>) -> fmt::Result {
+        writeln!(f, "levels {}", self.levels.len())?;
+        for (level, pages) in self.levels.iter().enumerate().rev() {
+            writeln!(f, "level {level} pages {pages}")?;
+        }
+        writeln!(f, "pairs {}", self.pairs)?;
+        write!(f, "unposted {} marked {}", self.unposted, self.marked)?;
+        writeln!(f, " merged {}", self.merged)?;
+        writeln!(f, "slots {} free {}", self.slots, self.free)?;
+        writeln!(f, "leaf entries {}", self.leaves)?;
+        writeln!(f, "inner entries {}", self.inner)?;
+        writeln!(f, "chain records {}", self.records)?;
+        let slots = u64::from(self.slots).saturating_mul(slot_bytes());
+        let pages = self.stored.saturating_mul(entry_bytes());
+        let records = self.links.saturating_mul(link_bytes());
+        write!(f, "bytes slots {slots} pages {pages} records {records}")
+    }
+}

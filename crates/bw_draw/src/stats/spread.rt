@@ -1,0 +1,80 @@
+ghost use Rattle.std.specs.Prelude.{◌≡◌, sum};
+ghost use Rattle.bw_draw.specs.Figures.{IsSpreadOf, capped, least, greatest};
+
+use std::fmt;
+
+/// What is told of some numbers.
+#[derive(Clone, Copy, Debug, PartialEq, Eq)]
+pub struct Spread {
+    /// How many there are.
+    pub count: usize,
+    /// The least one, 0 where there is none.
+    pub least: u64,
+    /// The greatest one, 0 where there is none.
+    pub greatest: u64,
+    /// Their sum, or 2^64 - 1 where it is greater.
+    pub sum: u64,
+}
+
+impl Spread {
+    /// What is told of these numbers.
+    pub fn of(numbers: &[u64]) -> Spread
+        ensures { IsSpreadOf numbers.now result }
+    {
+        Spread {
+            count: numbers.len(),
+            least: least_of(numbers),
+            greatest: greatest_of(numbers),
+            sum: sum_of(numbers),
+        }
+    }
+
+    /// The whole part of the mean, and its hundredths. None where there are no numbers.
+    fn mean(self) -> Option<(u64, u64)> {
+        let count = self.count as u64;
+        let whole = self.sum.checked_div(count)?;
+        let rest = self.sum.checked_rem(count)?;
+        Some((whole, rest.saturating_mul(100).checked_div(count)?))
+    }
+}
+
+fn least_of(numbers: &[u64]) -> u64
+    ensures { result ≡ least numbers.now }
+{
+    numbers
+        .iter()
+        .copied()
+        .reduce(|least, number| least.min(number))
+        .unwrap_or(0)
+}
+
+fn greatest_of(numbers: &[u64]) -> u64
+    ensures { result ≡ greatest numbers.now }
+{
+    numbers
+        .iter()
+        .copied()
+        .reduce(|greatest, number| greatest.max(number))
+        .unwrap_or(0)
+}
+
+fn sum_of(numbers: &[u64]) -> u64
+    ensures { result ≡ capped (sum numbers.now) }
+{
+    let mut total = 0u64;
+    for number in numbers {
+        total = total.saturating_add(*number);
+    }
+    total
+}
+
+/// The least, the mean with two decimals and the greatest, or `none`.
+impl fmt::Display for Spread {
+    fn fmt<W: fmt::Write>(&self, f: &mut fmt::Formatter<W>) -> fmt::Result {
+        let Some((whole, hundredths)) = self.mean() else {
+            return f.write_str("none");
+        };
+        write!(f, "least {} mean {whole}.{hundredths:02}", self.least)?;
+        write!(f, " greatest {}", self.greatest)
+    }
+}

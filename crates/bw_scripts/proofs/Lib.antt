@@ -1,0 +1,2 @@
+pub mod Foretelling
+pub mod Playing

@@ -1,0 +1,117 @@
+//! The lines of a script: a new table, a step, or a question.
+
+use crate::numbers::{level, number, page, small};
+use crate::steps::step;
+use bw_delta::{BaseFault, NoMemory};
+use bw_keys::{Config, Key, Pid};
+use bw_step::{Place, Step};
+use std::alloc::{AllocError, AllocFailed, Global};
+
+/// What a line asks for.
+#[derive(Drop)]
+pub(crate) enum Line {
+    Table(Config),
+    Step(Step<Global>),
+    Question(Question),
+}
+
+/// What is asked of the table as it is.
+#[derive(Clone, Copy, Debug, PartialEq, Eq)]
+pub(crate) enum Question {
+    Peek(Pid),
+    Look(Pid, Key),
+    Visit(Place, Key, u8),
+    Root,
+    Locate(Key),
+    Survey,
+    Pairs,
+}
+
+/// Why a line asks for nothing.
+#[derive(Clone, Copy, Debug, PartialEq, Eq)]
+pub(crate) enum Unread {
+    Words,
+    /// The entries of a step's base page make no page.
+    BadEntries,
+    NoMemory,
+}
+
+impl From<NoMemory> for Unread {
+    fn from(_: NoMemory) -> Unread {
+        Unread::NoMemory
+    }
+}
+
+impl From<AllocError> for Unread {
+    fn from(_: AllocError) -> Unread {
+        Unread::NoMemory
+    }
+}
+
+impl<T: Drop> From<AllocFailed<T>> for Unread {
+    fn from(_: AllocFailed<T>) -> Unread {
+        Unread::NoMemory
+    }
+}
+
+impl From<BaseFault> for Unread {
+    fn from(fault: BaseFault) -> Unread {
+        match fault {
+            BaseFault::BadEntries => Unread::BadEntries,
+            BaseFault::NoMemory => Unread::NoMemory,
+        }
+    }
+}
+
+fn table(words: &[&str]) -> Result<Config, Unread> {
+    let [fanout, chain, pages, tries, first_version] = words else {
+        return Err(Unread::Words);
+    };
+    Ok(Config {
+        fanout: small(fanout)?,
+        chain: small(chain)?,
+        pages: small(pages)?,
+        tries: small(tries)?,
+        first_version: number(first_version)?,
+    })
+}
+
+fn visit(words: &[&str]) -> Result<Question, Unread> {
+    let [pid, at, from, key, goal] = words else {
+        return Err(Unread::Words);
+    };
+    let place = Place {
+        pid: page(pid)?,
+        level: level(at)?,
+        from: number(from)?,
+    };
+    Ok(Question::Visit(place, number(key)?, level(goal)?))
+}
+
+/// The question that the words ask, if they ask one.
+fn asked(words: &[&str]) -> Result<Option<Question>, Unread> {
+    Ok(Some(match words {
+        ["peek", pid] => Question::Peek(page(pid)?),
+        ["look", pid, key] => Question::Look(page(pid)?, number(key)?),
+        ["visit", rest @ ..] => visit(rest)?,
+        ["root"] => Question::Root,
+        ["locate", key] => Question::Locate(number(key)?),
+        ["survey"] => Question::Survey,
+        ["pairs"] => Question::Pairs,
+        _ => return Ok(None),
+    }))
+}
+
+impl Line {
+    /// Reads a line: words between single blanks.
+    pub(crate) fn read(alloc: Global, line: &str) -> Result<Line, Unread> {
+        let words: Vec<&str> = line.split(' ').collect(alloc)?;
+        if let ["table", rest @ ..] = words.as_slice() {
+            return Ok(Line::Table(table(rest)?));
+        }
+        match asked(words.as_slice())? {
+            Some(question) => Ok(Line::Question(question)),
+            None => Ok(Line::Step(step(alloc, words.as_slice())?)),
+        }
+    }
+}

@@ -1,0 +1,190 @@
+//! A table that is played with, line by line.
+
+ghost use Rattle.std.specs.Prelude.{◌≡◌, ℕ, None, Some, IfOk, IfErr, OnErr, option_copied};
+ghost use Rattle.bw_step.specs.ProposalView.{proposal_of};
+ghost use Rattle.bw_law.specs.Refusals.{refusal};
+ghost use Rattle.bw_scripts.specs.Answers.{IsAnswer, IsAnswered, IsTold};
+ghost use Rattle.bw_scripts.specs.Played.{IsFaultAt, one_more};
+
+use crate::answer::Answer;
+use crate::fault::ScriptFault;
+use crate::line::{Line, Question, Unread};
+use bw_delta::NoMemory;
+use bw_keys::{Config, Key, Pid};
+use bw_step::{Refused, Step, Survey, View};
+use bw_table::{NewFault, Table};
+use std::alloc::Global;
+
+/// All that a table tells of itself.
+#[derive(Drop)]
+struct Picture {
+    survey: Survey,
+    pairs: Vec<(Key, u64)>,
+    pages: Vec<Option<View>>,
+}
+
+impl Picture {
+    fn of(alloc: Global, table: &Table<Global>) -> Result<Picture, NoMemory> {
+        let mut pages = Vec::new(alloc);
+        for id in 0..table.config().pages {
+            pages.push(table.peek(Pid(id)))?;
+        }
+        Ok(Picture {
+            survey: table.survey(alloc)?,
+            pairs: table.pairs(alloc)?,
+            pages,
+        })
+    }
+
+    fn is(&self, other: &Picture) -> bool {
+        self.pages == other.pages
+            && self.pairs == other.pairs
+            && self.survey.levels == other.survey.levels
+            && self.survey.leaves == other.survey.leaves
+            && self.survey.book == other.survey.book
+    }
+}
+
+/// Proposes a step that `check` foretells to be refused, and sees that the table stays as it was.
+fn refuse(
+    alloc: Global,
+    table: &mut Table<Global>,
+    step: Step<Global>,
+    foretold: Refused,
+) -> Result<Answer, NoMemory>
+    requires { refusal table.old (proposal_of step) ≡ Some foretold }
+    ensures told { IfOk result (λ answer. IsTold table.old answer table.new) }
+    ensures unchanged { table.new ≡ table.old }
+{
+    let before = Picture::of(alloc, table)?;
+    match table.install(step) {
+        Ok(receipt) => Ok(Answer::RefusalForetold(foretold, receipt)),
+        Err(reason) if reason != foretold => Ok(Answer::OtherForetold(reason)),
+        Err(reason) if Picture::of(alloc, table)?.is(&before) => Ok(Answer::Refused(reason)),
+        Err(reason) => Ok(Answer::Changed(reason)),
+    }
+}
+
+/// Proposes a step; `check` is asked before.
+#[tactic(auto, using(crate::proofs::Foretelling::is_fine, crate::proofs::Foretelling::is_foretold))]
+fn propose(alloc: Global, table: &mut Table<Global>, step: Step<Global>) -> Result<Answer, NoMemory>
+    ensures told { IfOk result (λ answer. IsTold table.old answer table.new) }
+    ensures unchanged { OnErr result (table.new ≡ table.old) }
+{
+    match table.check(&step) {
+        Err(foretold) => refuse(alloc, table, step, foretold),
+        Ok(()) => match table.install(step) {
+            Ok(receipt) => Ok(Answer::Accepted(receipt)),
+            Err(reason) => Ok(Answer::OtherForetold(reason)),
+        },
+    }
+}
+
+fn ask(alloc: Global, table: &Table<Global>, question: Question) -> Result<Answer, NoMemory>
+    ensures { IfOk result (λ answer. IsTold table.now answer table.now) }
+{
+    Ok(match question {
+        Question::Peek(pid) => Answer::Page(table.peek(pid)),
+        Question::Look(pid, key) => Answer::Look(table.look(pid, key)),
+        Question::Visit(place, key, goal) => Answer::Next(table.visit(place, key, goal)),
+        Question::Root => Answer::Root(table.root()),
+        Question::Locate(key) => Answer::Leaf(table.locate(key)),
+        Question::Survey => Answer::Survey(table.survey(alloc)?),
+        Question::Pairs => Answer::Pairs(table.pairs(alloc)?),
+    })
+}
+
+/// Who plays a script: the table, once there is one, and how many lines were played.
+///
+/// A line's words stand between single blanks. Lines that are empty, or begin with `#`, ask for nothing.
+/// A line that isn't played leaves the table as it is, and the next one may be played.
+#[derive(Drop)]
+pub struct Player {
+    alloc: Global,
+    table: Option<Table<Global>>,
+    lines: u64,
+}
+
+impl Player {
+    /// Who has played no line yet, and has no table.
+    pub fn new(alloc: Global) -> Player
+        ensures table { result.table ≡ None }
+        ensures lines { result.lines ≡ 0 }
+    {
+        Player {
+            alloc,
+            table: None,
+            lines: 0,
+        }
+    }
+
+    /// How many lines were played, those too that ask for nothing or can't be read.
+    pub fn lines(&self) -> u64
+        ensures { result ≡ self.now.lines }
+    {
+        self.lines
+    }
+
+    /// The table as the lines have left it, if one of them has made it.
+    pub fn table(&self) -> Option<&Table<Global>>
+        ensures { option_copied result ≡ self.now.table }
+    {
+        self.table.as_ref()
+    }
+
+    /// The table as the lines have left it, if one of them has made it.
+    pub fn into_table(self) -> Option<Table<Global>>
+        ensures { result ≡ self.table }
+    {
+        self.table
+    }
+
+    /// Plays the next line of a script, and answers what it asks for, if it asks for something.
+    pub fn play(&mut self, line: &str) -> Result<Option<Answer>, ScriptFault>
+        ensures counted { self.new.lines ≡ one_more self.old.lines }
+        ensures answered { IfOk result (λ answer. IsAnswered self.old.table answer self.new.table) }
+        ensures unchanged { OnErr result (self.new.table ≡ self.old.table) }
+        ensures fault { IfErr result (IsFaultAt self.new.lines) }
+    {
+        self.lines = self.lines.saturating_add(1);
+        if line.is_empty() || line.starts_with('#') {
+            return Ok(None);
+        }
+        match self.answer(line) {
+            Ok(answer) => Ok(Some(answer)),
+            Err(Unread::BadEntries) => Ok(Some(Answer::BadEntries)),
+            Err(Unread::Words) => Err(ScriptFault::Line(self.lines)),
+            Err(Unread::NoMemory) => Err(ScriptFault::Memory),
+        }
+    }
+
+    /// Does what the line asks for. A step or a question before there is a table can't be read.
+    fn answer(&mut self, line: &str) -> Result<Answer, Unread>
+        ensures counted { self.new.lines ≡ self.old.lines }
+        ensures answered { IfOk result (λ answer. IsAnswer self.old.table answer self.new.table) }
+        ensures unchanged { OnErr result (self.new.table ≡ self.old.table) }
+    {
+        let alloc = self.alloc;
+        match (Line::read(alloc, line)?, &mut self.table) {
+            (Line::Table(config), _) => Ok(self.make_table(config)?),
+            (Line::Step(step), Some(table)) => Ok(propose(alloc, table, step)?),
+            (Line::Question(question), Some(table)) => Ok(ask(alloc, table, question)?),
+            (_, None) => Err(Unread::Words),
+        }
+    }
+
+    fn make_table(&mut self, config: Config) -> Result<Answer, NoMemory>
+        ensures counted { self.new.lines ≡ self.old.lines }
+        ensures answered { IfOk result (λ answer. IsAnswer self.old.table answer self.new.table) }
+        ensures unchanged { OnErr result (self.new.table ≡ self.old.table) }
+    {
+        match Table::new(self.alloc, self.alloc, config) {
+            Ok(table) => {
+                self.table = Some(table);
+                Ok(Answer::Made)
+            }
+            Err(NewFault::BadConfig(bad)) => Ok(Answer::BadConfig(bad)),
+            Err(NewFault::NoMemory) => Err(NoMemory),
+        }
+    }
+}

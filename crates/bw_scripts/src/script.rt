@@ -1,0 +1,46 @@
+//! A script that is read and played to its end.
+
+ghost use Rattle.std.specs.Prelude.{IfOk, IfSome};
+ghost use Rattle.bw_scripts.specs.Played.{IsPlayed};
+
+use crate::fault::ScriptFault;
+use crate::player::Player;
+use bw_table::Table;
+use std::alloc::Global;
+use std::io;
+use std::io::{BufRead, BufReader, Read};
+
+/// How many lines a script may have that is read from a reader.
+pub const MOST_LINES: u64 = 1_000_000;
+
+/// Plays the script that is read, and hands its table out. What its lines are answered isn't kept: a
+/// step that is refused leaves the table as it is, and the next line is played.
+pub fn play<R: Read + Drop>(alloc: Global, input: R) -> Result<Table<Global>, ScriptFault>
+    ensures { IfOk result IsPlayed }
+{
+    let Ok(lines) = BufReader::new(alloc, input) else {
+        return Err(ScriptFault::Memory);
+    };
+    let mut player = Player::new(alloc);
+    for line in lines.lines(alloc) {
+        take(&mut player, line)?;
+    }
+    player.into_table().ok_or(ScriptFault::NoTable)
+}
+
+/// Plays the line, if it could be had and isn't one too many.
+#[tactic(auto, using(crate::proofs::Playing::stays_played))]
+fn take(player: &mut Player, line: io::Result<String>) -> Result<(), ScriptFault>
+    requires { IfSome player.old.table IsPlayed }
+    ensures { IfSome player.new.table IsPlayed }
+{
+    let number = player.lines().saturating_add(1);
+    match line {
+        Err(error) => Err(ScriptFault::of_reader(number, &error)),
+        Ok(_) if number > MOST_LINES => Err(ScriptFault::Lines),
+        Ok(line) => {
+            player.play(&line)?;
+            Ok(())
+        }
+    }
+}

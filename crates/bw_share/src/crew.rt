@@ -1,0 +1,127 @@
+//! The workers' threads.
+
+ghost use Rattle.std.specs.Prelude.{◌≡◌, ◌<◌, ◌^◌, IfOk, IfErr, All, length};
+ghost use Rattle.bw_tree.specs.Shares.{no_changes};
+ghost use Rattle.bw_share.specs.Sharing.{IsWant, share_by};
+
+use crate::fault::ShareFault;
+use crate::gathering::{Gathered, gather};
+use crate::member::Member;
+use crate::task::Task;
+use bw_delta::NoMemory;
+use bw_step::{Receipt, Step};
+use bw_tree::{Share, Shared};
+use bw_work::Open;
+use std::alloc::Global;
+use std::sync::Wait;
+use std::sync::ledger::Ledger;
+use std::thread;
+use std::thread::Threads;
+
+/// A worker that has changed nothing yet: its number, its share, and what else it is given.
+#[derive(Drop)]
+pub struct Seat<I: Ledger, D: Ledger, K> {
+    worker: u32,
+    share: Share<I, D>,
+    kit: K,
+    ghost new: { share ≡ no_changes },
+}
+
+/// What a worker brings back. Its share is the sum of its trail.
+#[derive(Drop)]
+pub struct Worked<I: Ledger, D: Ledger, O> {
+    pub share: Share<I, D>,
+    pub trail: Vec<Receipt>,
+    pub output: O,
+    ghost counted: { share ≡ share_by trail.items },
+}
+
+/// A seat for each worker.
+pub fn seats_of<I: Ledger, D: Ledger, K: Drop>(
+    machine: Global,
+    shares: Vec<Share<I, D>>,
+    kits: Vec<K>,
+) -> Result<Vec<Seat<I, D, K>>, NoMemory>
+    requires few { length shares.items < 2 ^ 32 }
+    requires kits { length kits.items ≡ length shares.items }
+    requires new { All (λ share. share ≡ no_changes) shares.items }
+    ensures count { IfOk result (λ seats. length seats.items ≡ length shares.items) }
+{
+    let mut shares = shares;
+    let mut seats = Vec::with_capacity(machine, shares.len())?;
+    let mut worker = 0;
+    for kit in kits {
+        let Some(share) = shares.pop() else {
+            unreachable!()
+        };
+        seats.push(Seat { worker, share, kit })?;
+        worker += 1;
+    }
+    Ok(seats)
+}
+
+/// Does the task at each seat side by side, each in a thread of its own, and gathers what the
+/// workers bring back, in the order of the seats. Where a thread can't be started, those that were do
+/// their tasks to the end.
+pub fn work_all<
+    I: Ledger + Send + Sync,
+    D: Ledger + Send + Sync,
+    K: Drop + Send,
+    O: Drop + Send,
+    T: Shared<Global, Step<Global>, Insertions = I, Removals = D> + Sync,
+    J: Task<K, Output = O> + Sync,
+    R: Threads + Wait + Sync,
+>(
+    rt: &R,
+    machine: Global,
+    tree: &T,
+    gate: &Open,
+    task: &J,
+    seats: Vec<Seat<I, D, K>>,
+) -> Result<Gathered<I, D, O>, ShareFault>
+    ensures count { IfOk result (λ gathered. length gathered.shares.items ≡ length seats.items) }
+    ensures fault { IfErr result IsWant }
+{
+    thread::scope(
+        thread::scope_env(),
+        rt,
+        |scope| -> Result<Gathered<I, D, O>, ShareFault>
+            ensures count { IfOk result (λ gathered. length gathered.shares.items ≡ length seats.items) }
+            ensures fault { IfErr result IsWant }
+        {
+            let mut handles = Vec::with_capacity(machine, seats.len())?;
+            for seat in seats {
+                let Ok(handle) = scope.spawn(move || -> Worked<I, D, O> {
+                    do_task(machine, tree, gate, task, seat)
+                }) else {
+                    return Err(ShareFault::NoThread);
+                };
+                handles.push(handle)?;
+            }
+            Ok(gather(rt, machine, handles)?)
+        },
+    )
+}
+
+/// Does the task with a hand on the tree.
+fn do_task<K: Drop, T: Shared<Global, Step<Global>>, J: Task<K>>(
+    machine: Global,
+    tree: &T,
+    gate: &Open,
+    task: &J,
+    seat: Seat<T::Insertions, T::Removals, K>,
+) -> Worked<T::Insertions, T::Removals, J::Output> {
+    let Seat {
+        worker,
+        share,
+        mut kit,
+    } = seat;
+    let mut hand = Member::new(machine, tree, share, worker, gate);
+    let output = task.run(worker, &mut hand, &mut kit);
+    let (share, trail) = hand.finish();
+    Worked {
+        share,
+        trail,
+        output,
+    }
+}

@@ -1,0 +1,50 @@
+//! Why a tree wasn't shared.
+
+ghost use Rattle.std.specs.Prelude.{◌≡◌};
+ghost use Rattle.bw_share.specs.declared.fault.ShareFault.TheVariants as faults;
+
+use bw_delta::NoMemory as Want;
+use bw_keys::BadConfig;
+use std::alloc::{AllocError, AllocFailed};
+use thiserror::Error;
+
+/// Why a tree wasn't shared. The first two are found before any thread starts, in this order.
+#[derive(Clone, Copy, Debug, PartialEq, Eq, Error)]
+pub enum ShareFault {
+    /// A field of the configuration is out of its range.
+    #[error("{0}")]
+    BadConfig(BadConfig),
+    /// There are no workers, or too many.
+    #[error("bad workers")]
+    BadWorkers,
+    #[error("out of memory")]
+    NoMemory,
+    /// A worker's thread couldn't be started. Those that were started did their jobs, and what they
+    /// did is given up.
+    #[error("threads")]
+    NoThread,
+}
+
+impl From<Want> for ShareFault {
+    ghost from_gives = { λ _ fault. fault ≡ faults.NoMemory };
+
+    fn from(_: Want) -> ShareFault {
+        ShareFault::NoMemory
+    }
+}
+
+impl From<AllocError> for ShareFault {
+    ghost from_gives = { λ _ fault. fault ≡ faults.NoMemory };
+
+    fn from(_: AllocError) -> ShareFault {
+        ShareFault::NoMemory
+    }
+}
+
+impl<T: Drop> From<AllocFailed<T>> for ShareFault {
+    ghost from_gives = { λ _ fault. fault ≡ faults.NoMemory };
+
+    fn from(_: AllocFailed<T>) -> ShareFault {
+        ShareFault::NoMemory
+    }
+}

@@ -1,0 +1,184 @@
+//! Trees that are shared for the length of one call.
+
+ghost use Rattle.std.specs.Prelude.{◌≡◌, IsOk, IfOk, IfErr, OnOk, length};
+ghost use Rattle.bw_step.specs.Trails.{lists_of};
+ghost use Rattle.bw_tree.specs.Shares.{Opens};
+ghost use Rattle.bw_tree.specs.Trees.{IsTree};
+ghost use Rattle.bw_share.specs.Sharing.{CountsTrails, MayShare, IsShareFault};
+
+use crate::crew::{seats_of, work_all};
+use crate::fault::ShareFault;
+use crate::finished::Finished;
+use crate::gathering::Gathered;
+use crate::job::{Job, ReadingJob};
+use crate::reading::kits_of;
+use crate::task::{ByHand, WithReader};
+use bw_keys::{Config, MAX_WORKERS};
+use bw_snap::{BlankBook, MAX_READERS, Naming, ReadTree};
+use bw_tree::{Blanks, MadeBy, Tree};
+use bw_work::Open;
+use std::alloc::Global;
+use std::marker::Brand;
+use std::sync::Wait;
+use std::sync::ledger::Ledger;
+use std::thread::Threads;
+
+/// Shares a new tree among so many workers, 1 to `MAX_WORKERS`, each of which does the job in a
+/// thread of its own, and hands the table out once all have come to their end. All lies in the
+/// machine's memory.
+///
+/// A job that ends early costs nothing: what it answers stands in
+/// [`outputs`](Finished::outputs), and the table has all that was done by then.
+///
+/// Each worker keeps a receipt, of some 40 bytes, for each accepted step and each look, to the end.
+pub fn share<O: Drop + Send, J: Job<Output = O> + Sync, R: Threads + Wait + Sync + Send + Copy>(
+    rt: R,
+    machine: Global,
+    config: Config,
+    workers: u32,
+    job: &J,
+) -> Result<Finished<O>, ShareFault>
+    ensures tree { IfOk result (λ finished. IsTree finished.table) }
+    ensures config { IfOk result (λ finished. finished.table.config ≡ config) }
+    ensures outputs { IfOk result (λ finished. length finished.outputs.items ≡ workers) }
+    ensures trails { IfOk result (λ finished. length finished.trails.items ≡ workers) }
+    ensures pairs { IfOk result (λ finished. CountsTrails finished.table (lists_of finished.trails.items)) }
+    ensures fine { IsOk result → MayShare 64 config workers }
+    ensures fault { IfErr result (IsShareFault 64 config workers) }
+{
+    check(config, workers, MAX_WORKERS)?;
+    let blanks = Blanks::new(workers);
+    share_locked::<Brand, Brand, O, J, R>(rt, machine, config, blanks, job)
+}
+
+/// Shares a new tree among so many workers, 1 to `MAX_READERS`, as [`share`] does. Each of them is
+/// given a reader beside its hand, by which it reads without the tree's lock what was published.
+/// What the workers change isn't read so before one of them publishes it.
+pub fn share_with_readers<
+    O: Drop + Send,
+    J: ReadingJob<Output = O> + Sync,
+    R: Threads + Wait + Sync + Send + Copy,
+>(rt: R, machine: Global, config: Config, workers: u32, job: &J) -> Result<Finished<O>, ShareFault>
+    ensures tree { IfOk result (λ finished. IsTree finished.table) }
+    ensures config { IfOk result (λ finished. finished.table.config ≡ config) }
+    ensures outputs { IfOk result (λ finished. length finished.outputs.items ≡ workers) }
+    ensures trails { IfOk result (λ finished. length finished.trails.items ≡ workers) }
+    ensures pairs { IfOk result (λ finished. CountsTrails finished.table (lists_of finished.trails.items)) }
+    ensures fine { IsOk result → MayShare 16 config workers }
+    ensures fault { IfErr result (IsShareFault 16 config workers) }
+{
+    check(config, workers, MAX_READERS)?;
+    let blanks = Blanks::new(workers);
+    let book = BlankBook::new();
+    share_read::<Brand, Brand, O, J, R>(rt, machine, config, workers, blanks, book, job)
+}
+
+/// Answers the first fault that is there before any thread starts, want of memory apart.
+fn check(config: Config, workers: u32, most: u32) -> Result<(), ShareFault>
+    ensures fine { OnOk result (MayShare most config workers) }
+    ensures fault { IfErr result (IsShareFault most config workers) }
+{
+    if let Err(bad) = config.check() {
+        return Err(ShareFault::BadConfig(bad));
+    }
+    if !(1..=most).contains(&workers) {
+        return Err(ShareFault::BadWorkers);
+    }
+    Ok(())
+}
+
+/// Shares a tree with these blank ledgers.
+fn share_locked<
+    I: MadeBy + Send + Sync,
+    D: Ledger + Send + Sync,
+    O: Drop + Send,
+    J: Job<Output = O> + Sync,
+    R: Threads + Wait + Sync + Send + Copy,
+>(
+    rt: R,
+    machine: Global,
+    config: Config,
+    blanks: Blanks,
+    job: &J,
+) -> Result<Finished<O>, ShareFault>
+    requires insertions { Opens I.name I.parts blanks.insertions }
+    requires removals { Opens D.name D.parts blanks.removals }
+    requires config { I.config ≡ config }
+    requires made { MayShare 64 config blanks.workers }
+    ensures tree { IfOk result (λ finished. IsTree finished.table) }
+    ensures config { IfOk result (λ finished. finished.table.config ≡ config) }
+    ensures outputs { IfOk result (λ finished. length finished.outputs.items ≡ blanks.workers) }
+    ensures trails { IfOk result (λ finished. length finished.trails.items ≡ blanks.workers) }
+    ensures pairs { IfOk result (λ finished. CountsTrails finished.table (lists_of finished.trails.items)) }
+    ensures fault { IfErr result (IsShareFault 64 config blanks.workers) }
+{
+    let Ok((tree, shares)) = Tree::<R, Global, I, D>::new(rt, machine, machine, config, blanks)
+    else {
+        return Err(ShareFault::NoMemory);
+    };
+    let kits = Vec::from_elem(machine, (), shares.len())?;
+    let seats = seats_of(machine, shares, kits)?;
+    let Gathered {
+        shares,
+        trails,
+        outputs,
+    } = work_all(&rt, machine, &tree, &Open, &ByHand { job }, seats)?;
+    let Ok(table) = tree.close(shares) else {
+        unreachable!()
+    };
+    Ok(Finished {
+        table,
+        outputs,
+        trails,
+    })
+}
+
+/// Shares a tree with a reader for each worker, with these blank ledgers and this blank book.
+fn share_read<
+    N: Naming + Send + Sync,
+    D: Ledger + Send + Sync,
+    O: Drop + Send,
+    J: ReadingJob<Output = O> + Sync,
+    R: Threads + Wait + Sync + Send + Copy,
+>(
+    rt: R,
+    machine: Global,
+    config: Config,
+    workers: u32,
+    blanks: Blanks,
+    book: BlankBook,
+    job: &J,
+) -> Result<Finished<O>, ShareFault>
+    requires insertions { Opens N.name N.parts blanks.insertions }
+    requires removals { Opens D.name D.parts blanks.removals }
+    requires book { book.seen.book ≡ N.book }
+    requires config { N.config ≡ config }
+    requires workers { blanks.workers ≡ workers }
+    requires made { MayShare 16 config workers }
+    ensures tree { IfOk result (λ finished. IsTree finished.table) }
+    ensures config { IfOk result (λ finished. finished.table.config ≡ config) }
+    ensures outputs { IfOk result (λ finished. length finished.outputs.items ≡ workers) }
+    ensures trails { IfOk result (λ finished. length finished.trails.items ≡ workers) }
+    ensures pairs { IfOk result (λ finished. CountsTrails finished.table (lists_of finished.trails.items)) }
+    ensures fault { IfErr result (IsShareFault 16 config workers) }
+{
+    let made = ReadTree::<R, N, D>::with_readers(rt, machine, config, blanks, book, workers);
+    let Ok((tree, shares, readers)) = made else {
+        return Err(ShareFault::NoMemory);
+    };
+    let kits = kits_of(machine, &tree, readers)?;
+    let seats = seats_of(machine, shares, kits)?;
+    let Gathered {
+        shares,
+        trails,
+        outputs,
+    } = work_all(&rt, machine, &tree, &Open, &WithReader { job }, seats)?;
+    let Ok(table) = tree.close(shares) else {
+        unreachable!()
+    };
+    Ok(Finished {
+        table,
+        outputs,
+        trails,
+    })
+}

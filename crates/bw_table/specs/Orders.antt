@@ -1,0 +1,54 @@
+-- The map in the order of its keys, and a leaf that is lent for reading in this order.
+use Rattle.std.specs.Prelude.{◌≡◌, ◌↔◌, ℕ, ◌+◌, ◌-◌, ◌<◌, ◌≤◌, true, List, Some, refl, length}
+use Rattle.std.specs.Coded.{Coded, code_by, coded×, coded_ℕ, coded_list}
+use Rattle.bw_keys.specs.declared.range.Fence.{Fence}
+use Rattle.bw_keys.specs.declared.page.Pid.{Pid}
+use Rattle.bw_keys.specs.contracts.range.Fence as fence
+use Rattle.bw_keys.specs.contracts.page.Pid as pid
+use Rattle.bw_keys.specs.Ranges.{key_count}
+use Rattle.bw_delta.specs.Entries.{at, rises}
+use Rattle.bw_law.specs.Laws.{IsTheMap}
+use Rattle.bw_law.specs.Tables.{TableValue, Maps}
+
+-- no key of the map lies from the low on and below the end
+abbrev pub HasNoKeyWithin : TableValue → ℕ → ℕ → Type 0
+HasNoKeyWithin table low end = (key value : ℕ) → low ≤ key → key < end → Maps table.slots key value → ⊥
+
+-- the first pair of the map at the key or past it
+pub record IsNextAt (table : TableValue) (key : ℕ) (pair : ℕ × ℕ) : Type 0 where
+  pub at_or_past : key ≤ pair.0
+  pub there : Maps table.slots pair.0 pair.1
+  pub none_between : HasNoKeyWithin table key pair.0
+
+-- the last pair of the map at the key or before it
+pub record IsPreviousAt (table : TableValue) (key : ℕ) (pair : ℕ × ℕ) : Type 0 where
+  pub at_or_before : pair.0 ≤ key
+  pub there : Maps table.slots pair.0 pair.1
+  pub none_between : HasNoKeyWithin table (pair.0 + 1) (key + 1)
+
+abbrev pub last_key : ℕ
+last_key = key_count - 1
+
+-- just the pairs of the map from the low on and below the end, in the order of their keys
+pub record ArePairsWithin (table : TableValue) (low end : ℕ) (pairs : List (ℕ × ℕ)) : Type 0 where
+  pub rise : rises low end pairs ≡ true
+  pub same : (key value : ℕ) → low ≤ key → key < end → (at key pairs ≡ Some value) ↔ Maps table.slots key value
+
+-- the list that is the map has so many pairs
+abbrev pub HasPairs : TableValue → ℕ → Type 0
+HasPairs table count = (pairs : List (ℕ × ℕ)) → IsTheMap table pairs → length pairs ≡ count
+
+-- a leaf: its page, its range, and its pairs
+pub record LeafValue : Type 0 where
+  pub pid : Pid
+  pub low : ℕ
+  pub high : Fence
+  pub pairs : List (ℕ × ℕ)
+
+abbrev pub leaf_code : Coded LeafValue
+leaf_code =
+    code_by (Pid × (ℕ × (Fence × List (ℕ × ℕ))))
+    (coded× pid.the_row.coded (coded× coded_ℕ (coded× fence.the_row.coded (coded_list (coded× coded_ℕ coded_ℕ)))))
+    (λ l. (l.pid, (l.low, (l.high, l.pairs))))
+    (λ p. record { pid = p.0; low = p.1.0; high = p.1.1.0; pairs = p.1.1.1 })
+    (λ _. refl)

@@ -1,0 +1,97 @@
+//! Leaves, lent for reading in the order of the keys.
+
+ghost use Rattle.std.specs.Prelude.{◌≡◌, ◌<◌, ◌≤◌};
+ghost use Rattle.bw_keys.specs.Ranges.{end_of};
+ghost use Rattle.bw_delta.specs.Entries.{first_from, last_upto};
+ghost use Rattle.bw_law.specs.Laws.{IsLeafOf};
+ghost use Rattle.bw_table.specs.Orders.{ArePairsWithin};
+
+use crate::slot::Slot;
+use crate::table::Table;
+use bw_keys::{Fence, Key, Pid};
+use std::alloc::Allocator;
+use std::marker::Model;
+
+/// A leaf of a table: its page, its range, and its pairs, which lie in the table.
+#[derive(Drop)]
+pub struct LeafRef<'t, A: Allocator> {
+    pid: Pid,
+    slot: &'t Slot<A>,
+}
+
+impl<'t, A: Allocator> Model for LeafRef<'t, A> {
+    ghost use Rattle.std.specs.Prelude.{◌≡◌, true};
+    ghost use Rattle.bw_step.specs.Stages.{is_in_row};
+    ghost use Rattle.bw_law.specs.Slots.{pairs_in};
+    ghost use Rattle.bw_table.specs.SlotFacts.{HasSoundChain};
+    ghost use Rattle.bw_table.specs.Orders.{LeafValue, leaf_code};
+
+    ghost Value = { LeafValue };
+
+    ghost coded = { leaf_code };
+
+    ghost view = { λ l. record { pid = l.pid; low = l.slot.now.low; high = l.slot.now.high; pairs = pairs_in l.slot.now } };
+
+    ghost invariant = { λ l. (is_in_row l.slot.now.stage ≡ true) × HasSoundChain l.slot.now };
+}
+
+impl<'t, A: Allocator + Copy> LeafRef<'t, A> {
+    /// The page.
+    #[inline(always)]
+    pub fn pid(&self) -> Pid
+        ensures { result ≡ self.now.pid }
+    {
+        self.pid
+    }
+
+    /// The least key that the leaf may have.
+    #[inline(always)]
+    pub fn low(&self) -> Key
+        ensures { result ≡ self.now.low }
+    {
+        let slot = self.slot;
+        slot.summary.low
+    }
+
+    /// Where the keys end that the leaf may have.
+    #[inline(always)]
+    pub fn high(&self) -> Fence
+        ensures { result ≡ self.now.high }
+    {
+        let slot = self.slot;
+        slot.summary.high
+    }
+
+    /// The pair with the least key at or above the key, if the leaf has one. It takes no memory.
+    #[inline(always)]
+    pub fn next_at(&self, key: Key) -> Option<(Key, u64)>
+        ensures { result ≡ first_from key self.now.pairs }
+    {
+        self.slot.next_at(key)
+    }
+
+    /// The pair with the greatest key at or below the key, if the leaf has one. It takes no memory.
+    #[inline(always)]
+    pub fn previous_at(&self, key: Key) -> Option<(Key, u64)>
+        ensures { result ≡ last_upto key self.now.pairs }
+    {
+        self.slot.previous_at(key)
+    }
+}
+
+impl<A: Allocator + Copy> Table<A> {
+    /// Lends the leaf whose range holds the key. It takes no memory.
+    #[inline(always)]
+    pub fn leaf_of(&self, key: Key) -> LeafRef<'_, A>
+        ensures page { IsLeafOf self.now key result.pid.0 }
+        ensures low { result.low ≤ key }
+        ensures high { key < end_of result.high }
+        ensures pairs { ArePairsWithin self.now result.low (end_of result.high) result.pairs }
+    {
+        let pid = self.page_for(key);
+        LeafRef {
+            pid,
+            slot: self.slot_in_row(pid),
+        }
+    }
+}

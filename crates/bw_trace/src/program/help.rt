@@ -1,0 +1,86 @@
+//! What stands behind the options in the help of the program and of its commands.
+
+/// The program's version.
+pub(crate) const VERSION: &str = "0.2.0";
+
+pub(crate) const OF_ALL: &str = r"Example:
+  printf '0,put,5,50\n0,get,5,\n' | bwtree run --replies
+
+Status: 0 done, 1 a row that can't be read or a failed read or write, 2 bad words or values,
+3 a limit, no memory or a worker that gave up, 4 a history that isn't legal.
+No words stand for run. 'bwtree run --help' has the rows of a trace.";
+
+pub(crate) const OF_RUN: &str =
+    "Rows: WORKER,OP,KEY,VALUE with no header and no blanks; workers from 0, numbers below 2^64.
+  0,put,5,50  gives key 5 the value 50, unless it has one: then that one stays
+  0,set,5,50  gives key 5 the value 50, whatever it has
+  0,get,5,    looks key 5 up
+  0,del,5,    takes key 5 out
+  0,clr,5,9   takes the keys from 5 on and below 9 out
+  0,clr,5,    takes the keys from 5 on out
+
+Where row N can't be read, 'bwtree: row N: PART' names its first bad part:
+  fields  not four: a missing last comma, ';' for ',', a history
+  worker  no number below --workers: a header, a blank, one worker too many
+  op      not put, set, get, del or clr: capitals, a blank
+  key     no number: a sign, a blank, 2^64 or more
+  value   no number, or one behind get or del
+
+Replies: inserted, present V (put left V there), replaced V, removed V, nokey, found V, none,
+cleared N. 'inserted (table full)' wants more --pages.
+
+Example:
+  bwtree make --rows 20 | bwtree run --replies";
+
+pub(crate) const OF_DRAW: &str =
+    "Rows and options are those of run, and the drawing goes to standard output. Of a table of up to
+40 pages each page is drawn, with the newest records of its chain and the first entries of its
+base, and of a larger one ten leaves, about what is half done, and the pages above them.
+
+With --steps a script of steps is read, of one line a step and single blanks between words:
+  table 4 4 64 100 0                      a new table: fanout, chain, pages, tries, first version
+  insert 0 0 1 10                         on page 0, seen at version 0, key 1 gets the value 10
+  insert 0 1 5 50
+  consolidate 0 2 leaf 0 top - 1:10 5:50  the page's records go into a new base
+  split 0 3 5 leaf 5 top - 5:50           the keys from 5 on go to a new page
+  grow 1 1 inner 0 top - 0:0 5:1          a new root over both pages
+A step that is refused changes nothing, and the next one is tried. Where line N can't be read,
+'bwtree: line N: the line can't be read' says so. docs/STEPS.md has all kinds of lines.
+
+Example:
+  bwtree make --rows 20 | bwtree draw --fanout 4 --chain 4 > tree.svg";
+
+pub(crate) const OF_STATS: &str =
+    "Rows and options are those of run, and scripts of steps those of draw. It prints these lines:
+  levels N                          how many levels the tree has, 1 for leaves alone
+  level L pages N                   how many pages level L has, from the root's level down
+  pairs N                           how many pairs the map has
+  unposted N marked N merged N      pages that wait for their term, a merge, the end of their term
+  slots N free N                    of the mapping table
+  leaf entries least N mean N greatest N   pairs of a leaf
+  inner entries least N mean N greatest N  routes of an inner page, or 'none'
+  chain records least N mean N greatest N  records over a page's base, along the deepest path
+  bytes slots N pages N records N   what the slots, the bases' entries and the links of chains take
+
+Example:
+  bwtree make --rows 1000 | bwtree stats";
+
+pub(crate) const OF_MAKE: &str = "Run it with as many workers, or more.
+
+Example:
+  bwtree make --rows 20 --workers 4 | bwtree run --workers 4";
+
+pub(crate) const OF_CHECK: &str = "Rows: WORKER,OP,NUMBER,KEY,VALUE, and a sixth field behind mod.
+  0,ins,1,5,50     change 1 gave key 5 the value 50
+  0,mod,2,5,51,50  change 2 gave it 51, and it had 50
+  1,hit,2,5,51     a look behind change 2 found 51
+  0,del,3,5,51     change 3 took it out, and it had 51
+  1,none,3,5,      a look behind change 3 found nothing
+  0,ins,4,6,60     change 4 gave key 6 the value 60
+  end,pair,0,6,60  the map has this pair in the end; such rows come last, and their keys rise
+
+'audit no W R' names the first row that is false: the one at R among those of worker W, from 0.
+Where all these are true W is one more than the greatest worker, R is 0, and the pairs are false.
+
+Example:
+  bwtree make --rows 20 | bwtree run --history | bwtree check";

@@ -1,0 +1,83 @@
+//! The options of the commands that run a trace, and what they ask for.
+
+ghost use Rattle.std.specs.Prelude.{IfOk};
+ghost use Rattle.clap.specs.Words.{found_of};
+ghost use Rattle.bw_trace.specs.Options.{IsFit, IsSettingFor};
+
+use crate::program::options::{Field, option, ranged};
+use bw_keys::{Config, MAX_WORKERS};
+use bw_snap::MAX_READERS;
+use clap::{Arg, ArgAction, ArgMatches, Command};
+use std::alloc::{AllocError, Global};
+
+/// How a trace is to be run.
+#[derive(Clone, Copy, Debug, PartialEq, Eq)]
+pub(crate) struct Setting {
+    pub config: Config,
+    /// How many workers do the rows, 1 to 64.
+    pub workers: u32,
+    /// How many of the workers have a reader, 0 to all of them and at most 16.
+    pub readers: u32,
+}
+
+impl Setting {
+    /// What the words of a command ask for, or the first option that is out of its range.
+    pub(crate) fn of(matches: &ArgMatches) -> Result<Setting, Field>
+        ensures asked { IfOk result (IsSettingFor (found_of matches.now)) }
+        ensures fit { IfOk result IsFit }
+    {
+        let fanout = ranged(matches, "fanout", 4, 64, Field::Fanout)?;
+        let chain = ranged(matches, "chain", 1, 32, Field::Chain)?;
+        let pages = ranged(matches, "pages", 8, 65536, Field::Pages)?;
+        let tries = ranged(matches, "tries", 1, 1000, Field::Tries)?;
+        let most = u64::from(MAX_WORKERS);
+        let workers = ranged(matches, "workers", 1, most, Field::Workers)?;
+        let most = workers.min(u64::from(MAX_READERS));
+        let readers = ranged(matches, "readers", 0, most, Field::Readers)?;
+        Ok(Setting {
+            config: Config {
+                fanout: fanout as u32,
+                chain: chain as u32,
+                pages: pages as u32,
+                tries: tries as u32,
+                first_version: 0,
+            },
+            workers: workers as u32,
+            readers: readers as u32,
+        })
+    }
+}
+
+/// The options that are numbers, each with its default and what it is.
+pub(crate) const NUMBERS: [(&str, &str, &str); 6] = [
+    ("fanout", "16", "Entries of a page at most, 4 to 64"),
+    ("chain", "8", "Consolidate at this depth, 1 to 32"),
+    ("pages", "4096", "Pages at most, 8 to 65536"),
+    ("tries", "1000", "Effort of one call at most, 1 to 1000"),
+    ("workers", "1", "Workers who do the rows, 1 to 64"),
+    (
+        "readers",
+        "0",
+        "Workers who read without the lock, 0 to 16 and to --workers",
+    ),
+];
+
+/// The command with these options.
+pub(crate) fn with_setting<'a>(
+    alloc: Global,
+    command: Command<'a>,
+) -> Result<Command<'a>, AllocError> {
+    let mut command = command;
+    for (name, default, help) in NUMBERS {
+        command = command.arg(option(alloc, name, default, help))?;
+    }
+    Ok(command)
+}
+
+/// An option that is there or isn't.
+pub(crate) fn flag<'a>(alloc: Global, name: &'a str, help: &'a str) -> Arg<'a> {
+    Arg::new(alloc, name)
+        .long(name)
+        .help(help)
+        .action(ArgAction::SetTrue)
+}

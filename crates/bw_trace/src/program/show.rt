@@ -1,0 +1,74 @@
+//! What the program shows of a table.
+
+ghost use Rattle.std.specs.Prelude.{◌≡◌, IfOk, false, true};
+ghost use Rattle.bw_scripts.specs.Played.{IsPlayed};
+
+use crate::program::fault::Fault;
+use crate::program::setting::Setting;
+use crate::program::show_options::ShowOptions;
+use bw_draw::{Drawing, Picture, Stats};
+use bw_run::run;
+use bw_scripts::play;
+use bw_table::Table;
+use bw_texts::read_trace;
+use bw_work::Open;
+use std::alloc::Global;
+use std::fmt;
+use std::io::{BufWriter, Read, Write};
+use std::sync::Wait;
+use std::thread::Threads;
+
+/// The table that the trace or the script leaves.
+pub(crate) fn table_of<T: Threads + Wait + Sync + Send + Copy, R: Read + Drop>(
+    rt: T,
+    alloc: Global,
+    options: ShowOptions,
+    input: R,
+) -> Result<Table<Global>, Fault>
+    ensures played { options.steps ≡ true → IfOk result IsPlayed }
+    ensures done { options.steps ≡ false → IfOk result (λ table. table.config ≡ options.setting.config) }
+{
+    if options.steps {
+        return Ok(play(alloc, input)?);
+    }
+    let Setting {
+        config,
+        workers,
+        readers,
+    } = options.setting;
+    let rows = read_trace(alloc, input, workers)?;
+    Ok(run(rt, alloc, config, workers, readers, &rows, &Open)?.table)
+}
+
+/// Writes the drawing of the table.
+pub(crate) fn draw<W: Write>(
+    alloc: Global,
+    table: &Table<Global>,
+    output: &mut W,
+) -> Result<(), Fault> {
+    let picture = Picture::of(alloc, table)?;
+    write_shown(alloc, output, &Drawing::of(alloc, &picture)?)
+}
+
+/// Writes the numbers of the table.
+pub(crate) fn tell_stats<W: Write>(
+    alloc: Global,
+    table: &Table<Global>,
+    output: &mut W,
+) -> Result<(), Fault> {
+    write_shown(alloc, output, &Stats::of(alloc, table)?)
+}
+
+/// Writes what is shown, and a line feed behind it.
+fn write_shown<W: Write, S: fmt::Display>(
+    alloc: Global,
+    output: &mut W,
+    shown: &S,
+) -> Result<(), Fault> {
+    let Ok(mut lines) = BufWriter::new(alloc, output) else {
+        return Err(Fault::Memory);
+    };
+    writeln!(lines, "{shown}")?;
+    lines.flush()?;
+    Ok(())
+}

@@ -1,0 +1,57 @@
+//! The words of the commands that show a table, and what they ask for.
+
+ghost use Rattle.std.specs.Prelude.{IfOk};
+ghost use Rattle.clap.specs.Words.{found_of};
+ghost use Rattle.bw_trace.specs.Options.{IsFit, IsShownBy};
+
+use crate::program::help::{OF_DRAW, OF_STATS};
+use crate::program::options::Field;
+use crate::program::setting::{NUMBERS, Setting, flag, with_setting};
+use clap::{Arg, ArgMatches, Command};
+use std::alloc::{AllocError, Global};
+
+/// How the table comes about that is to be shown.
+#[derive(Clone, Copy, Debug, PartialEq, Eq)]
+pub(crate) struct ShowOptions {
+    pub setting: Setting,
+    /// Whether a script of steps is read in place of a trace. It has the table's configuration itself.
+    pub steps: bool,
+}
+
+impl ShowOptions {
+    /// What the words ask for, or the first option that is out of its range.
+    pub(crate) fn of(matches: &ArgMatches) -> Result<ShowOptions, Field>
+        ensures asked { IfOk result (IsShownBy (found_of matches.now)) }
+        ensures fit { IfOk result (λ options. IsFit options.setting) }
+    {
+        Ok(ShowOptions {
+            setting: Setting::of(matches)?,
+            steps: matches.get_flag("steps"),
+        })
+    }
+}
+
+/// The command `draw` with its options and defaults.
+pub(crate) fn draw_command<'a>(alloc: Global) -> Result<Command<'a>, AllocError> {
+    let draw = Command::new(alloc, "draw")
+        .about("Draws the table that a trace leaves, as SVG")
+        .after_help(OF_DRAW);
+    with_setting(alloc, draw)?.arg(steps_flag(alloc)?)
+}
+
+/// The command `stats` with its options and defaults.
+pub(crate) fn stats_command<'a>(alloc: Global) -> Result<Command<'a>, AllocError> {
+    let stats = Command::new(alloc, "stats")
+        .about("Prints the numbers of the table that a trace leaves")
+        .after_help(OF_STATS);
+    with_setting(alloc, stats)?.arg(steps_flag(alloc)?)
+}
+
+/// The option that tells a script from a trace. No other one goes with it.
+fn steps_flag<'a>(alloc: Global) -> Result<Arg<'a>, AllocError> {
+    let mut steps = flag(alloc, "steps", "Reads a script of steps, not a trace");
+    for (name, _, _) in NUMBERS {
+        steps = steps.conflicts_with(name)?;
+    }
+    Ok(steps)
+}

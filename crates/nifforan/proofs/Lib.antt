@@ -1,0 +1,6 @@
+pub mod Changes
+pub mod Clearing
+pub mod Neighbours
+pub mod Pairs
+pub mod Reading
+pub mod Replies

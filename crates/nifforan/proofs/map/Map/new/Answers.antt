@@ -1,0 +1,10 @@
+use Rattle.std.proofs.Common.{refl, ap, ◌∙◌, arith}
+use Rattle.bw_law.specs.Tables.{TableValue}
+use Rattle.nifforan.specs.Maps.{MapValue, pairs_of}
+use Rattle.nifforan.proofs.Pairs.{new_is_empty}
+use Rattle.nifforan.proofs.map.Map.new.Goals as goal
+
+pub returns-clause-empty : goal.returns-clause-empty
+returns-clause-empty g c =
+    ap (λ (m : MapValue). m.pairs) c.from_table.ensures
+    ∙ (ap (λ (t : TableValue). pairs_of t.slots) c.in_ok-table.ensures.ok ∙ new_is_empty c.args.config (c.in_ok-table.ensures.fine refl) (omega arith))

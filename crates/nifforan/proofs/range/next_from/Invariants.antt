@@ -1,0 +1,8 @@
+use Rattle.nifforan.proofs.Reading.{IsSearch, search_left}
+use Rattle.nifforan.proofs.range.next_from.Given as goal
+
+abbrev pub invariant-leaves : goal.invariant-leaves
+invariant-leaves g l = IsSearch l.table l.leaf l.key l.from
+
+abbrev pub decreases-leaves : goal.decreases-leaves
+decreases-leaves g l = search_left l.leaf l.from

@@ -1,0 +1,12 @@
+//! An ordered map from u64 keys to u64 values, and all that its caller needs.
+#![tactic(auto)]
+
+mod map;
+mod range;
+mod worker;
+
+pub use bw_keys::{Config, Fence, Key};
+pub use bw_procedures::{Cleared, Del, Done, Fault, Put, Set};
+pub use bw_table::{NewFault, Table};
+pub use map::Map;
+pub use range::Range;

@@ -1,0 +1,193 @@
+ghost use Rattle.std.specs.Prelude.{◌≡◌, ◌↔◌, ℕ, ◌+◌, [], Some, None, IsTrue, IsOk, IfOk, IfErr, OnErr, length};
+ghost use Rattle.bw_keys.specs.Limits.{first_bad_field};
+ghost use Rattle.bw_keys.specs.Ranges.{end_of};
+ghost use Rattle.bw_delta.specs.Entries.{at, put, without, first_entry, last_entry, first_from, last_upto};
+ghost use Rattle.bw_table.specs.Answers.{IsNewFault};
+ghost use Rattle.nifforan.specs.Maps.{map_of, within, outside, before_put, after_put, before_set, before_delete};
+
+use crate::range::Range;
+use crate::worker::Worker;
+use bw_keys::{Config, Fence, Key};
+use bw_procedures::{Cleared, Del, Done, Fault, Put, Set};
+use bw_table::{NewFault, Table};
+use std::alloc::{Allocator, Global};
+use std::marker::Model;
+
+/// An ordered map from u64 keys to u64 values, for one thread.
+///
+/// A call that changes it may end with a fault: `NoMemory`, `TableFull` where no slot is free for a new
+/// page, `TooTall` where the tree has its greatest height, `Worn` where a page's version or the number of
+/// changes is used up, and `Contended` where it took the effort that the configuration allows a call. In
+/// the place of a reply a fault says that the map has the pairs that it had. Beside a reply, in
+/// `Done::fault`, it says that the pairs are as the reply tells, and only the care for the pages was cut
+/// short, which a later call takes up again.
+#[derive(Drop)]
+pub struct Map<A: Allocator + Copy> {
+    worker: Worker<A>,
+}
+
+impl<A: Allocator + Copy> Model for Map<A> {
+    ghost use Rattle.nifforan.specs.Maps.{MapValue, map_code, map_of, IsReady};
+
+    ghost Value = { MapValue };
+
+    ghost coded = { map_code };
+
+    ghost view = { λ m. map_of m.worker.table };
+
+    ghost invariant = { λ m. IsReady m.worker.table m.worker.account.seen.trail };
+}
+
+impl<A: Allocator + Copy> Map<A> {
+    /// A map without pairs, or why there is none: a field of the configuration is out of its range, or
+    /// memory is short. The pairs will lie in `alloc`, all else in the machine's memory.
+    pub fn new(machine: Global, alloc: A, config: Config) -> Result<Map<A>, NewFault>
+        ensures config { IfOk result (λ map. map.config ≡ config) }
+        ensures empty { IfOk result (λ map. map.pairs ≡ []) }
+        ensures fine { IsOk result → first_bad_field config ≡ None }
+        ensures fault { IfErr result (IsNewFault config) }
+    {
+        let table = Table::new(machine, alloc, config)?;
+        Ok(Map::from_table(machine, alloc, table))
+    }
+
+    /// The map that the table has. New pairs will lie in `alloc`, all else in the machine's memory.
+    pub fn from_table(machine: Global, alloc: A, table: Table<A>) -> Map<A>
+        ensures { result ≡ map_of table }
+    {
+        Map {
+            worker: Worker::new(machine, alloc, table),
+        }
+    }
+
+    /// Gives the table out, with its pairs.
+    pub fn into_table(self) -> Table<A>
+        ensures { map_of result ≡ self }
+    {
+        let Map { worker } = self;
+        let Worker { table, .. } = worker;
+        table
+    }
+
+    /// The configuration that the map was made by.
+    pub fn config(&self) -> Config
+        ensures { result ≡ self.now.config }
+    {
+        self.worker.table.config()
+    }
+
+    /// How many pairs there are. It takes the same time however many.
+    pub fn len(&self) -> u64
+        ensures { result ≡ length self.now.pairs }
+    {
+        let book = self.worker.table.book();
+        book.inserted - book.removed
+    }
+
+    /// Whether there is no pair.
+    pub fn is_empty(&self) -> bool
+        ensures { IsTrue result ↔ (self.now.pairs ≡ []) }
+    {
+        self.len() == 0
+    }
+
+    /// The value at the key, if it has one. It takes no memory.
+    #[inline(always)]
+    pub fn get(&self, key: Key) -> Option<u64>
+        ensures { result ≡ at key self.now.pairs }
+    {
+        self.worker.table.get(key)
+    }
+
+    /// The pair with the least key, if there is any. It takes no memory.
+    pub fn first(&self) -> Option<(Key, u64)>
+        ensures { result ≡ first_entry self.now.pairs }
+    {
+        self.worker.table.first()
+    }
+
+    /// The pair with the greatest key, if there is any. It takes no memory.
+    pub fn last(&self) -> Option<(Key, u64)>
+        ensures { result ≡ last_entry self.now.pairs }
+    {
+        self.worker.table.last()
+    }
+
+    /// The pair with the least key at or above the key, if there is one. It takes no memory.
+    pub fn next_at(&self, key: Key) -> Option<(Key, u64)>
+        ensures { result ≡ first_from key self.now.pairs }
+    {
+        self.worker.table.next_at(key)
+    }
+
+    /// The pair with the greatest key at or below the key, if there is one. It takes no memory.
+    pub fn previous_at(&self, key: Key) -> Option<(Key, u64)>
+        ensures { result ≡ last_upto key self.now.pairs }
+    {
+        self.worker.table.previous_at(key)
+    }
+
+    /// The pairs with keys from the low on and below the high, in the order of their keys. They are
+    /// read from the map one after the other, and take no memory.
+    pub fn range(&self, low: Key, high: Fence) -> Range<'_, A>
+        ensures { result ≡ within low (end_of high) self.now.pairs }
+    {
+        Range {
+            table: &self.worker.table,
+            leaf: self.worker.table.leaf_of(low),
+            next: Fence::Key(low),
+            high,
+        }
+    }
+
+    /// All pairs, in the order of their keys: see `range`.
+    pub fn iter(&self) -> Range<'_, A>
+        ensures { result ≡ self.now.pairs }
+    {
+        // The law of the table is told with the worker.
+        let _worker = &self.worker;
+        self.range(0, Fence::Top)
+    }
+
+    /// Gives the key the value, unless the key is there: then it keeps its value, which the reply tells.
+    pub fn put(&mut self, key: Key, value: u64) -> Result<Done<Put>, Fault>
+        ensures reply { IfOk result (λ done. before_put done.reply ≡ at key self.old.pairs) }
+        ensures pairs { IfOk result (λ done. self.new.pairs ≡ after_put key value done.reply self.old.pairs) }
+        ensures unchanged { OnErr result (self.new.pairs ≡ self.old.pairs) }
+        ensures config { self.new.config ≡ self.old.config }
+    {
+        self.worker.put(key, value)
+    }
+
+    /// Gives the key the value, whether it is there or not. The reply tells the value that it had.
+    pub fn set(&mut self, key: Key, value: u64) -> Result<Done<Set>, Fault>
+        ensures reply { IfOk result (λ done. before_set done.reply ≡ at key self.old.pairs) }
+        ensures pairs { IfOk result (λ done. self.new.pairs ≡ put key value self.old.pairs) }
+        ensures unchanged { OnErr result (self.new.pairs ≡ self.old.pairs) }
+        ensures config { self.new.config ≡ self.old.config }
+    {
+        self.worker.set(key, value)
+    }
+
+    /// Takes the key out, if it is there. The reply tells the value that it had.
+    pub fn delete(&mut self, key: Key) -> Result<Done<Del>, Fault>
+        ensures reply { IfOk result (λ done. before_delete done.reply ≡ at key self.old.pairs) }
+        ensures pairs { IfOk result (λ done. self.new.pairs ≡ without key self.old.pairs) }
+        ensures unchanged { OnErr result (self.new.pairs ≡ self.old.pairs) }
+        ensures config { self.new.config ≡ self.old.config }
+    {
+        self.worker.delete(key)
+    }
+
+    /// Takes out the keys from the low on and below the high, and tells how many. Where a fault ends it
+    /// before, it took out some of them, and no others.
+    pub fn clear(&mut self, low: Key, high: Fence) -> Cleared
+        ensures cleared { result.fault ≡ None → self.new.pairs ≡ outside low (end_of high) self.old.pairs }
+        ensures others { outside low (end_of high) self.new.pairs ≡ outside low (end_of high) self.old.pairs }
+        ensures fewer { (key value : ℕ) → at key self.new.pairs ≡ Some value → at key self.old.pairs ≡ Some value }
+        ensures count { length self.new.pairs + result.removed ≡ length self.old.pairs }
+        ensures config { self.new.config ≡ self.old.config }
+    {
+        self.worker.clear(low, high)
+    }
+}

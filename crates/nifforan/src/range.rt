@@ -1,0 +1,110 @@
+//! The pairs of a map in a range of keys, one after the other.
+
+ghost use Rattle.std.specs.Prelude.{◌≡◌, IfSome, IfNone};
+ghost use Rattle.bw_keys.specs.Ranges.{end_of, key_count};
+ghost use Rattle.bw_table.specs.Orders.{HasNoKeyWithin, IsNextAt};
+ghost use Rattle.nifforan.specs.Reading.{IsLeafFor, below_end, end_past};
+
+use bw_keys::{Fence, Key};
+use bw_table::{LeafRef, Table};
+use std::alloc::Allocator;
+use std::marker::Model;
+
+/// The pairs of a map whose keys lie in a range, in the order of their keys. It takes no memory: it
+/// holds a leaf of the map, and searches for the next one only at the leaf's end.
+#[derive(Drop)]
+pub struct Range<'m, A: Allocator + Copy> {
+    pub(crate) table: &'m Table<A>,
+    pub(crate) leaf: LeafRef<'m, A>,
+    /// Where the keys begin that are left.
+    pub(crate) next: Fence,
+    /// Where they end.
+    pub(crate) high: Fence,
+}
+
+impl<'m, A: Allocator + Copy> Model for Range<'m, A> {
+    ghost use Rattle.std.specs.Coded.{coded_list, coded×, coded_ℕ};
+    ghost use Rattle.bw_keys.specs.Ranges.{end_of};
+    ghost use Rattle.nifforan.specs.Maps.{Pairs, pairs_of, within};
+    ghost use Rattle.nifforan.specs.Reading.{IsLeafFor};
+
+    ghost Value = { Pairs };
+
+    ghost coded = { coded_list (coded× coded_ℕ coded_ℕ) };
+
+    ghost view = { λ r. within (end_of r.next) (end_of r.high) (pairs_of r.table.now.slots) };
+
+    ghost invariant = { λ r. IsLeafFor r.table.now r.leaf (end_of r.next) };
+}
+
+impl<'m, A: Allocator + Copy> Iterator for Range<'m, A> {
+    ghost use Rattle.std.specs.Iterator.{YieldsFirst, item_count};
+
+    type Item = (Key, u64);
+
+    ghost next_gives = { YieldsFirst (λ left. left) };
+
+    ghost remaining = { item_count (λ left. left) };
+
+    fn next(&mut self) -> Option<(Key, u64)> {
+        let from = match self.next {
+            Fence::Key(from) => from,
+            Fence::Top => return None,
+        };
+        let pair = below(self.high, next_from(self.table, &mut self.leaf, from));
+        self.next = past(pair);
+        pair
+    }
+}
+
+/// The pair, if its key lies below the fence.
+#[inline(always)]
+fn below(high: Fence, pair: Option<(Key, u64)>) -> Option<(Key, u64)>
+    ensures { result ≡ below_end (end_of high) pair }
+{
+    match pair {
+        Some(pair) if high.is_above(pair.0) => Some(pair),
+        _ => None,
+    }
+}
+
+/// Where the keys begin that come after the pair; past all keys where there is none.
+#[inline(always)]
+fn past(pair: Option<(Key, u64)>) -> Fence
+    ensures { end_of result ≡ end_past pair }
+{
+    let Some((key, _)) = pair else {
+        return Fence::Top;
+    };
+    match key.checked_add(1) {
+        Some(next) => Fence::Key(next),
+        None => Fence::Top,
+    }
+}
+
+/// The pair of the table with the least key at or above the key, if there is one. The leaf has it then.
+fn next_from<'m, A: Allocator + Copy>(
+    table: &'m Table<A>,
+    leaf: &mut LeafRef<'m, A>,
+    key: Key,
+) -> Option<(Key, u64)>
+    requires { IsLeafFor table.now leaf.old key }
+    ensures next { IfSome result (IsNextAt table.now key) }
+    ensures none { IfNone result (HasNoKeyWithin table.now key key_count) }
+    ensures leaf { IfSome result (λ pair. IsLeafFor table.now leaf.new pair.0) }
+    ensures last { IsLeafFor table.now leaf.new key_count }
+{
+    let mut from = key;
+    'leaves: loop {
+        if let Some(pair) = leaf.next_at(from) {
+            return Some(pair);
+        }
+        match leaf.high() {
+            Fence::Key(high) => {
+                from = from.max(high);
+                *leaf = table.leaf_of(from);
+            }
+            Fence::Top => return None,
+        }
+    }
+}

@@ -1,0 +1,138 @@
+//! The ordered map for C: a handle of eight bytes, and calls on it.
+//!
+//! A handle begins as zero, which is closed. `include/nifforan.h` tells C's side of each call.
+#![tactic(auto)]
+
+ghost use Rattle.std.specs.Prelude.{◌≡◌, ◌≢◌, ◌↔◌, ℕ, ◌+◌, None, Some, IfSome, length, take, drop, min};
+ghost use Rattle.bw_keys.specs.Limits.{first_bad_field};
+ghost use Rattle.bw_delta.specs.Entries.{at, put, without};
+ghost use Rattle.nifforan.specs.Maps.{outside};
+ghost use Rattle.nifforan_handle.specs.Answers.{had, next_key, IsCare};
+ghost use Rattle.nifforan_handle.specs.Held.{pairs_in, pairs_from, config_in, empty_map, put_if_absent};
+ghost use Rattle.nifforan_handle.specs.Reading.{are_pairs, first_key};
+ghost use Rattle.nifforan_handle.specs.Statuses.{config_of, status_of_field, IsStatus};
+ghost use Rattle.nifforan_handle.specs.declared.status.TheConstants.{CLOSED, NO_MEMORY, OK, OPEN};
+
+pub use nifforan_handle::{Cleared, Count, Handle, Pair, Read, Reply, Settings};
+use std::alloc::Global;
+
+/// Opens a map without pairs at a closed handle. With any status but `OK` the handle stays as it is:
+/// `OPEN` where it holds a map, else that of the first setting out of its range, else `NO_MEMORY`.
+#[unsafe(no_mangle)]
+pub extern "C" fn nifforan_create(alloc: Global, map: &mut Handle, settings: &Settings) -> u32
+    ensures open { map.old.held ≢ None ↔ result ≡ OPEN }
+    ensures setting { map.old.held ≡ None → IfSome (first_bad_field (config_of settings.now)) (λ field. result ≡ status_of_field field) }
+    ensures memory { map.old.held ≡ None → first_bad_field (config_of settings.now) ≡ None → result ≢ OK → result ≡ NO_MEMORY }
+    ensures new { result ≡ OK → map.new.held ≡ Some (empty_map (config_of settings.now)) }
+    ensures unchanged { result ≢ OK → map.new.held ≡ map.old.held }
+{
+    map.create(alloc, settings)
+}
+
+/// How many pairs the map has.
+#[unsafe(no_mangle)]
+pub extern "C" fn nifforan_pairs(alloc: Global, map: &mut Handle) -> Count
+    ensures closed { map.old.held ≡ None ↔ result.status ≡ CLOSED }
+    ensures open { map.old.held ≢ None ↔ result.status ≡ OK }
+    ensures pairs { result.pairs ≡ length (pairs_in map.old.held) }
+    ensures unchanged { map.new.held ≡ map.old.held }
+{
+    map.pairs(alloc)
+}
+
+/// The value at the key, if it has one. It takes no memory.
+#[unsafe(no_mangle)]
+pub extern "C" fn nifforan_get(alloc: Global, map: &mut Handle, key: u64) -> Reply
+    ensures closed { map.old.held ≡ None ↔ result.status ≡ CLOSED }
+    ensures open { map.old.held ≢ None ↔ result.status ≡ OK }
+    ensures value { had result ≡ at key (pairs_in map.old.held) }
+    ensures care { result.care ≡ OK }
+    ensures unchanged { map.new.held ≡ map.old.held }
+{
+    map.get(alloc, key)
+}
+
+/// Gives the key the value, unless the key is there: then it keeps its value, which the reply tells.
+#[unsafe(no_mangle)]
+pub extern "C" fn nifforan_put(alloc: Global, map: &mut Handle, key: u64, value: u64) -> Reply
+    ensures closed { map.old.held ≡ None ↔ result.status ≡ CLOSED }
+    ensures reply { result.status ≡ OK → had result ≡ at key (pairs_in map.old.held) }
+    ensures pairs { result.status ≡ OK → pairs_in map.new.held ≡ put_if_absent key value (pairs_in map.old.held) }
+    ensures status { IsStatus result.status }
+    ensures care { IsCare result }
+    ensures unchanged { result.status ≢ OK → map.new.held ≡ map.old.held }
+    ensures config { config_in map.new.held ≡ config_in map.old.held }
+{
+    map.put(alloc, key, value)
+}
+
+/// Gives the key the value, whether it is there or not. The reply tells the value that it had.
+#[unsafe(no_mangle)]
+pub extern "C" fn nifforan_set(alloc: Global, map: &mut Handle, key: u64, value: u64) -> Reply
+    ensures closed { map.old.held ≡ None ↔ result.status ≡ CLOSED }
+    ensures reply { result.status ≡ OK → had result ≡ at key (pairs_in map.old.held) }
+    ensures pairs { result.status ≡ OK → pairs_in map.new.held ≡ put key value (pairs_in map.old.held) }
+    ensures status { IsStatus result.status }
+    ensures care { IsCare result }
+    ensures unchanged { result.status ≢ OK → map.new.held ≡ map.old.held }
+    ensures config { config_in map.new.held ≡ config_in map.old.held }
+{
+    map.set(alloc, key, value)
+}
+
+/// Takes the key out, if it is there. The reply tells the value that it had.
+#[unsafe(no_mangle)]
+pub extern "C" fn nifforan_delete(alloc: Global, map: &mut Handle, key: u64) -> Reply
+    ensures closed { map.old.held ≡ None ↔ result.status ≡ CLOSED }
+    ensures reply { result.status ≡ OK → had result ≡ at key (pairs_in map.old.held) }
+    ensures pairs { result.status ≡ OK → pairs_in map.new.held ≡ without key (pairs_in map.old.held) }
+    ensures status { IsStatus result.status }
+    ensures care { IsCare result }
+    ensures unchanged { result.status ≢ OK → map.new.held ≡ map.old.held }
+    ensures config { config_in map.new.held ≡ config_in map.old.held }
+{
+    map.delete(alloc, key)
+}
+
+/// Takes out the keys from the low to the high, both included, and tells how many. Where a fault ends
+/// it before, it took out some of them, and no others.
+#[unsafe(no_mangle)]
+pub extern "C" fn nifforan_clear(alloc: Global, map: &mut Handle, low: u64, high: u64) -> Cleared
+    ensures closed { map.old.held ≡ None ↔ result.status ≡ CLOSED }
+    ensures status { IsStatus result.status }
+    ensures cleared { result.status ≡ OK → pairs_in map.new.held ≡ outside low (high + 1) (pairs_in map.old.held) }
+    ensures others { outside low (high + 1) (pairs_in map.new.held) ≡ outside low (high + 1) (pairs_in map.old.held) }
+    ensures fewer { (key value : ℕ) → at key (pairs_in map.new.held) ≡ Some value → at key (pairs_in map.old.held) ≡ Some value }
+    ensures count { length (pairs_in map.new.held) + result.removed ≡ length (pairs_in map.old.held) }
+    ensures config { config_in map.new.held ≡ config_in map.old.held }
+{
+    map.clear(alloc, low, high)
+}
+
+/// Reads the pairs from the key on, in the order of their keys, until the room is full or none is left,
+/// and tells the key of the next one. It takes no memory.
+#[unsafe(no_mangle)]
+pub extern "C" fn nifforan_read(
+    alloc: Global,
+    map: &mut Handle,
+    key: u64,
+    pairs: &mut [Pair],
+) -> Read
+    ensures closed { map.old.held ≡ None ↔ result.status ≡ CLOSED }
+    ensures open { map.old.held ≢ None ↔ result.status ≡ OK }
+    ensures count { result.count ≡ min (length pairs.old) (length (pairs_from key map.old.held)) }
+    ensures pairs { are_pairs (take result.count pairs.new) ≡ take result.count (pairs_from key map.old.held) }
+    ensures rest { drop result.count pairs.new ≡ drop result.count pairs.old }
+    ensures next { next_key result ≡ first_key (drop result.count (pairs_from key map.old.held)) }
+    ensures unchanged { map.new.held ≡ map.old.held }
+{
+    map.read(alloc, key, pairs)
+}
+
+/// Closes the handle, and frees its map. A closed handle stays closed.
+#[unsafe(no_mangle)]
+pub extern "C" fn nifforan_close(alloc: Global, map: &mut Handle)
+    ensures { map.new.held ≡ None }
+{
+    map.close(alloc);
+}

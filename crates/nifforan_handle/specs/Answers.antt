@@ -1,0 +1,22 @@
+-- What an answer tells.
+use Rattle.std.specs.Prelude.{◌≡◌, ◌≢◌, ℕ, Bool, true, false, Option, Some, None}
+use Rattle.nifforan_handle.specs.declared.answer.Read.{Read}
+use Rattle.nifforan_handle.specs.declared.answer.Reply.{Reply}
+use Rattle.nifforan_handle.specs.declared.status.TheConstants.{OK}
+use Rattle.nifforan_handle.specs.Statuses.{TellsFault}
+
+abbrev number_if : Bool → ℕ → Option ℕ
+number_if true n = Some n
+number_if false n = None
+
+-- the value that the key had before the call, if it had one
+abbrev pub had : Reply → Option ℕ
+had reply = number_if reply.found reply.value
+
+-- the care for the pages is told beside a reply alone: OK, or what cut it short
+abbrev pub IsCare : Reply → Type 0
+IsCare reply = (reply.status ≢ OK → reply.care ≡ OK) × (reply.care ≢ OK → TellsFault reply.care)
+
+-- the key to go on from, if a pair is left
+abbrev pub next_key : Read → Option ℕ
+next_key read = number_if read.has_next read.next

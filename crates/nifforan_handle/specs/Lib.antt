@@ -1,0 +1,5 @@
+pub mod Answers
+pub mod Held
+pub mod Owned
+pub mod Reading
+pub mod Statuses

@@ -1,0 +1,187 @@
+//! What calls answer.
+ghost use Rattle.std.specs.Prelude.{◌≡◌, None, Some, IfOk, IfErr, IfSome};
+ghost use Rattle.nifforan.specs.Maps.{before_put, before_set, before_delete};
+ghost use Rattle.nifforan_handle.specs.Answers.{had, next_key, IsCare};
+ghost use Rattle.nifforan_handle.specs.Statuses.{status_of_fault, status_of, IsStatus};
+ghost use Rattle.nifforan_handle.specs.declared.status.TheConstants.{CLOSED, OK};
+
+use crate::status::{self, CLOSED, OK};
+use nifforan::{Del, Done, Fault, Put, Set};
+
+/// What a call on one key answers.
+#[repr(C)]
+#[derive(Clone, Copy)]
+pub struct Reply {
+    /// `OK` with a reply, or else why there is none: then the map has the pairs that it had.
+    pub status: u32,
+    /// With a reply, `OK`, or what cut the care for the pages short, which a later call takes up again.
+    pub care: u16,
+    /// Whether the key had a value before the call.
+    pub found: bool,
+    /// That value, or 0.
+    pub value: u64,
+}
+
+impl Reply {
+    pub(crate) fn without(status: u32) -> Reply
+        ensures status { result.status ≡ status }
+        ensures had { had result ≡ None }
+        ensures care { result.care ≡ OK }
+    {
+        Reply {
+            status,
+            care: 0,
+            found: false,
+            value: 0,
+        }
+    }
+
+    pub(crate) fn found(before: Option<u64>, fault: Option<Fault>) -> Reply
+        ensures status { result.status ≡ OK }
+        ensures had { had result ≡ before }
+        ensures care { result.care ≡ status_of fault }
+        ensures told { IsCare result }
+    {
+        Reply {
+            status: OK,
+            care: status::of(fault),
+            found: before.is_some(),
+            value: before.unwrap_or(0),
+        }
+    }
+
+    pub(crate) fn of_put(answer: Result<Done<Put>, Fault>) -> Reply
+        ensures reply { IfOk answer (λ done. (result.status ≡ OK) × (had result ≡ before_put done.reply)) }
+        ensures care { IfOk answer (λ done. result.care ≡ status_of done.fault) }
+        ensures fault { IfErr answer (λ fault. result.status ≡ status_of_fault fault) }
+        ensures status { IsStatus result.status }
+        ensures told { IsCare result }
+    {
+        let done = match answer {
+            Ok(done) => done,
+            Err(fault) => return Reply::without(status::of_fault(fault)),
+        };
+        let before = match done.reply {
+            Put::Inserted => None,
+            Put::Present(there) => Some(there),
+        };
+        Reply::found(before, done.fault)
+    }
+
+    pub(crate) fn of_set(answer: Result<Done<Set>, Fault>) -> Reply
+        ensures reply { IfOk answer (λ done. (result.status ≡ OK) × (had result ≡ before_set done.reply)) }
+        ensures care { IfOk answer (λ done. result.care ≡ status_of done.fault) }
+        ensures fault { IfErr answer (λ fault. result.status ≡ status_of_fault fault) }
+        ensures status { IsStatus result.status }
+        ensures told { IsCare result }
+    {
+        let done = match answer {
+            Ok(done) => done,
+            Err(fault) => return Reply::without(status::of_fault(fault)),
+        };
+        let before = match done.reply {
+            Set::Inserted => None,
+            Set::Replaced(old) => Some(old),
+        };
+        Reply::found(before, done.fault)
+    }
+
+    pub(crate) fn of_delete(answer: Result<Done<Del>, Fault>) -> Reply
+        ensures reply { IfOk answer (λ done. (result.status ≡ OK) × (had result ≡ before_delete done.reply)) }
+        ensures care { IfOk answer (λ done. result.care ≡ status_of done.fault) }
+        ensures fault { IfErr answer (λ fault. result.status ≡ status_of_fault fault) }
+        ensures status { IsStatus result.status }
+        ensures told { IsCare result }
+    {
+        let done = match answer {
+            Ok(done) => done,
+            Err(fault) => return Reply::without(status::of_fault(fault)),
+        };
+        let before = match done.reply {
+            Del::Removed(old) => Some(old),
+            Del::NoKey => None,
+        };
+        Reply::found(before, done.fault)
+    }
+}
+
+/// How many pairs a map has.
+#[repr(C)]
+#[derive(Clone, Copy)]
+pub struct Count {
+    /// `OK` or `CLOSED`.
+    pub status: u32,
+    pub pairs: u64,
+}
+
+/// What came of the removal of a range of keys.
+#[repr(C)]
+#[derive(Clone, Copy)]
+pub struct Cleared {
+    /// `OK`, or what ended the call before its range did.
+    pub status: u32,
+    /// How many keys were taken out.
+    pub removed: u64,
+}
+
+impl Cleared {
+    pub(crate) fn of(cleared: nifforan::Cleared) -> Cleared
+        ensures status { result.status ≡ status_of cleared.fault }
+        ensures told { IsStatus result.status }
+        ensures removed { result.removed ≡ cleared.removed }
+    {
+        Cleared {
+            status: status::of(cleared.fault) as u32,
+            removed: cleared.removed,
+        }
+    }
+}
+
+#[repr(C)]
+#[derive(Clone, Copy)]
+pub struct Pair {
+    pub key: u64,
+    pub value: u64,
+}
+
+/// What came of the reading of pairs.
+#[repr(C)]
+#[derive(Clone, Copy)]
+pub struct Read {
+    /// How many pairs were read.
+    pub count: usize,
+    /// The key of the next pair, or 0.
+    pub next: u64,
+    /// Whether there is a next pair.
+    pub has_next: bool,
+    /// `OK` or `CLOSED`.
+    pub status: u32,
+}
+
+impl Read {
+    pub(crate) fn closed() -> Read
+        ensures status { result.status ≡ CLOSED }
+        ensures count { result.count ≡ 0 }
+        ensures next { next_key result ≡ None }
+    {
+        Read {
+            count: 0,
+            next: 0,
+            has_next: false,
+            status: CLOSED,
+        }
+    }
+
+    pub(crate) fn of(count: usize, next: Option<u64>) -> Read
+        ensures status { result.status ≡ OK }
+        ensures count { result.count ≡ count }
+        ensures next { next_key result ≡ next }
+    {
+        Read {
+            count,
+            next: next.unwrap_or(0),
+            has_next: next.is_some(),
+            status: OK,
+        }
+    }
+}

@@ -1,0 +1,196 @@
+//! What the calls for C do.
+
+ghost use Rattle.std.specs.Prelude.{◌≡◌, ◌≢◌, ◌↔◌, ℕ, ◌+◌, None, Some, IfSome, length, take, drop, min};
+ghost use Rattle.bw_keys.specs.Limits.{first_bad_field};
+ghost use Rattle.bw_keys.specs.Ranges.{end_of};
+ghost use Rattle.bw_delta.specs.Entries.{at, put, without};
+ghost use Rattle.nifforan.specs.Maps.{outside};
+ghost use Rattle.nifforan_handle.specs.Answers.{had, next_key, IsCare};
+ghost use Rattle.nifforan_handle.specs.Held.{pairs_in, pairs_from, config_in, empty_map, put_if_absent};
+ghost use Rattle.nifforan_handle.specs.Reading.{are_pairs, first_key};
+ghost use Rattle.nifforan_handle.specs.Statuses.{config_of, status_of_field, IsStatus};
+ghost use Rattle.nifforan_handle.specs.declared.status.TheConstants.{CLOSED, NO_MEMORY, OK, OPEN};
+
+use crate::answer::{Cleared, Count, Pair, Read, Reply};
+use crate::handle::Handle;
+use crate::read;
+use crate::settings::Settings;
+use crate::status::{self, CLOSED, NO_MEMORY, OK, OPEN};
+use bw_keys::{Fence, Key};
+use nifforan::{Map, NewFault};
+use std::alloc::Global;
+
+impl Handle {
+    /// Opens a map without pairs at a closed handle. With any status but `OK` the handle stays as it is:
+    /// `OPEN` where it holds a map, else that of the first setting out of its range, else `NO_MEMORY`.
+    pub fn create(&mut self, alloc: Global, settings: &Settings) -> u32
+        ensures open { self.old.held ≢ None ↔ result ≡ OPEN }
+        ensures setting { self.old.held ≡ None → IfSome (first_bad_field (config_of settings.now)) (λ field. result ≡ status_of_field field) }
+        ensures memory { self.old.held ≡ None → first_bad_field (config_of settings.now) ≡ None → result ≢ OK → result ≡ NO_MEMORY }
+        ensures new { result ≡ OK → self.new.held ≡ Some (empty_map (config_of settings.now)) }
+        ensures unchanged { result ≢ OK → self.new.held ≡ self.old.held }
+    {
+        if let Some(held) = self.take(alloc) {
+            self.hold(alloc, held);
+            return OPEN;
+        }
+        let made = match Map::new(alloc, alloc, settings.config()) {
+            Ok(made) => made,
+            Err(NewFault::BadConfig(bad)) => return status::of_field(bad.0),
+            Err(NewFault::NoMemory) => return NO_MEMORY,
+        };
+        match Box::new(alloc, made) {
+            Ok(made) => {
+                self.hold(alloc, made);
+                OK
+            }
+            Err(_) => NO_MEMORY,
+        }
+    }
+
+    /// How many pairs the map has.
+    pub fn pairs(&mut self, alloc: Global) -> Count
+        ensures closed { self.old.held ≡ None ↔ result.status ≡ CLOSED }
+        ensures open { self.old.held ≢ None ↔ result.status ≡ OK }
+        ensures pairs { result.pairs ≡ length (pairs_in self.old.held) }
+        ensures unchanged { self.new.held ≡ self.old.held }
+    {
+        let Some(held) = self.take(alloc) else {
+            return Count {
+                status: CLOSED,
+                pairs: 0,
+            };
+        };
+        let pairs = held.len();
+        self.hold(alloc, held);
+        Count { status: OK, pairs }
+    }
+
+    /// The value at the key, if it has one. It takes no memory.
+    pub fn get(&mut self, alloc: Global, key: u64) -> Reply
+        ensures closed { self.old.held ≡ None ↔ result.status ≡ CLOSED }
+        ensures open { self.old.held ≢ None ↔ result.status ≡ OK }
+        ensures value { had result ≡ at key (pairs_in self.old.held) }
+        ensures care { result.care ≡ OK }
+        ensures unchanged { self.new.held ≡ self.old.held }
+    {
+        let Some(held) = self.take(alloc) else {
+            return Reply::without(CLOSED);
+        };
+        let reply = Reply::found(held.get(key), None);
+        self.hold(alloc, held);
+        reply
+    }
+
+    /// Gives the key the value, unless the key is there: then it keeps its value, which the reply tells.
+    pub fn put(&mut self, alloc: Global, key: u64, value: u64) -> Reply
+        ensures closed { self.old.held ≡ None ↔ result.status ≡ CLOSED }
+        ensures reply { result.status ≡ OK → had result ≡ at key (pairs_in self.old.held) }
+        ensures pairs { result.status ≡ OK → pairs_in self.new.held ≡ put_if_absent key value (pairs_in self.old.held) }
+        ensures status { IsStatus result.status }
+        ensures care { IsCare result }
+        ensures unchanged { result.status ≢ OK → self.new.held ≡ self.old.held }
+        ensures config { config_in self.new.held ≡ config_in self.old.held }
+    {
+        let Some(mut held) = self.take(alloc) else {
+            return Reply::without(CLOSED);
+        };
+        let reply = Reply::of_put(held.put(key, value));
+        self.hold(alloc, held);
+        reply
+    }
+
+    /// Gives the key the value, whether it is there or not. The reply tells the value that it had.
+    pub fn set(&mut self, alloc: Global, key: u64, value: u64) -> Reply
+        ensures closed { self.old.held ≡ None ↔ result.status ≡ CLOSED }
+        ensures reply { result.status ≡ OK → had result ≡ at key (pairs_in self.old.held) }
+        ensures pairs { result.status ≡ OK → pairs_in self.new.held ≡ put key value (pairs_in self.old.held) }
+        ensures status { IsStatus result.status }
+        ensures care { IsCare result }
+        ensures unchanged { result.status ≢ OK → self.new.held ≡ self.old.held }
+        ensures config { config_in self.new.held ≡ config_in self.old.held }
+    {
+        let Some(mut held) = self.take(alloc) else {
+            return Reply::without(CLOSED);
+        };
+        let reply = Reply::of_set(held.set(key, value));
+        self.hold(alloc, held);
+        reply
+    }
+
+    /// Takes the key out, if it is there. The reply tells the value that it had.
+    pub fn delete(&mut self, alloc: Global, key: u64) -> Reply
+        ensures closed { self.old.held ≡ None ↔ result.status ≡ CLOSED }
+        ensures reply { result.status ≡ OK → had result ≡ at key (pairs_in self.old.held) }
+        ensures pairs { result.status ≡ OK → pairs_in self.new.held ≡ without key (pairs_in self.old.held) }
+        ensures status { IsStatus result.status }
+        ensures care { IsCare result }
+        ensures unchanged { result.status ≢ OK → self.new.held ≡ self.old.held }
+        ensures config { config_in self.new.held ≡ config_in self.old.held }
+    {
+        let Some(mut held) = self.take(alloc) else {
+            return Reply::without(CLOSED);
+        };
+        let reply = Reply::of_delete(held.delete(key));
+        self.hold(alloc, held);
+        reply
+    }
+
+    /// Takes out the keys from the low to the high, both included, and tells how many. Where a fault ends
+    /// it before, it took out some of them, and no others.
+    pub fn clear(&mut self, alloc: Global, low: u64, high: u64) -> Cleared
+        ensures closed { self.old.held ≡ None ↔ result.status ≡ CLOSED }
+        ensures status { IsStatus result.status }
+        ensures cleared { result.status ≡ OK → pairs_in self.new.held ≡ outside low (high + 1) (pairs_in self.old.held) }
+        ensures others { outside low (high + 1) (pairs_in self.new.held) ≡ outside low (high + 1) (pairs_in self.old.held) }
+        ensures fewer { (key value : ℕ) → at key (pairs_in self.new.held) ≡ Some value → at key (pairs_in self.old.held) ≡ Some value }
+        ensures count { length (pairs_in self.new.held) + result.removed ≡ length (pairs_in self.old.held) }
+        ensures config { config_in self.new.held ≡ config_in self.old.held }
+    {
+        let Some(mut held) = self.take(alloc) else {
+            return Cleared {
+                status: CLOSED,
+                removed: 0,
+            };
+        };
+        let cleared = held.clear(low, past(high));
+        self.hold(alloc, held);
+        Cleared::of(cleared)
+    }
+
+    /// Reads the pairs from the key on, in the order of their keys, until the room is full or none is left,
+    /// and tells the key of the next one. It takes no memory.
+    pub fn read(&mut self, alloc: Global, key: u64, pairs: &mut [Pair]) -> Read
+        ensures closed { self.old.held ≡ None ↔ result.status ≡ CLOSED }
+        ensures open { self.old.held ≢ None ↔ result.status ≡ OK }
+        ensures count { result.count ≡ min (length pairs.old) (length (pairs_from key self.old.held)) }
+        ensures pairs { are_pairs (take result.count pairs.new) ≡ take result.count (pairs_from key self.old.held) }
+        ensures rest { drop result.count pairs.new ≡ drop result.count pairs.old }
+        ensures next { next_key result ≡ first_key (drop result.count (pairs_from key self.old.held)) }
+        ensures unchanged { self.new.held ≡ self.old.held }
+    {
+        let Some(held) = self.take(alloc) else {
+            return Read::closed();
+        };
+        let read = read::pairs_from(&held, key, pairs);
+        self.hold(alloc, held);
+        read
+    }
+
+    /// Closes the handle, and frees its map. A closed handle stays closed.
+    pub fn close(&mut self, alloc: Global)
+        ensures { self.new.held ≡ None }
+    {
+        drop(self.take(alloc));
+    }
+}
+
+/// The fence right above the key.
+fn past(key: Key) -> Fence
+    ensures { end_of result ≡ key + 1 }
+{
+    match key.checked_add(1) {
+        Some(next) => Fence::Key(next),
+        None => Fence::Top,
+    }
+}

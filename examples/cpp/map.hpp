@@ -1,0 +1,76 @@
+// A map of C++ over nifforan.h: it owns its handle, and is moved, never copied.
+#pragma once
+
+#include <cstdint>
+#include <optional>
+#include <stdexcept>
+#include <string>
+#include <utility>
+
+#include "nifforan.h"
+
+namespace nifforan_cpp {
+
+class Fault : public std::runtime_error {
+public:
+    explicit Fault(std::uint32_t status) : std::runtime_error("nifforan: status " + std::to_string(status)), status(status) {}
+    const std::uint32_t status;
+};
+
+class Map {
+public:
+    explicit Map(const nifforan_settings &settings = NIFFORAN_USUAL_SETTINGS) { check(nifforan_create(&handle, &settings)); }
+    ~Map() { nifforan_close(&handle); }
+    Map(const Map &) = delete;
+    Map &operator=(const Map &) = delete;
+    // The map that is moved from is closed: each call on it throws.
+    Map(Map &&other) noexcept : handle(std::exchange(other.handle, nifforan{nullptr})) {}
+    Map &operator=(Map &&other) noexcept {
+        std::swap(handle, other.handle);
+        return *this;
+    }
+
+    std::uint64_t size() {
+        const nifforan_count count = nifforan_pairs(&handle);
+        check(count.status);
+        return count.pairs;
+    }
+    std::optional<std::uint64_t> get(std::uint64_t key) { return value(nifforan_get(&handle, key)); }
+    // Gives the key the value unless it has one, and answers the one that it has.
+    std::optional<std::uint64_t> put(std::uint64_t key, std::uint64_t v) { return value(nifforan_put(&handle, key, v)); }
+    // Gives the key the value, and answers the one that it had.
+    std::optional<std::uint64_t> set(std::uint64_t key, std::uint64_t v) { return value(nifforan_set(&handle, key, v)); }
+    std::optional<std::uint64_t> erase(std::uint64_t key) { return value(nifforan_delete(&handle, key)); }
+    // Takes out the keys from low to high, both included, and answers how many. Where it throws, some of them are out.
+    std::uint64_t clear(std::uint64_t low, std::uint64_t high) {
+        const nifforan_cleared cleared = nifforan_clear(&handle, low, high);
+        check(cleared.status);
+        return cleared.removed;
+    }
+
+    // Calls `visit(key, value)` for each pair from the key on. It may change the map.
+    template <typename Visit> void each_from(std::uint64_t key, Visit visit) {
+        nifforan_pair pairs[64];
+        for (;;) {
+            const nifforan_read_answer read = nifforan_read(&handle, key, pairs, 64);
+            check(read.status);
+            for (std::size_t i = 0; i < read.count; i++) visit(pairs[i].key, pairs[i].value);
+            if (!read.has_next) return;
+            key = read.next;
+        }
+    }
+
+private:
+    static void check(std::uint32_t status) {
+        if (status != NIFFORAN_OK) throw Fault(status);
+    }
+    static std::optional<std::uint64_t> value(const nifforan_reply &reply) {
+        check(reply.status);
+        if (!reply.found) return std::nullopt;
+        return reply.value;
+    }
+
+    nifforan handle = NIFFORAN_CLOSED;
+};
+
+}  // namespace nifforan_cpp
