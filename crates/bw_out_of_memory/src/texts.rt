@@ -12,7 +12,7 @@ use bw_texts::{
 use std::alloc::Global;
 
 /// A writer with room for so many bytes. It takes no memory.
-pub(crate) type Room = ArrayVec<u8, 4096>;
+pub(crate) type Room = ArrayVec<u8, 8192>;
 
 impl From<TextFault> for Stop {
     fn from(fault: TextFault) -> Stop {
