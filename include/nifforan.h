@@ -6,7 +6,8 @@
  *
  * What the library proves of a call holds as long as the caller keeps to this:
  *   - a handle's word is written by these calls alone, and begins as zero;
- *   - an open handle is not copied. To move it, copy it and set the old one to NIFFORAN_CLOSED;
+ *   - an open handle is not copied. To move it, copy it and set the old one to (nifforan)NIFFORAN_CLOSED, in
+ *     C++ to nifforan NIFFORAN_CLOSED;
  *   - one call at a time, on the thread that opened the handle, and none from a signal handler;
  *   - pointers are valid, aligned and not null, also `pairs` where `room` is 0; `pairs` has `room` places; what a call
  *     writes overlaps none of its other arguments;
@@ -53,7 +54,8 @@ typedef struct nifforan {
 typedef struct nifforan_settings {
     uint32_t fanout;        /* the pairs that a page may have before it is split, 4 to 64 */
     uint32_t chain;         /* the changes that a page may carry before it is written anew, 1 to 32 */
-    uint32_t pages;         /* the pages that the map has room for, 8 to 65536 */
+    uint32_t pages;         /* the pages that the map has room for, 8 to 65536. The usual 4096 hold some 28,000 rising or
+                               42,000 random keys; past that each put takes longer, and `care` says so */
     uint32_t tries;         /* the attempts that one call may make, 1 to 1000 */
     uint64_t first_version; /* the version that each page begins with, 0 as a rule: each change of a page takes one, and
                                one past 2^64 - 1 is NIFFORAN_WORN */

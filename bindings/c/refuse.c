@@ -1,6 +1,6 @@
 /* Lets the Nth request for memory be refused, for N from 1 to 2,000, each in a map of its own, and sees that the call
- * that meets it says so, and that the map has the pairs that it should. Linked with
- * -Wl,--wrap=malloc,--wrap=realloc, which leads the library's requests here. */
+ * that meets it says so, that the map has the pairs that it should, and that no block is left once it is closed. Linked
+ * with -Wl,--wrap=malloc,--wrap=realloc,--wrap=free, which leads the library's requests here. */
 #include <inttypes.h>
 #include <stdio.h>
 #include <stdlib.h>
@@ -12,17 +12,28 @@
 #define KEYS 512
 #define CALLS 3000
 
-static uint64_t requests, refused_at;
+/* The requests so far, the one to be refused, and the blocks that are there. */
+static uint64_t requests, refused_at, blocks;
 
 void *__real_malloc(size_t size);
 void *__real_realloc(void *block, size_t size);
+void __real_free(void *block);
 
 void *__wrap_malloc(size_t size) {
-    return ++requests == refused_at ? NULL : __real_malloc(size);
+    void *block = ++requests == refused_at ? NULL : __real_malloc(size);
+    blocks += block != NULL;
+    return block;
 }
 
 void *__wrap_realloc(void *block, size_t size) {
-    return ++requests == refused_at ? NULL : __real_realloc(block, size);
+    void *moved = ++requests == refused_at ? NULL : __real_realloc(block, size);
+    blocks += block == NULL && moved != NULL;
+    return moved;
+}
+
+void __wrap_free(void *block) {
+    blocks -= block != NULL;
+    __real_free(block);
 }
 
 /* Marsaglia's xorshift. */
@@ -164,7 +175,7 @@ static bool refuse(uint64_t at) {
     bool met = requests >= at;
     MUST(status == (met ? NIFFORAN_NO_MEMORY : NIFFORAN_OK));
     if (met) {
-        MUST(map.at == NULL);
+        MUST(map.at == NULL && blocks == 0);
         MUST(nifforan_create(&map, &settings) == NIFFORAN_OK);
     }
     for (int i = 0; i < CALLS; i++) {
@@ -175,6 +186,7 @@ static bool refuse(uint64_t at) {
     }
     same_pairs(&map);
     nifforan_close(&map);
+    MUST(blocks == 0);
     return met;
 }
 

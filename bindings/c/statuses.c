@@ -1,5 +1,5 @@
-/* Statuses as the header tells them: of closed and open handles, of settings, of a map whose pages have no version left,
- * and of keys and rooms at their limits. */
+/* Statuses as the header tells them: of closed and open handles, of settings, of a map whose pages have no version left or
+ * that has no page left, and of keys and rooms at their limits. */
 #include <inttypes.h>
 #include <stdio.h>
 #include <stdlib.h>
@@ -94,11 +94,30 @@ static void worn(void) {
     nifforan_close(&map);
 }
 
+/* A map without a free page says so, and has each pair that it took. */
+static void full(void) {
+    nifforan map = NIFFORAN_CLOSED;
+    const nifforan_settings few = { 4, 1, 8, 1000, 0 };
+    uint64_t told = 0, taken = 0;
+    MUST(nifforan_create(&map, &few) == NIFFORAN_OK);
+    for (uint64_t key = 0; key < 100; key++) {
+        const nifforan_reply put = nifforan_put(&map, key, key);
+        const uint32_t said = put.status == NIFFORAN_OK ? put.care : put.status;
+        MUST(said == NIFFORAN_OK || said == NIFFORAN_TABLE_FULL);
+        told += said == NIFFORAN_TABLE_FULL;
+        taken += put.status == NIFFORAN_OK;
+        MUST(nifforan_get(&map, key).found == (put.status == NIFFORAN_OK));
+    }
+    MUST(told > 0 && nifforan_pairs(&map).pairs == taken);
+    nifforan_close(&map);
+}
+
 int main(void) {
     nifforan map = NIFFORAN_CLOSED;
     is_closed(&map);
     settings();
     worn();
+    full();
     MUST(nifforan_create(&map, &usual) == NIFFORAN_OK);
     reply_is(nifforan_set(&map, 7, 49), false, 0);
     MUST(nifforan_create(&map, &usual) == NIFFORAN_OPEN_HANDLE);
@@ -106,6 +125,6 @@ int main(void) {
     limits(&map);
     nifforan_close(&map);
     is_closed(&map);
-    printf("each status is as the header tells it\n");
+    printf("the statuses are as the header tells them\n");
     return 0;
 }

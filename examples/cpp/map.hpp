@@ -26,7 +26,8 @@ public:
     // The map that is moved from is closed: each call on it throws.
     Map(Map &&other) noexcept : handle(std::exchange(other.handle, nifforan{nullptr})) {}
     Map &operator=(Map &&other) noexcept {
-        std::swap(handle, other.handle);
+        Map moved(std::move(other));
+        std::swap(handle, moved.handle);
         return *this;
     }
 
@@ -36,7 +37,7 @@ public:
         return count.pairs;
     }
     std::optional<std::uint64_t> get(std::uint64_t key) { return value(nifforan_get(&handle, key)); }
-    // Gives the key the value unless it has one, and answers the one that it has.
+    // Gives the key the value unless it has one, and answers the one that it had.
     std::optional<std::uint64_t> put(std::uint64_t key, std::uint64_t v) { return value(nifforan_put(&handle, key, v)); }
     // Gives the key the value, and answers the one that it had.
     std::optional<std::uint64_t> set(std::uint64_t key, std::uint64_t v) { return value(nifforan_set(&handle, key, v)); }

@@ -36,7 +36,11 @@ struct Both {
 
 impl Both {
     fn new(settings: &Settings) -> Both {
-        Both { map: Map::new(settings).expect("the settings are good"), plain: BTreeMap::new(), full: Full::default() }
+        Both {
+            map: Map::new(settings).expect("the settings are good"),
+            plain: BTreeMap::new(),
+            full: Full::default(),
+        }
     }
 
     /// One call, by drawn numbers: which, on which key, with which value.
@@ -104,25 +108,42 @@ impl Both {
     }
 
     fn range(&self, keys: Range<u64>) {
-        assert!(self.map.range(keys.clone()).eq(self.plain.range(keys).map(|(key, value)| (*key, *value))));
+        assert!(self
+            .map
+            .range(keys.clone())
+            .eq(self.plain.range(keys).map(|(key, value)| (*key, *value))));
     }
 
     /// Where the map is full, as many keys are gone as it says.
     fn clear(&mut self, keys: Range<u64>) {
-        let there: Vec<u64> = self.plain.range(keys.clone()).map(|(key, _)| *key).collect();
+        let there: Vec<u64> = self
+            .plain
+            .range(keys.clone())
+            .map(|(key, _)| *key)
+            .collect();
         let answer = self.map.clear(keys);
-        let gone = there.iter().filter(|key| self.map.get(**key).is_none()).filter_map(|key| self.plain.remove(key)).count();
+        let gone = there
+            .iter()
+            .filter(|key| self.map.get(**key).is_none())
+            .filter_map(|key| self.plain.remove(key))
+            .count();
         match answer {
             Ok(removed) => assert_eq!((removed, gone), (there.len() as u64, there.len())),
             Err(ended) => {
-                assert_eq!((ended.fault, ended.removed), (Fault::TableFull, gone as u64));
+                assert_eq!(
+                    (ended.fault, ended.removed),
+                    (Fault::TableFull, gone as u64)
+                );
                 self.is_full();
             }
         }
     }
 
     fn same_pairs(&self) {
-        assert!(self.map.iter().eq(self.plain.iter().map(|(key, value)| (*key, *value))));
+        assert!(self
+            .map
+            .iter()
+            .eq(self.plain.iter().map(|(key, value)| (*key, *value))));
         assert_eq!(self.map.len(), self.plain.len());
     }
 }
@@ -141,7 +162,14 @@ fn compare(dice: &mut Dice, settings: &Settings, calls: u64) -> Full {
 /// A kind of map for each fanout and number of pages, with chains of all lengths among them.
 fn kinds() -> Vec<Settings> {
     (4..=64)
-        .flat_map(|fanout| PAGES.map(|pages| Settings { fanout, pages, chain: 1 + (fanout * 7) % 32, ..Settings::default() }))
+        .flat_map(|fanout| {
+            PAGES.map(|pages| Settings {
+                fanout,
+                pages,
+                chain: 1 + (fanout * 7) % 32,
+                ..Settings::default()
+            })
+        })
         .collect()
 }
 
@@ -152,9 +180,19 @@ fn main() {
     let mut full = Full::default();
     for kind in &kinds {
         let one = compare(&mut dice, kind, calls);
-        full = Full { refused: full.refused + one.refused, cut: full.cut + one.cut };
+        full = Full {
+            refused: full.refused + one.refused,
+            cut: full.cut + one.cut,
+        };
     }
     assert!(full.refused > 0 && full.cut > 0, "no map became full");
-    println!("the same as BTreeMap: {} calls on {} kinds of map", calls * kinds.len() as u64, kinds.len());
-    println!("full maps: {} calls refused, {} with their care cut short, and nothing lost", full.refused, full.cut);
+    println!(
+        "the same as BTreeMap: {} calls on {} kinds of map",
+        calls * kinds.len() as u64,
+        kinds.len()
+    );
+    println!(
+        "full maps: {} calls refused, {} with their care cut short, and nothing lost",
+        full.refused, full.cut
+    );
 }

@@ -41,7 +41,10 @@ extern "C" {
 
 /// The processor time that this process has taken, in nanoseconds.
 fn processor_time() -> i64 {
-    let mut time = Time { seconds: 0, nanoseconds: 0 };
+    let mut time = Time {
+        seconds: 0,
+        nanoseconds: 0,
+    };
     // Safety: the clock is there, and the time is written to a place of its own.
     assert_eq!(unsafe { clock_gettime(PROCESSOR_TIME, &mut time) }, 0);
     time.seconds * 1_000_000_000 + time.nanoseconds
@@ -60,7 +63,12 @@ fn median(rounds: &mut [f64]) -> f64 {
 
 fn library(took: &mut Took, keys: u32, chain: u32) {
     // room for the keys, also where pages are a quarter full
-    let settings = Settings { fanout: 64, chain, pages: (keys / 16).clamp(64, 65536), ..Settings::default() };
+    let settings = Settings {
+        fanout: 64,
+        chain,
+        pages: (keys / 16).clamp(64, 65536),
+        ..Settings::default()
+    };
     let mut map = Map::new(&settings).expect("the settings are good");
     took.puts.push(nanoseconds(keys, || {
         for n in 0..keys.into() {
@@ -101,13 +109,21 @@ fn rows(keys: u32, rounds: usize) {
     println!("| {keys} | BTreeMap |  | {puts:.0} | {gets:.0} |  |  |");
     for (took, chain) in ours.iter_mut().zip(CHAINS) {
         let (put, get) = (median(&mut took.puts), median(&mut took.gets));
-        println!("| {keys} | nifforan | {chain} | {put:.0} | {get:.0} | {:.2} | {:.2} |", puts / put, gets / get);
+        println!(
+            "| {keys} | nifforan | {chain} | {put:.0} | {get:.0} | {:.2} | {:.2} |",
+            puts / put,
+            gets / get
+        );
     }
 }
 
 fn main() {
-    let rounds = std::env::args().nth(1).map_or(5, |word| word.parse().expect("rounds, a number from 1 on"));
-    println!("| keys | map | chain | put, ns | get, ns | puts by BTreeMap's | gets by BTreeMap's |");
+    let rounds = std::env::args()
+        .nth(1)
+        .map_or(5, |word| word.parse().expect("rounds, a number from 1 on"));
+    println!(
+        "| keys | map | chain | put, ns | get, ns | puts by BTreeMap's | gets by BTreeMap's |"
+    );
     println!("|---|---|---|---|---|---|---|");
     for keys in KEYS {
         rows(keys, rounds);

@@ -2,7 +2,7 @@ use crate::ffi;
 use std::error::Error;
 use std::fmt;
 
-/// Why a call did not do what it was asked for. Then the map has the pairs that it had.
+/// What ended a call, or cut it short. In the place of an answer it says that the map has the pairs that it had.
 #[derive(Clone, Copy, Debug, PartialEq, Eq, Hash)]
 pub enum Fault {
     /// [`Settings::fanout`](crate::Settings::fanout) is out of its range.
@@ -75,7 +75,11 @@ pub struct Unfinished {
 
 impl fmt::Display for Unfinished {
     fn fmt(&self, f: &mut fmt::Formatter<'_>) -> fmt::Result {
-        write!(f, "{} after {} keys were taken out", self.fault, self.removed)
+        write!(
+            f,
+            "{} after {} keys were taken out",
+            self.fault, self.removed
+        )
     }
 }
 

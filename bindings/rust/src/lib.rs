@@ -48,7 +48,8 @@ pub struct Settings {
     pub fanout: u32,
     /// How many changes a page may carry before it is written anew, 1 to 32.
     pub chain: u32,
-    /// How many pages the map has room for, 8 to 65,536.
+    /// How many pages the map has room for, 8 to 65,536. The usual 4,096 hold some 28,000 rising or 42,000 random
+    /// keys; past that each insertion takes longer, and [`Map::care`] says so.
     pub pages: u32,
     /// How many attempts one call may make, 1 to 1,000.
     pub tries: u32,
@@ -60,7 +61,13 @@ pub struct Settings {
 impl Default for Settings {
     /// Pages of 16 pairs and 8 changes, room for 4,096 pages, 1,000 tries, and versions from 0 on.
     fn default() -> Settings {
-        Settings { fanout: 16, chain: 8, pages: 4096, tries: 1000, first_version: 0 }
+        Settings {
+            fanout: 16,
+            chain: 8,
+            pages: 4096,
+            tries: 1000,
+            first_version: 0,
+        }
     }
 }
 
@@ -72,15 +79,20 @@ pub struct Map {
     care: u32,
 }
 
-// Safety of all calls below: the handle is open, its word is written by these calls alone, and as a map is
+// Safety of all calls below: the handle is zero in `new` and open in all others, its word is written by these calls alone, and as a map is
 // neither Send nor Sync, there is one call at a time, on the thread that opened it.
 impl Map {
     /// A map without pairs. A setting out of its range is told by the first such one, and want of memory by
     /// [`Fault::NoMemory`].
     pub fn new(settings: &Settings) -> Result<Map, Fault> {
-        let mut handle = ffi::Handle { at: std::ptr::null_mut() };
+        let mut handle = ffi::Handle {
+            at: std::ptr::null_mut(),
+        };
         match Fault::of(unsafe { ffi::nifforan_create(&mut handle, settings) }) {
-            None => Ok(Map { handle: UnsafeCell::new(handle), care: ffi::OK }),
+            None => Ok(Map {
+                handle: UnsafeCell::new(handle),
+                care: ffi::OK,
+            }),
             Some(fault) => Err(fault),
         }
     }
@@ -143,13 +155,15 @@ impl Map {
         let cleared = unsafe { ffi::nifforan_clear(self.handle.get(), low, high) };
         match Fault::of(cleared.status) {
             None => Ok(cleared.removed),
-            Some(fault) => Err(Unfinished { removed: cleared.removed, fault }),
+            Some(fault) => Err(Unfinished {
+                removed: cleared.removed,
+                fault,
+            }),
         }
     }
 
     /// What cut the care for the pages short in the last `insert`, `insert_if_absent` or `remove`, if anything did.
-    /// Its answer stands all the same; a page is longer or fuller than it should be until a later call takes care
-    /// of it.
+    /// Its answer stands all the same; a split, a merge or the help for one is left to a later call.
     pub fn care(&self) -> Option<Fault> {
         Fault::of(self.care)
     }

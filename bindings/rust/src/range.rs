@@ -21,7 +21,14 @@ pub struct Range<'m> {
 impl<'m> Range<'m> {
     pub(crate) fn of(map: &'m Map, ends: Option<(u64, u64)>) -> Range<'m> {
         let (next, high) = ends.map_or((None, 0), |(low, high)| (Some(low), high));
-        Range { map, places: [Pair { key: 0, value: 0 }; ROOM], first: 0, end: 0, next, high }
+        Range {
+            map,
+            places: [Pair { key: 0, value: 0 }; ROOM],
+            first: 0,
+            end: 0,
+            next,
+            high,
+        }
     }
 }
 
@@ -48,6 +55,10 @@ impl FusedIterator for Range<'_> {}
 
 impl fmt::Debug for Range<'_> {
     fn fmt(&self, f: &mut fmt::Formatter<'_>) -> fmt::Result {
-        f.debug_struct("Range").field("read", &&self.places[self.first..self.end]).field("next", &self.next).field("high", &self.high).finish()
+        f.debug_struct("Range")
+            .field("read", &&self.places[self.first..self.end])
+            .field("next", &self.next)
+            .field("high", &self.high)
+            .finish()
     }
 }

@@ -7,7 +7,7 @@ ghost use Rattle.std.specs.Prelude.{◌≡◌, ◌≢◌, ◌↔◌, ℕ, ◌+�
 ghost use Rattle.bw_keys.specs.Limits.{first_bad_field};
 ghost use Rattle.bw_delta.specs.Entries.{at, put, without};
 ghost use Rattle.nifforan.specs.Maps.{outside};
-ghost use Rattle.nifforan_handle.specs.Answers.{had, next_key, IsCare};
+ghost use Rattle.nifforan_handle.specs.Answers.{had, next_key, IsCare, IsZeroWithout, IsZeroAtEnd};
 ghost use Rattle.nifforan_handle.specs.Held.{pairs_in, pairs_from, config_in, empty_map, put_if_absent};
 ghost use Rattle.nifforan_handle.specs.Reading.{are_pairs, first_key};
 ghost use Rattle.nifforan_handle.specs.Statuses.{config_of, status_of_field, IsStatus};
@@ -46,6 +46,7 @@ pub extern "C" fn nifforan_get(alloc: Global, map: &mut Handle, key: u64) -> Rep
     ensures closed { map.old.held ≡ None ↔ result.status ≡ CLOSED }
     ensures open { map.old.held ≢ None ↔ result.status ≡ OK }
     ensures value { had result ≡ at key (pairs_in map.old.held) }
+    ensures zero { IsZeroWithout result }
     ensures care { result.care ≡ OK }
     ensures unchanged { map.new.held ≡ map.old.held }
 {
@@ -59,6 +60,8 @@ pub extern "C" fn nifforan_put(alloc: Global, map: &mut Handle, key: u64, value:
     ensures reply { result.status ≡ OK → had result ≡ at key (pairs_in map.old.held) }
     ensures pairs { result.status ≡ OK → pairs_in map.new.held ≡ put_if_absent key value (pairs_in map.old.held) }
     ensures status { IsStatus result.status }
+    ensures nothing { result.status ≢ OK → had result ≡ None }
+    ensures zero { IsZeroWithout result }
     ensures care { IsCare result }
     ensures unchanged { result.status ≢ OK → map.new.held ≡ map.old.held }
     ensures config { config_in map.new.held ≡ config_in map.old.held }
@@ -73,6 +76,8 @@ pub extern "C" fn nifforan_set(alloc: Global, map: &mut Handle, key: u64, value:
     ensures reply { result.status ≡ OK → had result ≡ at key (pairs_in map.old.held) }
     ensures pairs { result.status ≡ OK → pairs_in map.new.held ≡ put key value (pairs_in map.old.held) }
     ensures status { IsStatus result.status }
+    ensures nothing { result.status ≢ OK → had result ≡ None }
+    ensures zero { IsZeroWithout result }
     ensures care { IsCare result }
     ensures unchanged { result.status ≢ OK → map.new.held ≡ map.old.held }
     ensures config { config_in map.new.held ≡ config_in map.old.held }
@@ -87,6 +92,8 @@ pub extern "C" fn nifforan_delete(alloc: Global, map: &mut Handle, key: u64) -> 
     ensures reply { result.status ≡ OK → had result ≡ at key (pairs_in map.old.held) }
     ensures pairs { result.status ≡ OK → pairs_in map.new.held ≡ without key (pairs_in map.old.held) }
     ensures status { IsStatus result.status }
+    ensures nothing { result.status ≢ OK → had result ≡ None }
+    ensures zero { IsZeroWithout result }
     ensures care { IsCare result }
     ensures unchanged { result.status ≢ OK → map.new.held ≡ map.old.held }
     ensures config { config_in map.new.held ≡ config_in map.old.held }
@@ -124,6 +131,7 @@ pub extern "C" fn nifforan_read(
     ensures pairs { are_pairs (take result.count pairs.new) ≡ take result.count (pairs_from key map.old.held) }
     ensures rest { drop result.count pairs.new ≡ drop result.count pairs.old }
     ensures next { next_key result ≡ first_key (drop result.count (pairs_from key map.old.held)) }
+    ensures zero { IsZeroAtEnd result }
     ensures unchanged { map.new.held ≡ map.old.held }
 {
     map.read(alloc, key, pairs)

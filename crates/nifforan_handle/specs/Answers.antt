@@ -13,6 +13,10 @@ number_if false n = None
 abbrev pub had : Reply → Option ℕ
 had reply = number_if reply.found reply.value
 
+-- where the key had no value, the number in its place is 0
+abbrev pub IsZeroWithout : Reply → Type 0
+IsZeroWithout reply = reply.found ≡ false → reply.value ≡ 0
+
 -- the care for the pages is told beside a reply alone: OK, or what cut it short
 abbrev pub IsCare : Reply → Type 0
 IsCare reply = (reply.status ≢ OK → reply.care ≡ OK) × (reply.care ≢ OK → TellsFault reply.care)
@@ -20,3 +24,7 @@ IsCare reply = (reply.status ≢ OK → reply.care ≡ OK) × (reply.care ≢ OK
 -- the key to go on from, if a pair is left
 abbrev pub next_key : Read → Option ℕ
 next_key read = number_if read.has_next read.next
+
+-- where no pair is left, the number in its key's place is 0
+abbrev pub IsZeroAtEnd : Read → Type 0
+IsZeroAtEnd read = read.has_next ≡ false → read.next ≡ 0

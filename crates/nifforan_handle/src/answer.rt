@@ -1,7 +1,7 @@
 //! What calls answer.
 ghost use Rattle.std.specs.Prelude.{◌≡◌, None, Some, IfOk, IfErr, IfSome};
 ghost use Rattle.nifforan.specs.Maps.{before_put, before_set, before_delete};
-ghost use Rattle.nifforan_handle.specs.Answers.{had, next_key, IsCare};
+ghost use Rattle.nifforan_handle.specs.Answers.{had, next_key, IsCare, IsZeroWithout, IsZeroAtEnd};
 ghost use Rattle.nifforan_handle.specs.Statuses.{status_of_fault, status_of, IsStatus};
 ghost use Rattle.nifforan_handle.specs.declared.status.TheConstants.{CLOSED, OK};
 
@@ -27,6 +27,7 @@ impl Reply {
         ensures status { result.status ≡ status }
         ensures had { had result ≡ None }
         ensures care { result.care ≡ OK }
+        ensures zero { IsZeroWithout result }
     {
         Reply {
             status,
@@ -41,6 +42,7 @@ impl Reply {
         ensures had { had result ≡ before }
         ensures care { result.care ≡ status_of fault }
         ensures told { IsCare result }
+        ensures zero { IsZeroWithout result }
     {
         Reply {
             status: OK,
@@ -54,8 +56,10 @@ impl Reply {
         ensures reply { IfOk answer (λ done. (result.status ≡ OK) × (had result ≡ before_put done.reply)) }
         ensures care { IfOk answer (λ done. result.care ≡ status_of done.fault) }
         ensures fault { IfErr answer (λ fault. result.status ≡ status_of_fault fault) }
+        ensures nothing { IfErr answer (λ fault. had result ≡ None) }
         ensures status { IsStatus result.status }
         ensures told { IsCare result }
+        ensures zero { IsZeroWithout result }
     {
         let done = match answer {
             Ok(done) => done,
@@ -72,8 +76,10 @@ impl Reply {
         ensures reply { IfOk answer (λ done. (result.status ≡ OK) × (had result ≡ before_set done.reply)) }
         ensures care { IfOk answer (λ done. result.care ≡ status_of done.fault) }
         ensures fault { IfErr answer (λ fault. result.status ≡ status_of_fault fault) }
+        ensures nothing { IfErr answer (λ fault. had result ≡ None) }
         ensures status { IsStatus result.status }
         ensures told { IsCare result }
+        ensures zero { IsZeroWithout result }
     {
         let done = match answer {
             Ok(done) => done,
@@ -90,8 +96,10 @@ impl Reply {
         ensures reply { IfOk answer (λ done. (result.status ≡ OK) × (had result ≡ before_delete done.reply)) }
         ensures care { IfOk answer (λ done. result.care ≡ status_of done.fault) }
         ensures fault { IfErr answer (λ fault. result.status ≡ status_of_fault fault) }
+        ensures nothing { IfErr answer (λ fault. had result ≡ None) }
         ensures status { IsStatus result.status }
         ensures told { IsCare result }
+        ensures zero { IsZeroWithout result }
     {
         let done = match answer {
             Ok(done) => done,
@@ -163,6 +171,7 @@ impl Read {
         ensures status { result.status ≡ CLOSED }
         ensures count { result.count ≡ 0 }
         ensures next { next_key result ≡ None }
+        ensures zero { IsZeroAtEnd result }
     {
         Read {
             count: 0,
@@ -176,6 +185,7 @@ impl Read {
         ensures status { result.status ≡ OK }
         ensures count { result.count ≡ count }
         ensures next { next_key result ≡ next }
+        ensures zero { IsZeroAtEnd result }
     {
         Read {
             count,

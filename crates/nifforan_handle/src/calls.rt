@@ -5,7 +5,7 @@ ghost use Rattle.bw_keys.specs.Limits.{first_bad_field};
 ghost use Rattle.bw_keys.specs.Ranges.{end_of};
 ghost use Rattle.bw_delta.specs.Entries.{at, put, without};
 ghost use Rattle.nifforan.specs.Maps.{outside};
-ghost use Rattle.nifforan_handle.specs.Answers.{had, next_key, IsCare};
+ghost use Rattle.nifforan_handle.specs.Answers.{had, next_key, IsCare, IsZeroWithout, IsZeroAtEnd};
 ghost use Rattle.nifforan_handle.specs.Held.{pairs_in, pairs_from, config_in, empty_map, put_if_absent};
 ghost use Rattle.nifforan_handle.specs.Reading.{are_pairs, first_key};
 ghost use Rattle.nifforan_handle.specs.Statuses.{config_of, status_of_field, IsStatus};
@@ -71,6 +71,7 @@ impl Handle {
         ensures closed { self.old.held ≡ None ↔ result.status ≡ CLOSED }
         ensures open { self.old.held ≢ None ↔ result.status ≡ OK }
         ensures value { had result ≡ at key (pairs_in self.old.held) }
+        ensures zero { IsZeroWithout result }
         ensures care { result.care ≡ OK }
         ensures unchanged { self.new.held ≡ self.old.held }
     {
@@ -88,6 +89,8 @@ impl Handle {
         ensures reply { result.status ≡ OK → had result ≡ at key (pairs_in self.old.held) }
         ensures pairs { result.status ≡ OK → pairs_in self.new.held ≡ put_if_absent key value (pairs_in self.old.held) }
         ensures status { IsStatus result.status }
+        ensures nothing { result.status ≢ OK → had result ≡ None }
+        ensures zero { IsZeroWithout result }
         ensures care { IsCare result }
         ensures unchanged { result.status ≢ OK → self.new.held ≡ self.old.held }
         ensures config { config_in self.new.held ≡ config_in self.old.held }
@@ -106,6 +109,8 @@ impl Handle {
         ensures reply { result.status ≡ OK → had result ≡ at key (pairs_in self.old.held) }
         ensures pairs { result.status ≡ OK → pairs_in self.new.held ≡ put key value (pairs_in self.old.held) }
         ensures status { IsStatus result.status }
+        ensures nothing { result.status ≢ OK → had result ≡ None }
+        ensures zero { IsZeroWithout result }
         ensures care { IsCare result }
         ensures unchanged { result.status ≢ OK → self.new.held ≡ self.old.held }
         ensures config { config_in self.new.held ≡ config_in self.old.held }
@@ -124,6 +129,8 @@ impl Handle {
         ensures reply { result.status ≡ OK → had result ≡ at key (pairs_in self.old.held) }
         ensures pairs { result.status ≡ OK → pairs_in self.new.held ≡ without key (pairs_in self.old.held) }
         ensures status { IsStatus result.status }
+        ensures nothing { result.status ≢ OK → had result ≡ None }
+        ensures zero { IsZeroWithout result }
         ensures care { IsCare result }
         ensures unchanged { result.status ≢ OK → self.new.held ≡ self.old.held }
         ensures config { config_in self.new.held ≡ config_in self.old.held }
@@ -167,6 +174,7 @@ impl Handle {
         ensures pairs { are_pairs (take result.count pairs.new) ≡ take result.count (pairs_from key self.old.held) }
         ensures rest { drop result.count pairs.new ≡ drop result.count pairs.old }
         ensures next { next_key result ≡ first_key (drop result.count (pairs_from key self.old.held)) }
+        ensures zero { IsZeroAtEnd result }
         ensures unchanged { self.new.held ≡ self.old.held }
     {
         let Some(held) = self.take(alloc) else {

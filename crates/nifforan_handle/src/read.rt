@@ -2,7 +2,7 @@
 ghost use Rattle.std.specs.Prelude.{◌≡◌, ◌≤◌, length, take, drop, min};
 ghost use Rattle.nifforan.specs.Maps.{within};
 ghost use Rattle.bw_keys.specs.Ranges.{key_count};
-ghost use Rattle.nifforan_handle.specs.Answers.{next_key};
+ghost use Rattle.nifforan_handle.specs.Answers.{next_key, IsZeroAtEnd};
 ghost use Rattle.nifforan_handle.specs.Reading.{are_pairs, first_key};
 ghost use Rattle.nifforan_handle.specs.declared.status.TheConstants.{OK};
 
@@ -17,6 +17,7 @@ pub(crate) fn pairs_from(map: &Map<Global>, key: Key, places: &mut [Pair]) -> Re
     ensures pairs { are_pairs (take result.count places.new) ≡ take result.count (within key key_count map.now.pairs) }
     ensures rest { drop result.count places.new ≡ drop result.count places.old }
     ensures next { next_key result ≡ first_key (drop result.count (within key key_count map.now.pairs)) }
+    ensures zero { IsZeroAtEnd result }
 {
     let mut left = map.range(key, Fence::Top);
     let count = fill(&mut left, places);

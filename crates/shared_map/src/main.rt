@@ -30,11 +30,6 @@ fn main(rt: HostRuntime) -> anyhow::Result<()> {
         println!(rt; "found {:?}", found?)?;
     }
     let pairs = shared.table.pairs(rt.alloc())?;
-    println!(rt;
-        "{} pairs, {:?} to {:?}",
-        pairs.len(),
-        pairs.first(),
-        pairs.last()
-    )?;
+    println!(rt; "{} pairs, up to {:?}", pairs.len(), pairs.last())?;
     Ok(())
 }
