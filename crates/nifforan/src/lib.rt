@@ -5,7 +5,7 @@ mod map;
 mod range;
 mod worker;
 
-pub use bw_keys::{Config, Fence, Key};
+pub use bw_keys::{BadConfig, Config, Fence, Field, Key};
 pub use bw_procedures::{Cleared, Del, Done, Fault, Put, Set};
 pub use bw_table::{NewFault, Table};
 pub use map::Map;
