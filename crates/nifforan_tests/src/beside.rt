@@ -23,6 +23,20 @@ impl Beside {
         })
     }
 
+    /// The two maps, the one made anew of the table that it hands out.
+    pub fn made_of_its_table(self, machine: Global) -> Beside {
+        let Beside { map, plain, faults } = self;
+        Beside {
+            map: Map::from_table(machine, machine, map.into_table()),
+            plain,
+            faults,
+        }
+    }
+
+    pub fn config(&self) -> Config {
+        self.map.config()
+    }
+
     /// The value that the kit's map has at the key.
     fn plain_at(&self, key: Key) -> Option<u64> {
         self.plain.get(&key).copied()

@@ -77,6 +77,20 @@ fn a_full_table_loses_no_pair(rt: HostRuntime) -> Result<(), Fail> {
     Ok(())
 }
 
+/// With eight pages the table is full by then, and has splits that wait for their terms.
+#[test]
+fn a_table_is_handed_out_and_taken_in_with_its_pairs(rt: HostRuntime) -> Result<(), Fail> {
+    let mut beside = Beside::new(rt.alloc(), small(8))?;
+    for key in 0..40 {
+        assert!(rt; beside.put(key, 7 * key)?);
+    }
+    let mut beside = beside.made_of_its_table(rt.alloc());
+    assert_eq!(rt; beside.config(), small(8));
+    assert!(rt; beside.is_same_at(20) && beside.is_same_within(0, Fence::Top));
+    assert!(rt; beside.put(40, 280)? && beside.delete(3) && beside.is_same_within(0, Fence::Top));
+    Ok(())
+}
+
 /// The keys at both ends, which most tests don't reach.
 #[test]
 fn the_ends_of_the_keys_are_keys(rt: HostRuntime) -> Result<(), Fail> {
