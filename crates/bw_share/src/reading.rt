@@ -31,7 +31,7 @@ pub trait Reader {
         ensures learnt { BeginsWith (list self.new) (list self.old) };
 
     /// What the map has at the key.
-    fn look(&mut self, key: Key) -> Result<Option<u64>, Closed>
+    fn get(&mut self, key: Key) -> Result<Option<u64>, Closed>
         ensures made_by { made_by self.new ≡ made_by self.old }
         ensures seen { BeginsWith (list self.new) (list self.old) }
         ensures found { IfOk result (IsFoundIn (made_by self.old) key (list self.new)) }
@@ -79,7 +79,7 @@ impl<'t, R: Wait + Copy, N: Naming, D: Ledger> Reader for Reading<'t, R, N, D> {
         Ok(())
     }
 
-    fn look(&mut self, key: Key) -> Result<Option<u64>, Closed> {
+    fn get(&mut self, key: Key) -> Result<Option<u64>, Closed> {
         self.reader.get(key)
     }
 

@@ -20,7 +20,7 @@ impl ReadingJob for Fill {
             hand.put(key, 7 * key)?;
         }
         reader.publish()?;
-        Ok(reader.look(first).unwrap_or(None))
+        Ok(reader.get(first).unwrap_or(None))
     }
 }
 
