@@ -28,7 +28,8 @@ pub trait Reader {
     /// then on has all that. It takes the tree's lock.
     fn publish(&mut self) -> Result<(), NoMemory>
         ensures made_by { made_by self.new ≡ made_by self.old }
-        ensures learnt { BeginsWith (list self.new) (list self.old) };
+        ensures learnt { BeginsWith (list self.new) (list self.old) }
+        ensures refused { OnErr result (list self.new ≡ list self.old) };
 
     /// What the map has at the key.
     fn get(&mut self, key: Key) -> Result<Option<u64>, Closed>
