@@ -13,8 +13,11 @@ mod sharing;
 mod task;
 mod worker;
 
-pub use bw_keys::{BadConfig, Config, Fence, Key, MAX_WORKERS};
+pub use bw_delta::NoMemory;
+pub use bw_keys::{BadConfig, Config, Fence, Field, Key, MAX_WORKERS};
 pub use bw_snap::{Closed, MAX_READERS, ScanFault};
+pub use bw_step::Receipt;
+pub use bw_table::Table;
 pub use bw_work::{Cleared, Del, Done, Fault, Put, Set, Slice};
 pub use fault::ShareFault;
 pub use finished::Finished;
