@@ -89,6 +89,8 @@ pub fn work_all<
             ensures count { IfOk result (λ gathered. length gathered.shares.items ≡ length seats.items) }
             ensures fault { IfErr result IsWant }
         {
+            // asked for here, since what was done is given up where memory is wanting behind it
+            let room = Gathered::with_room(machine, seats.len())?;
             let mut handles = Vec::with_capacity(machine, seats.len())?;
             for seat in seats {
                 let Ok(handle) = scope.spawn(move || -> Worked<I, D, O> {
@@ -98,7 +100,7 @@ pub fn work_all<
                 };
                 handles.push(handle)?;
             }
-            Ok(gather(rt, machine, handles)?)
+            Ok(gather(rt, room, handles))
         },
     )
 }

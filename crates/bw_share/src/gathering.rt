@@ -1,6 +1,6 @@
 //! What all workers bring back.
 
-ghost use Rattle.std.specs.Prelude.{◌≡◌, IfOk, length, map};
+ghost use Rattle.std.specs.Prelude.{◌≡◌, ◌≤◌, [], IfOk, length, map, vec_capacity};
 ghost use Rattle.bw_share.specs.Sharing.{share_by};
 
 use crate::crew::Worked;
@@ -22,30 +22,53 @@ pub struct Gathered<I: Ledger, D: Ledger, O> {
     ghost counted: { shares.items ≡ map (λ trail. share_by trail.items) trails.items },
 }
 
-/// Waits for all threads, and gathers what their workers bring back.
+impl<I: Ledger, D: Ledger, O: Drop> Gathered<I, D, O> {
+    /// Nothing yet, with room for what so many workers bring back.
+    pub fn with_room(machine: Global, workers: usize) -> Result<Gathered<I, D, O>, NoMemory>
+        ensures empty { IfOk result (λ room. room.shares.items ≡ []) }
+        ensures shares { IfOk result (λ room. workers ≤ vec_capacity room.shares) }
+        ensures trails { IfOk result (λ room. workers ≤ vec_capacity room.trails) }
+        ensures outputs { IfOk result (λ room. workers ≤ vec_capacity room.outputs) }
+    {
+        Ok(Gathered {
+            shares: Vec::with_capacity(machine, workers)?,
+            trails: Vec::with_capacity(machine, workers)?,
+            outputs: Vec::with_capacity(machine, workers)?,
+        })
+    }
+}
+
+/// Waits for all threads, and gathers what their workers bring back. It asks for no memory, so that
+/// want of it can't give up what was done.
 pub fn gather<I: Ledger, D: Ledger, O: Drop, R: Threads>(
     rt: &R,
-    machine: Global,
+    room: Gathered<I, D, O>,
     handles: Vec<JoinHandle<Worked<I, D, O>>>,
-) -> Result<Gathered<I, D, O>, NoMemory>
-    ensures count { IfOk result (λ gathered. length gathered.shares.items ≡ length handles.items) }
+) -> Gathered<I, D, O>
+    requires empty { room.shares.items ≡ [] }
+    requires shares { length handles.items ≤ vec_capacity room.shares }
+    requires trails { length handles.items ≤ vec_capacity room.trails }
+    requires outputs { length handles.items ≤ vec_capacity room.outputs }
+    ensures count { length result.shares.items ≡ length handles.items }
 {
-    let mut shares = Vec::with_capacity(machine, handles.len())?;
-    let mut trails = Vec::with_capacity(machine, handles.len())?;
-    let mut outputs = Vec::with_capacity(machine, handles.len())?;
+    let Gathered {
+        mut shares,
+        mut trails,
+        mut outputs,
+    } = room;
     for handle in handles {
         let Worked {
             share,
             trail,
             output,
         } = handle.join(rt);
-        shares.push(share)?;
-        trails.push(trail)?;
-        outputs.push(output)?;
+        shares.push_reserved(share);
+        trails.push_reserved(trail);
+        outputs.push_reserved(output);
     }
-    Ok(Gathered {
+    Gathered {
         shares,
         trails,
         outputs,
-    })
+    }
 }
