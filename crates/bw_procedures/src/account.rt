@@ -104,6 +104,27 @@ impl Account {
         mem::replace(&mut self.trail, empty)
     }
 
+    /// Forgets the receipts, the effort and the counts, and goes on as a worker that has taken no step.
+    /// The trail keeps its memory.
+    #[inline(always)]
+    pub fn forget(&mut self)
+        ensures config { self.new.seen.config ≡ self.old.seen.config }
+        ensures trail { self.new.seen.trail ≡ [] }
+        ensures effort { self.new.seen.effort ≡ 0 }
+        ensures ends { ends_of self.new.seen ≡ record { full = 0; tall = 0; worn = 0 } }
+        ensures room { self.new.room ≡ self.old.room }
+    {
+        let Account {
+            trail,
+            effort,
+            ends,
+            ..
+        } = self;
+        trail.clear();
+        *effort = 0;
+        *ends = Ends::default();
+    }
+
     /// Makes room for one more receipt.
     #[inline(always)]
     pub fn reserve(&mut self) -> Result<(), NoMemory>

@@ -42,8 +42,19 @@ impl<A: Allocator + Copy> Worker<A> {
         }
     }
 
-    /// Forgets the receipts, the effort and the counts.
+    /// Forgets the receipts, the effort and the counts. The memory of the receipts stays for the next call.
     fn forget(&mut self)
+        ensures table { self.new.table ≡ self.old.table }
+        ensures trail { self.new.account.seen.trail ≡ [] }
+        ensures kept { Lawful self.new.table × Booked self.new.table }
+    {
+        // The law of the table is told with its configuration.
+        let _config = self.table.config();
+        self.account.forget();
+    }
+
+    /// Forgets them, and gives the memory of the receipts back: a range has one for each of its keys.
+    fn begin_anew(&mut self)
         ensures table { self.new.table ≡ self.old.table }
         ensures trail { self.new.account.seen.trail ≡ [] }
         ensures kept { Lawful self.new.table × Booked self.new.table }
@@ -103,7 +114,7 @@ impl<A: Allocator + Copy> Worker<A> {
         ensures trail { self.new.account.seen.trail ≡ [] }
     {
         let result = clear(self, self.machine, low, high);
-        self.forget();
+        self.begin_anew();
         result
     }
 }
