@@ -79,6 +79,14 @@ pub(crate) const OF_CHECK: &str = "Rows: WORKER,OP,NUMBER,KEY,VALUE, and a sixth
   0,ins,4,6,60     change 4 gave key 6 the value 60
   end,pair,0,6,60  the map has this pair in the end; such rows come last, and their keys rise
 
+Where row N can't be read, 'bwtree: row N: PART' names its first bad part:
+  fields  not five, and with mod not six: a missing last comma, ';' for ',', a trace
+  worker  no number below 64 and not end: a header, a blank, a worker's row behind an end row
+  op      not ins, mod, del, hit or none, and behind end not pair: capitals, a blank
+  key     NUMBER or KEY no number; behind end NUMBER not 0, or KEY not above the one before
+  value   no number, or one behind none
+  old     no number in mod's sixth field
+
 'audit no W R' names the first row that is false: the one at R among those of worker W, from 0.
 Where all these are true W is one more than the greatest worker, R is 0, and the pairs are false.
 
