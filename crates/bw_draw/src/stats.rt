@@ -58,7 +58,7 @@ impl Stats {
         let pages = picture.pages.as_slice();
         Ok(Stats {
             levels: levels_of(alloc, pages, picture.root.level)?,
-            pairs: pairs_of(alloc, table)?,
+            pairs: pairs_of(table),
             slots: picture.slots,
             free: free_slots(table, picture.slots),
             unposted: pages_at(pages, Stage::Unposted),
@@ -74,12 +74,11 @@ impl Stats {
 }
 
 /// How many pairs the map has, by the book.
-fn pairs_of(alloc: Global, table: &Table<Global>) -> Result<u64, NoMemory>
-    ensures { IfOk result (λ pairs. pairs ≡ pair_count table.now.slots) }
+fn pairs_of(table: &Table<Global>) -> u64
+    ensures { result ≡ pair_count table.now.slots }
 {
-    let _ = table.config();
-    let book = table.survey(alloc)?.book;
-    Ok(book.inserted - book.removed)
+    let book = table.book();
+    book.inserted - book.removed
 }
 
 /// How many of the slots below the end have no page.

@@ -56,6 +56,7 @@ struct Marks {
     change: bool,
     shape: bool,
     term: bool,
+    stub: bool,
     side: bool,
     unposted: bool,
     coming: bool,
@@ -80,6 +81,7 @@ impl Legend {
         legend.add(marks.shape, Mark::Box("shape"), "change of shape")?;
         legend.add(marks.gone, Mark::Text("gone", "5:50"), "split off")?;
         legend.add(marks.term, Mark::Line("line"), "term")?;
+        legend.add(marks.stub, Mark::Line("stub"), "terms of pages not drawn")?;
         legend.add(marks.side, Mark::Line("side"), "side link")?;
         legend.add_half_done(marks)?;
         legend.add(
@@ -140,6 +142,7 @@ impl Marks {
             change: false,
             shape: false,
             term: rows.len() > 1,
+            stub: false,
             side: false,
             unposted: false,
             coming: false,
@@ -148,9 +151,14 @@ impl Marks {
             gone: false,
             cut: false,
         };
+        let mut below: Option<&Row> = None;
         for row in rows {
             let is_lower = usize::from(row.level) + 1 < rows.len();
             marks.see_row(row, is_lower);
+            if let Some(below) = below {
+                marks.see_stubs(row, below);
+            }
+            below = Some(row);
         }
         marks
     }
@@ -164,6 +172,13 @@ impl Marks {
         for card in row.cards.iter() {
             self.see_card(card);
         }
+    }
+
+    /// Sees whether a page of the row has terms of pages below it that aren't drawn.
+    fn see_stubs(&mut self, row: &Row, below: &Row) {
+        let mut cards = row.cards.iter();
+        let has_stubs = cards.any(|card| below.lacks_terms_of(card));
+        self.stub = self.stub || has_stubs;
     }
 
     fn see_card(&mut self, card: &Card) {

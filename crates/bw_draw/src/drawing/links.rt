@@ -102,7 +102,7 @@ fn write_side_links<W: fmt::Write>(f: &mut fmt::Formatter<W>, row: &Row) -> fmt:
         match last {
             Some(last) => write_arrow(f, last.right(), card.left, height)?,
             None if row.hidden_before > 0 => {
-                write_arrow(f, card.left - BETWEEN, card.left, height)?;
+                write_arrow(f, row.left() - BETWEEN, card.left, height)?;
             }
             None => {}
         }

@@ -127,6 +127,14 @@ impl Row {
         Ok(spans)
     }
 
+    /// Where the first page begins that is drawn, be it merged or not.
+    pub(crate) fn left(&self) -> Length {
+        match self.cards.first() {
+            Some(card) => card.left,
+            None => Length(0),
+        }
+    }
+
     /// Where the last of what is drawn ends.
     pub(crate) fn right(&self) -> Length {
         match self.cards.last() {
@@ -153,15 +161,22 @@ impl Row {
         bottom
     }
 
-    /// Whether the card has keys before those of all pages that are drawn.
+    /// Whether the card of the row above has terms of pages that aren't drawn here.
+    pub(crate) fn lacks_terms_of(&self, card: &Card) -> bool {
+        self.begins_after(card) || self.ends_before(card)
+    }
+
+    /// Whether the card has keys before those of all pages that are drawn. A merged page has none.
     pub(crate) fn begins_after(&self, card: &Card) -> bool {
         match self.cards.first() {
-            Some(first) => self.hidden_before > 0 && card.view.low < first.view.low,
-            None => false,
+            Some(first) if card.view.stage.is_in_row() => {
+                self.hidden_before > 0 && card.view.low < first.view.low
+            }
+            _ => false,
         }
     }
 
-    /// Whether the card has keys behind those of all pages that are drawn.
+    /// Whether the card has keys behind those of all pages that are drawn. A merged page has none.
     pub(crate) fn ends_before(&self, card: &Card) -> bool {
         match self
             .cards
@@ -169,11 +184,11 @@ impl Row {
             .filter(|it| it.view.stage.is_in_row())
             .last()
         {
-            Some(last) => match last.view.high {
+            Some(last) if card.view.stage.is_in_row() => match last.view.high {
                 Fence::Key(high) => self.hidden_after > 0 && card.view.high.is_above(high),
                 Fence::Top => false,
             },
-            None => false,
+            _ => false,
         }
     }
 }
@@ -190,8 +205,8 @@ impl Window {
                 (first, first.saturating_add(most).min(order.len()))
             }
             Window::Over(first, last) => {
-                let end = place_of(order, last).saturating_add(1);
-                (place_of(order, first), end.min(order.len()))
+                let end = order.iter().filter(|(low, _)| *low <= last).count();
+                (place_of(order, first), end)
             }
         }
     }
