@@ -1,2 +1,4 @@
 pub mod Answers
+pub mod Faults
+pub mod Lines
 pub mod Played

@@ -1,6 +1,11 @@
 //! Why a script isn't played to its end.
 
+ghost use Rattle.std.specs.Prelude.{◌≡◌, ◌↔◌};
+ghost use Rattle.std.specs.IoError.{error_kind};
+ghost use Rattle.bw_scripts.specs.Faults.{IsLineFault};
+
 use std::io;
+use std::io::ErrorKind;
 use thiserror::Error;
 
 /// Why a script isn't played to its end, or has none.
@@ -25,10 +30,14 @@ pub enum ScriptFault {
 
 impl ScriptFault {
     /// What it means to a script that the line of this number can't be had from its reader.
-    pub(crate) fn of_reader(number: u64, error: &io::Error) -> ScriptFault {
+    pub(crate) fn of_reader(number: u64, error: &io::Error) -> ScriptFault
+        ensures memory { (result ≡ ScriptFault.Memory) ↔ (error_kind error.now ≡ ErrorKind.OutOfMemory) }
+        ensures no_text { (result ≡ ScriptFault.Line number) ↔ (error_kind error.now ≡ ErrorKind.InvalidData) }
+        ensures named { IsLineFault number result }
+    {
         match error.kind() {
-            io::ErrorKind::OutOfMemory => ScriptFault::Memory,
-            io::ErrorKind::InvalidData => ScriptFault::Line(number),
+            ErrorKind::OutOfMemory => ScriptFault::Memory,
+            ErrorKind::InvalidData => ScriptFault::Line(number),
             _ => ScriptFault::Read,
         }
     }

@@ -1,11 +1,21 @@
 //! The lines of a script: a new table, a step, or a question.
 
+ghost use Rattle.std.specs.Prelude.{◌≡◌};
+ghost use Rattle.bw_scripts.specs.Lines.{asks_for_nothing};
+
 use crate::numbers::{level, number, page, small};
 use crate::steps::step;
 use bw_delta::{BaseFault, NoMemory};
 use bw_keys::{Config, Key, Pid};
 use bw_step::{Place, Step};
 use std::alloc::{AllocError, AllocFailed, Global};
+
+/// Whether the line is empty, or begins with `#`.
+pub(crate) fn asks_for_nothing(line: &str) -> bool
+    ensures { result ≡ asks_for_nothing line.now }
+{
+    line.is_empty() || line.starts_with('#')
+}
 
 /// What a line asks for.
 #[derive(Drop)]
@@ -27,7 +37,7 @@ pub(crate) enum Question {
     Pairs,
 }
 
-/// Why a line asks for nothing.
+/// Why a line can't be read.
 #[derive(Clone, Copy, Debug, PartialEq, Eq)]
 pub(crate) enum Unread {
     Words,

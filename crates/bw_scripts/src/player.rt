@@ -1,14 +1,16 @@
 //! A table that is played with, line by line.
 
-ghost use Rattle.std.specs.Prelude.{◌≡◌, ℕ, None, Some, IfOk, IfErr, OnErr, option_copied};
+ghost use Rattle.std.specs.Prelude.{◌≡◌, ◌↔◌, ℕ, IsTrue, None, Some, Ok, IfOk, IfErr, OnErr, option_copied};
 ghost use Rattle.bw_step.specs.ProposalView.{proposal_of};
 ghost use Rattle.bw_law.specs.Refusals.{refusal};
 ghost use Rattle.bw_scripts.specs.Answers.{IsAnswer, IsAnswered, IsTold};
-ghost use Rattle.bw_scripts.specs.Played.{IsFaultAt, one_more};
+ghost use Rattle.bw_scripts.specs.Faults.{IsFaultAt};
+ghost use Rattle.bw_scripts.specs.Lines.{asks_for_nothing};
+ghost use Rattle.bw_scripts.specs.Played.{one_more};
 
 use crate::answer::Answer;
 use crate::fault::ScriptFault;
-use crate::line::{Line, Question, Unread};
+use crate::line::{Line, Question, Unread, asks_for_nothing};
 use bw_delta::NoMemory;
 use bw_keys::{Config, Key, Pid};
 use bw_step::{Refused, Step, Survey, View};
@@ -143,11 +145,12 @@ impl Player {
     pub fn play(&mut self, line: &str) -> Result<Option<Answer>, ScriptFault>
         ensures counted { self.new.lines ≡ one_more self.old.lines }
         ensures answered { IfOk result (λ answer. IsAnswered self.old.table answer self.new.table) }
+        ensures nothing { (result ≡ Ok None) ↔ IsTrue (asks_for_nothing line.now) }
         ensures unchanged { OnErr result (self.new.table ≡ self.old.table) }
         ensures fault { IfErr result (IsFaultAt self.new.lines) }
     {
         self.lines = self.lines.saturating_add(1);
-        if line.is_empty() || line.starts_with('#') {
+        if asks_for_nothing(line) {
             return Ok(None);
         }
         match self.answer(line) {

@@ -1,7 +1,9 @@
 //! A script that is read and played to its end.
 
-ghost use Rattle.std.specs.Prelude.{IfOk, IfSome};
-ghost use Rattle.bw_scripts.specs.Played.{IsPlayed};
+ghost use Rattle.std.specs.Prelude.{◌≡◌, ◌≤◌, IfOk, IfErr, IfSome, OnOk};
+ghost use Rattle.bw_scripts.specs.declared.script.TheConstants.{MOST_LINES};
+ghost use Rattle.bw_scripts.specs.Faults.{IsLineFault, NamesALine};
+ghost use Rattle.bw_scripts.specs.Played.{IsPlayed, one_more};
 
 use crate::fault::ScriptFault;
 use crate::player::Player;
@@ -16,7 +18,8 @@ pub const MOST_LINES: u64 = 1_000_000;
 /// Plays the script that is read, and hands its table out. What its lines are answered isn't kept: a
 /// step that is refused leaves the table as it is, and the next line is played.
 pub fn play<R: Read + Drop>(alloc: Global, input: R) -> Result<Table<Global>, ScriptFault>
-    ensures { IfOk result IsPlayed }
+    ensures played { IfOk result IsPlayed }
+    ensures fault { IfErr result NamesALine }
 {
     let Ok(lines) = BufReader::new(alloc, input) else {
         return Err(ScriptFault::Memory);
@@ -32,7 +35,10 @@ pub fn play<R: Read + Drop>(alloc: Global, input: R) -> Result<Table<Global>, Sc
 #[tactic(auto, using(crate::proofs::Playing::stays_played))]
 fn take(player: &mut Player, line: io::Result<String>) -> Result<(), ScriptFault>
     requires { IfSome player.old.table IsPlayed }
-    ensures { IfSome player.new.table IsPlayed }
+    ensures played { IfSome player.new.table IsPlayed }
+    ensures counted { OnOk result (player.new.lines ≡ one_more player.old.lines) }
+    ensures within { OnOk result (player.new.lines ≤ MOST_LINES) }
+    ensures fault { IfErr result (IsLineFault (one_more player.old.lines)) }
 {
     let number = player.lines().saturating_add(1);
     match line {
