@@ -1,2 +1,3 @@
 pub mod Crossing
 pub mod Trails
+pub mod Workers

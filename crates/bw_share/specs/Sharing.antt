@@ -1,5 +1,5 @@
 -- When a tree may be shared, and what its workers' trails tell of its pairs.
-use Rattle.std.specs.Prelude.{◌≡◌, ℕ, true, false, List, fold, map, Some, None}
+use Rattle.std.specs.Prelude.{◌≡◌, ◌+◌, ℕ, true, false, List, [], ◌∷◌, fold, map, Some, None}
 use Rattle.bw_keys.specs.declared.config.Config.{Config}
 use Rattle.bw_keys.specs.Limits.{first_bad_field, is_out_of}
 use Rattle.bw_law.specs.Tables.{TableValue}
@@ -16,6 +16,17 @@ share_by trail = fold counted no_changes trail
 -- the table has as many pairs as all trails tell of insertions, less those that they tell of removals
 abbrev pub CountsTrails : TableValue → List (List Receipt) → Type 0
 CountsTrails table trails = CountsPairs table (sum_of (map share_by trails))
+
+-- these have the numbers from the first on, in this order
+abbrev pub AreNumbered : {X : Type 0} → (X → ℕ) → ℕ → List X → Type 0
+AreNumbered number first [] = Unit {0}
+AreNumbered number first (x ∷ xs) = (number x ≡ first) × AreNumbered number (first + 1) xs
+
+-- the promise holds of each worker's number, output and trail, of the workers from this one on
+abbrev pub AreTold : {O : Type 0} → (ℕ → O → List Receipt → Type 0) → ℕ → List O → List (List Receipt) → Type 0
+AreTold told worker [] [] = Unit {0}
+AreTold told worker (output ∷ outputs) (trail ∷ trails) = told worker output trail × AreTold told (worker + 1) outputs trails
+AreTold told worker outputs trails = ⊥
 
 -- a tree may be made by the configuration, and shared by so many workers, of which there may be at most so many
 abbrev pub MayShare : ℕ → Config → ℕ → Type 0

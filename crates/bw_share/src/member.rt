@@ -42,6 +42,7 @@ impl<'t, S: Shared<Global, Step<Global>>> Member<'t, S> {
         gate: &'t Open,
     ) -> Member<'t, S>
         requires { share ≡ no_changes }
+        ensures { result.trail ≡ [] }
     {
         Member {
             machine,

@@ -4,7 +4,7 @@ ghost use Rattle.std.specs.Prelude.{◌≡◌, IsOk, IfOk, IfErr, OnOk, length};
 ghost use Rattle.bw_step.specs.Trails.{lists_of};
 ghost use Rattle.bw_tree.specs.Shares.{Opens};
 ghost use Rattle.bw_tree.specs.Trees.{IsTree};
-ghost use Rattle.bw_share.specs.Sharing.{CountsTrails, MayShare, IsShareFault};
+ghost use Rattle.bw_share.specs.Sharing.{AreTold, CountsTrails, MayShare, IsShareFault};
 
 use crate::crew::{seats_of, work_all};
 use crate::fault::ShareFault;
@@ -43,6 +43,7 @@ pub fn share<O: Drop + Send, J: Job<Output = O> + Sync, R: Threads + Wait + Sync
     ensures outputs { IfOk result (λ finished. length finished.outputs.items ≡ workers) }
     ensures trails { IfOk result (λ finished. length finished.trails.items ≡ workers) }
     ensures pairs { IfOk result (λ finished. CountsTrails finished.table (lists_of finished.trails.items)) }
+    ensures told { IfOk result (λ finished. AreTold (J.told job.now) 0 finished.outputs.items (lists_of finished.trails.items)) }
     ensures fine { IsOk result → MayShare 64 config workers }
     ensures fault { IfErr result (IsShareFault 64 config workers) }
 {
@@ -64,6 +65,7 @@ pub fn share_with_readers<
     ensures outputs { IfOk result (λ finished. length finished.outputs.items ≡ workers) }
     ensures trails { IfOk result (λ finished. length finished.trails.items ≡ workers) }
     ensures pairs { IfOk result (λ finished. CountsTrails finished.table (lists_of finished.trails.items)) }
+    ensures told { IfOk result (λ finished. AreTold (J.told job.now) 0 finished.outputs.items (lists_of finished.trails.items)) }
     ensures fine { IsOk result → MayShare 16 config workers }
     ensures fault { IfErr result (IsShareFault 16 config workers) }
 {
@@ -88,6 +90,7 @@ fn check(config: Config, workers: u32, most: u32) -> Result<(), ShareFault>
 }
 
 /// Shares a tree with these blank ledgers.
+#[tactic(auto, using(crate::proofs::Workers::few_workers))]
 fn share_locked<
     I: MadeBy + Send + Sync,
     D: Ledger + Send + Sync,
@@ -110,6 +113,7 @@ fn share_locked<
     ensures outputs { IfOk result (λ finished. length finished.outputs.items ≡ blanks.workers) }
     ensures trails { IfOk result (λ finished. length finished.trails.items ≡ blanks.workers) }
     ensures pairs { IfOk result (λ finished. CountsTrails finished.table (lists_of finished.trails.items)) }
+    ensures told { IfOk result (λ finished. AreTold (J.told job.now) 0 finished.outputs.items (lists_of finished.trails.items)) }
     ensures fault { IfErr result (IsShareFault 64 config blanks.workers) }
 {
     let Ok((tree, shares)) = Tree::<R, Global, I, D>::new(rt, machine, machine, config, blanks)
@@ -134,6 +138,7 @@ fn share_locked<
 }
 
 /// Shares a tree with a reader for each worker, with these blank ledgers and this blank book.
+#[tactic(auto, using(crate::proofs::Workers::few_workers))]
 fn share_read<
     N: Naming + Send + Sync,
     D: Ledger + Send + Sync,
@@ -160,6 +165,7 @@ fn share_read<
     ensures outputs { IfOk result (λ finished. length finished.outputs.items ≡ workers) }
     ensures trails { IfOk result (λ finished. length finished.trails.items ≡ workers) }
     ensures pairs { IfOk result (λ finished. CountsTrails finished.table (lists_of finished.trails.items)) }
+    ensures told { IfOk result (λ finished. AreTold (J.told job.now) 0 finished.outputs.items (lists_of finished.trails.items)) }
     ensures fault { IfErr result (IsShareFault 16 config workers) }
 {
     let made = ReadTree::<R, N, D>::with_readers(rt, machine, config, blanks, book, workers);

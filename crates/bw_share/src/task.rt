@@ -9,9 +9,18 @@ use std::sync::ledger::Ledger;
 
 /// A job with what else a worker is given for it.
 pub trait Task<K> {
+    ghost use Rattle.std.specs.Prelude.{◌≡◌, ◌<◌, ℕ, List, []};
+    ghost use Rattle.bw_step.specs.declared.receipt.Receipt.{Receipt};
+
     type Output: Drop;
 
-    fn run<W: Worker>(&self, worker: u32, hand: &mut W, kit: &mut K) -> Self::Output;
+    // what the job promises of a worker's number, of what that worker brings back, and of its trail at the end
+    ghost told: { Self → ℕ → Self.Output → List Receipt → Type 0 };
+
+    fn run<W: Worker>(&self, worker: u32, hand: &mut W, kit: &mut K) -> Self::Output
+        requires few { worker < 64 }
+        requires new { (W.seen hand.old).trail ≡ [] }
+        ensures told { told self.now worker result (W.seen hand.new).trail };
 }
 
 /// A job that is done by the hand alone.
@@ -22,6 +31,8 @@ pub struct ByHand<'j, J> {
 
 impl<'j, J: Job> Task<()> for ByHand<'j, J> {
     type Output = J::Output;
+
+    ghost told = { λ task. J.told task.job.now };
 
     fn run<W: Worker>(&self, worker: u32, hand: &mut W, _kit: &mut ()) -> J::Output {
         self.job.work(worker, hand)
@@ -37,6 +48,8 @@ pub struct WithReader<'j, J> {
 impl<'j, 't, J: ReadingJob, R: Wait + Copy, N: Naming, D: Ledger> Task<Reading<'t, R, N, D>>
     for WithReader<'j, J> {
     type Output = J::Output;
+
+    ghost told = { λ task. J.told task.job.now };
 
     fn run<W: Worker>(
         &self,
