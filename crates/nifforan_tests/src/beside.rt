@@ -1,6 +1,6 @@
 //! Calls on a map and on the kit's map, and whether they answer the same.
 
-use nifforan::{Config, Del, Fence, Key, Map, Put, Set};
+use nifforan::{Config, Del, Fence, Key, Map, Put, Range, Set};
 use std::alloc::Global;
 use std::collections::BTreeMap;
 use std::test::Fail;
@@ -121,7 +121,17 @@ impl Beside {
 
     /// Whether both have the same pairs from the low on and below the high.
     pub fn is_same_within(&self, low: Key, high: Fence) -> bool {
-        let mut ours = self.map.range(low, high);
+        self.has_within(low, high, self.map.range(low, high))
+    }
+
+    /// Whether a walk over all pairs gives those of the kit's map.
+    pub fn is_same_throughout(&self) -> bool {
+        self.has_within(0, Fence::Top, self.map.iter())
+    }
+
+    /// Whether the walk gives the pairs that the kit's map has from the low on and below the high.
+    fn has_within(&self, low: Key, high: Fence, walk: Range<'_, Global>) -> bool {
+        let mut ours = walk;
         for (key, value) in self.plain.iter() {
             if low <= *key && high.is_above(*key) && ours.next() != Some((*key, *value)) {
                 return false;

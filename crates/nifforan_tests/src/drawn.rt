@@ -39,7 +39,7 @@ fn play(machine: Global, config: Config, keys: u64, calls: u32) -> Result<u32, F
             return Err("the maps differ".into());
         }
     }
-    if !beside.is_same_within(0, Fence::Top) {
+    if !beside.is_same_throughout() {
         return Err("the maps differ in the end".into());
     }
     Ok(beside.faults)
@@ -102,6 +102,7 @@ fn the_ends_of_the_keys_are_keys(rt: HostRuntime) -> Result<(), Fail> {
     for key in ends {
         assert!(rt; beside.is_same_at(key) && beside.is_same_within(key, Fence::Top));
     }
+    assert!(rt; beside.is_same_throughout());
     assert!(rt; beside.clear(1, Key::MAX) && beside.is_same_within(0, Fence::Top));
     Ok(())
 }
