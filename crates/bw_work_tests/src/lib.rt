@@ -23,4 +23,6 @@ mod rows;
 #[cfg(test)]
 mod tasks;
 #[cfg(test)]
+mod trails;
+#[cfg(test)]
 mod two_workers;
