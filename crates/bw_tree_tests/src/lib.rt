@@ -11,4 +11,6 @@ mod drawn_steps;
 #[cfg(test)]
 mod four_puts;
 #[cfg(test)]
+mod handed_out;
+#[cfg(test)]
 mod histories;
