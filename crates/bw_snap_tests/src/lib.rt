@@ -11,6 +11,8 @@ mod explained;
 #[cfg(test)]
 mod faults;
 #[cfg(test)]
+mod handed_out;
+#[cfg(test)]
 mod rows;
 #[cfg(test)]
 mod scripts;

@@ -27,8 +27,8 @@ impl<'t, S: Shared<Global, Step<Global>>, G: Gate> GivesTrail for Hand<'t, Globa
     }
 }
 
-/// Does the row, and where it `takes`, it takes the trail out before each call. What it took out;
-/// nothing where memory ended, or a trail wasn't empty then.
+/// Does the row. Where `takes` says so, the trail is taken out before each call. The receipts that were
+/// taken out; none where memory ended, or a receipt stayed on the trail.
 fn do_row<S: GivesTrail>(
     machine: Global,
     worker: &mut S,
@@ -49,7 +49,7 @@ fn do_row<S: GivesTrail>(
     Some(taken)
 }
 
-/// The receipts that were taken out, with the last of them behind.
+/// The receipts that were taken out, and behind them the last ones.
 fn with_last(taken: Option<Vec<Receipt>>, last: &[Receipt]) -> Option<Vec<Receipt>> {
     let mut all = taken?;
     all.extend_from_slice(last).ok()?;
