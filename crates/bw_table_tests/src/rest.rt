@@ -54,6 +54,9 @@ fn a_leaf_is_told_at_once_where_nothing_is_unfinished(rt: HostRuntime) -> Result
         take_all(alloc, &mut table, changes)?;
         let told = table.leaf_at_rest(*key).map(|view| view.pid.0);
         assert_eq!(rt; told, *leaf, "key {key}");
+        if let Some(leaf) = leaf {
+            assert_eq!(rt; table.leaf_of(*key).pid(), Pid(*leaf), "key {key}");
+        }
     }
     Ok(())
 }

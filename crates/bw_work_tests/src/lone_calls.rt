@@ -65,11 +65,6 @@ fn a_lone_worker_has_each_call(rt: HostRuntime) -> Result<(), Fail> {
 
 /// Tends, helps and removes all keys where there is nothing to do. The effort that this costs, if it
 /// leaves no receipt.
-#[derive(Drop)]
-struct Idle {
-    machine: Global,
-}
-
 fn idle_effort<S: Shared<Global, Step<Global>>>(
     machine: Global,
     hand: &mut Hand<'_, Global, S, Open>,
@@ -89,24 +84,50 @@ fn idle_effort<S: Shared<Global, Step<Global>>>(
     Ok(hand.trail().is_empty().then_some(hand.effort()))
 }
 
-impl Play<Result<Option<u64>, Fault>> for Idle {
+/// Sets a key, finds it in two ways and takes it out. Whether each call is answered so.
+fn is_answered<S: Shared<Global, Step<Global>>>(
+    machine: Global,
+    hand: &mut Hand<'_, Global, S, Open>,
+) -> Result<bool, Fault> {
+    let set = hand.set(9, 3)?.reply;
+    let slice = hand.page_from(machine, 0)?;
+    let found = hand.get(9)?;
+    let deleted = hand.delete(9)?.reply;
+    Ok(
+        (set, found, deleted) == (Set::Inserted, Some(3), Del::Removed(3))
+            && slice.pairs.as_slice() == [(9, 3)].as_slice(),
+    )
+}
+
+/// Makes the calls that have nothing to do, and then those that have.
+#[derive(Drop)]
+struct ByHand {
+    machine: Global,
+}
+
+/// What each of the two gives.
+type Told = (Result<Option<u64>, Fault>, Result<bool, Fault>);
+
+impl Play<Told> for ByHand {
     fn work<S: Shared<Global, Step<Global>> + Pages<Global>>(
         &self,
         tree: &S,
         worker: u32,
         share: Share<S::Insertions, S::Removals>,
-    ) -> Worked<S::Insertions, S::Removals, Result<Option<u64>, Fault>> {
+    ) -> Worked<S::Insertions, S::Removals, Told> {
         let mut hand = Hand::new(self.machine, self.machine, tree, share, worker, &Open);
-        let told = idle_effort(self.machine, &mut hand);
+        let effort = idle_effort(self.machine, &mut hand);
+        let told = (effort, is_answered(self.machine, &mut hand));
         let (share, _) = hand.finish();
         Worked { share, told }
     }
 }
 
 #[test]
-fn help_without_need_is_idle(rt: HostRuntime) -> Result<(), Fail> {
+fn a_worker_by_hand_has_each_call(rt: HostRuntime) -> Result<(), Fail> {
     let machine = rt.alloc();
-    let ended = play_on_new_tree(rt, machine, SMALL, Turns::OneByOne, &Idle { machine })?;
-    assert_eq!(rt; (ended.zero, ended.one), (Ok(Some(3)), Ok(Some(3))));
+    let ended = play_on_new_tree(rt, machine, SMALL, Turns::OneByOne, &ByHand { machine })?;
+    let wanted: Told = (Ok(Some(3)), Ok(true));
+    assert_eq!(rt; (ended.zero, ended.one), (wanted, wanted));
     Ok(())
 }
