@@ -27,17 +27,26 @@ impl<'t, S: Shared<Global, Step<Global>>, G: Gate> GivesTrail for Hand<'t, Globa
     }
 }
 
-/// Does the row. Where `takes` says so, the trail is taken out before each call. The receipts that were
+/// What a row asks for.
+fn task_of(row: &Row) -> Task<'static> {
+    Task {
+        first: 1,
+        last: row.puts,
+        calls: row.calls,
+    }
+}
+
+/// Does the task. Where `takes` says so, the trail is taken out before each call. The receipts that were
 /// taken out; none where memory ended, or a receipt stayed on the trail.
-fn do_row<S: GivesTrail>(
+fn do_task<S: GivesTrail>(
     machine: Global,
     worker: &mut S,
-    row: &Row,
+    task: Task<'_>,
     takes: bool,
 ) -> Option<Vec<Receipt>> {
     let mut taken = Vec::new(machine);
-    work(machine, worker, Task::puts(1, row.puts));
-    for call in row.calls.chunks(1) {
+    work(machine, worker, Task::puts(task.first, task.last));
+    for call in task.calls.chunks(1) {
         if takes {
             taken.extend_from_slice(&worker.give()).ok()?;
             if !worker.trail().is_empty() {
@@ -59,15 +68,15 @@ fn with_last(taken: Option<Vec<Receipt>>, last: &[Receipt]) -> Option<Vec<Receip
 fn alone(machine: Global, row: &Row, takes: bool) -> Option<Vec<Receipt>> {
     let mut table = Table::new(machine, machine, row.config).ok()?;
     let mut alone = Alone::new(machine, machine, &mut table);
-    let taken = do_row(machine, &mut alone, row, takes);
+    let taken = do_task(machine, &mut alone, task_of(row), takes);
     with_last(taken, &alone.finish())
 }
 
-/// Worker 0 does the row, and worker 1 nothing.
+/// Worker 0 does the task, and worker 1 nothing.
 #[derive(Drop)]
 struct ByHand {
     machine: Global,
-    row: &'static Row,
+    task: Task<'static>,
     takes: bool,
 }
 
@@ -81,7 +90,7 @@ impl Play<Option<Vec<Receipt>>> for ByHand {
         let machine = self.machine;
         let mut hand = Hand::new(machine, machine, tree, share, worker, &Open);
         let taken = if worker == 0 {
-            do_row(machine, &mut hand, self.row, self.takes)
+            do_task(machine, &mut hand, self.task, self.takes)
         } else {
             None
         };
@@ -113,7 +122,7 @@ fn trails_taken_out_are_parts_of_the_whole(rt: HostRuntime) -> Result<(), Fail> 
         for takes in [false, true] {
             let play = ByHand {
                 machine,
-                row,
+                task: task_of(row),
                 takes,
             };
             let ended = play_on_new_tree(rt, machine, row.config, Turns::OneByOne, &play)?;
