@@ -1,7 +1,7 @@
 //! Each call of a job's worker and of its reader, with what it answers, and each fault of the numbers.
 #![tactic(auto)]
 
-ghost use Rattle.std.specs.Prelude.{◌≡◌, IfOk};
+ghost use Rattle.std.specs.Prelude.{◌≡◌, ◌<◌, IfOk};
 ghost use Rattle.bw_share.specs.Sharing.{AreNumbered};
 
 use anyhow::Result;
