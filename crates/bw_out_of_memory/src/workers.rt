@@ -27,14 +27,13 @@ pub(crate) fn judge(
     plain: &Plain,
 ) -> Result<(), Stop> {
     let pairs = table.pairs(machine)?;
-    hold(plain.has(&pairs), "the pairs are the script's")?;
     let Survey { leaves, book, .. } = table.survey(machine)?;
-    hold(partition_the_keys(&leaves), "the leaves partition the keys")?;
     let counted = book.inserted.checked_sub(book.removed);
     hold(
-        counted == Some(pairs.len() as u64),
-        "the book counts the pairs",
+        plain.has(&pairs) && counted == Some(pairs.len() as u64),
+        "the pairs are the script's, and the book counts them",
     )?;
+    hold(partition_the_keys(&leaves), "the leaves partition the keys")?;
     if !is_ascending(&pairs) {
         return Err(Stop::Broken("the pairs' keys rise"));
     }
