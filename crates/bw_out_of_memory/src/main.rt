@@ -77,7 +77,9 @@ fn stand<R: Threads + Wait + Sync + Send + Copy>(
 fn main(rt: HostRuntime) -> io::Result<()> {
     let mut bytes = [0u8; 256];
     let read = rt.stdin().read(&mut bytes)?;
-    let input = bytes.get(..read).and_then(|bytes| str::from_utf8(bytes).ok());
+    let input = bytes
+        .get(..read)
+        .and_then(|bytes| str::from_utf8(bytes).ok());
     let mut words = input.unwrap_or("").split_whitespace();
     let requests = words.next().and_then(|word| word.parse::<u32>().ok());
     if !ask_ahead(rt.alloc(), requests.unwrap_or(0)) {

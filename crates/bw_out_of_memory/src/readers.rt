@@ -18,7 +18,7 @@ use std::marker::Brand;
 use std::sync::Wait;
 use std::sync::ledger::Ledger;
 
-/// Four puts.
+/// Puts of keys, each with itself as value.
 macro_rules! puts {
     ($($key:literal),*) => {
         &[$(Act::Put { key: $key, value: $key }),*]
@@ -27,12 +27,7 @@ macro_rules! puts {
 
 /// Groups of puts, each of which is published. A group has as many as there is room for in the first piece
 /// of memory that what is pending takes, so that a publication wants room for its mark.
-const GROUPS: [&[Act]; 4] = [
-    puts!(0, 1, 2, 3),
-    puts!(4, 5, 6, 7),
-    puts!(8, 9, 10, 11),
-    puts!(12, 13, 14, 15),
-];
+const GROUPS: [&[Act]; 3] = [puts!(0, 1, 2, 3), puts!(4, 5, 6, 7), puts!(8, 9, 10, 11)];
 
 /// Chains so long that the puts of the first group are all that is pending.
 const LONG_CHAINS: Config = Config {
@@ -117,11 +112,7 @@ fn work<R: Wait + Copy, N: Naming, D: Ledger>(
 }
 
 /// Scans all keys into a list that has a pair: it is as it was, or has all.
-fn scan<N: Naming>(
-    machine: Global,
-    reader: &mut Reader<N>,
-    plain: &Plain,
-) -> Result<Ending, Stop> {
+fn scan<N: Naming>(machine: Global, reader: &mut Reader<N>, plain: &Plain) -> Result<Ending, Stop> {
     let mut list = Vec::new(machine);
     list.push((7, 77))?;
     match reader.scan(0, usize::MAX, &mut list) {
@@ -164,9 +155,7 @@ fn published_over<R: Wait + Copy, N: Naming, D: Ledger>(
         return Err(Stop::Broken("a tree has its reader"));
     };
     let mut plain = Plain::EMPTY;
-    let (ending, trail) = work(
-        machine, &tree, &mut shares, &mut reader, groups, &mut plain,
-    )?;
+    let (ending, trail) = work(machine, &tree, &mut shares, &mut reader, groups, &mut plain)?;
     let scanned = scan(machine, &mut reader, &plain)?;
     let Ok(table) = tree.close(shares) else {
         return Err(Stop::Broken("a tree is closed by all its shares"));
@@ -179,13 +168,23 @@ fn published_over<R: Wait + Copy, N: Naming, D: Ledger>(
 pub(crate) fn beside_readers<R: Wait + Copy>(rt: R, machine: Global) -> Result<Ending, Stop> {
     let groups: [&[Act]; 1] = [&ACTS];
     published_over::<R, Brand, Brand>(
-        rt, machine, SMALL, Blanks::new(1), BlankBook::new(), &groups,
+        rt,
+        machine,
+        SMALL,
+        Blanks::new(1),
+        BlankBook::new(),
+        &groups,
     )
 }
 
 /// Puts, publications and scans.
 pub(crate) fn publications<R: Wait + Copy>(rt: R, machine: Global) -> Result<Ending, Stop> {
     published_over::<R, Brand, Brand>(
-        rt, machine, LONG_CHAINS, Blanks::new(1), BlankBook::new(), &GROUPS,
+        rt,
+        machine,
+        LONG_CHAINS,
+        Blanks::new(1),
+        BlankBook::new(),
+        &GROUPS,
     )
 }

@@ -8,10 +8,10 @@ use crate::ending::{Ending, Stop, hold};
 use crate::plain::Plain;
 use bw_audit::{Verdict, audit, is_ascending};
 use bw_keys::Config;
-use bw_step::{Receipt, Step, Survey};
+use bw_step::{Receipt, Survey};
 use bw_table::Table;
 use bw_test_kit::{SMALL, partition_the_keys};
-use bw_tree::{Blanks, MadeBy, Share, Shared, Tree};
+use bw_tree::{Blanks, MadeBy, Share, Tree};
 use bw_work::{Alone, Hand, Open};
 use std::alloc::Global;
 use std::marker::Brand;
@@ -55,10 +55,10 @@ pub(crate) fn alone(machine: Global) -> Result<Ending, Stop> {
 }
 
 /// Lets a worker do all acts on the tree, with a share that it takes from the list and gives back. Its trail.
-fn work<S: Shared<Global, Step<Global>>>(
+fn work<R: Wait + Copy, I: MadeBy, D: Ledger>(
     machine: Global,
-    tree: &S,
-    shares: &mut Vec<Share<S::Insertions, S::Removals>>,
+    tree: &Tree<R, Global, I, D>,
+    shares: &mut Vec<Share<I, D>>,
     plain: &mut Plain,
 ) -> Result<(Ending, Vec<Receipt>), Stop> {
     let Some(share) = shares.pop() else {
