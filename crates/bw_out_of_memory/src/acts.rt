@@ -1,7 +1,7 @@
 //! What a worker does beside a plain map.
 
 use crate::ending::{Ending, Stop, hold};
-use crate::plain::Plain;
+use crate::plain::{KEYS, Plain};
 use bw_keys::{Fence, Key};
 use bw_step::Step;
 use bw_work::{Act, Fault, Steps, do_act, get};
@@ -40,7 +40,7 @@ pub(crate) const ACTS: [Act; 20] = [
 
 /// Whether each key has what it has in the map.
 fn see_all<S: Steps<Global, Step<Global>>>(steps: &mut S, plain: &Plain) -> Result<(), Stop> {
-    for key in 0..10 {
+    for key in 0..KEYS as u64 {
         hold(
             get(steps, key) == Ok(plain.get(key)),
             "the pairs are the script's",
@@ -87,15 +87,16 @@ fn act_again<S: Steps<Global, Step<Global>>>(
     Ok(Ending::Refused)
 }
 
-/// Does all acts.
+/// Does the acts.
 pub(crate) fn act_all<S: Steps<Global, Step<Global>>>(
     steps: &mut S,
     machine: Global,
+    acts: &[Act],
     plain: &mut Plain,
 ) -> Result<Ending, Stop> {
     let mut ending = Ending::Whole;
-    for act in ACTS {
-        ending = ending.and(act_once(steps, machine, act, plain)?);
+    for act in acts {
+        ending = ending.and(act_once(steps, machine, *act, plain)?);
     }
     Ok(ending)
 }

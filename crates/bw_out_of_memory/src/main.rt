@@ -1,43 +1,30 @@
 //! Trials of what stands where memory is refused. The input says how many requests for memory are made
-//! ahead of them, so that a run of which the Nth request is refused meets it at another place of the
-//! trials: `.ci/refuse_memory` lets it come to each place in turn. One line tells where it came, and
-//! whether what must hold held.
+//! ahead, and then names the trials. A run of which the Nth request is refused so meets it at another
+//! place of its trial: `.ci/refuse_memory` lets it come to each place in turn. A line a trial tells whether
+//! what must hold held.
 #![tactic(auto)]
 
 mod acts;
-mod cases;
-mod commands;
 mod ending;
-mod lists;
 mod plain;
 mod readers;
+mod replays;
 mod rows;
 mod runs;
 mod texts;
-mod trial;
 mod workers;
 
 use crate::ending::{Ending, Stop};
-use crate::trial::{TRIALS, Trial};
+use crate::readers::{beside_readers, publications};
+use crate::replays::replays;
+use crate::runs::run_with;
+use crate::texts::texts;
+use crate::workers::{alone, by_hand};
 use std::alloc::Global;
-use std::io;
 use std::io::Read;
 use std::sync::Wait;
 use std::thread::Threads;
-
-/// The number that the input's first bytes are, up to a byte that is no digit.
-fn number(bytes: &[u8]) -> u32 {
-    let mut number = 0u32;
-    for byte in bytes {
-        if !byte.is_ascii_digit() {
-            return number;
-        }
-        number = number
-            .saturating_mul(10)
-            .saturating_add(u32::from(*byte - b'0'));
-    }
-    number
-}
+use std::{io, str};
 
 /// Makes so many requests, and whether all of them were served.
 fn ask_ahead(machine: Global, requests: u32) -> bool {
@@ -49,56 +36,57 @@ fn ask_ahead(machine: Global, requests: u32) -> bool {
     true
 }
 
-/// Does a trial, and begins it once more where it was refused memory before it had anything to lose.
+/// Does the trial of this name.
+fn run_trial<R: Threads + Wait + Sync + Send + Copy>(
+    rt: R,
+    machine: Global,
+    name: &str,
+) -> Result<Ending, Stop> {
+    match name {
+        "alone" => alone(machine),
+        "by_hand" => by_hand(rt, machine),
+        "beside_readers" => beside_readers(rt, machine),
+        "publications" => publications(rt, machine),
+        "replays" => replays(machine),
+        "texts" => texts(machine),
+        "run" => run_with(rt, machine, 0),
+        "run_with_reader" => run_with(rt, machine, 1),
+        _ => Err(Stop::Broken("no such trial")),
+    }
+}
+
+/// Does a trial, and begins it once more where it was refused memory before it had anything to lose. What
+/// came of it.
 fn stand<R: Threads + Wait + Sync + Send + Copy>(
     rt: R,
     machine: Global,
-    trial: Trial,
-) -> Result<Ending, &'static str> {
-    match trial.run(rt, machine) {
-        Ok(ending) => Ok(ending),
-        Err(Stop::Broken(sentence)) => Err(sentence),
-        Err(Stop::Memory) => match trial.run(rt, machine) {
-            Ok(Ending::Whole) => Ok(Ending::Refused),
-            Ok(Ending::Refused) | Err(Stop::Memory) => Err("memory is refused once"),
-            Err(Stop::Broken(sentence)) => Err(sentence),
+    name: &str,
+) -> &'static str {
+    match run_trial(rt, machine, name) {
+        Ok(Ending::Whole) => "held, and nothing was refused",
+        Ok(Ending::Refused) => "held, and one request was refused",
+        Err(Stop::Broken(sentence)) => sentence,
+        Err(Stop::Memory) => match run_trial(rt, machine, name) {
+            Ok(Ending::Whole) => "held, and one request was refused",
+            Ok(Ending::Refused) | Err(Stop::Memory) => "memory is refused once",
+            Err(Stop::Broken(sentence)) => sentence,
         },
     }
 }
 
-/// What came of all trials.
-#[derive(Clone, Copy, Debug, PartialEq, Eq)]
-enum Outcome {
-    /// No request was refused.
-    Whole,
-    /// One request of this trial was refused.
-    Refused(Trial),
-    Broken(Trial, &'static str),
-}
-
-fn stand_all<R: Threads + Wait + Sync + Send + Copy>(rt: R, machine: Global) -> Outcome {
-    let mut outcome = Outcome::Whole;
-    for trial in TRIALS {
-        match stand(rt, machine, trial) {
-            Ok(Ending::Whole) => {}
-            Ok(Ending::Refused) if outcome == Outcome::Whole => outcome = Outcome::Refused(trial),
-            Ok(Ending::Refused) => return Outcome::Broken(trial, "memory is refused once"),
-            Err(sentence) => return Outcome::Broken(trial, sentence),
-        }
-    }
-    outcome
-}
-
 fn main(rt: HostRuntime) -> io::Result<()> {
-    let mut digits = [0u8; 8];
-    let read = rt.stdin().read(&mut digits)?;
-    let requests = number(digits.get(..read).unwrap_or(&[]));
-    if !ask_ahead(rt.alloc(), requests) {
+    let mut bytes = [0u8; 256];
+    let read = rt.stdin().read(&mut bytes)?;
+    let input = bytes
+        .get(..read)
+        .and_then(|bytes| str::from_utf8(bytes).ok());
+    let mut words = input.unwrap_or("").split_whitespace();
+    let requests = words.next().and_then(|word| word.parse::<u32>().ok());
+    if !ask_ahead(rt.alloc(), requests.unwrap_or(0)) {
         return println!(rt; "refused ahead");
     }
-    match stand_all(rt, rt.alloc()) {
-        Outcome::Whole => println!(rt; "held, and nothing was refused"),
-        Outcome::Refused(trial) => println!(rt; "held, refused in {trial}"),
-        Outcome::Broken(trial, sentence) => println!(rt; "broken in {trial}: {sentence}"),
+    for name in words {
+        println!(rt; "{name}: {}", stand(rt, rt.alloc(), name))?;
     }
+    Ok(())
 }

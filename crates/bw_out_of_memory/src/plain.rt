@@ -5,7 +5,7 @@ use bw_keys::{Fence, Key};
 use bw_work::{Act, Cleared, Del, Fault, Put, Reply, Set};
 
 /// The keys of the trials are below this one.
-const KEYS: usize = 10;
+pub(crate) const KEYS: usize = 16;
 
 /// What each key has. It takes no memory.
 #[derive(Clone, Copy, Debug, PartialEq, Eq)]

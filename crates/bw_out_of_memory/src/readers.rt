@@ -3,24 +3,34 @@
 ghost use Rattle.std.specs.Prelude.{◌≡◌};
 ghost use Rattle.bw_tree.specs.Shares.{Opens};
 
+use crate::acts::{ACTS, act_all};
 use crate::ending::{Ending, Stop, hold};
-use bw_keys::{Config, Key};
+use crate::plain::{KEYS, Plain};
+use crate::workers::judge;
+use bw_keys::Config;
 use bw_snap::{BlankBook, Naming, ReadTree, Reader, ScanFault};
-use bw_tree::Blanks;
-use bw_work::{Done, Fault, Hand, Open, Put, put};
+use bw_step::{Receipt, Step};
+use bw_test_kit::SMALL;
+use bw_tree::{Blanks, Share};
+use bw_work::{Act, Hand, Open, Steps};
 use std::alloc::Global;
 use std::marker::Brand;
 use std::sync::Wait;
 use std::sync::ledger::Ledger;
 
-/// How many groups of keys are put and published, and how many keys a group has: as many as there is room
-/// for in the first piece of memory that what is pending takes, so that a publication wants room for its mark.
-const GROUPS: u64 = 4;
+/// Puts of keys, each with itself as value.
+macro_rules! puts {
+    ($($key:literal),*) => {
+        &[$(Act::Put { key: $key, value: $key }),*]
+    };
+}
 
-const GROUP: u64 = 4;
+/// Groups of puts, each of which is published. A group has as many as there is room for in the first piece
+/// of memory that what is pending takes, so that a publication wants room for its mark.
+const GROUPS: [&[Act]; 3] = [puts!(0, 1, 2, 3), puts!(4, 5, 6, 7), puts!(8, 9, 10, 11)];
 
 /// Chains so long that the puts of the first group are all that is pending.
-const CONFIG: Config = Config {
+const LONG_CHAINS: Config = Config {
     fanout: 4,
     chain: 8,
     pages: 64,
@@ -28,68 +38,30 @@ const CONFIG: Config = Config {
     first_version: 0,
 };
 
-type Worker<'t, R, N, D> = Hand<'t, Global, ReadTree<R, N, D>, Open>;
-
-/// Puts the key, with itself as value, once more where memory was refused.
-fn put_surely<R: Wait + Copy, N: Naming, D: Ledger>(
-    hand: &mut Worker<'_, R, N, D>,
-    key: Key,
-) -> Result<Ending, Stop> {
-    match put(hand, key, key) {
-        Ok(
-            Done {
-                reply: Put::Inserted,
-                fault: None,
-            },
-        ) => Ok(Ending::Whole),
-        Ok(
-            Done {
-                reply: Put::Inserted,
-                fault: Some(Fault::NoMemory),
-            },
-        ) => Ok(Ending::Refused),
-        Err(Fault::NoMemory) => {
-            let again = put(hand, key, key);
-            let inserted = Ok(Done {
-                reply: Put::Inserted,
-                fault: None,
-            });
-            hold(
-                again == inserted,
-                "a put that was refused can be done again",
-            )?;
-            Ok(Ending::Refused)
-        }
-        _ => Err(Stop::Broken("a new key is inserted")),
+/// That the reader finds what the map has, or the sentence is broken.
+fn see<N: Naming>(
+    reader: &mut Reader<N>,
+    plain: &Plain,
+    sentence: &'static str,
+) -> Result<(), Stop> {
+    for key in 0..KEYS as u64 {
+        hold(reader.get(key)? == plain.get(key), sentence)?;
     }
+    Ok(())
 }
 
-/// Whether the reader finds the keys below the end, and none from there on.
-fn sees_below<N: Naming>(reader: &mut Reader<N>, end: Key) -> Result<bool, Stop> {
-    for key in 0..GROUPS * GROUP {
-        let wanted = (key < end).then_some(key);
-        if reader.get(key)? != wanted {
-            return Ok(false);
-        }
-    }
-    Ok(true)
-}
-
-/// Publishes the keys below the end, once more where memory was refused: until then the reader sees those
-/// below the low, and then all.
-fn publish_surely<R: Wait + Copy, N: Naming, D: Ledger>(
+/// Publishes, once more where memory was refused: until then the reader sees what it saw before, and then
+/// all.
+fn publish<R: Wait + Copy, N: Naming, D: Ledger>(
     tree: &ReadTree<R, N, D>,
     reader: &mut Reader<N>,
-    (low, end): (Key, Key),
+    (before, after): (&Plain, &Plain),
 ) -> Result<Ending, Stop> {
-    hold(sees_below(reader, low)?, "readers see what is published")?;
+    see(reader, before, "readers see what is published")?;
     let (stamp, ending) = match tree.publish() {
         Ok(stamp) => (stamp, Ending::Whole),
         Err(_) => {
-            hold(
-                sees_below(reader, low)?,
-                "a refused publication shows nothing",
-            )?;
+            see(reader, before, "a refused publication shows nothing")?;
             let Ok(stamp) = tree.publish() else {
                 return Err(Stop::Broken("memory is refused once"));
             };
@@ -97,46 +69,55 @@ fn publish_surely<R: Wait + Copy, N: Naming, D: Ledger>(
         }
     };
     reader.learn(stamp);
-    hold(sees_below(reader, end)?, "a publication shows all")?;
+    see(reader, after, "a publication shows all")?;
     Ok(ending)
 }
 
-/// Puts groups of keys and publishes each.
-fn publish_all<R: Wait + Copy, N: Naming, D: Ledger>(
+/// Does each group of acts, and publishes it.
+fn publish_all<R: Wait + Copy, N: Naming, D: Ledger, S: Steps<Global, Step<Global>>>(
     tree: &ReadTree<R, N, D>,
-    hand: &mut Worker<'_, R, N, D>,
+    steps: &mut S,
+    machine: Global,
     reader: &mut Reader<N>,
+    groups: &[&[Act]],
+    plain: &mut Plain,
 ) -> Result<Ending, Stop> {
     let mut ending = Ending::Whole;
-    for group in 0..GROUPS {
-        let low = group * GROUP;
-        for key in low..low + GROUP {
-            ending = ending.and(put_surely(hand, key)?);
-        }
-        ending = ending.and(publish_surely(tree, reader, (low, low + GROUP))?);
+    for acts in groups {
+        let before = *plain;
+        ending = ending.and(act_all(steps, machine, *acts, plain)?);
+        ending = ending.and(publish(tree, reader, (&before, plain))?);
     }
     Ok(ending)
 }
 
-/// Whether the list is that of all keys.
-fn lists_all(list: &[(Key, u64)]) -> bool {
-    let mut next = 0u64;
-    for pair in list {
-        if *pair != (next, next) {
-            return false;
-        }
-        next = next.saturating_add(1);
-    }
-    next == GROUPS * GROUP
+/// Lets a worker do the groups of acts, with a share that it takes from the list and gives back. Its trail.
+fn work<R: Wait + Copy, N: Naming, D: Ledger>(
+    machine: Global,
+    tree: &ReadTree<R, N, D>,
+    shares: &mut Vec<Share<N, D>>,
+    reader: &mut Reader<N>,
+    groups: &[&[Act]],
+    plain: &mut Plain,
+) -> Result<(Ending, Vec<Receipt>), Stop> {
+    let Some(share) = shares.pop() else {
+        return Err(Stop::Broken("a tree has a share for its worker"));
+    };
+    let mut hand = Hand::new(machine, machine, tree, share, 0, &Open);
+    let ending = publish_all(tree, &mut hand, machine, reader, groups, plain)?;
+    let (share, trail) = hand.finish();
+    // The list has had room for the share.
+    shares.push(share).map_err(|_| Stop::Memory)?;
+    Ok((ending, trail))
 }
 
 /// Scans all keys into a list that has a pair: it is as it was, or has all.
-fn scan<N: Naming>(machine: Global, reader: &mut Reader<N>) -> Result<Ending, Stop> {
+fn scan<N: Naming>(machine: Global, reader: &mut Reader<N>, plain: &Plain) -> Result<Ending, Stop> {
     let mut list = Vec::new(machine);
     list.push((7, 77))?;
     match reader.scan(0, usize::MAX, &mut list) {
         Ok(()) => {
-            hold(lists_all(&list), "a scan lists all pairs")?;
+            hold(plain.has(&list), "a scan lists all pairs")?;
             Ok(Ending::Whole)
         }
         Err(ScanFault::NoMemory) => {
@@ -145,7 +126,7 @@ fn scan<N: Naming>(machine: Global, reader: &mut Reader<N>) -> Result<Ending, St
                 "a refused scan leaves its list as it was",
             )?;
             let again = reader.scan(0, usize::MAX, &mut list);
-            hold(again.is_ok() && lists_all(&list), "a scan lists all pairs")?;
+            hold(again.is_ok() && plain.has(&list), "a scan lists all pairs")?;
             Ok(Ending::Refused)
         }
         Err(ScanFault::Closed) => Err(Stop::Broken("an open tree has an answer for its readers")),
@@ -158,6 +139,7 @@ fn published_over<R: Wait + Copy, N: Naming, D: Ledger>(
     config: Config,
     blanks: Blanks,
     book: BlankBook,
+    groups: &[&[Act]],
 ) -> Result<Ending, Stop>
     requires insertions { Opens N.name N.parts blanks.insertions }
     requires removals { Opens D.name D.parts blanks.removals }
@@ -169,26 +151,40 @@ fn published_over<R: Wait + Copy, N: Naming, D: Ledger>(
     ) else {
         return Err(Stop::Memory);
     };
-    let share = shares
-        .pop()
-        .ok_or(Stop::Broken("a tree has a share for its worker"))?;
-    let mut reader = readers.pop().ok_or(Stop::Broken("a tree has its reader"))?;
-    let mut hand = Hand::new(machine, machine, &tree, share, 0, &Open);
-    let published = publish_all(&tree, &mut hand, &mut reader)?;
-    let scanned = scan(machine, &mut reader)?;
-    let (share, _trail) = hand.finish();
-    shares.push(share).map_err(|_| Stop::Memory)?;
-    let table = tree
-        .close(shares)
-        .map_err(|_| Stop::Broken("a tree is closed by all its shares"))?;
-    hold(
-        lists_all(&table.pairs(machine)?),
-        "the pairs are the script's",
-    )?;
-    Ok(published.and(scanned))
+    let Some(mut reader) = readers.pop() else {
+        return Err(Stop::Broken("a tree has its reader"));
+    };
+    let mut plain = Plain::EMPTY;
+    let (ending, trail) = work(machine, &tree, &mut shares, &mut reader, groups, &mut plain)?;
+    let scanned = scan(machine, &mut reader, &plain)?;
+    let Ok(table) = tree.close(shares) else {
+        return Err(Stop::Broken("a tree is closed by all its shares"));
+    };
+    judge(machine, &table, trail, &plain)?;
+    Ok(ending.and(scanned))
+}
+
+/// A worker on a tree that has a reader.
+pub(crate) fn beside_readers<R: Wait + Copy>(rt: R, machine: Global) -> Result<Ending, Stop> {
+    let groups: [&[Act]; 1] = [&ACTS];
+    published_over::<R, Brand, Brand>(
+        rt,
+        machine,
+        SMALL,
+        Blanks::new(1),
+        BlankBook::new(),
+        &groups,
+    )
 }
 
 /// Puts, publications and scans.
 pub(crate) fn publications<R: Wait + Copy>(rt: R, machine: Global) -> Result<Ending, Stop> {
-    published_over::<R, Brand, Brand>(rt, machine, CONFIG, Blanks::new(1), BlankBook::new())
+    published_over::<R, Brand, Brand>(
+        rt,
+        machine,
+        LONG_CHAINS,
+        Blanks::new(1),
+        BlankBook::new(),
+        &GROUPS,
+    )
 }

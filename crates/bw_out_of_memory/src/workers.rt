@@ -1,18 +1,17 @@
-//! Workers that are refused memory: one alone, and one by hand on either shared tree.
+//! Workers that are refused memory: one alone, and one by hand.
 
 ghost use Rattle.std.specs.Prelude.{◌≡◌};
 ghost use Rattle.bw_tree.specs.Shares.{Opens};
 
-use crate::acts::act_all;
+use crate::acts::{ACTS, act_all};
 use crate::ending::{Ending, Stop, hold};
 use crate::plain::Plain;
 use bw_audit::{Verdict, audit, is_ascending};
 use bw_keys::Config;
-use bw_snap::{BlankBook, Naming, ReadTree};
 use bw_step::{Receipt, Survey};
 use bw_table::Table;
 use bw_test_kit::{SMALL, partition_the_keys};
-use bw_tree::{Blanks, MadeBy, Tree};
+use bw_tree::{Blanks, MadeBy, Share, Tree};
 use bw_work::{Alone, Hand, Open};
 use std::alloc::Global;
 use std::marker::Brand;
@@ -21,21 +20,20 @@ use std::sync::ledger::Ledger;
 
 /// Whether the table has the map's pairs, in leaves that partition the keys and by its book, and the
 /// audit explains the trail.
-fn judge(
+pub(crate) fn judge(
     machine: Global,
     table: &Table<Global>,
     trail: Vec<Receipt>,
     plain: &Plain,
 ) -> Result<(), Stop> {
     let pairs = table.pairs(machine)?;
-    hold(plain.has(&pairs), "the pairs are the script's")?;
     let Survey { leaves, book, .. } = table.survey(machine)?;
-    hold(partition_the_keys(&leaves), "the leaves partition the keys")?;
     let counted = book.inserted.checked_sub(book.removed);
     hold(
-        counted == Some(pairs.len() as u64),
-        "the book counts the pairs",
+        plain.has(&pairs) && counted == Some(pairs.len() as u64),
+        "the pairs are the script's, and the book counts them",
     )?;
+    hold(partition_the_keys(&leaves), "the leaves partition the keys")?;
     if !is_ascending(&pairs) {
         return Err(Stop::Broken("the pairs' keys rise"));
     }
@@ -50,10 +48,28 @@ pub(crate) fn alone(machine: Global) -> Result<Ending, Stop> {
     };
     let mut plain = Plain::EMPTY;
     let mut worker = Alone::new(machine, machine, &mut table);
-    let ending = act_all(&mut worker, machine, &mut plain)?;
+    let ending = act_all(&mut worker, machine, &ACTS, &mut plain)?;
     let trail = worker.finish();
     judge(machine, &table, trail, &plain)?;
     Ok(ending)
+}
+
+/// Lets a worker do all acts on the tree, with a share that it takes from the list and gives back. Its trail.
+fn work<R: Wait + Copy, I: MadeBy, D: Ledger>(
+    machine: Global,
+    tree: &Tree<R, Global, I, D>,
+    shares: &mut Vec<Share<I, D>>,
+    plain: &mut Plain,
+) -> Result<(Ending, Vec<Receipt>), Stop> {
+    let Some(share) = shares.pop() else {
+        return Err(Stop::Broken("a tree has a share for its worker"));
+    };
+    let mut hand = Hand::new(machine, machine, tree, share, 0, &Open);
+    let ending = act_all(&mut hand, machine, &ACTS, plain)?;
+    let (share, trail) = hand.finish();
+    // The list has had room for the share.
+    shares.push(share).map_err(|_| Stop::Memory)?;
+    Ok((ending, trail))
 }
 
 fn by_hand_over<R: Wait + Copy, I: MadeBy, D: Ledger>(
@@ -70,18 +86,11 @@ fn by_hand_over<R: Wait + Copy, I: MadeBy, D: Ledger>(
     else {
         return Err(Stop::Memory);
     };
-    let share = shares
-        .pop()
-        .ok_or(Stop::Broken("a tree has a share for its worker"))?;
     let mut plain = Plain::EMPTY;
-    let mut hand = Hand::new(machine, machine, &tree, share, 0, &Open);
-    let ending = act_all(&mut hand, machine, &mut plain)?;
-    let (share, trail) = hand.finish();
-    // The list has had room for the share.
-    shares.push(share).map_err(|_| Stop::Memory)?;
-    let table = tree
-        .close(shares)
-        .map_err(|_| Stop::Broken("a tree is closed by all its shares"))?;
+    let (ending, trail) = work(machine, &tree, &mut shares, &mut plain)?;
+    let Ok(table) = tree.close(shares) else {
+        return Err(Stop::Broken("a tree is closed by all its shares"));
+    };
     judge(machine, &table, trail, &plain)?;
     Ok(ending)
 }
@@ -89,41 +98,4 @@ fn by_hand_over<R: Wait + Copy, I: MadeBy, D: Ledger>(
 /// A worker on a tree under its lock.
 pub(crate) fn by_hand<R: Wait + Copy>(rt: R, machine: Global) -> Result<Ending, Stop> {
     by_hand_over::<R, Brand, Brand>(rt, machine, SMALL, Blanks::new(1))
-}
-
-fn beside_readers_over<R: Wait + Copy, N: Naming, D: Ledger>(
-    rt: R,
-    machine: Global,
-    config: Config,
-    blanks: Blanks,
-    book: BlankBook,
-) -> Result<Ending, Stop>
-    requires insertions { Opens N.name N.parts blanks.insertions }
-    requires removals { Opens D.name D.parts blanks.removals }
-    requires book { book.seen.book ≡ N.book }
-    requires config { N.config ≡ config }
-{
-    let Ok((tree, mut shares, _readers)) = ReadTree::<R, N, D>::with_readers(
-        rt, machine, config, blanks, book, 1,
-    ) else {
-        return Err(Stop::Memory);
-    };
-    let share = shares
-        .pop()
-        .ok_or(Stop::Broken("a tree has a share for its worker"))?;
-    let mut plain = Plain::EMPTY;
-    let mut hand = Hand::new(machine, machine, &tree, share, 0, &Open);
-    let ending = act_all(&mut hand, machine, &mut plain)?;
-    let (share, trail) = hand.finish();
-    shares.push(share).map_err(|_| Stop::Memory)?;
-    let table = tree
-        .close(shares)
-        .map_err(|_| Stop::Broken("a tree is closed by all its shares"))?;
-    judge(machine, &table, trail, &plain)?;
-    Ok(ending)
-}
-
-/// A worker on a tree that has a reader.
-pub(crate) fn beside_readers<R: Wait + Copy>(rt: R, machine: Global) -> Result<Ending, Stop> {
-    beside_readers_over::<R, Brand, Brand>(rt, machine, SMALL, Blanks::new(1), BlankBook::new())
 }
