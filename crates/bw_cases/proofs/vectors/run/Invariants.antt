@@ -1,4 +1,4 @@
-use Rattle.bw_vectors.proofs.ways.Way.run.Given as goal
+use Rattle.bw_cases.proofs.vectors.run.Given as goal
 
 abbrev pub ghosts-run_by_hand-I-Ledger : goal.ghosts-run_by_hand-I-Ledger
 ghosts-run_by_hand-I-Ledger g a = record { name = a.blanks.insertions.name; parts = a.blanks.insertions.parts }
