@@ -1,5 +1,5 @@
 //! Tests of the texts and of the command, of what no file of cases can say: typed results, long texts,
-//! ends that fail, and runs of several workers. The cases stand in `bw_commands`.
+//! ends that fail, and runs of several workers. The cases stand in `bw_cases`.
 #![tactic(auto)]
 
 #[cfg(test)]

@@ -1,142 +1,219 @@
-//! Calls on a map and on the kit's map, and whether they answer the same.
+//! Drawn calls on a handle, and reads of its map, beside the kit's map.
 
-use nifforan::{Config, Del, Fence, Key, Map, Put, Range, Set};
-use std::alloc::Global;
+ghost use Rattle.std.specs.Prelude.{◌<◌, ◌≤◌};
+
+use nifforan::{Fence, Map};
+use nifforan_handle::status::{CLOSED, OK, OPEN, TABLE_FULL};
+use nifforan_handle::{Handle, Pair, Settings};
+use rand_core::{Rng, SeedableRng};
+use rand_pcg::Pcg32;
+use std::alloc::{AllocError, Global};
 use std::collections::BTreeMap;
-use std::test::Fail;
+use std::mem::replace;
 
-/// The two maps, and how many calls ended with a fault.
+/// Keys at both ends, which are drawn like others.
+const ENDS: [u64; 4] = [0, 1, u64::MAX - 1, u64::MAX];
+
+/// The most pairs that one call reads.
+const ROOM: usize = 24;
+
+/// A place that nothing was written to.
+const UNTOUCHED: Pair = Pair { key: 5, value: 6 };
+
+/// The kit's map, and what was seen of the handle beside it.
 #[derive(Drop)]
 pub struct Beside {
-    map: Map<Global>,
-    plain: BTreeMap<Key, u64>,
-    pub faults: u32,
+    machine: Global,
+    rng: Pcg32,
+    /// How many keys may be drawn.
+    keys: u32,
+    pairs: BTreeMap<u64, u64>,
+    /// Whether a call found no page free.
+    pub was_full: bool,
+}
+
+fn owned(pair: (&u64, &u64)) -> (u64, u64) {
+    (*pair.0, *pair.1)
 }
 
 impl Beside {
-    /// Two maps without pairs.
-    pub fn new(machine: Global, config: Config) -> Result<Beside, Fail> {
-        Ok(Beside {
-            map: Map::new(machine, machine, config)?,
-            plain: BTreeMap::new(machine),
-            faults: 0,
-        })
-    }
-
-    /// The two maps, the one made anew of the table that it hands out.
-    pub fn made_of_its_table(self, machine: Global) -> Beside {
-        let Beside { map, plain, faults } = self;
+    pub fn new(machine: Global, seed: u64, keys: u32) -> Beside {
         Beside {
-            map: Map::from_table(machine, machine, map.into_table()),
-            plain,
-            faults,
+            machine,
+            rng: Pcg32::seed_from_u64(seed),
+            keys,
+            pairs: BTreeMap::new(machine),
+            was_full: false,
         }
     }
 
-    pub fn config(&self) -> Config {
-        self.map.config()
+    fn below(&mut self, bound: u32) -> u32
+        requires { 0 < bound }
+        ensures { result < bound }
+    {
+        self.rng.next_u32() % bound
     }
 
-    /// The value that the kit's map has at the key.
-    fn plain_at(&self, key: Key) -> Option<u64> {
-        self.plain.get(&key).copied()
+    fn key(&mut self) -> u64 {
+        let drawn = self.rng.next_u32().checked_rem(self.keys).unwrap_or(0);
+        ENDS.get(drawn as usize).copied().unwrap_or(drawn.into())
     }
 
-    /// A fault leaves the pairs as they were, so the kit's map isn't touched.
-    fn note_fault(&mut self) -> bool {
-        self.faults = self.faults.saturating_add(1);
-        true
-    }
-
-    pub fn put(&mut self, key: Key, value: u64) -> Result<bool, Fail> {
-        let Ok(done) = self.map.put(key, value) else {
-            return Ok(self.note_fault());
-        };
-        Ok(match (done.reply, self.plain_at(key)) {
-            (Put::Inserted, None) => self.plain.insert(key, value)?.is_none(),
-            (Put::Present(there), Some(old)) => there == old,
-            _ => false,
-        })
-    }
-
-    pub fn set(&mut self, key: Key, value: u64) -> Result<bool, Fail> {
-        let Ok(done) = self.map.set(key, value) else {
-            return Ok(self.note_fault());
-        };
-        let before = self.plain.insert(key, value)?;
-        Ok(match done.reply {
-            Set::Inserted => before.is_none(),
-            Set::Replaced(old) => before == Some(old),
-        })
-    }
-
-    pub fn delete(&mut self, key: Key) -> bool {
-        let Ok(done) = self.map.delete(key) else {
-            return self.note_fault();
-        };
-        let before = self.plain.remove(&key);
-        match done.reply {
-            Del::Removed(old) => before == Some(old),
-            Del::NoKey => before.is_none(),
-        }
-    }
-
-    /// Where a fault ends the call, what it left is taken over: then only the keys out of the range and
-    /// the count are compared.
-    pub fn clear(&mut self, low: Key, high: Key) -> bool {
-        let cleared = self.map.clear(low, Fence::Key(high));
-        let ended = cleared.fault.is_some();
-        let map = &self.map;
-        let many = self.plain.len();
-        self.plain.retain(|key, _| *key < low
-            || *key >= high
-            || (ended && map.get(*key).is_some()));
-        if ended {
-            self.note_fault();
-        }
-        many.checked_sub(self.plain.len()) == Some(cleared.removed as usize)
-    }
-
-    /// Whether both have as many pairs, the same first and last one, and the same at a key and beside it.
-    pub fn is_same_at(&self, key: Key) -> bool {
-        let (mut first, mut last) = (None, None);
-        let (mut before, mut next) = (None, None);
-        for (at, value) in self.plain.iter() {
-            let pair = (*at, *value);
-            first = first.or(Some(pair));
-            last = Some(pair);
-            if *at <= key {
-                before = last;
+    /// Opens the handle, makes so many rounds of a hundred drawn calls, reads its map after each, and closes it.
+    /// Answers whether each call answered as the kit's map does.
+    pub fn play(
+        &mut self,
+        handle: &mut Handle,
+        settings: &Settings,
+        rounds: u32,
+    ) -> Result<bool, AllocError> {
+        let machine = self.machine;
+        let opened = [
+            handle.create(machine, settings),
+            handle.create(machine, settings),
+        ];
+        let mut is_alike = opened == [OK, OPEN];
+        for _ in 0..rounds {
+            for _ in 0..100 {
+                is_alike &= self.call(handle)?;
             }
-            if *at >= key {
-                next = next.or(last);
-            }
+            is_alike &= self.reads_of_map(handle)?;
         }
-        self.map.len() == self.plain.len() as u64
-            && self.map.is_empty() == self.plain.is_empty()
-            && self.map.get(key) == self.plain_at(key)
-            && (self.map.first(), self.map.last()) == (first, last)
-            && (self.map.previous_at(key), self.map.next_at(key)) == (before, next)
+        handle.close(machine);
+        Ok(is_alike)
     }
 
-    /// Whether both have the same pairs from the low on and below the high.
-    pub fn is_same_within(&self, low: Key, high: Fence) -> bool {
-        self.has_within(low, high, self.map.range(low, high))
+    fn call(&mut self, handle: &mut Handle) -> Result<bool, AllocError> {
+        match self.below(64) {
+            0 => self.clear(handle),
+            1..5 => Ok(self.read(handle)),
+            _ => self.call_at_key(handle),
+        }
     }
 
-    /// Whether a walk over all pairs gives those of the kit's map.
-    pub fn is_same_throughout(&self) -> bool {
-        self.has_within(0, Fence::Top, self.map.iter())
+    /// A change of a key, or a look at it. Where no page is free, nothing is changed.
+    fn call_at_key(&mut self, handle: &mut Handle) -> Result<bool, AllocError> {
+        let (machine, key, value) = (self.machine, self.key(), self.rng.next_u64());
+        let there = self.pairs.get(&key).copied();
+        let (reply, then) = match self.below(16) {
+            0..6 => (
+                handle.put(machine, key, value),
+                Some(there.unwrap_or(value)),
+            ),
+            6..9 => (handle.set(machine, key, value), Some(value)),
+            9..13 => (handle.delete(machine, key), None),
+            _ => (handle.get(machine, key), there),
+        };
+        self.was_full |= reply.status == TABLE_FULL || u32::from(reply.care) == TABLE_FULL;
+        if reply.status == TABLE_FULL {
+            return Ok(true);
+        }
+        self.pairs.remove(&key);
+        if let Some(value) = then {
+            self.pairs.insert(key, value)?;
+        }
+        let wanted = (OK, there.is_some(), there.unwrap_or(0));
+        Ok((reply.status, reply.found, reply.value) == wanted)
     }
 
-    /// Whether the walk gives the pairs that the kit's map has from the low on and below the high.
-    fn has_within(&self, low: Key, high: Fence, walk: Range<'_, Global>) -> bool {
-        let mut ours = walk;
-        for (key, value) in self.plain.iter() {
-            if low <= *key && high.is_above(*key) && ours.next() != Some((*key, *value)) {
-                return false;
+    /// Reads into room of a drawn size, and leaves the places behind it alone.
+    fn read(&mut self, handle: &mut Handle) -> bool {
+        let (key, room) = (self.key(), self.below(ROOM as u32) as usize);
+        let mut places = [UNTOUCHED; ROOM];
+        let read = handle.read(self.machine, key, &mut places[..room]);
+        let mut left = self.pairs.range(key..).map(owned);
+        let mut is_alike = true;
+        for place in &places[..read.count.min(room)] {
+            is_alike &= left.next() == Some((place.key, place.value));
+        }
+        let next = left.next();
+        let wanted = (OK, next.is_some(), next.unwrap_or((0, 0)).0);
+        is_alike
+            && (read.status, read.has_next, read.next) == wanted
+            && (read.count == room || next.is_none())
+            && places[room].key == UNTOUCHED.key
+    }
+
+    /// Clears a drawn range, which may be empty. Where no page is free, some of its keys may be left.
+    fn clear(&mut self, handle: &mut Handle) -> Result<bool, AllocError> {
+        let low = self.key();
+        let high = low.saturating_add(self.below(64).into()).saturating_sub(3);
+        let cleared = handle.clear(self.machine, low, high);
+        let mut within = Vec::new(self.machine);
+        for (key, _) in self.pairs.iter() {
+            if low <= *key && *key <= high {
+                within.push(*key)?;
             }
         }
-        ours.next().is_none()
+        let removed = self.forget_lost(handle, &within);
+        let is_said = match cleared.status {
+            OK => removed == within.len() as u64,
+            status => status == TABLE_FULL,
+        };
+        Ok(is_said && cleared.removed == removed)
     }
+
+    /// Takes those keys out of the kit's map that the handle hasn't, and counts them.
+    fn forget_lost(&mut self, handle: &mut Handle, keys: &[u64]) -> u64 {
+        let mut removed = 0u64;
+        for key in keys {
+            if !handle.get(self.machine, *key).found {
+                self.pairs.remove(key);
+                removed = removed.wrapping_add(1);
+            }
+        }
+        removed
+    }
+
+    /// Takes the map out of the handle, reads it at a drawn key, and puts it back, made anew of its table.
+    fn reads_of_map(&mut self, handle: &mut Handle) -> Result<bool, AllocError> {
+        let machine = self.machine;
+        let low = self.key();
+        let high = low.saturating_add(self.below(40).into());
+        let count = handle.pairs(machine);
+        let Some(map) = replace(handle, Handle::closed()).into_map(machine) else {
+            return Ok(false);
+        };
+        let is_alike = (count.status, count.pairs) == (OK, self.pairs.len() as u64)
+            && self.is_read(&map, low, high);
+        let map = Map::from_table(machine, machine, Box::into_inner(map).into_table());
+        drop(replace(handle, Handle::of(Box::new(machine, map)?)).into_map(machine));
+        Ok(is_alike)
+    }
+
+    /// Whether each read of the map tells what the kit's map has.
+    fn is_read(&self, map: &Map<Global>, low: u64, high: u64) -> bool
+        requires { low ≤ high }
+    {
+        let plain = &self.pairs;
+        let alike = [
+            map.len() == plain.len() as u64,
+            map.is_empty() == plain.is_empty(),
+            map.get(low) == plain.get(&low).copied(),
+            map.first() == plain.first_key_value().map(owned),
+            map.last() == plain.last_key_value().map(owned),
+            map.next_at(low) == plain.range(low..).next().map(owned),
+            map.previous_at(low) == plain.range(..=low).next_back().map(owned),
+            map.range(low, Fence::Key(high))
+                .eq(plain.range(low..high).map(owned)),
+            map.iter().eq(plain.iter().map(owned)),
+        ];
+        !alike.contains(&false)
+    }
+}
+
+/// Whether each call says that the handle is closed.
+pub fn is_closed(machine: Global, handle: &mut Handle) -> bool {
+    let mut places = [UNTOUCHED; 1];
+    let read = handle.read(machine, 0, &mut places);
+    let told = [
+        read.status,
+        handle.pairs(machine).status,
+        handle.get(machine, 1).status,
+        handle.put(machine, 1, 2).status,
+        handle.set(machine, 1, 2).status,
+        handle.delete(machine, 1).status,
+        handle.clear(machine, 0, u64::MAX).status,
+    ];
+    told == [CLOSED; 7] && (read.count, places[0].key) == (0, UNTOUCHED.key)
 }

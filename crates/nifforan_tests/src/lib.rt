@@ -1,7 +1,10 @@
-//! A map beside the kit's `BTreeMap`: the same drawn calls on both, compared after each.
+//! Maps, and handles for C, beside the kit's `BTreeMap`: the same drawn calls on both. And what the workers of a shared
+//! tree are answered, call by call.
 #![tactic(auto)]
 
 #[cfg(test)]
 mod beside;
 #[cfg(test)]
-mod drawn;
+mod shared;
+#[cfg(test)]
+mod walks;

@@ -1,11 +1,26 @@
-//! Four threads fill one map, each with keys of its own, and look without the lock at what they put.
+//! Four threads fill one map, each with keys of its own; four with readers fill another, and look
+//! without the lock at what they put.
 #![tactic(auto)]
 
-use bw_share::{Config, Fault, Reader, ReadingJob, Worker, share_with_readers};
+use anyhow::Result;
+use bw_share::{Config, Fault, Job, Reader, ReadingJob, Worker, share, share_with_readers};
 
-/// A thousand keys for each worker, which answers what its reader then finds at the first of them.
+/// A thousand keys for each worker.
 struct Fill;
 
+impl Job for Fill {
+    type Output = Result<(), Fault>;
+
+    fn work<W: Worker>(&self, worker: u32, hand: &mut W) -> Result<(), Fault> {
+        let first = 1000 * u64::from(worker);
+        for key in first..first + 1000 {
+            hand.put(key, 7 * key)?;
+        }
+        Ok(())
+    }
+}
+
+/// The same, and then each worker answers what its reader finds at the first of its keys.
 impl ReadingJob for Fill {
     type Output = Result<Option<u64>, Fault>;
 
@@ -15,16 +30,19 @@ impl ReadingJob for Fill {
         hand: &mut W,
         reader: &mut R,
     ) -> Result<Option<u64>, Fault> {
-        let first = 1000 * u64::from(worker);
-        for key in first..first + 1000 {
-            hand.put(key, 7 * key)?;
-        }
+        Job::work(self, worker, hand)?;
         reader.publish()?;
+        let first = 1000 * u64::from(worker);
         Ok(reader.get(first).unwrap_or(None))
     }
 }
 
-fn main(rt: HostRuntime) -> anyhow::Result<()> {
+fn main(rt: HostRuntime) -> Result<()> {
+    let shared = share(rt, rt.alloc(), Config::default(), 4, &Fill)?;
+    for output in shared.outputs {
+        output?;
+    }
+    println!(rt; "{:?}", shared.table.get(1000))?;
     let shared = share_with_readers(rt, rt.alloc(), Config::default(), 4, &Fill)?;
     for found in shared.outputs {
         println!(rt; "found {:?}", found?)?;

@@ -1,0 +1,136 @@
+//! Cases of the program's command: what is given to it, and what it is to answer.
+//!
+//! A file has one case after the other. Each line begins with a mark, and has its text behind a blank:
+//!
+//! | Mark | The line says |
+//! |---|---|
+//! | `$` | a case begins, and these are its words; behind a bar are those of a second call, which reads what the first prints |
+//! | `+` | with these words behind its own the answer is the same |
+//! | `<` | a line of the input |
+//! | `<-` | a line of the input, without its line feed |
+//! | `<!` | from here on the input can't be read |
+//! | `..` | the output has any lines, and below them those that follow |
+//! | `>`, `>-` | a line of the output, with its line feed or without |
+//! | `!`, `!-` | a line of the faults, with its line feed or without |
+//! | `=` | the status, where it isn't 0 |
+//! | `#` | a comment |
+//!
+//! An empty line says nothing. The lines of the answer stand in this order.
+
+use crate::program::{Input, answer_to};
+use crate::texts::compare;
+use anyhow::{Result, bail, ensure};
+use std::alloc::Global;
+use std::sync::Wait;
+use std::thread::Threads;
+
+/// What is given to the program, and what it is to answer.
+#[derive(Drop)]
+struct Case<'a> {
+    words: &'a str,
+    /// Words that are given behind these once more, with the same answer.
+    more: Option<&'a str>,
+    input: String,
+    has_failure: bool,
+    /// Whether the answer has lines above those that are wanted.
+    has_more: bool,
+    /// The lines of the answer, with their marks.
+    wanted: String,
+}
+
+/// Gives the cases of a file to the program, and counts them.
+pub(crate) fn agree<R: Threads + Wait + Sync + Send + Copy>(
+    rt: R,
+    alloc: Global,
+    text: &str,
+    name: &str,
+) -> Result<String> {
+    ensure!(text.starts_with('#'), "a file begins with a comment");
+    let mut cases = 0u64;
+    let mut line = 1usize;
+    for block in text.split("\n$") {
+        if line > 1 {
+            let case = read_case(alloc, block)?;
+            if let Err(fault) = judge(rt, alloc, &case) {
+                bail!("the case in line {line}: {fault}");
+            }
+            cases = cases.saturating_add(1);
+        }
+        line = line.saturating_add(block.split('\n').count());
+    }
+    Ok(format!(in alloc; "{name}: {cases} cases agree\n")?)
+}
+
+fn read_case<'a>(alloc: Global, block: &'a str) -> Result<Case<'a>> {
+    let (words, lines) = block.split_once('\n').unwrap_or((block, ""));
+    let mut case = Case {
+        words,
+        more: None,
+        input: String::new(alloc),
+        has_failure: false,
+        has_more: false,
+        wanted: String::new(alloc),
+    };
+    for line in lines.lines() {
+        let (mark, text) = line.split_once(' ').unwrap_or((line, ""));
+        match mark {
+            "" | "#" => {}
+            "+" => case.more = Some(text),
+            "<" => writeln!(case.input, "{text}")?,
+            "<-" => case.input.push_str(text)?,
+            "<!" => case.has_failure = true,
+            ".." => case.has_more = true,
+            ">" | ">-" | "!" | "!-" | "=" => writeln!(case.wanted, "{mark} {text}")?,
+            _ => bail!("{mark} is no mark of a line"),
+        }
+    }
+    Ok(case)
+}
+
+/// Fails where the program first doesn't answer as it is to.
+fn judge<R: Threads + Wait + Sync + Send + Copy>(rt: R, alloc: Global, case: &Case) -> Result<()> {
+    judge_with(rt, alloc, case, "")?;
+    match case.more {
+        Some(more) => judge_with(rt, alloc, case, more),
+        None => Ok(()),
+    }
+}
+
+/// Fails where it first doesn't, with more words behind the case's own.
+fn judge_with<R: Threads + Wait + Sync + Send + Copy>(
+    rt: R,
+    alloc: Global,
+    case: &Case,
+    more: &str,
+) -> Result<()> {
+    let input = Input {
+        text: case.input.as_bytes(),
+        has_failure: case.has_failure,
+    };
+    let (words, next) = case.words.split_once(" | ").unwrap_or((case.words, ""));
+    let mut answer = answer_to(rt, alloc, words, more, input)?;
+    if !next.is_empty() && answer.status == 0 {
+        let given = answer.output;
+        let input = Input {
+            text: given.as_bytes(),
+            has_failure: false,
+        };
+        answer = answer_to(rt, alloc, next, "", input)?;
+    }
+    let lines = answer.lines(alloc)?;
+    let many = case.wanted.lines().count();
+    let above = lines.lines().count().saturating_sub(many);
+    compare(
+        below(&lines, if case.has_more { above } else { 0 }),
+        &case.wanted,
+    )
+}
+
+/// What stands below so many lines of a text.
+fn below(text: &str, lines: usize) -> &str {
+    let mut rest = text;
+    for _ in 0..lines {
+        rest = rest.split_once('\n').map_or("", |(_, below)| below);
+    }
+    rest
+}

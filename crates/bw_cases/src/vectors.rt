@@ -1,0 +1,134 @@
+//! Traces with what an independent model of the map foretold of them, byte for byte.
+
+use crate::program::{Input, answer_to};
+use crate::texts::{compare, read_part};
+use crate::ways::{run_alone, run_by_hand};
+use anyhow::{Context, Result, bail, ensure};
+use bw_keys::Config;
+use bw_tree::Blanks;
+use std::alloc::Global;
+use std::marker::Brand;
+use std::rt::Files;
+use std::sync::Wait;
+use std::thread::Threads;
+
+/// A trace of one worker, with its options.
+#[derive(Drop)]
+pub(crate) struct Vector {
+    /// The words of the options, one a line: a name, and then its number.
+    options: String,
+    pub(crate) trace: String,
+}
+
+/// Who does the rows of a trace.
+#[derive(Clone, Copy)]
+enum Way {
+    /// A worker that has the table for itself.
+    Alone,
+    /// A worker with a hand on a tree.
+    Hand,
+    /// The program's command, with so many readers.
+    Program(u32),
+}
+
+const WAYS: [(Way, &str); 4] = [
+    (Way::Alone, "alone"),
+    (Way::Hand, "by hand"),
+    (Way::Program(0), "by the program"),
+    (Way::Program(1), "by the program with a reader"),
+];
+
+/// Runs a trace in each way, and compares replies, leaves, counts and history with those that were foretold.
+pub(crate) fn agree<R: Threads + Wait + Sync + Send + Copy + Files + AllocGlobal>(
+    rt: R,
+    path: &str,
+    name: &str,
+) -> Result<String> {
+    let alloc = rt.alloc();
+    let vector = Vector {
+        options: read_part(&rt, path, "args")?,
+        trace: read_part(&rt, path, "trace")?,
+    };
+    let replies = read_part(&rt, path, "replies")?;
+    let foretold = joined(alloc, replies, &read_part(&rt, path, "history")?)?;
+    let mut lines = String::new(alloc);
+    for (way, words) in WAYS {
+        compare(&run(rt, alloc, &vector, way)?, &foretold).context(words)?;
+        writeln!(lines, "{name} {words}: as foretold")?;
+    }
+    Ok(lines)
+}
+
+/// The replies, leaves and counts, and behind them the history.
+pub(crate) fn joined(alloc: Global, replies: String, history: &str) -> Result<String> {
+    Ok(format!(in alloc; "{replies}history\n{history}")?)
+}
+
+fn run<R: Threads + Wait + Sync + Send + Copy>(
+    rt: R,
+    alloc: Global,
+    vector: &Vector,
+    way: Way,
+) -> Result<String> {
+    match way {
+        Way::Alone => run_alone(alloc, vector.config()?, &vector.trace),
+        Way::Hand => {
+            run_by_hand::<Brand, Brand, _>(
+                rt,
+                alloc,
+                vector.config()?,
+                Blanks::new(1),
+                &vector.trace,
+            )
+        }
+        Way::Program(readers) => {
+            let replies = vector.printed(rt, alloc, readers, "--replies")?;
+            joined(
+                alloc,
+                replies,
+                &vector.printed(rt, alloc, readers, "--history")?,
+            )
+        }
+    }
+}
+
+impl Vector {
+    /// The configuration that the options give, with the usual numbers for those that aren't there.
+    fn config(&self) -> Result<Config> {
+        let mut config = Config::default();
+        let mut words = self.options.split_whitespace();
+        while let Some(name) = words.next() {
+            let number = words.next().context("an option has no number")?;
+            let number = number.parse::<u32>()?;
+            match name {
+                "--fanout" => config.fanout = number,
+                "--chain" => config.chain = number,
+                "--pages" => config.pages = number,
+                "--tries" => config.tries = number,
+                _ => bail!("{name} is no option"),
+            }
+        }
+        Ok(config)
+    }
+
+    /// What the program prints of the trace.
+    fn printed<R: Threads + Wait + Sync + Send + Copy>(
+        &self,
+        rt: R,
+        alloc: Global,
+        readers: u32,
+        wanted: &str,
+    ) -> Result<String> {
+        let words = format!(in alloc; "{} --readers={readers} {wanted}", self.options)?;
+        let input = Input {
+            text: self.trace.as_bytes(),
+            has_failure: false,
+        };
+        let answer = answer_to(rt, alloc, "run", &words, input)?;
+        ensure!(
+            answer.status == 0 && answer.faults.is_empty(),
+            "the program refused the trace"
+        );
+        Ok(answer.output)
+    }
+}

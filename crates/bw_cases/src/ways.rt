@@ -1,0 +1,78 @@
+//! Traces that are run without the program: by a worker that has a table for itself, and by one with a hand on a tree.
+
+ghost use Rattle.std.specs.Prelude.{◌≡◌};
+ghost use Rattle.bw_tree.specs.Shares.{Opens};
+
+use crate::vectors::joined;
+use anyhow::{Context, Result};
+use bw_audit::audit;
+use bw_keys::Config;
+use bw_run::do_act;
+use bw_step::{Receipt, Step};
+use bw_table::Table;
+use bw_trace::{read_trace, write_history};
+use bw_tree::{Blanks, MadeBy, Tree};
+use bw_work::{Alone, Hand, Open, Steps};
+use std::alloc::Global;
+use std::sync::Wait;
+use std::sync::ledger::Ledger;
+
+/// Does the rows of the trace in their order. A line for each reply.
+fn work<S: Steps<Global, Step<Global>>>(
+    alloc: Global,
+    steps: &mut S,
+    trace: &str,
+) -> Result<String> {
+    let rows = read_trace(alloc, trace.as_bytes(), 1)?;
+    let mut lines = String::new(alloc);
+    for row in rows.iter() {
+        let reply = do_act(steps, alloc, row.act)?;
+        writeln!(lines, "{reply}")?;
+    }
+    Ok(lines)
+}
+
+/// The replies, the survey of the table and the audit, and the history behind them.
+fn ending(
+    alloc: Global,
+    replies: String,
+    trail: Vec<Receipt>,
+    table: &Table<Global>,
+) -> Result<String> {
+    let pairs = table.pairs(alloc)?;
+    let trails = [trail];
+    let verdict = audit(alloc, &trails, &pairs)?;
+    let survey = table.survey(alloc)?;
+    let replies = format!(in alloc; "{replies}{survey}\naudit {verdict}\n")?;
+    let history = write_history(Vec::new(alloc), &trails, &pairs)?;
+    joined(alloc, replies, &String::from_utf8(history)?)
+}
+
+pub(crate) fn run_alone(alloc: Global, config: Config, trace: &str) -> Result<String> {
+    let mut table = Table::new(alloc, alloc, config)?;
+    let mut alone = Alone::new(alloc, alloc, &mut table);
+    let replies = work(alloc, &mut alone, trace)?;
+    let trail = alone.finish();
+    ending(alloc, replies, trail, &table)
+}
+
+pub(crate) fn run_by_hand<I: MadeBy, D: Ledger, R: Wait + Drop>(
+    rt: R,
+    alloc: Global,
+    config: Config,
+    blanks: Blanks,
+    trace: &str,
+) -> Result<String>
+    requires insertions { Opens I.name I.parts blanks.insertions }
+    requires removals { Opens D.name D.parts blanks.removals }
+    requires config { I.config ≡ config }
+{
+    let (tree, mut shares) = Tree::<R, Global, I, D>::new(rt, alloc, alloc, config, blanks)?;
+    let share = shares.pop().context("there is no share")?;
+    let mut hand = Hand::new(alloc, alloc, &tree, share, 0, &Open);
+    let replies = work(alloc, &mut hand, trace)?;
+    let (share, trail) = hand.finish();
+    shares.push(share).ok().context("no memory")?;
+    let table = tree.close(shares)?;
+    ending(alloc, replies, trail, &table)
+}

@@ -1,0 +1,172 @@
+//! Each call of a job's worker and of its reader, with what it answers, and each fault of the numbers.
+
+ghost use Rattle.std.specs.Prelude.{◌≡◌, ◌<◌, IfOk};
+ghost use Rattle.bw_share.specs.Sharing.{AreNumbered};
+
+use bw_share::{
+    Config, Del, Done, Fault, Fence, Finished, Job, Put, Reader, ReadingJob, ScanFault, Set,
+    ShareFault, Worker, share, share_with_readers,
+};
+use std::alloc::Global;
+use std::sync::Wait;
+use std::test::Fail;
+use std::thread::Threads;
+
+/// A hundred keys for each worker, and then each kind of call, at a key that isn't there and at one
+/// that is.
+#[derive(Drop)]
+struct Calls {
+    machine: Global,
+}
+
+type Changes = ([Option<Put>; 2], [Option<Set>; 2], [Option<Del>; 2]);
+
+type Answers = (Changes, Option<Option<u64>>, u64, Option<(u64, u64)>);
+
+/// What a worker brings back, under its own number.
+#[derive(Drop)]
+struct Part {
+    worker: u32,
+    answers: Answers,
+}
+
+impl Job for Calls {
+    type Output = Part;
+
+    ghost told = { λ calls worker part trail. part.worker ≡ worker };
+
+    fn work<W: Worker>(&self, worker: u32, hand: &mut W) -> Part {
+        let answers = call_each(hand, 1000 * u64::from(worker));
+        Part { worker, answers }
+    }
+}
+
+fn reply<T: Drop>(answer: Result<Done<T>, Fault>) -> Option<T> {
+    Some(answer.ok()?.reply)
+}
+
+/// Has the worker put a hundred keys from the first on, and then make each kind of call.
+fn call_each<W: Worker>(hand: &mut W, first: u64) -> Answers
+    requires { first < 64000 }
+{
+    for key in first..first + 100 {
+        let _done = hand.put(key, 7 * key);
+    }
+    let put = [reply(hand.put(first + 200, 1)), reply(hand.put(first, 1))];
+    let set = [reply(hand.set(first + 201, 1)), reply(hand.set(first, 1))];
+    let deleted = [reply(hand.delete(first + 1)), reply(hand.delete(first + 1))];
+    let found = hand.get(first).ok();
+    let removed = hand.clear(first + 10, Fence::Key(first + 20)).removed;
+    let listed = match hand.page_from(first + 50) {
+        Ok(slice) => slice.pairs.first().copied(),
+        Err(_) => None,
+    };
+    ((put, set, deleted), found, removed, listed)
+}
+
+/// Each worker publishes its own keys and lists the first five from its fourth on.
+impl ReadingJob for Calls {
+    type Output = Result<Vec<(u64, u64)>, ScanFault>;
+
+    fn work<W: Worker, R: Reader>(
+        &self,
+        worker: u32,
+        hand: &mut W,
+        reader: &mut R,
+    ) -> Result<Vec<(u64, u64)>, ScanFault> {
+        let first = 1000 * u64::from(worker);
+        for key in first..first + 100 {
+            let _done = hand.put(key, worker.into());
+        }
+        let _published = reader.publish();
+        let mut list = Vec::new(self.machine);
+        reader.scan(first + 3, 5, &mut list)?;
+        Ok(list)
+    }
+}
+
+/// Shares a tree among so many workers. The parts stand by the workers' numbers, since the job
+/// promises of each that it tells its own.
+fn share_calls<R: Threads + Wait + Sync + Send + Copy>(
+    rt: R,
+    calls: &Calls,
+    config: Config,
+    workers: u32,
+) -> Result<Finished<Part>, ShareFault>
+    ensures { IfOk result (λ finished. AreNumbered (λ part. part.worker) 0 finished.outputs.items) }
+{
+    share(rt, calls.machine, config, workers, calls)
+}
+
+/// What workers on small pages bring back: three that make each call, and two with readers that list.
+fn tell_all<R: Threads + Wait + Sync + Send + Copy>(rt: R, calls: &Calls) -> Result<String, Fail> {
+    let config = Config {
+        fanout: 4,
+        chain: 2,
+        ..Config::default()
+    };
+    let mut lines = String::new(calls.machine);
+    let shared = share_calls(rt, calls, config, 3)?;
+    for part in shared.outputs {
+        writeln!(lines, "{}: {:?}", part.worker, part.answers)?;
+    }
+    writeln!(
+        lines,
+        "{} trails, {:?}",
+        shared.trails.len(),
+        shared.table.book()
+    )?;
+    let shared = share_with_readers(rt, calls.machine, config, 2, calls)?;
+    for list in shared.outputs {
+        writeln!(lines, "{list:?}")?;
+    }
+    Ok(lines)
+}
+
+const TOLD: &str =
+    "0: (([Some(Inserted), Some(Present(0))], [Some(Inserted), Some(Replaced(0))], [Some(Removed(7)), Some(NoKey)]), Some(Some(1)), 10, Some((50, 350)))
+1: (([Some(Inserted), Some(Present(7000))], [Some(Inserted), Some(Replaced(7000))], [Some(Removed(7007)), Some(NoKey)]), Some(Some(1)), 10, Some((1050, 7350)))
+2: (([Some(Inserted), Some(Present(14000))], [Some(Inserted), Some(Replaced(14000))], [Some(Removed(14007)), Some(NoKey)]), Some(Some(1)), 10, Some((2050, 14350)))
+3 trails, Book { inserted: 306, removed: 33, modified: 3 }
+Ok([(3, 0), (4, 0), (5, 0), (6, 0), (7, 0)])
+Ok([(1003, 1), (1004, 1), (1005, 1), (1006, 1), (1007, 1)])
+";
+
+#[test]
+fn each_call_of_a_worker_and_its_reader_is_answered(rt: HostRuntime) -> Result<(), Fail> {
+    let told = tell_all(
+        rt,
+        &Calls {
+            machine: rt.alloc(),
+        },
+    )?;
+    assert_eq!(rt; told.as_str(), TOLD);
+    Ok(())
+}
+
+/// Chain, workers, and what is told: a bad field of the configuration is, before a bad number of workers.
+const FAULTS: [(u32, u32, &str); 3] = [
+    (8, 0, "bad workers"),
+    (8, 65, "bad workers"),
+    (0, 0, "bad chain"),
+];
+
+#[test]
+fn each_fault_of_the_numbers_is_told(rt: HostRuntime) -> Result<(), Fail> {
+    let calls = Calls {
+        machine: rt.alloc(),
+    };
+    for (chain, workers, told) in FAULTS {
+        let config = Config {
+            chain,
+            ..Config::default()
+        };
+        let Err(fault) = share_calls(rt, &calls, config, workers) else {
+            return Err("it was shared".into());
+        };
+        assert_eq!(rt; format!(in rt.alloc(); "{fault}")?.as_str(), told);
+    }
+    let shared = share_with_readers(rt, rt.alloc(), Config::default(), 17, &calls);
+    assert!(rt; matches!(shared, Err(ShareFault::BadWorkers)));
+    Ok(())
+}
