@@ -1,10 +1,12 @@
 //! Runs that have no end to show, and the texts of their faults.
 
-use crate::rows::{finish, row};
+use crate::rows::{add_puts, finish};
+use bw_delta::NoMemory;
 use bw_keys::{BadConfig, Config, Field};
 use bw_run::{Act, Row, RunFault, run};
 use bw_test_kit::SMALL;
 use bw_work::{Fault, Open};
+use std::alloc::Global;
 use std::test::Fail;
 
 const BAD: Config = Config {
@@ -68,38 +70,30 @@ fn faults_have_texts(rt: HostRuntime) -> Result<(), Fail> {
     Ok(())
 }
 
-const BOTH_STOP: [Row; 5] = [
-    row!(0 get 1),
-    row!(1 put 5 => 5),
-    row!(1 get 5),
-    row!(0 put 6 => 6),
-    row!(0 put 7 => 7),
-];
-
-#[test]
-fn of_two_workers_that_stop_the_first_is_named(rt: HostRuntime) {
-    for readers in 0..=2 {
-        let fault = finish(rt, rt.alloc(), WORN, 2, readers, &BOTH_STOP, &Open).err();
-        assert_eq!(rt; fault, Some(RunFault::Stopped(0, 4, Fault::Worn)));
+/// Worker 1 stops at its first row. That worker 0 does all of its rows shows in the row that is named: the last
+/// but one of these, which it can't do either.
+fn stopping_trace(machine: Global) -> Result<Vec<Row>, NoMemory> {
+    let mut trace = Vec::new(machine);
+    add_puts(&mut trace, 1, (0, 2), false)?;
+    for key in 0..100 {
+        trace.push(Row {
+            worker: 0,
+            act: Act::Get { key },
+        })?;
     }
+    add_puts(&mut trace, 0, (5, 2), false)?;
+    Ok(trace)
 }
 
-// Worker 1 stops at its first row. That worker 0 does all of its rows shows in the row that is named: its
-// last, which it can't do either.
 #[test]
-fn where_one_stops_the_other_does_all_its_rows(rt: HostRuntime) -> Result<(), Fail> {
-    let machine = rt.alloc();
-    let mut rows = Vec::new(machine);
-    rows.push(row!(1 put 1 => 1))?;
-    for key in 0..100 {
-        rows.push(row!(0 get key))?;
-    }
-    rows.push(row!(0 put 1 => 1))?;
-    for number in 0..20 {
-        let fault = finish(rt, machine, WORN, 2, 0, &rows, &Open).err();
+fn of_two_workers_that_stop_the_first_is_named(rt: HostRuntime) -> Result<(), Fail> {
+    let trace = stopping_trace(rt.alloc())?;
+    for number in 0..30 {
+        let crew = (2, number % 3);
+        let fault = finish(rt, rt.alloc(), WORN, crew, &trace, &Open).err();
         assert_eq!(rt;
             fault,
-            Some(RunFault::Stopped(0, 102, Fault::Worn)),
+            Some(RunFault::Stopped(0, 103, Fault::Worn)),
             "run {number}"
         );
     }

@@ -1,88 +1,46 @@
-//! Rows of traces, and the replies to them.
+//! Rows of traces, and runs of them.
 
 use bw_delta::NoMemory;
-use bw_keys::{Config, Key};
-use bw_run::{Act, Finished, Reply, Row, RunFault, is_trace_for, run};
-use bw_work::{Done, Gate, Put};
+use bw_keys::{Config, Fence, Key};
+use bw_run::{Act, Finished, Row, RunFault, is_trace_for, run};
+use bw_work::Gate;
 use std::alloc::Global;
 use std::sync::Wait;
 use std::thread::Threads;
 
-pub(crate) const INSERTED: Reply = Reply::Put(Done {
-    reply: Put::Inserted,
-    fault: None,
-});
-
-/// A row in few words, also in a constant: its worker, and what that is to do.
-macro_rules! row {
-    ($worker:literal put $key:expr => $value:expr) => {
-        Row {
-            worker: $worker,
-            act: Act::Put {
-                key: $key,
-                value: $value,
-            },
-        }
-    };
-    ($worker:literal set $key:expr => $value:expr) => {
-        Row {
-            worker: $worker,
-            act: Act::Set {
-                key: $key,
-                value: $value,
-            },
-        }
-    };
-    ($worker:literal get $key:expr) => {
-        Row {
-            worker: $worker,
-            act: Act::Get { key: $key },
-        }
-    };
-    ($worker:literal delete $key:expr) => {
-        Row {
-            worker: $worker,
-            act: Act::Delete { key: $key },
-        }
-    };
-    ($worker:literal clear $low:expr => $high:expr) => {
-        Row {
-            worker: $worker,
-            act: Act::Clear {
-                low: $low,
-                high: $high,
-            },
-        }
-    };
-}
-
-pub(crate) use row;
-
-/// Puts of the keys from the first to the last by a worker, each with itself as value.
-#[derive(Clone, Copy)]
-pub(crate) struct Puts {
-    pub(crate) worker: u32,
-    pub(crate) first: Key,
-    pub(crate) last: Key,
-}
-
-/// All puts, and then the rows.
-pub(crate) fn trace_of(machine: Global, puts: &[Puts], rows: &[Row]) -> Result<Vec<Row>, NoMemory> {
-    let mut trace = Vec::new(machine);
-    for Puts {
+/// A removal of all keys by a worker.
+pub(crate) fn clear_all(worker: u32) -> Row {
+    Row {
         worker,
-        first,
-        last,
-    } in puts {
-        for key in *first..=*last {
+        act: Act::Clear {
+            low: 0,
+            high: Fence::Top,
+        },
+    }
+}
+
+/// Adds puts of the keys behind the first so many by a worker, each with itself as value. Where looks are asked
+/// for, there is one for its key behind every tenth of them.
+pub(crate) fn add_puts(
+    trace: &mut Vec<Row>,
+    worker: u32,
+    (behind, many): (Key, Key),
+    has_looks: bool,
+) -> Result<(), NoMemory> {
+    for number in 1..=many {
+        let key = behind.wrapping_add(number);
+        trace.push(Row {
+            worker,
+            act: Act::Put { key, value: key },
+        })?;
+        if has_looks && number.is_multiple_of(10) {
             trace.push(Row {
-                worker: *worker,
-                act: Act::Put { key, value: key },
+                worker,
+                act: Act::Get { key },
             })?;
         }
     }
-    trace.extend_from_slice(rows)?;
-    Ok(trace)
+    Ok(())
 }
 
 /// Runs a trace, if it is one for so many workers.
@@ -90,8 +48,7 @@ pub(crate) fn finish<R: Threads + Wait + Sync + Send + Copy, G: Gate + Sync>(
     rt: R,
     machine: Global,
     config: Config,
-    workers: u32,
-    readers: u32,
+    (workers, readers): (u32, u32),
     rows: &[Row],
     gate: &G,
 ) -> Result<Finished, RunFault> {

@@ -5,24 +5,12 @@
 #[cfg(test)]
 mod alone;
 #[cfg(test)]
-mod clear_beside;
+mod calls;
 #[cfg(test)]
-mod clear_memory;
-#[cfg(test)]
-mod clear_rows;
-#[cfg(test)]
-mod clears;
-#[cfg(test)]
-mod counts;
-#[cfg(test)]
-mod lone_calls;
+mod held;
 #[cfg(test)]
 mod memory;
 #[cfg(test)]
 mod rows;
 #[cfg(test)]
 mod tasks;
-#[cfg(test)]
-mod trails;
-#[cfg(test)]
-mod two_workers;

@@ -21,12 +21,14 @@ pub(crate) struct Row {
     pub(crate) leaves: &'static [(Key, Fence, u64)],
     /// How many pairs were inserted, how many removed, and how many modified.
     pub(crate) book: (u64, u64, u64),
+    /// By a hand: how many steps the tree accepts, and how often the gate is called.
+    pub(crate) steps: Option<(u64, u64)>,
     /// Steps that the table takes in the end, with their receipts.
     pub(crate) then: &'static [(Change, Receipt)],
 }
 
 /// A row without puts, calls and steps.
-pub(crate) const EMPTY: Row = Row {
+const EMPTY: Row = Row {
     name: "nothing",
     config: SMALL,
     puts: 0,
@@ -36,35 +38,30 @@ pub(crate) const EMPTY: Row = Row {
     trail: &[],
     leaves: &[(0, Fence::Top, 0)],
     book: (0, 0, 0),
+    steps: None,
     then: &[],
 };
 
-pub(crate) const FEW_PAGES: Config = Config {
-    fanout: 4,
-    chain: 4,
-    pages: 8,
-    tries: 100,
-    first_version: 0,
+const FEW_PAGES: Config = Config { pages: 8, ..SMALL };
+
+const ONE_TRY: Config = Config { tries: 1, ..SMALL };
+
+/// A page has three changes until its versions are used up.
+const THREE_VERSIONS: Config = Config {
+    first_version: u64::MAX - 3,
+    ..SMALL
 };
 
-pub(crate) const ONE_TRY: Config = Config {
-    fanout: 4,
-    chain: 4,
-    pages: 64,
-    tries: 1,
-    first_version: 0,
-};
+/// The fifth key splits the leaf, and the upper one has no parent yet.
+const SPLIT: [Change; 3] = [
+    Change::Insert(0, 5, 5),
+    Change::Consolidate(0),
+    Change::Split(0),
+];
 
-pub(crate) const INSERTED: Reply = Reply::Put(Put::Inserted);
+const INSERTED: Reply = Reply::Put(Put::Inserted);
 
-pub(crate) static ROWS: [Row; 21] = [
-    Row {
-        name: "the fifth put splits the leaf",
-        puts: 5,
-        leaves: &[(0, Fence::Key(3), 2), (3, Fence::Top, 3)],
-        book: (5, 0, 0),
-        ..EMPTY
-    },
+pub(crate) static ROWS: [Row; 15] = [
     Row {
         name: "five puts are nine steps",
         calls: &[
@@ -88,17 +85,7 @@ pub(crate) static ROWS: [Row; 21] = [
         ],
         leaves: &[(0, Fence::Key(3), 2), (3, Fence::Top, 3)],
         book: (5, 0, 0),
-        ..EMPTY
-    },
-    Row {
-        name: "the seventh put splits the upper leaf",
-        puts: 7,
-        leaves: &[
-            (0, Fence::Key(3), 2),
-            (3, Fence::Key(5), 2),
-            (5, Fence::Top, 3),
-        ],
-        book: (7, 0, 0),
+        steps: Some((9, 4)),
         ..EMPTY
     },
     Row {
@@ -162,7 +149,7 @@ pub(crate) static ROWS: [Row; 21] = [
         ..EMPTY
     },
     Row {
-        name: "a slice is one leaf from a key on, and leaves no receipt",
+        name: "the seventh put splits the upper leaf; a slice is one leaf from a key on, and leaves no receipt",
         puts: 7,
         calls: &[Call::Slice(4), Call::Slice(5)],
         replies: &[
@@ -182,258 +169,9 @@ pub(crate) static ROWS: [Row; 21] = [
         ..EMPTY
     },
     Row {
-        name: "the least and the greatest key are kept",
-        calls: &[
-            Call::Put(0, 7),
-            Call::Put(Key::MAX, 8),
-            Call::Get(0),
-            Call::Get(Key::MAX),
-        ],
-        replies: &[INSERTED, INSERTED, Reply::Get(Some(7)), Reply::Get(Some(8))],
-        trail: &[
-            receipt!(inserted 1, 0 => 7),
-            receipt!(inserted 2, Key::MAX => 8),
-            receipt!(looked 2, 0, Some(7)),
-            receipt!(looked 2, Key::MAX, Some(8)),
-        ],
-        leaves: &[(0, Fence::Top, 2)],
-        book: (2, 0, 0),
-        ..EMPTY
-    },
-    Row {
-        name: "a missing key is not deleted, and a present one keeps its value",
-        calls: &[
-            Call::Delete(9),
-            Call::Put(9, 1),
-            Call::Put(9, 2),
-            Call::Get(9),
-            Call::Get(8),
-            Call::Delete(9),
-            Call::Get(9),
-            Call::Put(Key::MAX, 8),
-            Call::Get(Key::MAX),
-        ],
-        replies: &[
-            Reply::Delete(Del::NoKey),
-            INSERTED,
-            Reply::Put(Put::Present(1)),
-            Reply::Get(Some(1)),
-            Reply::Get(None),
-            Reply::Delete(Del::Removed(1)),
-            Reply::Get(None),
-            INSERTED,
-            Reply::Get(Some(8)),
-        ],
-        trail: &[
-            receipt!(looked 0, 9, None),
-            receipt!(inserted 1, 9 => 1),
-            receipt!(looked 1, 9, Some(1)),
-            receipt!(looked 1, 9, Some(1)),
-            receipt!(looked 1, 8, None),
-            receipt!(deleted 2, 9 => 1),
-            receipt!(looked 2, 9, None),
-            receipt!(inserted 3, Key::MAX => 8),
-            receipt!(looked 3, Key::MAX, Some(8)),
-        ],
-        leaves: &[(0, Fence::Top, 1)],
-        book: (2, 1, 0),
-        ..EMPTY
-    },
-    Row {
-        name: "a set gives a key a value, whether it has one or none",
-        calls: &[
-            Call::Set(9, 1),
-            Call::Set(9, 2),
-            Call::Get(9),
-            Call::Delete(9),
-        ],
-        replies: &[
-            Reply::Set(Set::Inserted),
-            Reply::Set(Set::Replaced(1)),
-            Reply::Get(Some(2)),
-            Reply::Delete(Del::Removed(2)),
-        ],
-        trail: &[
-            receipt!(inserted 1, 9 => 1),
-            receipt!(modified 2, 9, 1 => 2),
-            receipt!(looked 2, 9, Some(2)),
-            receipt!(deleted 3, 9 => 2),
-        ],
-        book: (1, 1, 1),
-        ..EMPTY
-    },
-    Row {
-        name: "the least and the greatest key are set, also to a value that is there",
-        calls: &[
-            Call::Set(0, u64::MAX),
-            Call::Set(Key::MAX, 0),
-            Call::Set(0, u64::MAX),
-            Call::Set(Key::MAX, u64::MAX),
-            Call::Put(0, 7),
-            Call::Slice(0),
-        ],
-        replies: &[
-            Reply::Set(Set::Inserted),
-            Reply::Set(Set::Inserted),
-            Reply::Set(Set::Replaced(u64::MAX)),
-            Reply::Set(Set::Replaced(0)),
-            Reply::Put(Put::Present(u64::MAX)),
-            Reply::Pair(0, u64::MAX),
-            Reply::Pair(Key::MAX, u64::MAX),
-            Reply::Next(None),
-        ],
-        trail: &[
-            receipt!(inserted 1, 0 => u64::MAX),
-            receipt!(inserted 2, Key::MAX => 0),
-            receipt!(modified 3, 0, u64::MAX => u64::MAX),
-            receipt!(modified 4, Key::MAX, 0 => u64::MAX),
-            receipt!(Consolidate 0),
-            receipt!(looked 4, 0, Some(u64::MAX)),
-        ],
-        leaves: &[(0, Fence::Top, 2)],
-        book: (2, 0, 2),
-        ..EMPTY
-    },
-    Row {
-        name: "sets of a key make a chain long, and no page big",
-        calls: &[
-            Call::Set(9, 1),
-            Call::Set(9, 2),
-            Call::Set(9, 3),
-            Call::Set(9, 4),
-            Call::Set(9, 5),
-        ],
-        replies: &[
-            Reply::Set(Set::Inserted),
-            Reply::Set(Set::Replaced(1)),
-            Reply::Set(Set::Replaced(2)),
-            Reply::Set(Set::Replaced(3)),
-            Reply::Set(Set::Replaced(4)),
-        ],
-        trail: &[
-            receipt!(inserted 1, 9 => 1),
-            receipt!(modified 2, 9, 1 => 2),
-            receipt!(modified 3, 9, 2 => 3),
-            receipt!(modified 4, 9, 3 => 4),
-            receipt!(Consolidate 0),
-            receipt!(modified 5, 9, 4 => 5),
-        ],
-        leaves: &[(0, Fence::Top, 1)],
-        book: (1, 0, 4),
-        ..EMPTY
-    },
-    Row {
-        name: "a full page is split by a set of a new key, and not of one that it has",
-        puts: 4,
-        calls: &[
-            Call::Set(2, 20),
-            Call::Set(2, 21),
-            Call::Set(5, 5),
-            Call::Get(2),
-        ],
-        replies: &[
-            Reply::Set(Set::Replaced(2)),
-            Reply::Set(Set::Replaced(20)),
-            Reply::Set(Set::Inserted),
-            Reply::Get(Some(21)),
-        ],
-        trail: &[
-            receipt!(modified 5, 2, 2 => 20),
-            receipt!(modified 6, 2, 20 => 21),
-            receipt!(inserted 7, 5),
-            receipt!(Consolidate 0),
-            receipt!(Split 0, 1),
-            receipt!(Grow 2, 1),
-            receipt!(looked 7, 2, Some(21)),
-        ],
-        leaves: &[(0, Fence::Key(3), 2), (3, Fence::Top, 3)],
-        book: (5, 0, 2),
-        ..EMPTY
-    },
-    Row {
-        name: "sets in a full table are answered",
-        config: FEW_PAGES,
-        puts: 12,
-        calls: &[Call::Set(13, 13), Call::Set(13, 14), Call::Set(1, 2)],
-        replies: &[
-            Reply::Set(Set::Inserted),
-            Reply::But(Fault::TableFull),
-            Reply::Set(Set::Replaced(13)),
-            Reply::But(Fault::TableFull),
-            Reply::Set(Set::Replaced(1)),
-        ],
-        trail: &[
-            receipt!(inserted 13, 13),
-            receipt!(Consolidate 5),
-            receipt!(modified 14, 13, 13 => 14),
-            receipt!(Consolidate 5),
-            receipt!(modified 15, 1, 1 => 2),
-        ],
-        leaves: &[
-            (0, Fence::Key(3), 2),
-            (3, Fence::Key(5), 2),
-            (5, Fence::Key(7), 2),
-            (7, Fence::Key(9), 2),
-            (9, Fence::Top, 5),
-        ],
-        book: (13, 0, 2),
-        ..EMPTY
-    },
-    Row {
-        name: "a split is finished by a set",
-        puts: 4,
-        unfinished: &[
-            Change::Insert(0, 5, 5),
-            Change::Consolidate(0),
-            Change::Split(0),
-        ],
-        calls: &[Call::Set(1, 9), Call::Set(4, 9), Call::Set(6, 6)],
-        replies: &[
-            Reply::Set(Set::Replaced(1)),
-            Reply::Set(Set::Replaced(4)),
-            Reply::Set(Set::Inserted),
-        ],
-        trail: &[
-            receipt!(modified 6, 1, 1 => 9),
-            receipt!(Grow 2, 1),
-            receipt!(modified 7, 4, 4 => 9),
-            receipt!(inserted 8, 6),
-        ],
-        leaves: &[(0, Fence::Key(3), 2), (3, Fence::Top, 4)],
-        book: (6, 0, 2),
-        ..EMPTY
-    },
-    Row {
-        name: "a merge is finished by a set",
-        puts: 7,
-        unfinished: &[Change::Mark(1, 2)],
-        calls: &[Call::Set(4, 9)],
-        replies: &[Reply::Set(Set::Replaced(4))],
-        trail: &[
-            receipt!(Merge 0, 1),
-            receipt!(TermDelete 2, 1),
-            receipt!(modified 8, 4, 4 => 9),
-            receipt!(Consolidate 0),
-        ],
-        leaves: &[(0, Fence::Key(5), 4), (5, Fence::Top, 3)],
-        book: (7, 0, 1),
-        ..EMPTY
-    },
-    Row {
-        name: "a missing key leaves an empty leaf",
-        calls: &[Call::Delete(9)],
-        replies: &[Reply::Delete(Del::NoKey)],
-        trail: &[receipt!(looked 0, 9, None)],
-        ..EMPTY
-    },
-    Row {
         name: "a split is finished by a put",
         puts: 4,
-        unfinished: &[
-            Change::Insert(0, 5, 5),
-            Change::Consolidate(0),
-            Change::Split(0),
-        ],
+        unfinished: &SPLIT,
         calls: &[Call::Get(4), Call::Put(1, 9), Call::Put(6, 6)],
         replies: &[Reply::Get(Some(4)), Reply::Put(Put::Present(1)), INSERTED],
         trail: &[
@@ -480,6 +218,110 @@ pub(crate) static ROWS: [Row; 21] = [
             (Change::Consolidate(0), receipt!(Consolidate 0)),
             (Change::Split(0), receipt!(Split 0, 1)),
         ],
+        ..EMPTY
+    },
+    Row {
+        name: "a split is finished by a set",
+        puts: 4,
+        unfinished: &SPLIT,
+        calls: &[Call::Set(1, 9), Call::Set(4, 9), Call::Set(6, 6)],
+        replies: &[
+            Reply::Set(Set::Replaced(1)),
+            Reply::Set(Set::Replaced(4)),
+            Reply::Set(Set::Inserted),
+        ],
+        trail: &[
+            receipt!(modified 6, 1, 1 => 9),
+            receipt!(Grow 2, 1),
+            receipt!(modified 7, 4, 4 => 9),
+            receipt!(inserted 8, 6),
+        ],
+        leaves: &[(0, Fence::Key(3), 2), (3, Fence::Top, 4)],
+        book: (6, 0, 2),
+        ..EMPTY
+    },
+    Row {
+        name: "a merge is finished by a set",
+        puts: 7,
+        unfinished: &[Change::Mark(1, 2)],
+        calls: &[Call::Set(4, 9)],
+        replies: &[Reply::Set(Set::Replaced(4))],
+        trail: &[
+            receipt!(Merge 0, 1),
+            receipt!(TermDelete 2, 1),
+            receipt!(modified 8, 4, 4 => 9),
+            receipt!(Consolidate 0),
+        ],
+        leaves: &[(0, Fence::Key(5), 4), (5, Fence::Top, 3)],
+        book: (7, 0, 1),
+        ..EMPTY
+    },
+    Row {
+        name: "a delete that is refused ends the call, and what was taken out by then stays so",
+        config: THREE_VERSIONS,
+        puts: 2,
+        calls: &[Call::Clear(0, Fence::Top), Call::Get(1), Call::Get(2)],
+        replies: &[
+            Reply::Clear(1),
+            Reply::But(Fault::Worn),
+            Reply::Get(None),
+            Reply::Get(Some(2)),
+        ],
+        trail: &[
+            receipt!(deleted 3, 1),
+            receipt!(looked 3, 1, None),
+            receipt!(looked 3, 2, Some(2)),
+        ],
+        leaves: &[(0, Fence::Top, 1)],
+        book: (2, 1, 0),
+        ..EMPTY
+    },
+    Row {
+        name: "a split is finished by the first delete behind it",
+        puts: 4,
+        unfinished: &SPLIT,
+        calls: &[Call::Clear(0, Fence::Top)],
+        replies: &[Reply::Clear(5)],
+        trail: &[
+            receipt!(deleted 6, 1),
+            receipt!(deleted 7, 2),
+            receipt!(Grow 2, 1),
+            receipt!(deleted 8, 3),
+            receipt!(deleted 9, 4),
+            receipt!(deleted 10, 5),
+            receipt!(Mark 1),
+            receipt!(Merge 0, 1),
+            receipt!(TermDelete 2, 1),
+        ],
+        book: (5, 5, 0),
+        ..EMPTY
+    },
+    Row {
+        name: "a split is passed where no key behind it is deleted",
+        puts: 4,
+        unfinished: &SPLIT,
+        calls: &[Call::Clear(6, Fence::Top), Call::Clear(2, Fence::Key(3))],
+        replies: &[Reply::Clear(0), Reply::Clear(1)],
+        trail: &[receipt!(deleted 6, 2)],
+        leaves: &[(0, Fence::Key(3), 1), (3, Fence::Top, 3)],
+        book: (5, 1, 0),
+        ..EMPTY
+    },
+    Row {
+        name: "a merge is finished by the first delete in the marked page",
+        puts: 7,
+        unfinished: &[Change::Mark(1, 2)],
+        calls: &[Call::Clear(3, Fence::Key(5))],
+        replies: &[Reply::Clear(2)],
+        trail: &[
+            receipt!(Merge 0, 1),
+            receipt!(TermDelete 2, 1),
+            receipt!(deleted 8, 3),
+            receipt!(Consolidate 0),
+            receipt!(deleted 9, 4),
+        ],
+        leaves: &[(0, Fence::Key(5), 2), (5, Fence::Top, 3)],
+        book: (7, 2, 0),
         ..EMPTY
     },
 ];

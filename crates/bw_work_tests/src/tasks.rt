@@ -1,30 +1,21 @@
 //! The rows, done alone and by hand.
 
-use crate::clear_rows::CLEARS;
 use crate::rows::{ROWS, Row};
 use bw_delta::NoMemory;
-use bw_step::{Book, Step};
+use bw_step::{Book, Kind, Receipt, Step};
 use bw_table::Table;
 use bw_test_kit::{
-    Change, Ended, Pages, Play, Task, Told, Turns, Worked, leaves_of, play_on_new_tree, step_of,
-    take, work, work_by_hand,
+    Change, Ended, Hook, Hooked, Pages, Play, Task, Told, Turns, Worked, leaves_of,
+    play_on_new_tree, step_of, take, work, work_by_hand,
 };
-use bw_tree::{Share, Shared};
-use bw_work::{Alone, Fault, Open};
+use bw_tree::{Denied, Share, Shared};
+use bw_work::{Alone, Fault, Gate};
 use std::alloc::Global;
 use std::process::Abort;
+use std::sync::Wait;
+use std::sync::atomic::{AtomicU64, Ordering};
+use std::sync::ledger::Ledger;
 use std::test::Fail;
-
-/// A worker that is alone with the table does the row.
-fn do_alone(machine: Global, table: &mut Table<Global>, row: &Row) -> Told {
-    let mut alone = Alone::new(machine, machine, table);
-    let task = Task {
-        first: 1,
-        last: row.puts,
-        calls: row.calls,
-    };
-    work(machine, &mut alone, task)
-}
 
 /// Takes steps one by one. None where one of them wasn't taken.
 fn leave<S: Shared<Global, Step<Global>> + Pages<Global>>(
@@ -40,11 +31,35 @@ fn leave<S: Shared<Global, Step<Global>> + Pages<Global>>(
     Some(())
 }
 
-/// Worker 0 does the row. Where that leaves a change unfinished worker 1 makes the calls.
+/// Worker 0 does the row. Where that leaves a change unfinished worker 1 makes the calls. The steps that the
+/// tree accepts of them, and the calls of the gate, are counted.
 #[derive(Drop)]
 struct ByHand {
     machine: Global,
     row: &'static Row,
+    accepted: AtomicU64,
+    gated: AtomicU64,
+}
+
+impl<S: Shared<Global, Step<Global>>> Hook<S> for ByHand {
+    fn install(
+        &self,
+        tree: &S,
+        share: &mut Share<S::Insertions, S::Removals>,
+        step: Step<Global>,
+    ) -> Result<Receipt, Denied> {
+        let answer = tree.install(share, step);
+        if answer.is_ok() {
+            self.accepted.fetch_add(1, Ordering::SeqCst);
+        }
+        answer
+    }
+}
+
+impl Gate for ByHand {
+    fn at(&self, _worker: u32, _kind: Kind) {
+        self.gated.fetch_add(1, Ordering::SeqCst);
+    }
 }
 
 impl ByHand {
@@ -61,6 +76,15 @@ impl ByHand {
             calls,
         }
     }
+
+    /// Whether as many steps were accepted, and the gate called as often, as the row says.
+    fn has_counted(&self) -> bool {
+        let accepted = self.accepted.load(Ordering::SeqCst);
+        let gated = self.gated.load(Ordering::SeqCst);
+        self.row
+            .steps
+            .is_none_or(|steps| steps == (accepted, gated))
+    }
 }
 
 impl Play<Told> for ByHand {
@@ -71,7 +95,8 @@ impl Play<Told> for ByHand {
         share: Share<S::Insertions, S::Removals>,
     ) -> Worked<S::Insertions, S::Removals, Told> {
         let machine = self.machine;
-        let mut worked = work_by_hand(machine, tree, share, (worker, &Open), self.task(worker));
+        let hooked = Hooked { tree, hook: self };
+        let mut worked = work_by_hand(machine, &hooked, share, (worker, self), self.task(worker));
         if worker == 0 && leave(machine, tree, &mut worked.share, self.row.unfinished).is_none() {
             worked.told.fault = Some(Fault::NoMemory);
         }
@@ -123,12 +148,15 @@ fn expect<R: Abort>(
 #[test]
 fn a_worker_alone_does_the_rows(rt: HostRuntime) -> Result<(), Fail> {
     let machine = rt.alloc();
-    for row in ROWS.iter().chain(CLEARS.iter()) {
-        if row.unfinished.is_empty() {
-            let mut table = Table::new(machine, machine, row.config)?;
-            let told = do_alone(machine, &mut table, row);
-            expect(&rt, machine, row, &told, &mut table)?;
-        }
+    for row in ROWS.iter().filter(|row| row.unfinished.is_empty()) {
+        let mut table = Table::new(machine, machine, row.config)?;
+        let task = Task {
+            first: 1,
+            last: row.puts,
+            calls: row.calls,
+        };
+        let told = work(machine, &mut Alone::new(machine, machine, &mut table), task);
+        expect(&rt, machine, row, &told, &mut table)?;
     }
     Ok(())
 }
@@ -136,8 +164,13 @@ fn a_worker_alone_does_the_rows(rt: HostRuntime) -> Result<(), Fail> {
 #[test]
 fn workers_do_the_rows_by_hand(rt: HostRuntime) -> Result<(), Fail> {
     let machine = rt.alloc();
-    for row in ROWS.iter().chain(CLEARS.iter()) {
-        let play = ByHand { machine, row };
+    for row in ROWS.iter() {
+        let play = ByHand {
+            machine,
+            row,
+            accepted: AtomicU64::new(0),
+            gated: AtomicU64::new(0),
+        };
         let Ended {
             mut table,
             zero,
@@ -148,7 +181,11 @@ fn workers_do_the_rows_by_hand(rt: HostRuntime) -> Result<(), Fail> {
         } else {
             (one, zero)
         };
-        assert!(rt; other.is_plain(), "{}: {other:?}", row.name);
+        assert!(rt;
+            other.is_plain() && play.has_counted(),
+            "{}: {other:?}",
+            row.name
+        );
         expect(&rt, machine, row, &told, &mut table)?;
     }
     Ok(())

@@ -1,0 +1,58 @@
+//! Calls that no other test makes by their own names.
+
+use bw_keys::Pid;
+use bw_step::{Step, Todo};
+use bw_table::Table;
+use bw_test_kit::{Pages, Play, SMALL, Turns, Worked, play_on_new_tree};
+use bw_tree::{Share, Shared};
+use bw_work::{Alone, Fault, Hand, Open, Steps};
+use std::alloc::Global;
+use std::test::Fail;
+
+/// Tends and helps where there is nothing to do, by a hand. The effort after each.
+#[derive(Drop)]
+struct ByHand {
+    machine: Global,
+}
+
+type Efforts = Result<(u64, u64), Fault>;
+
+fn efforts<S: Shared<Global, Step<Global>>>(hand: &mut Hand<'_, Global, S, Open>) -> Efforts {
+    hand.tend(Pid(0))?;
+    let tended = hand.effort();
+    hand.help(Todo::Post(Pid(1)))?;
+    Ok((tended, hand.effort()))
+}
+
+impl Play<Efforts> for ByHand {
+    fn work<S: Shared<Global, Step<Global>> + Pages<Global>>(
+        &self,
+        tree: &S,
+        worker: u32,
+        share: Share<S::Insertions, S::Removals>,
+    ) -> Worked<S::Insertions, S::Removals, Efforts> {
+        let mut hand = Hand::new(self.machine, self.machine, tree, share, worker, &Open);
+        let told = efforts(&mut hand);
+        let (share, _) = hand.finish();
+        Worked { share, told }
+    }
+}
+
+/// The same by a worker that is alone.
+fn lone_efforts(machine: Global) -> Result<(u64, u64), Fail> {
+    let mut table = Table::new(machine, machine, SMALL)?;
+    let mut alone = Alone::new(machine, machine, &mut table);
+    alone.tend(Pid(0))?;
+    let tended = alone.effort();
+    alone.help(Todo::Post(Pid(1)))?;
+    Ok((tended, alone.effort()))
+}
+
+#[test]
+fn only_help_costs_effort_where_nothing_is_to_do(rt: HostRuntime) -> Result<(), Fail> {
+    let machine = rt.alloc();
+    assert_eq!(rt; lone_efforts(machine)?, (0, 1));
+    let ended = play_on_new_tree(rt, machine, SMALL, Turns::OneByOne, &ByHand { machine })?;
+    assert_eq!(rt; ended.zero, Ok((0, 1)));
+    Ok(())
+}
