@@ -1,24 +1,18 @@
-//! Times the index on the machine that it runs on, each program beside a plain one.
+//! Times the tree on the machine that it runs on: alone, shared by threads, and read without the lock.
 #![tactic(auto)]
 
-mod audit;
-mod beside;
-mod chains;
-mod consolidation;
-mod publish;
 mod readers;
 mod request;
 mod tally;
 mod task;
-mod traces;
 mod trees;
 mod work;
 mod zipf;
 
+use crate::readers::{Trial, try_readers};
 use crate::request::{Request, USAGE};
 use crate::task::{Task, Work};
 use crate::trees::{Structure, Timed};
-use bw_texts::{OutFault, TextFault};
 use std::alloc::{AllocError, Global};
 use std::process::ExitCode;
 use std::sync::Wait;
@@ -34,10 +28,6 @@ pub(crate) enum Stop {
     Memory,
     #[error("{0}")]
     System(io::Error),
-    #[error("{0}")]
-    Read(TextFault),
-    #[error("{0}")]
-    Written(OutFault),
     #[error("an answer was wrong")]
     Wrong,
 }
@@ -51,24 +41,6 @@ impl From<AllocError> for Stop {
 impl From<bw_delta::NoMemory> for Stop {
     fn from(_: bw_delta::NoMemory) -> Stop {
         Stop::Memory
-    }
-}
-
-impl From<bw_audit::AuditFault> for Stop {
-    fn from(_: bw_audit::AuditFault) -> Stop {
-        Stop::Memory
-    }
-}
-
-impl From<TextFault> for Stop {
-    fn from(fault: TextFault) -> Stop {
-        Stop::Read(fault)
-    }
-}
-
-impl From<OutFault> for Stop {
-    fn from(fault: OutFault) -> Stop {
-        Stop::Written(fault)
     }
 }
 
@@ -111,16 +83,24 @@ impl From<bw_work::Fault> for Stop {
     }
 }
 
-/// The structure's name, and how many million operations a second it does.
-fn rate<R: Clock + Threads + Wait + Sync + Send + Copy>(
+/// How many millions a second that are.
+fn rate(count: u32, seconds: f64) -> f64 {
+    f64::from(count) / 1e6 / seconds
+}
+
+/// How many million operations a second readers do, how many million changes a second a writer makes beside
+/// them, which publishes every so many, and how many milliseconds its longest publication takes.
+fn beside<R: Clock + Threads + Wait + Sync + Send + Copy>(
     rt: R,
     alloc: Global,
-    structure: Structure,
     task: &Task,
+    every: u32,
 ) -> Result<String, Stop> {
-    let Timed { seconds, .. } = structure.run(rt, alloc, task)?;
-    let rate = f64::from(task.count()) / 1e6 / seconds;
-    Ok(format!(in alloc; "{structure} {rate:.3}\n")?)
+    let figures = try_readers(rt, alloc, task, Trial::Beside, every)?;
+    let reads = rate(task.count(), figures.timed.seconds);
+    let changes = rate(figures.written.changes, figures.written.seconds);
+    let longest = figures.written.longest.as_secs_f64() * 1e3;
+    Ok(format!(in alloc; "reader {reads:.9} writer {changes:.6} longest {longest:.3}\n")?)
 }
 
 /// What one worker is answered, a line for each work and structure. It tells nothing of time.
@@ -130,15 +110,14 @@ fn tallies<R: Clock + Threads + Wait + Sync + Send + Copy>(
     task: &Task,
 ) -> Result<String, Stop> {
     let mut text = String::new(alloc);
-    for work in Work::ALL {
+    for (name, work) in Work::ALL {
         let task = Task { work, ..*task };
         for structure in Structure::ALL {
             if !structure.is_for(&task) {
                 continue;
             }
             let Timed { tally, .. } = structure.run(rt, alloc, &task)?;
-            let line = format!(in alloc; "{structure} {work}: {tally}\n")?;
-            text.push_str(&line)?;
+            writeln!(text, "{} {name}: {tally}", structure.word())?;
         }
     }
     Ok(text)
@@ -151,14 +130,22 @@ fn answer<R: Clock + Threads + Wait + Sync + Send + Copy>(
     request: Request,
 ) -> Result<String, Stop> {
     match request {
-        Request::Rate(structure, task) => rate(rt, alloc, structure, &task),
-        Request::Beside { task, every } => beside::report(rt, alloc, &task, every),
-        Request::Puts { task, every } => publish::report(rt, alloc, &task, every),
-        Request::Pending(task) => publish::leave_pending(rt, alloc, &task),
+        Request::Rate(structure, task) => {
+            let Timed { seconds, .. } = structure.run(rt, alloc, &task)?;
+            let rate = rate(task.count(), seconds);
+            Ok(format!(in alloc; "{} {rate:.3}\n", structure.word())?)
+        }
+        Request::Beside { task, every } => beside(rt, alloc, &task, every),
+        Request::Puts { task, every } => {
+            let figures = try_readers(rt, alloc, &task, Trial::Puts, every)?;
+            let rate = rate(task.count(), figures.timed.seconds);
+            Ok(format!(in alloc; "puts {rate:.3}\n")?)
+        }
+        Request::Pending(task) => {
+            try_readers(rt, alloc, &task, Trial::Pending, 1)?;
+            Ok(format!(in alloc; "pending {}\n", task.keys)?)
+        }
         Request::Tallies(task) => tallies(rt, alloc, &task),
-        Request::Consolidation(rounds) => consolidation::report(&rt, alloc, rounds),
-        Request::Audit(receipts) => audit::report(&rt, alloc, receipts),
-        Request::Traces(rows) => traces::report(&rt, alloc, rows),
     }
 }
 

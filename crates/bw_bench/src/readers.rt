@@ -1,4 +1,4 @@
-//! Readers of what was published, each in a thread of its own.
+//! Trees with readers: what readers do, alone and beside one writer, and what puts cost that are published.
 
 ghost use Rattle.std.specs.Prelude.{◌≡◌};
 ghost use Rattle.bw_tree.specs.Shares.{Opens};
@@ -7,54 +7,100 @@ use crate::Stop;
 use crate::tally::Tally;
 use crate::task::{Task, Work};
 use crate::trees::{PART, Timed, fill_by_hand};
-use crate::work::{drawn_part, key_at};
+use crate::work::{change_one, drawn_part, key_at, work};
 use bw_keys::Config;
 use bw_snap::{BlankBook, Naming, ReadTree, Reader, ScanFault};
 use bw_tree::{Blanks, Share};
+use bw_work::{Hand, Open};
 use rand_core::Rng;
 use rand_pcg::Pcg32;
 use std::alloc::Global;
 use std::marker::Brand;
 use std::sync::Wait;
+use std::sync::atomic::{AtomicU64, Ordering};
 use std::sync::ledger::Ledger;
 use std::thread;
-use std::thread::Threads;
-use std::time::{Clock, Instant};
+use std::thread::{Threads, join};
+use std::time::{Clock, Duration, Instant};
 
-/// Fills the tree and publishes it, part by part.
-pub(crate) fn fill_and_publish<R: Wait + Copy, N: Naming, D: Ledger>(
-    alloc: Global,
-    tree: &ReadTree<R, N, D>,
-    share: Share<N, D>,
-    task: &Task,
-) -> Result<Share<N, D>, Stop> {
-    let order = task.order(alloc)?;
-    let mut share = share;
-    for part in order.chunks(PART) {
-        share = fill_by_hand(alloc, tree, share, task, part)?;
-        let _stamp = tree.publish()?;
-    }
-    // the copy that readers don't see takes the last part too
-    let _stamp = tree.publish()?;
-    Ok(share)
+/// The number of the writer's draws. Those of readers are below the number of readers.
+const WRITER: u64 = 64;
+
+/// What is done on a tree with readers.
+#[derive(Clone, Copy, Debug, PartialEq, Eq)]
+pub(crate) enum Trial {
+    /// It is filled and published, and then only read.
+    Reads,
+    /// It is filled and published, and then read beside a writer that publishes every so many changes.
+    Beside,
+    /// It is loaded, and published every so many puts.
+    Puts,
+    /// It is filled, with nothing published.
+    Pending,
 }
 
-/// What a reader does in its thread.
-pub(crate) trait Reading {
+/// How long the readers took, or the puts, and what a writer did beside them.
+#[derive(Clone, Copy, Debug)]
+pub(crate) struct Figures {
+    pub timed: Timed,
+    pub written: Written,
+}
+
+impl Figures {
+    /// Without a writer.
+    fn of(timed: Timed) -> Figures {
+        Figures {
+            timed,
+            written: Written::NOTHING,
+        }
+    }
+}
+
+/// What a writer did.
+#[derive(Clone, Copy, Debug)]
+pub(crate) struct Written {
+    pub changes: u32,
+    pub seconds: f64,
+    /// How long the longest publication took.
+    pub longest: Duration,
+}
+
+impl Written {
+    const NOTHING: Written = Written {
+        changes: 0,
+        seconds: 0.0,
+        longest: Duration::ZERO,
+    };
+}
+
+/// What threads do on a tree. They share a value of it behind this trait, so that what it holds doesn't
+/// matter to them.
+trait Working {
     /// Readers are numbered from 0 on.
     fn read<N: Naming>(&self, reader: Reader<N>, number: u32) -> Result<Tally, ScanFault>;
+
+    /// Writes until the readers have ended.
+    fn write<R: Clock + Wait + Copy, N: Naming, D: Ledger>(
+        &self,
+        rt: R,
+        tree: &ReadTree<R, N, D>,
+        share: Share<N, D>,
+    ) -> Result<Written, Stop>;
+
+    /// Tells the writer that the readers have ended.
+    fn end(&self);
 }
 
 /// Each reader in a thread of its own.
 fn read_together<
     N: Naming + Send + Sync,
     R: Threads + Wait + Sync + Send + Copy,
-    C: Reading + Sync,
->(rt: &R, alloc: Global, readers: Vec<Reader<N>>, reading: &C) -> Result<Tally, Stop> {
+    C: Working + Sync,
+>(rt: &R, alloc: Global, readers: Vec<Reader<N>>, crew: &C) -> Result<Tally, Stop> {
     thread::scope(thread::scope_env(), rt, |scope| -> Result<Tally, Stop> {
         let mut handles = Vec::new(alloc);
         for (reader, number) in readers.into_iter().zip(0u32..) {
-            let Ok(handle) = scope.spawn(move || reading.read(reader, number)) else {
+            let Ok(handle) = scope.spawn(move || crew.read(reader, number)) else {
                 return Err(Stop::Wrong);
             };
             if handles.push(handle).is_err() {
@@ -69,37 +115,57 @@ fn read_together<
     })
 }
 
-/// Lets all readers read, and times them together.
-pub(crate) fn read_timed<
+/// Lets all readers read, and times them together. Then the writer may end.
+fn read_timed<
     N: Naming + Send + Sync,
     R: Clock + Threads + Wait + Sync + Send + Copy,
-    C: Reading + Sync,
->(rt: &R, alloc: Global, readers: Vec<Reader<N>>, reading: &C) -> Result<Timed, Stop> {
-    let start = Instant::now(rt)?;
-    let tally = read_together(rt, alloc, readers, reading)?;
-    let seconds = start.elapsed(rt)?.as_secs_f64();
-    Ok(Timed { tally, seconds })
+    C: Working + Sync,
+>(rt: &R, alloc: Global, readers: Vec<Reader<N>>, crew: &C) -> Result<Timed, Stop> {
+    let start = Instant::now(rt);
+    let tally = read_together(rt, alloc, readers, crew);
+    crew.end();
+    let seconds = start?.elapsed(rt)?.as_secs_f64();
+    Ok(Timed {
+        tally: tally?,
+        seconds,
+    })
 }
 
-/// A task that only reads.
+/// The writer and the readers side by side.
+fn work_side_by_side<
+    N: Naming + Send + Sync,
+    D: Ledger + Send + Sync,
+    R: Clock + Threads + Wait + Sync + Send + Copy,
+    C: Working + Sync,
+>(
+    rt: R,
+    alloc: Global,
+    tree: &ReadTree<R, N, D>,
+    share: Share<N, D>,
+    readers: Vec<Reader<N>>,
+    crew: &C,
+) -> (Result<Written, Stop>, Result<Timed, Stop>) {
+    join(
+        &rt,
+        move || crew.write(rt, tree, share),
+        move || read_timed(&rt, alloc, readers, crew),
+    )
+}
+
+/// Who works on a tree, which is published every so many changes.
 #[derive(Drop)]
-pub(crate) struct Reads {
-    pub(crate) alloc: Global,
-    pub(crate) task: Task,
+struct Crew {
+    alloc: Global,
+    task: Task,
+    trial: Trial,
+    every: u32,
     /// The keys of all operations, where readers don't draw them as they go.
     keys: Vec<u32>,
+    /// 1 once the readers have ended.
+    ended: AtomicU64,
 }
 
-impl Reads {
-    pub(crate) fn new(alloc: Global, task: &Task) -> Result<Reads, Stop> {
-        let keys = task.known_keys(alloc, Vec::new(alloc))?;
-        Ok(Reads {
-            alloc,
-            task: *task,
-            keys,
-        })
-    }
-
+impl Crew {
     /// Looks known or drawn keys up.
     fn get_often<N: Naming>(
         &self,
@@ -116,10 +182,7 @@ impl Reads {
             let Ok(found) = reader.get(key) else {
                 return Err(ScanFault::Closed);
             };
-            tally = tally.plus(Tally {
-                found: u64::from(found.is_some()),
-                ..Tally::default()
-            });
+            tally = tally.plus(Tally::of_get(found));
         }
         Ok(tally)
     }
@@ -135,59 +198,155 @@ impl Reads {
         for _ in 0..self.task.turns() {
             let (low, limit) = drawn_part(rng, &self.task);
             reader.scan(low, limit, &mut pairs)?;
-            tally = tally.plus(Tally {
-                scanned: pairs.len() as u64,
-                ..Tally::default()
-            });
+            tally = tally.plus(Tally::of_scan(pairs.len()));
         }
         Ok(tally)
     }
 }
 
-impl Reading for Reads {
+impl Working for Crew {
     fn read<N: Naming>(&self, reader: Reader<N>, number: u32) -> Result<Tally, ScanFault> {
         let mut reader = reader;
         let mut rng = Pcg32::new(u64::from(number), 1);
-        match self.task.work {
-            Work::Load(_) | Work::Mix { .. } | Work::Zipf { .. } | Work::Set => {
-                self.get_often(&mut reader, &mut rng, number)
-            }
-            Work::Fill(_) | Work::Scan | Work::List => self.scan_often(&mut reader, &mut rng),
+        if self.task.work.scans() {
+            self.scan_often(&mut reader, &mut rng)
+        } else {
+            self.get_often(&mut reader, &mut rng, number)
         }
+    }
+
+    fn write<R: Clock + Wait + Copy, N: Naming, D: Ledger>(
+        &self,
+        rt: R,
+        tree: &ReadTree<R, N, D>,
+        share: Share<N, D>,
+    ) -> Result<Written, Stop> {
+        let mut hand = Hand::new(self.alloc, self.alloc, tree, share, 0, &Open);
+        let mut rng = Pcg32::new(WRITER, 1);
+        let mut written = Written::NOTHING;
+        let start = Instant::now(&rt)?;
+        for _ in 0..u64::MAX {
+            if self.ended.load(Ordering::SeqCst) == 1 {
+                break;
+            }
+            if !change_one(&mut hand, &self.task, &mut rng)?.has_changes() {
+                continue;
+            }
+            written.changes = written.changes.saturating_add(1);
+            if written.changes.is_multiple_of(self.every) {
+                written.longest = written.longest.max(publish_time(&rt, tree)?);
+            }
+        }
+        written.seconds = start.elapsed(&rt)?.as_secs_f64();
+        Ok(written)
+    }
+
+    fn end(&self) {
+        self.ended.store(1, Ordering::SeqCst);
     }
 }
 
-/// Makes a tree, fills and publishes it, and lets the readers read.
-fn read_over<
+/// Publishes, and tells how long that took.
+fn publish_time<R: Clock + Wait + Copy, N: Naming, D: Ledger>(
+    rt: &R,
+    tree: &ReadTree<R, N, D>,
+) -> Result<Duration, Stop> {
+    let start = Instant::now(rt)?;
+    let _stamp = tree.publish()?;
+    Ok(start.elapsed(rt)?)
+}
+
+/// Fills the tree, and publishes it part by part where that is asked for.
+fn fill<R: Wait + Copy, N: Naming, D: Ledger>(
+    tree: &ReadTree<R, N, D>,
+    share: Share<N, D>,
+    crew: &Crew,
+    is_published: bool,
+) -> Result<Share<N, D>, Stop> {
+    let order = crew.task.order(crew.alloc)?;
+    let mut share = share;
+    for part in order.chunks(PART) {
+        share = fill_by_hand(crew.alloc, tree, share, &crew.task, part)?;
+        if is_published {
+            let _stamp = tree.publish()?;
+        }
+    }
+    if is_published {
+        // the copy that readers don't see takes the last part too
+        let _stamp = tree.publish()?;
+    }
+    Ok(share)
+}
+
+/// A load by one worker, published every so many puts.
+fn put_all<R: Clock + Wait + Copy, N: Naming, D: Ledger>(
+    rt: &R,
+    tree: &ReadTree<R, N, D>,
+    share: Share<N, D>,
+    crew: &Crew,
+) -> Result<Timed, Stop> {
+    let order = crew.task.order(crew.alloc)?;
+    let mut hand = Hand::new(crew.alloc, crew.alloc, tree, share, 0, &Open);
+    let mut tally = Tally::default();
+    let start = Instant::now(rt)?;
+    for part in order.chunks((crew.every as usize).max(1)) {
+        tally = tally.plus(work(&mut hand, crew.alloc, &crew.task, 0, part)?);
+        let _stamp = tree.publish()?;
+    }
+    let seconds = start.elapsed(rt)?.as_secs_f64();
+    Ok(Timed { tally, seconds })
+}
+
+/// Makes a tree, and does the trial on it.
+fn try_over<
     N: Naming + Send + Sync,
     D: Ledger + Send + Sync,
     R: Clock + Threads + Wait + Sync + Send + Copy,
->(rt: R, config: Config, blanks: Blanks, book: BlankBook, reads: &Reads) -> Result<Timed, Stop>
+>(rt: R, config: Config, blanks: Blanks, book: BlankBook, crew: &Crew) -> Result<Figures, Stop>
     requires insertions { Opens N.name N.parts blanks.insertions }
     requires removals { Opens D.name D.parts blanks.removals }
     requires book { book.seen.book ≡ N.book }
     requires config { N.config ≡ config }
 {
-    let alloc = reads.alloc;
+    let alloc = crew.alloc;
     let (tree, mut shares, readers) = ReadTree::<R, N, D>::with_readers(
         rt,
         alloc,
         config,
         blanks,
         book,
-        reads.task.workers,
+        crew.task.workers,
     )?;
     let share = shares.pop().ok_or(Stop::Wrong)?;
-    let _share = fill_and_publish(alloc, &tree, share, &reads.task)?;
-    read_timed(&rt, alloc, readers, reads)
+    if crew.trial == Trial::Puts {
+        return Ok(Figures::of(put_all(&rt, &tree, share, crew)?));
+    }
+    let share = fill(&tree, share, crew, crew.trial != Trial::Pending)?;
+    if crew.trial != Trial::Beside {
+        return Ok(Figures::of(read_timed(&rt, alloc, readers, crew)?));
+    }
+    let (written, read) = work_side_by_side(rt, alloc, &tree, share, readers, crew);
+    Ok(Figures {
+        timed: read?,
+        written: written?,
+    })
 }
 
-/// Does a task that only reads, by readers of a tree that was filled and published before.
-pub(crate) fn run_readers<R: Clock + Threads + Wait + Sync + Send + Copy>(
+/// Does a trial on a new tree, with as many readers as the task has workers.
+pub(crate) fn try_readers<R: Clock + Threads + Wait + Sync + Send + Copy>(
     rt: R,
     alloc: Global,
     task: &Task,
-) -> Result<Timed, Stop> {
-    let reads = Reads::new(alloc, task)?;
-    read_over::<Brand, Brand, R>(rt, task.config, Blanks::new(1), BlankBook::new(), &reads)
+    trial: Trial,
+    every: u32,
+) -> Result<Figures, Stop> {
+    let crew = Crew {
+        alloc,
+        task: *task,
+        trial,
+        every,
+        keys: task.known_keys(alloc, Vec::new(alloc))?,
+        ended: AtomicU64::new(0),
+    };
+    try_over::<Brand, Brand, R>(rt, task.config, Blanks::new(1), BlankBook::new(), &crew)
 }

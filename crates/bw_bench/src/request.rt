@@ -11,13 +11,10 @@ usage: bw_bench STRUCTURE WORK WORKERS KEYS OPERATIONS
        bw_bench puts KEYS CHANGES
        bw_bench pending WORK KEYS
        bw_bench tallies KEYS OPERATIONS
-       bw_bench consolidation ROUNDS
-       bw_bench audit RECEIPTS
-       bw_bench traces ROWS
        bw_bench pages CHAIN FANOUT, and one of the first five behind it
 STRUCTURE is alone (one worker), hand, or reader (at most 16, for what only reads);
-WORK is load, rising, set, scan, list, the percent of gets beside puts and deletes, or zipf with a percent
-behind it (100 if there is none), and fill or fill-rising are scans after the one or other load;
+WORK is load, rising, set, scan, list, the percent of gets beside puts and deletes (100, 95, 50), the same by
+Zipf's distribution (zipf, zipf95, zipf50), and fill or fill-rising are scans after the one or other load;
 a tree with readers is published every so many CHANGES;
 CHAIN is the most records of a page (1 to 32), FANOUT the most entries (4 to 64); 2 and 64 without these words.
 ";
@@ -34,12 +31,6 @@ pub(crate) enum Request {
     Pending(Task),
     /// What one worker is answered by each structure, for each kind of work in this one's place.
     Tallies(Task),
-    /// How long consolidations take, on the average of so many.
-    Consolidation(u32),
-    /// How long an audit of so many receipts takes.
-    Audit(u32),
-    /// How long the reading of so many rows takes.
-    Traces(u32),
 }
 
 impl Request {
@@ -63,9 +54,6 @@ impl Request {
     /// What is asked of trees of this configuration.
     fn read_on(config: Config, words: &[&str]) -> Option<Request> {
         match words {
-            ["consolidation", rounds] => Some(Request::Consolidation(rounds.parse().ok()?)),
-            ["audit", receipts] => Some(Request::Audit(receipts.parse().ok()?)),
-            ["traces", rows] => Some(Request::Traces(rows.parse().ok()?)),
             ["puts", keys, every] => Some(Request::Puts {
                 task: Task::read(config, "load", "1", keys, "0")?,
                 every: number(every, 1, u32::MAX)?,

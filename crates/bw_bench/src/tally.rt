@@ -19,6 +19,22 @@ pub(crate) struct Tally {
 }
 
 impl Tally {
+    /// Of a get.
+    pub(crate) fn of_get(found: Option<u64>) -> Tally {
+        Tally {
+            found: u64::from(found.is_some()),
+            ..Tally::default()
+        }
+    }
+
+    /// Of a scan that gave so many pairs.
+    pub(crate) fn of_scan(pairs: usize) -> Tally {
+        Tally {
+            scanned: pairs as u64,
+            ..Tally::default()
+        }
+    }
+
     /// Whether a key was given a value, or another one, or taken out.
     pub(crate) fn has_changes(self) -> bool {
         self.inserted > 0 || self.replaced > 0 || self.removed > 0

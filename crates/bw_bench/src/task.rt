@@ -7,7 +7,6 @@ use bw_keys::Config;
 use rand::seq::SliceRandom;
 use rand_pcg::Pcg32;
 use std::alloc::{AllocError, Global};
-use std::fmt;
 
 /// The order in which keys are put.
 #[derive(Clone, Copy, Debug, PartialEq, Eq)]
@@ -37,20 +36,20 @@ pub(crate) enum Work {
 }
 
 impl Work {
-    /// The kinds that `bench/compare` times.
-    pub(crate) const ALL: [Work; 12] = [
-        Work::Load(Order::Drawn),
-        Work::Load(Order::Rising),
-        Work::Fill(Order::Drawn),
-        Work::Fill(Order::Rising),
-        Work::Mix { gets: 100 },
-        Work::Mix { gets: 95 },
-        Work::Mix { gets: 50 },
-        Work::Zipf { gets: 100 },
-        Work::Zipf { gets: 95 },
-        Work::Zipf { gets: 50 },
-        Work::Set,
-        Work::Scan,
+    /// The kinds that `bench/compare` times in its maps, by their words.
+    pub(crate) const ALL: [(&'static str, Work); 12] = [
+        ("load", Work::Load(Order::Drawn)),
+        ("rising", Work::Load(Order::Rising)),
+        ("fill", Work::Fill(Order::Drawn)),
+        ("fill-rising", Work::Fill(Order::Rising)),
+        ("100", Work::Mix { gets: 100 }),
+        ("95", Work::Mix { gets: 95 }),
+        ("50", Work::Mix { gets: 50 }),
+        ("zipf", Work::Zipf { gets: 100 }),
+        ("zipf95", Work::Zipf { gets: 95 }),
+        ("zipf50", Work::Zipf { gets: 50 }),
+        ("set", Work::Set),
+        ("scan", Work::Scan),
     ];
 
     /// Whether nothing is changed.
@@ -62,56 +61,23 @@ impl Work {
         }
     }
 
-    /// The order of the puts by which the map is loaded or filled.
-    fn order(self) -> Order {
-        match self {
-            Work::Load(order) | Work::Fill(order) => order,
-            Work::Mix { .. } | Work::Zipf { .. } | Work::Set | Work::Scan | Work::List => {
-                Order::Drawn
-            }
-        }
+    /// Whether its operations are scans.
+    pub(crate) fn scans(self) -> bool {
+        matches!(self, Work::Fill(_) | Work::Scan | Work::List)
+    }
+
+    /// Whether the map is loaded or filled by rising keys.
+    fn rises(self) -> bool {
+        matches!(self, Work::Load(Order::Rising) | Work::Fill(Order::Rising))
     }
 
     fn read(word: &str) -> Option<Work> {
-        match word {
-            "load" => Some(Work::Load(Order::Drawn)),
-            "rising" => Some(Work::Load(Order::Rising)),
-            "fill" => Some(Work::Fill(Order::Drawn)),
-            "fill-rising" => Some(Work::Fill(Order::Rising)),
-            "set" => Some(Work::Set),
-            "scan" => Some(Work::Scan),
-            "list" => Some(Work::List),
-            "zipf" => Some(Work::Zipf { gets: 100 }),
-            mixture => Work::read_mixture(mixture),
+        for (name, work) in Work::ALL {
+            if name == word {
+                return Some(work);
+            }
         }
-    }
-
-    fn read_mixture(word: &str) -> Option<Work> {
-        match word.strip_prefix("zipf") {
-            Some(gets) => Some(Work::Zipf {
-                gets: number(gets, 0, 100)?,
-            }),
-            None => Some(Work::Mix {
-                gets: number(word, 0, 100)?,
-            }),
-        }
-    }
-}
-
-impl fmt::Display for Work {
-    fn fmt<W: fmt::Write>(&self, f: &mut fmt::Formatter<W>) -> fmt::Result {
-        match self {
-            Work::Load(Order::Drawn) => f.write_str("load"),
-            Work::Load(Order::Rising) => f.write_str("rising"),
-            Work::Fill(Order::Drawn) => f.write_str("fill"),
-            Work::Fill(Order::Rising) => f.write_str("fill-rising"),
-            Work::Mix { gets } => write!(f, "{gets}"),
-            Work::Zipf { gets: 100 } => f.write_str("zipf"),
-            Work::Zipf { gets } => write!(f, "zipf{gets}"),
-            Work::Set => f.write_str("set"),
-            Work::Scan => f.write_str("scan"),
-            Work::List => f.write_str("list"),
-        }
+        (word == "list").then_some(Work::List)
     }
 }
 
@@ -153,12 +119,7 @@ impl Task {
     pub(crate) fn count(&self) -> u32 {
         match self.work {
             Work::Load(_) => self.keys,
-            Work::Fill(_)
-            | Work::Mix { .. }
-            | Work::Zipf { .. }
-            | Work::Set
-            | Work::Scan
-            | Work::List => self.turns().saturating_mul(self.workers),
+            _ => self.turns().saturating_mul(self.workers),
         }
     }
 
@@ -173,7 +134,7 @@ impl Task {
         for key in 0..self.keys {
             order.push(key)?;
         }
-        if self.work.order() == Order::Drawn {
+        if !self.work.rises() {
             order.as_mut_slice().shuffle(&mut Pcg32::new(0, 0));
         }
         Ok(order)
@@ -196,9 +157,7 @@ impl Task {
         match self.work {
             Work::Load(_) => Ok(order),
             Work::Zipf { .. } => zipf::draw(alloc, self.end(), self.count()),
-            Work::Fill(_) | Work::Mix { .. } | Work::Set | Work::Scan | Work::List => {
-                Ok(Vec::new(alloc))
-            }
+            _ => Ok(Vec::new(alloc)),
         }
     }
 

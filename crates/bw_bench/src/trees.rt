@@ -5,7 +5,7 @@ ghost use Rattle.std.specs.Prelude.{◌≡◌};
 ghost use Rattle.bw_tree.specs.Shares.{Opens};
 
 use crate::Stop;
-use crate::readers::run_readers;
+use crate::readers::{Trial, try_readers};
 use crate::tally::Tally;
 use crate::task::Task;
 use crate::work::{fill, work};
@@ -19,9 +19,9 @@ use std::alloc::Global;
 use std::marker::Brand;
 use std::sync::Wait;
 use std::sync::ledger::Ledger;
+use std::thread;
 use std::thread::Threads;
 use std::time::{Clock, Instant};
-use std::{fmt, thread};
 
 /// How the tree is held.
 #[derive(Clone, Copy, Debug, PartialEq, Eq)]
@@ -37,13 +37,21 @@ pub(crate) enum Structure {
 impl Structure {
     pub(crate) const ALL: [Structure; 3] = [Structure::Alone, Structure::Hand, Structure::Reader];
 
-    pub(crate) fn read(word: &str) -> Option<Structure> {
-        match word {
-            "alone" => Some(Structure::Alone),
-            "hand" => Some(Structure::Hand),
-            "reader" => Some(Structure::Reader),
-            _ => None,
+    pub(crate) fn word(self) -> &'static str {
+        match self {
+            Structure::Alone => "alone",
+            Structure::Hand => "hand",
+            Structure::Reader => "reader",
         }
+    }
+
+    pub(crate) fn read(word: &str) -> Option<Structure> {
+        for structure in Structure::ALL {
+            if structure.word() == word {
+                return Some(structure);
+            }
+        }
+        None
     }
 
     /// Whether the task can be done so.
@@ -65,18 +73,8 @@ impl Structure {
         match self {
             Structure::Alone => run_alone(&rt, alloc, task),
             Structure::Hand => run_shared(rt, alloc, task),
-            Structure::Reader => run_readers(rt, alloc, task),
+            Structure::Reader => Ok(try_readers(rt, alloc, task, Trial::Reads, 1)?.timed),
         }
-    }
-}
-
-impl fmt::Display for Structure {
-    fn fmt<W: fmt::Write>(&self, f: &mut fmt::Formatter<W>) -> fmt::Result {
-        f.write_str(match self {
-            Structure::Alone => "alone",
-            Structure::Hand => "hand",
-            Structure::Reader => "reader",
-        })
     }
 }
 

@@ -88,11 +88,7 @@ fn mix<S: Steps<Global, Step<Global>>>(
 }
 
 fn get_one<S: Steps<Global, Step<Global>>>(steps: &mut S, key: Key) -> Result<Tally, Stop> {
-    let found = get(steps, key)?;
-    Ok(Tally {
-        found: u64::from(found.is_some()),
-        ..Tally::default()
-    })
+    Ok(Tally::of_get(get(steps, key)?))
 }
 
 /// Gives the key itself as its value.
@@ -175,15 +171,10 @@ fn filled_key(rng: &mut Pcg32, task: &Task) -> Key {
 
 /// From which key on pairs are listed, and how many at most.
 pub(crate) fn drawn_part(rng: &mut Pcg32, task: &Task) -> (Key, usize) {
-    match task.work {
-        Work::List => (0, usize::MAX),
-        Work::Load(_)
-        | Work::Fill(_)
-        | Work::Mix { .. }
-        | Work::Zipf { .. }
-        | Work::Set
-        | Work::Scan => (drawn_key(rng, task), SCANNED),
+    if task.work == Work::List {
+        return (0, usize::MAX);
     }
+    (drawn_key(rng, task), SCANNED)
 }
 
 /// Scans from drawn keys on, or lists all pairs.
@@ -198,10 +189,7 @@ fn scan_often<S: Steps<Global, Step<Global>>>(
     for _ in 0..task.turns() {
         let (low, limit) = drawn_part(&mut rng, task);
         let pairs = scan(steps, alloc, low, limit)?;
-        tally = tally.plus(Tally {
-            scanned: pairs.len() as u64,
-            ..Tally::default()
-        });
+        tally = tally.plus(Tally::of_scan(pairs.len()));
     }
     Ok(tally)
 }

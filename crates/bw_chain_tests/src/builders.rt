@@ -1,30 +1,104 @@
-//! Chains that are built from tables of records. Each is sound, as a record that may not stand
+//! Pages and chains that are built from constant data. Each chain is sound, as a record that may not stand
 //! where it is put is refused.
 
 ghost use Rattle.std.specs.Prelude.{◌≡◌, true, IfOk};
 ghost use Rattle.bw_delta.specs.Sound.{IsSound, MayStandOver};
 
 use bw_chain::{depth, fences, find, is_leaf};
-use bw_delta::{Base, BaseFault, Chain, Delta, Fences, Spare};
-use bw_keys::{Fence, MAX_DEPTH, Range};
+use bw_delta::{Base, BaseFault, Chain, Delta, Entries, Fences, Spare};
+use bw_keys::{Fence, Key, MAX_DEPTH, Pid, Range};
 use std::alloc::Allocator;
 
-/// The chain with the base and the records, the oldest first.
-pub(crate) fn with_records<A: Allocator + Copy>(
+/// The entries of a page.
+#[derive(Clone, Copy)]
+pub(crate) enum Listed {
+    Pairs(&'static [(Key, u64)]),
+    Routes(&'static [(Key, Pid)]),
+}
+
+/// A base page, with records over it, the oldest first.
+#[derive(Clone, Copy)]
+pub(crate) struct Part {
+    pub low: Key,
+    pub listed: Listed,
+    pub records: &'static [Delta],
+}
+
+/// The part, which may have taken another one in, under further records. Their base pages reach to the top.
+#[derive(Clone, Copy)]
+pub(crate) struct Plan {
+    pub left: Part,
+    pub right: Option<Part>,
+    pub records: &'static [Delta],
+}
+
+pub(crate) fn base<A: Allocator + Copy>(
     alloc: A,
-    base: Base<A>,
-    records: &[Delta],
-) -> Result<Chain<A>, BaseFault>
+    low: Key,
+    high: Fence,
+    right: Option<Pid>,
+    listed: Listed,
+) -> Result<Base<A>, BaseFault> {
+    match listed {
+        Listed::Pairs(pairs) => Base::leaf(alloc, low, high, right, pairs),
+        Listed::Routes(routes) => Base::inner(alloc, low, high, right, routes),
+    }
+}
+
+/// Whether these are the page's entries.
+pub(crate) fn lists<A: Allocator>(base: &Base<A>, listed: Listed) -> bool {
+    match (&base.entries, listed) {
+        (_, Listed::Pairs(pairs)) => lists_pairs(base, pairs),
+        (Entries::Routes(list), Listed::Routes(routes)) => list.as_slice() == routes,
+        (Entries::Pairs(_), Listed::Routes(_)) => false,
+    }
+}
+
+pub(crate) fn lists_pairs<A: Allocator>(base: &Base<A>, pairs: &[(Key, u64)]) -> bool {
+    match &base.entries {
+        Entries::Pairs(list) => list.as_slice() == pairs,
+        Entries::Routes(_) => false,
+    }
+}
+
+pub(crate) fn built<A: Allocator + Copy>(alloc: A, plan: &Plan) -> Result<Chain<A>, BaseFault>
     ensures { IfOk result IsSound }
 {
-    let mut chain = Chain::bare(base);
+    let left = built_part(alloc, plan.left)?;
+    match plan.right {
+        None => with_records(alloc, left, plan.records),
+        Some(right) => {
+            let right = built_part(alloc, right)?;
+            let chain = joined(alloc, left, right)?;
+            with_records(alloc, chain, plan.records)
+        }
+    }
+}
+
+fn built_part<A: Allocator + Copy>(alloc: A, part: Part) -> Result<Chain<A>, BaseFault>
+    ensures { IfOk result IsSound }
+{
+    let base = base(alloc, part.low, Fence::Top, None, part.listed)?;
+    with_records(alloc, Chain::bare(base), part.records)
+}
+
+/// The chain with the records on top, the oldest first.
+fn with_records<A: Allocator + Copy>(
+    alloc: A,
+    chain: Chain<A>,
+    records: &[Delta],
+) -> Result<Chain<A>, BaseFault>
+    requires { IsSound chain }
+    ensures { IfOk result IsSound }
+{
+    let mut chain = chain;
     for delta in records {
         add_record(alloc, &mut chain, *delta)?;
     }
     Ok(chain)
 }
 
-/// Puts a record on the chain.
+/// Puts a record on the chain, where it may stand there.
 pub(crate) fn add_record<A: Allocator + Copy>(
     alloc: A,
     chain: &mut Chain<A>,
@@ -79,10 +153,8 @@ pub(crate) fn joined<A: Allocator + Copy>(
         high,
         right: link,
     } = fences(&right);
-    if low != separator || is_leaf(&left) != is_leaf(&right) {
-        return Err(BaseFault::BadEntries);
-    }
-    if depth(&left) >= MAX_DEPTH || depth(&right) >= MAX_DEPTH {
+    let are_neighbours = low == separator && is_leaf(&left) == is_leaf(&right);
+    if !are_neighbours || depth(&left) >= MAX_DEPTH || depth(&right) >= MAX_DEPTH {
         return Err(BaseFault::BadEntries);
     }
     let (Ok(left_spare), Ok(right_spare)) = (Spare::new(alloc), Spare::new(alloc)) else {

@@ -1,60 +1,112 @@
-//! Keys, ranges and configurations at the ends of their ranges.
+//! Keys, ranges, configurations and base pages at the ends of their ranges.
 
-use bw_keys::{BadConfig, Config, Fence, Field, Range};
+use crate::builders::{Listed, base};
+use bw_delta::BaseFault;
+use bw_keys::{BadConfig, Config, Fence, Field, Key, Pid, Range};
 use std::test::Fail;
 
-#[test]
-fn each_range_ends_where_it_says(rt: HostRuntime) {
-    let usual = Config::default();
-    assert_eq!(rt; usual.check(), Ok(()));
-    let fanouts = [(3, false), (4, true), (64, true), (65, false)];
-    for (fanout, fine) in fanouts {
-        assert_eq!(rt; Config { fanout, ..usual }.check().is_ok(), fine);
-    }
-    for (chain, fine) in [(0, false), (1, true), (32, true), (33, false)] {
-        assert_eq!(rt; Config { chain, ..usual }.check().is_ok(), fine);
-    }
-    for (pages, fine) in [(7, false), (8, true), (65536, true), (65537, false)] {
-        assert_eq!(rt; Config { pages, ..usual }.check().is_ok(), fine);
-    }
-    for (tries, fine) in [(0, false), (1, true), (1000, true), (1001, false)] {
-        assert_eq!(rt; Config { tries, ..usual }.check().is_ok(), fine);
-    }
-}
+/// Fanout, chain, pages and tries, and the field that is named.
+type Setting = ([u32; 4], Option<BadConfig>);
+
+static SETTINGS: [Setting; 18] = [
+    ([3, 8, 64, 100], Some(BadConfig(Field::Fanout))),
+    ([4, 8, 64, 100], None),
+    ([64, 8, 64, 100], None),
+    ([65, 8, 64, 100], Some(BadConfig(Field::Fanout))),
+    ([16, 0, 64, 100], Some(BadConfig(Field::Chain))),
+    ([16, 1, 64, 100], None),
+    ([16, 32, 64, 100], None),
+    ([16, 33, 64, 100], Some(BadConfig(Field::Chain))),
+    ([16, 8, 7, 100], Some(BadConfig(Field::Pages))),
+    ([16, 8, 8, 100], None),
+    ([16, 8, 65536, 100], None),
+    ([16, 8, 65537, 100], Some(BadConfig(Field::Pages))),
+    ([16, 8, 64, 0], Some(BadConfig(Field::Tries))),
+    ([16, 8, 64, 1], None),
+    ([16, 8, 64, 1000], None),
+    ([16, 8, 64, 1001], Some(BadConfig(Field::Tries))),
+    // the first bad field is named
+    ([16, 0, 0, 0], Some(BadConfig(Field::Chain))),
+    ([16, 8, 4096, 1000], None),
+];
 
 #[test]
-fn the_first_bad_field_is_named(rt: HostRuntime) -> Result<(), Fail> {
-    let bad = Config {
-        fanout: 16,
-        chain: 0,
-        pages: 0,
-        tries: 0,
-        first_version: u64::MAX,
-    };
-    assert_eq!(rt; bad.check(), Err(BadConfig(Field::Chain)));
+fn each_setting_ends_where_it_says(rt: HostRuntime) -> Result<(), Fail> {
+    for ([fanout, chain, pages, tries], bad) in SETTINGS.iter() {
+        let config = Config {
+            fanout: *fanout,
+            chain: *chain,
+            pages: *pages,
+            tries: *tries,
+            first_version: u64::MAX,
+        };
+        assert_eq!(rt; config.check().err(), *bad);
+    }
+    assert_eq!(rt; Config::default().check(), Ok(()));
     let text = format!(in rt.alloc(); "{}", BadConfig(Field::Chain))?;
     assert_eq!(rt; text.as_str(), "bad chain");
     Ok(())
 }
 
+/// A key, and whether it lies from 3 on and below the last key, and below the top.
+static HELD: [(Key, bool, bool); 4] = [
+    (2, false, false),
+    (3, true, true),
+    (Key::MAX - 1, true, true),
+    (Key::MAX, false, true),
+];
+
 #[test]
 fn the_last_key_lies_below_top_alone(rt: HostRuntime) {
-    let below_last = Range {
+    let last = Range {
         low: 3,
-        high: Fence::Key(u64::MAX),
+        high: Fence::Key(Key::MAX),
     };
-    let to_top = Range {
+    let top = Range {
         low: 3,
         high: Fence::Top,
     };
-    for (key, in_first, in_second) in [
-        (2, false, false),
-        (3, true, true),
-        (u64::MAX - 1, true, true),
-        (u64::MAX, false, true),
-    ] {
-        assert_eq!(rt; below_last.holds(key), in_first, "at {key}");
-        assert_eq!(rt; to_top.holds(key), in_second, "at {key}");
+    for (key, below_last, below_top) in HELD.iter() {
+        let held = (last.holds(*key), top.holds(*key));
+        assert_eq!(rt; held, (*below_last, *below_top), "at {key}");
     }
-    assert!(rt; Fence::Key(u64::MAX) < Fence::Top);
+}
+
+/// Low, high and entries, and whether they make a page.
+static PAGES: [(Key, Fence, Listed, bool); 11] = [
+    (0, Fence::Top, Listed::Pairs(&[]), true),
+    (3, Fence::Key(6), Listed::Pairs(&[(3, 0), (5, 0)]), true),
+    (3, Fence::Top, Listed::Pairs(&[(Key::MAX, 1)]), true),
+    // an empty range, and one that ends before it begins
+    (3, Fence::Key(3), Listed::Pairs(&[]), false),
+    (3, Fence::Key(2), Listed::Pairs(&[]), false),
+    // below the low, and at the high
+    (3, Fence::Key(6), Listed::Pairs(&[(2, 0)]), false),
+    (3, Fence::Key(6), Listed::Pairs(&[(6, 0)]), false),
+    (
+        3,
+        Fence::Key(Key::MAX),
+        Listed::Pairs(&[(Key::MAX, 0)]),
+        false,
+    ),
+    // twice the same, and falling
+    (0, Fence::Key(6), Listed::Pairs(&[(1, 0), (1, 1)]), false),
+    (0, Fence::Key(6), Listed::Pairs(&[(2, 0), (1, 1)]), false),
+    (
+        0,
+        Fence::Top,
+        Listed::Routes(&[(7, Pid(2)), (0, Pid(4))]),
+        false,
+    ),
+];
+
+#[test]
+fn pages_are_made_of_rising_entries_in_their_range(rt: HostRuntime) {
+    for (low, high, listed, is_page) in PAGES.iter() {
+        let is_made = match base(rt.alloc(), *low, *high, None, *listed) {
+            Ok(_) => true,
+            Err(fault) => fault != BaseFault::BadEntries,
+        };
+        assert_eq!(rt; is_made, *is_page, "from {low}");
+    }
 }

@@ -3,38 +3,32 @@
 ghost use Rattle.std.specs.Prelude.{IfOk};
 ghost use Rattle.bw_delta.specs.Sound.{IsSound};
 
-use crate::builders::{joined, with_records};
-use crate::worked::lists_pairs;
-use bw_chain::{HalveFault, append_pairs, consolidate, halve};
-use bw_delta::{Base, BaseFault, Chain, Delta};
-use bw_keys::{Fence, Key, Pid};
+use crate::builders::{Listed, Part, Plan, add_record, built, lists_pairs};
+use bw_chain::{HalveFault, append_pairs, consolidate, depth, halve, same};
+use bw_delta::{Base, BaseFault, Chain, Delta, NoMemory, Spare};
+use bw_keys::{Fence, Key, MAX_DEPTH, Pid};
 use linked_list_allocator::LocalHeap;
-use std::alloc::Allocator;
+use std::alloc::{Allocator, Global};
 use std::test::Fail;
 
 /// A leaf that was split at 5 and has taken its right half back: 1 deleted, and 6 inserted.
-fn merged_leaf<A: Allocator + Copy>(alloc: A) -> Result<Chain<A>, BaseFault>
-    ensures { IfOk result IsSound }
-{
-    let base = Base::leaf(alloc, 0, Fence::Top, None, &[(1, 10), (3, 30), (5, 50)])?;
-    let left = with_records(alloc, base, &[Delta::Split(5, Pid(7)), Delta::Delete(1)])?;
-    let base = Base::leaf(alloc, 5, Fence::Top, None, &[(5, 50)])?;
-    let right = with_records(alloc, base, &[Delta::Insert(6, 60)])?;
-    joined(alloc, left, right)
-}
+static MERGED: Plan = Plan {
+    left: Part {
+        low: 0,
+        listed: Listed::Pairs(&[(1, 10), (3, 30), (5, 50)]),
+        records: &[Delta::Split(5, Pid(7)), Delta::Delete(1)],
+    },
+    right: Some(Part {
+        low: 5,
+        listed: Listed::Pairs(&[(5, 50)]),
+        records: &[Delta::Insert(6, 60)],
+    }),
+    records: &[],
+};
 
-/// What is made of the leaf.
-#[derive(Drop)]
-struct Products<A: Allocator> {
-    whole: Base<A>,
-    separator: Key,
-    upper: Base<A>,
-    pairs: Vec<(Key, u64), A>,
-}
-
-/// Copies the leaf, consolidates and halves the copy, and lists its pairs.
-fn make_products<A: Allocator + Copy>(alloc: A) -> Result<Products<A>, HalveFault> {
-    let Ok(chain) = merged_leaf(alloc) else {
+/// Copies the leaf, consolidates and halves the copy, and lists its pairs. Whether all is right.
+fn is_right<A: Allocator + Copy>(alloc: A) -> Result<bool, HalveFault> {
+    let Ok(chain) = built(alloc, &MERGED) else {
         return Err(HalveFault::NoMemory);
     };
     let Ok(copy) = chain.copy_in(alloc) else {
@@ -45,34 +39,12 @@ fn make_products<A: Allocator + Copy>(alloc: A) -> Result<Products<A>, HalveFaul
     };
     let (separator, upper) = halve(alloc, &whole)?;
     let mut pairs = Vec::new(alloc);
-    match append_pairs(&copy, &mut pairs) {
-        Ok(()) => Ok(Products {
-            whole,
-            separator,
-            upper,
-            pairs,
-        }),
-        Err(_) => Err(HalveFault::NoMemory),
+    if append_pairs(&copy, &mut pairs).is_err() {
+        return Err(HalveFault::NoMemory);
     }
-}
-
-fn are_right<A: Allocator>(products: &Products<A>) -> bool {
-    let pairs = [(3, 30), (5, 50), (6, 60)];
-    lists_pairs(&products.whole, &pairs)
-        && products.separator == 5
-        && lists_pairs(&products.upper, &[(5, 50), (6, 60)])
-        && products.pairs.as_slice() == pairs.as_slice()
-}
-
-#[test]
-fn all_memory_is_given_back(rt: HostRuntime) -> Result<(), Fail> {
-    let heap = LocalHeap::new(rt.alloc(), 65536)?;
-    let products = make_products(&heap)?;
-    assert!(rt; heap.used() > 0);
-    assert!(rt; are_right(&products));
-    drop(products);
-    assert_eq!(rt; heap.used(), 0);
-    Ok(())
+    let is_whole = lists_pairs(&whole, &[(3, 30), (5, 50), (6, 60)]);
+    let is_upper = lists_pairs(&upper, &[(5, 50), (6, 60)]);
+    Ok(is_whole && separator == 5 && is_upper && lists_pairs(&whole, pairs.as_slice()))
 }
 
 // A heap grows by 16 bytes from run to run, so each request is once the first to be refused.
@@ -81,9 +53,9 @@ fn each_request_may_be_refused(rt: HostRuntime) -> Result<(), Fail> {
     let (mut made, mut refused) = (false, false);
     for cells in 1..400usize {
         let heap = LocalHeap::new(rt.alloc(), 16 * cells)?;
-        match make_products(&heap) {
-            Ok(products) => {
-                assert!(rt; are_right(&products), "in {cells} cells");
+        match is_right(&heap) {
+            Ok(is_right) => {
+                assert!(rt; is_right, "in {cells} cells");
                 made = true;
             }
             Err(fault) => {
@@ -94,5 +66,73 @@ fn each_request_may_be_refused(rt: HostRuntime) -> Result<(), Fail> {
         assert_eq!(rt; heap.used(), 0, "in {cells} cells");
     }
     assert!(rt; made && refused);
+    Ok(())
+}
+
+/// A leaf with 100 to 199 under as many records as a chain may have: each fourth key deleted, the
+/// next one modified, and smaller ones inserted.
+fn deepest_leaf<A: Allocator + Copy>(alloc: A) -> Result<Chain<A>, BaseFault>
+    ensures { IfOk result IsSound }
+{
+    let mut pairs = [(0, 0); 100];
+    for i in 0..100u64 {
+        pairs[i as usize] = (100 + i, i);
+    }
+    let mut chain = Chain::bare(Base::leaf(alloc, 0, Fence::Top, None, &pairs)?);
+    'records: for i in 0..u64::from(MAX_DEPTH) {
+        let delta = match i % 4 {
+            0 => Delta::Delete(100 + i),
+            1 => Delta::Modify(100 + i, 7),
+            _ => Delta::Insert(i, 7),
+        };
+        add_record(alloc, &mut chain, delta)?;
+    }
+    Ok(chain)
+}
+
+/// Takes all the memory that the heap still has.
+fn fill<'a>(alloc: Global, heap: &'a LocalHeap) -> Result<Vec<Vec<u8, &'a LocalHeap>>, Fail> {
+    let mut filling = Vec::new(alloc);
+    for _ in 0..heap.free() {
+        match Vec::with_capacity(heap, 16) {
+            Ok(bytes) => filling.push(bytes)?,
+            Err(_) => return Ok(filling),
+        }
+    }
+    Ok(filling)
+}
+
+#[test]
+fn a_comparison_takes_no_memory(rt: HostRuntime) -> Result<(), Fail> {
+    let heap = LocalHeap::new(rt.alloc(), 65536)?;
+    let chain = deepest_leaf(&heap)?;
+    let page = consolidate(&heap, &chain)?;
+    let mut pairs = Vec::with_capacity(rt.alloc(), 200)?;
+    let filling = fill(rt.alloc(), &heap)?;
+    let used = heap.used();
+    assert!(rt; Spare::new(&heap).is_err() && same(&page, &chain));
+    append_pairs(&chain, &mut pairs)?;
+    assert!(rt; lists_pairs(&page, pairs.as_slice()));
+    assert_eq!(rt; consolidate(&heap, &chain).err(), Some(NoMemory));
+    assert_eq!(rt; heap.used(), used);
+    drop(filling);
+    Ok(())
+}
+
+// 100 entries, 32 insertions and 16 modifications, at 16 bytes each; 16 keys are deleted.
+#[test]
+fn a_result_is_reserved_once_and_the_deepest_chain_given_back(rt: HostRuntime) -> Result<(), Fail> {
+    let heap = LocalHeap::new(rt.alloc(), 65536)?;
+    let chain = deepest_leaf(&heap)?;
+    let used = heap.used();
+    let page = consolidate(&heap, &chain)?;
+    assert_eq!(rt; heap.used().checked_sub(used), Some(148 * 16));
+    assert_eq!(rt; (page.len(), depth(&chain)), (116, MAX_DEPTH));
+    drop(page);
+    let copy = chain.copy_in(&heap)?;
+    drop(chain);
+    assert_eq!(rt; (heap.used(), depth(&copy)), (used, MAX_DEPTH));
+    drop(copy);
+    assert_eq!(rt; heap.used(), 0);
     Ok(())
 }

@@ -1,14 +1,8 @@
 //! Tests of the mapping table with the crates that it stands on: what scripts of steps can't say. The
-//! summaries that it lends, leaves at rest, drawn steps against a plain map, and memory that runs out.
+//! summaries that it lends, leaves at rest, and memory that runs out.
 #![tactic(auto)]
 
 #[cfg(test)]
-mod drawn;
-#[cfg(test)]
 mod memory;
 #[cfg(test)]
-mod picture;
-#[cfg(test)]
 mod rest;
-#[cfg(test)]
-mod summaries;

@@ -1,6 +1,6 @@
 //! Long texts, of a row that is given so many times.
 
-use bw_trace::{MOST_HISTORY_ROWS, MOST_TRACE_ROWS, TextFault, command, read_history, read_trace};
+use bw_trace::command;
 use std::io;
 use std::io::Read;
 use std::test::Fail;
@@ -11,16 +11,6 @@ struct Lines {
     line: &'static [u8],
     rest: &'static [u8],
     left: u64,
-}
-
-impl Lines {
-    fn new(line: &'static str, left: u64) -> Lines {
-        Lines {
-            line: line.as_bytes(),
-            rest: b"".as_slice(),
-            left,
-        }
-    }
 }
 
 impl Read for Lines {
@@ -36,44 +26,40 @@ impl Read for Lines {
     }
 }
 
-const GET: &str = "0,get,1,\n";
+/// Words, a row and how often it is given, and the answer: status, output and faults.
+type Row = (
+    &'static str,
+    &'static str,
+    u64,
+    (u8, &'static str, &'static str),
+);
 
-const NONE: &str = "0,none,0,1,\n";
+const EMPTY: &str = "0 top 0\ninserted 0 removed 0 pairs 0\naudit yes\n";
 
-#[test]
-fn a_trace_has_a_million_rows_at_most(rt: HostRuntime) -> Result<(), Fail> {
-    assert_eq!(rt; MOST_TRACE_ROWS, 1_000_000);
-    let rows = read_trace(rt.alloc(), Lines::new(GET, MOST_TRACE_ROWS), 1)?;
-    assert_eq!(rt; rows.len() as u64, MOST_TRACE_ROWS);
-    let fault = read_trace(rt.alloc(), Lines::new(GET, MOST_TRACE_ROWS + 1), 1).err();
-    assert_eq!(rt; fault, Some(TextFault::Rows));
-    Ok(())
-}
+const TOO_MANY: (u8, &str, &str) = (3, "", "bwtree: rows\n");
 
-#[test]
-fn a_history_has_two_million_rows_at_most(rt: HostRuntime) -> Result<(), Fail> {
-    assert_eq!(rt; MOST_HISTORY_ROWS, 2_000_000);
-    let history = read_history(rt.alloc(), Lines::new(NONE, MOST_HISTORY_ROWS))?;
-    let rows = history.trails.first().map(|trail| trail.len() as u64);
-    assert_eq!(rt; rows, Some(MOST_HISTORY_ROWS));
-    let fault = read_history(rt.alloc(), Lines::new(NONE, MOST_HISTORY_ROWS + 1)).err();
-    assert_eq!(rt; fault, Some(TextFault::Rows));
-    Ok(())
-}
+// A trace has a million rows at most, and a history two million.
+static ROWS: [Row; 4] = [
+    ("run", "0,get,1,\n", 1_000_000, (0, EMPTY, "")),
+    ("run", "0,get,1,\n", 1_000_001, TOO_MANY),
+    ("check", "0,none,0,1,\n", 2_000_000, (0, "audit yes\n", "")),
+    ("check", "0,none,0,1,\n", 2_000_001, TOO_MANY),
+];
 
 #[test]
-fn a_program_says_that_a_text_is_too_long(rt: HostRuntime) -> Result<(), Fail> {
-    for (words, line, rows) in [
-        (["run"], GET, MOST_TRACE_ROWS + 1),
-        (["check"], NONE, MOST_HISTORY_ROWS + 1),
-    ] {
+fn a_text_has_so_many_rows_at_most(rt: HostRuntime) -> Result<(), Fail> {
+    for (word, line, rows, (status, output, faults)) in ROWS.iter() {
+        let input = Lines {
+            line: line.as_bytes(),
+            rest: b"".as_slice(),
+            left: *rows,
+        };
         let mut written = Vec::new(rt.alloc());
         let mut told = Vec::new(rt.alloc());
-        let input = Lines::new(line, rows);
-        let status = command(rt, rt.alloc(), &words, input, &mut written, &mut told);
-        assert_eq!(rt; status, 3);
-        assert!(rt; written.is_empty());
-        assert_eq!(rt; std::str::from_utf8(&told)?, "bwtree: rows\n");
+        let ended = command(rt, rt.alloc(), &[*word], input, &mut written, &mut told);
+        assert_eq!(rt; ended, *status, "{word} {rows}");
+        assert_eq!(rt; std::str::from_utf8(&written)?, *output);
+        assert_eq!(rt; std::str::from_utf8(&told)?, *faults);
     }
     Ok(())
 }

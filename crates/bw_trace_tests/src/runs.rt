@@ -1,59 +1,172 @@
-//! Runs with the usual values of the options.
+//! Runs of long traces, and of several workers, whose replies depend on who comes first.
 
-use crate::printed::printed;
+use bw_trace::command;
+use std::alloc::Global;
+use std::process::Abort;
+use std::sync::Wait;
 use std::test::Fail;
+use std::thread::Threads;
+
+/// What the program prints on the input, where it ends well.
+fn printed<R: Abort + AllocGlobal + Threads + Wait + Sync + Send + Copy>(
+    rt: &R,
+    words: &[&str],
+    input: &str,
+) -> Result<String, Fail> {
+    let alloc = rt.alloc();
+    let mut written = Vec::new(alloc);
+    let mut told = Vec::new(alloc);
+    let status = command(*rt, alloc, words, input.as_bytes(), &mut written, &mut told);
+    assert!(rt; status == 0 && told.is_empty());
+    Ok(String::from_utf8(written)?)
+}
+
+/// The trace of so many puts of rising keys, and a row more.
+fn rising(alloc: Global, keys: u32, more: &str) -> Result<String, Fail> {
+    let mut trace = String::new(alloc);
+    for key in 1..=keys {
+        writeln!(trace, "0,put,{key},{key}")?;
+    }
+    trace.push_str(more)?;
+    Ok(trace)
+}
+
+/// How many keys are put, a row behind them, words, and how the output goes on from there and ends.
+type Long = (u32, &'static str, &'static str, &'static str, &'static str);
 
 // With rising keys each split leaves two entries below and three above, so that N > 4 entries of a level
 // stand in (N - 1) / 2 pages, rounded down. 4,109 keys want
-// 2054 + 1026 + 512 + 255 + 127 + 63 + 31 + 15 + 7 + 3 + 1 = 4094 pages, and 4,111 want four more.
+// 2054 + 1026 + 512 + 255 + 127 + 63 + 31 + 15 + 7 + 3 + 1 = 4094 pages, and 4,111 want four more. A table has
+// 4096 pages where no number is asked for.
+static LONG: [Long; 3] = [
+    (
+        4110,
+        "",
+        "--fanout=4",
+        "\ninserted\n0 ",
+        "inserted 4110 removed 0 pairs 4110\naudit yes\n",
+    ),
+    (
+        4110,
+        "0,put,4111,4111",
+        "--fanout=4",
+        "\ninserted\ninserted (table full)\n0 ",
+        "inserted 4111 removed 0 pairs 4111\naudit yes\n",
+    ),
+    (
+        20_000,
+        "0,clr,0,",
+        "--fanout=16",
+        "\ninserted\ncleared 20000\n0 ",
+        "inserted 20000 removed 20000 pairs 0\naudit yes\n",
+    ),
+];
+
 #[test]
-fn a_table_has_4096_pages_where_no_number_is_asked_for(rt: HostRuntime) -> Result<(), Fail> {
-    let mut trace = String::new(rt.alloc());
-    let mut replies = String::new(rt.alloc());
-    for key in 1..=4110u32 {
-        writeln!(trace, "0,put,{key},{key}")?;
-        writeln!(replies, "inserted")?;
+fn long_traces_end_as_worked_out(rt: HostRuntime) -> Result<(), Fail> {
+    for (keys, more, word, reply, end) in LONG.iter() {
+        let trace = rising(rt.alloc(), *keys, more)?;
+        let output = printed(&rt, &["run", "--replies", word], trace.as_str())?;
+        let output = output.as_str();
+        assert!(rt; output.contains(reply) && output.ends_with(end), "{more}");
+        assert!(rt; !output.contains("full)\ninserted"), "{more}");
     }
-    writeln!(trace, "0,put,4111,4111")?;
-    writeln!(replies, "inserted (table full)")?;
-    let output = printed(&rt, &["run", "--fanout=4", "--replies"], trace.as_str())?;
-    assert!(rt; output.as_str().starts_with(replies.as_str()));
     Ok(())
 }
 
 #[test]
-fn twenty_thousand_keys_are_removed_by_one_row(rt: HostRuntime) -> Result<(), Fail> {
-    let mut trace = String::new(rt.alloc());
-    for key in 1..=20_000u32 {
-        writeln!(trace, "0,put,{key},{key}")?;
+fn each_of_a_hundred_drawn_traces_ends_with_a_legal_history(rt: HostRuntime) -> Result<(), Fail> {
+    let alloc = rt.alloc();
+    for seed in 0..100u32 {
+        let seed = format!(in alloc; "--seed={seed}")?;
+        let words = ["make", seed.as_str(), "--rows=1000", "--workers=4"];
+        let trace = printed(&rt, &words, "")?;
+        for readers in ["--readers=0", "--readers=4"] {
+            let words = ["run", "--workers=4", "--fanout=4", "--chain=2", readers];
+            let output = printed(&rt, &words, trace.as_str())?;
+            assert!(rt; output.as_str().ends_with("audit yes\n"));
+        }
     }
-    writeln!(trace, "0,clr,0,")?;
-    let output = printed(&rt, &["run", "--replies"], trace.as_str())?;
-    let end = "inserted 20000 removed 20000 pairs 0\naudit yes\n";
-    assert!(rt; output.as_str().contains("\ncleared 20000\n0 "));
-    assert!(rt; output.as_str().ends_with(end));
     Ok(())
 }
 
+/// What two or four workers do with a hundred keys.
+#[derive(Clone, Copy, Debug)]
+enum Meeting {
+    /// Each puts keys of its own.
+    Puts,
+    /// One puts them, and another one removes all again and again.
+    Clears,
+    /// They set the same sixteen keys.
+    Sets,
+}
+
+fn meeting_trace(alloc: Global, meeting: Meeting) -> Result<String, Fail> {
+    let mut trace = String::new(alloc);
+    for key in 1..=100u32 {
+        let (other, same) = (100 + key, key % 16);
+        match meeting {
+            Meeting::Puts => writeln!(trace, "0,put,{key},1\n1,put,{other},1")?,
+            Meeting::Clears if key % 10 == 0 => writeln!(trace, "0,put,{key},1\n1,clr,0,")?,
+            Meeting::Clears => writeln!(trace, "0,put,{key},1")?,
+            Meeting::Sets => writeln!(trace, "0,set,{same},{key}\n1,set,{same},{other}")?,
+        }
+        if key % 10 == 0 {
+            writeln!(trace, "0,get,{same},\n1,get,{other},")?;
+        }
+    }
+    Ok(trace)
+}
+
+/// Runs the trace by two workers, and has its history checked.
+fn met<R: Abort + AllocGlobal + Threads + Wait + Sync + Send + Copy>(
+    rt: &R,
+    trace: &str,
+    readers: &str,
+) -> Result<String, Fail> {
+    let words = ["run", "--workers=2", "--history", readers];
+    let history = printed(rt, &words, trace)?;
+    let verdict = printed(rt, &["check"], history.as_str())?;
+    assert!(rt; verdict.as_str() == "audit yes\n");
+    printed(
+        rt,
+        &["run", "--workers=2", "--fanout=4", "--chain=4", readers],
+        trace,
+    )
+}
+
+/// The end of the output, whoever comes first. How much is removed is left open.
+static MEETINGS: [(Meeting, &str, &str); 3] = [
+    (
+        Meeting::Puts,
+        "\ninserted 200 removed 0 ",
+        " pairs 200\naudit yes\n",
+    ),
+    (Meeting::Clears, "\ninserted 100 removed ", "\naudit yes\n"),
+    (
+        Meeting::Sets,
+        "\ninserted 16 removed 0 ",
+        " pairs 16\naudit yes\n",
+    ),
+];
+
 #[test]
-fn the_help_of_run_tells_the_usual_values(rt: HostRuntime) -> Result<(), Fail> {
-    let help = printed(&rt, &["run", "--help"], "")?;
-    for (option, usual) in [
-        ("--fanout ", "[default: 16]"),
-        ("--chain ", "[default: 8]"),
-        ("--pages ", "[default: 4096]"),
-        ("--tries ", "[default: 1000]"),
-        ("--workers ", "[default: 1]"),
-        ("--readers ", "[default: 0]"),
-    ] {
-        let line = help
-            .as_str()
-            .lines()
-            .find(|line| line.trim_start().starts_with(option));
-        assert!(rt;
-            line.is_some_and(|line| line.ends_with(usual)),
-            "at {option}"
-        );
+fn workers_that_meet_leave_a_legal_history(rt: HostRuntime) -> Result<(), Fail> {
+    for (meeting, counts, end) in MEETINGS.iter() {
+        let trace = meeting_trace(rt.alloc(), *meeting)?;
+        for round in 0..60u32 {
+            let readers = match round % 3 {
+                0 => "--readers=0",
+                1 => "--readers=1",
+                _ => "--readers=2",
+            };
+            let output = met(&rt, trace.as_str(), readers)?;
+            let output = output.as_str();
+            assert!(rt;
+                output.contains(counts) && output.ends_with(end),
+                "{meeting:?}"
+            );
+        }
     }
     Ok(())
 }
