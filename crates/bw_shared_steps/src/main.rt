@@ -23,25 +23,31 @@ use anyhow::{Context, Result};
 use bw_lines::{first_difference, line_at};
 use std::fs;
 use std::process::ExitCode;
+use std::sync::Wait;
 
 /// The files of scripts.
 const NAMES: [&str; 2] = ["makings", "readers"];
 
+/// Plays a script, and tells whether all was answered as it is to be.
+fn try_script<R: Wait + Print + AllocGlobal + Copy>(rt: &R, script: &str) -> Result<bool> {
+    let title = line_at(script, 1).unwrap_or("");
+    let played = play_script(*rt, rt.alloc(), script)?;
+    let Some(line) = first_difference(played.trim_end(), script) else {
+        println!(rt; "{title}: as foretold")?;
+        return Ok(true);
+    };
+    let answered = line_at(&played, line).unwrap_or("");
+    println!(rt; "{title}: line {line} is '{answered}'")?;
+    Ok(false)
+}
+
 fn main(rt: HostRuntime) -> Result<ExitCode> {
-    let alloc = rt.alloc();
     let mut status = ExitCode::SUCCESS;
     for name in NAMES {
         let text = fs::read_to_string(&rt, name).context(name)?;
         for script in text.trim_end().split("\n\n") {
-            let title = line_at(script, 1).unwrap_or("");
-            let played = play_script(rt, alloc, script)?;
-            match first_difference(played.trim_end(), script) {
-                None => println!(rt; "{title}: as foretold")?,
-                Some(line) => {
-                    let played = line_at(&played, line).unwrap_or("");
-                    println!(rt; "{title}: line {line} is '{played}'")?;
-                    status = ExitCode::FAILURE;
-                }
+            if !try_script(&rt, script)? {
+                status = ExitCode::FAILURE;
             }
         }
     }

@@ -18,13 +18,13 @@ use std::sync::ledger::Ledger;
 use std::test::Fail;
 use std::thread;
 
-const RUNS: u64 = 40;
+const RUNS: u64 = 20;
 
 /// How often the reader looks in each run.
 const LOOKS: u64 = 5_000;
 
 /// How many acts a worker does at most, where the reader takes longer.
-const MOST_ACTS: u64 = 10_000;
+const MOST_ACTS: u64 = 2_000;
 
 /// How often the reader turns at most until the workers have ended.
 const MOST_TURNS: u64 = 1_000_000_000;
