@@ -165,14 +165,15 @@ fn tell<N: Naming>(
     Ok(())
 }
 
-/// Plays the lines behind the one that makes the tree.
+/// Plays the lines behind the one that makes the tree, owned here: ledgers aren't named at a call with a
+/// `&str`.
 fn play_over<R: Wait + Copy, N: Naming, D: Ledger>(
     rt: R,
     machine: Global,
     making: Making,
     blanks: Blanks,
     book: BlankBook,
-    lines: &str,
+    lines: &String,
     played: &mut String,
 ) -> Result<()>
     requires insertions { Opens N.name N.parts blanks.insertions }
@@ -196,6 +197,7 @@ fn play_over<R: Wait + Copy, N: Naming, D: Ledger>(
         shares.len(),
         readers.len()
     )?;
+    let lines = lines.as_str();
     let (acts, end) = match lines.split_once("\nabandon\n") {
         Some((acts, _)) => (acts, "abandon"),
         None => (
@@ -219,10 +221,11 @@ pub(crate) fn play_script<R: Wait + Copy>(rt: R, machine: Global, script: &str) 
         .split_once('\n')
         .context("a script is a title alone")?;
     let (tree, lines) = rest.split_once('\n').unwrap_or((rest, ""));
+    let lines = lines.to_string(machine)?;
     let mut played = format!(in machine; "{title}\n{tree}\n")?;
     let making = making_of(machine, tree)?;
     let blanks = Blanks::new(making.workers);
     let book = BlankBook::new();
-    play_over::<R, Brand, Brand>(rt, machine, making, blanks, book, lines, &mut played)?;
+    play_over::<R, Brand, Brand>(rt, machine, making, blanks, book, &lines, &mut played)?;
     Ok(played)
 }
