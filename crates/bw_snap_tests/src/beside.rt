@@ -1,10 +1,16 @@
-//! Readers beside a writer that publishes all the time.
+//! A reader that looks all the time, beside two workers that change the map and publish.
 
-use crate::crew::{Crew, Left, work_on_new_tree};
+use crate::crew::{Crew, work_on_new_tree};
+use crate::seen::Seen;
+use bw_audit::Verdict;
+use bw_keys::Fence;
 use bw_snap::{Naming, ReadTree, Reader};
-use bw_test_kit::{LARGE, Meeting, Worked};
+use bw_step::{Book, Receipt};
+use bw_test_kit::{LARGE, Meeting, Told, Worked};
 use bw_tree::Share;
-use bw_work::{Hand, Open};
+use bw_work::{Act, Fault, Hand, Open, do_act};
+use rand_core::{Rng, SeedableRng};
+use rand_pcg::Pcg32;
 use std::alloc::Global;
 use std::sync::Wait;
 use std::sync::atomic::{AtomicU64, Ordering};
@@ -12,109 +18,148 @@ use std::sync::ledger::Ledger;
 use std::test::Fail;
 use std::thread;
 
-/// How often each of the two readers reads.
-const READS: u64 = 500_000;
+const RUNS: u64 = 20;
 
-/// How many keys there are, each with itself as value while it is there.
+/// How often the reader looks in each run.
+const LOOKS: u64 = 5_000;
+
+/// How many acts a worker does at most, where the reader takes longer.
+const MOST_ACTS: u64 = 2_000;
+
+/// How often the reader turns at most until the workers have ended.
+const MOST_TURNS: u64 = 1_000_000_000;
+
 const KEYS: u64 = 16;
 
-/// How many changes the writer makes at most.
-const MOST_CHANGES: u64 = 10_000_000;
+/// How many looks the reader has between two of its turns.
+const TURN: u64 = 256;
 
-/// How many calls had an answer as it is to be, and how many had none, or another one.
-#[derive(Clone, Copy, Debug, Default, PartialEq, Eq)]
-struct Count {
-    right: u64,
-    wrong: u64,
-}
-
-impl Count {
-    fn add(&mut self, is_right: bool) {
-        if is_right {
-            self.right = self.right.saturating_add(1);
-        } else {
-            self.wrong = self.wrong.saturating_add(1);
-        }
-    }
-}
-
-/// Writer 0 puts and deletes all keys in turn, and publishes each change, until both readers have ended.
-/// Writer 1 writes nothing.
+/// The workers draw acts, and publish after one in four, until the reader has looked often enough, which
+/// begins behind the first publication. When they have ended it looks once more.
 #[derive(Drop)]
 struct Beside {
     machine: Global,
-    /// Where the readers wait for the writer's first publication.
+    run: u64,
+    /// Where the reader waits for the first publication.
     begun: Meeting,
-    /// How many readers have ended.
-    ended: AtomicU64,
+    /// How many readers have looked often enough.
+    read: AtomicU64,
+    /// How many workers have ended.
+    written: AtomicU64,
 }
 
-impl Crew<Count, Count> for Beside {
+fn drawn_act(rng: &mut Pcg32) -> Act {
+    let key = rng.next_u64() % KEYS;
+    let value = rng.next_u64();
+    match rng.next_u32() % 10 {
+        0..=2 => Act::Put { key, value },
+        3..=5 => Act::Set { key, value },
+        6..=8 => Act::Delete { key },
+        _ => Act::Clear {
+            low: key,
+            high: Fence::Key(key.saturating_add(4)),
+        },
+    }
+}
+
+impl Crew for Beside {
     fn write<R: Wait + Copy, N: Naming, D: Ledger>(
         &self,
         tree: &ReadTree<R, N, D>,
         worker: u32,
         share: Share<N, D>,
-    ) -> Worked<N, D, Count> {
+    ) -> Worked<N, D, Told> {
         let machine = self.machine;
+        let mut rng = Pcg32::seed_from_u64(
+            self.run.wrapping_mul(2).wrapping_add(u64::from(worker)),
+        );
         let mut hand = Hand::new(machine, machine, tree, share, worker, &Open);
-        let mut count = Count::default();
-        let most = if worker == 0 { MOST_CHANGES } else { 0 };
-        for change in 0..most {
-            if self.ended.load(Ordering::SeqCst) == 2 {
+        let mut fault = None;
+        for act in 0..MOST_ACTS {
+            if self.read.load(Ordering::SeqCst) == 1 {
                 break;
             }
-            let key = change % KEYS;
-            let is_made = if (change / KEYS).is_multiple_of(2) {
-                hand.put(key, key).is_ok()
-            } else {
-                hand.delete(key).is_ok()
-            };
-            count.add(is_made && tree.publish().is_ok());
-            self.begun.arrive(0);
+            fault = fault.or(do_act(&mut hand, machine, drawn_act(&mut rng)).err());
+            if act % 4 == 0 && tree.publish().is_err() {
+                fault = Some(Fault::NoMemory);
+            }
+            self.begun.arrive(worker);
             thread::yield_now();
         }
-        let (share, _trail) = hand.finish();
-        Worked { share, told: count }
+        if tree.publish().is_err() {
+            fault = Some(Fault::NoMemory);
+        }
+        self.written.fetch_add(1, Ordering::SeqCst);
+        let (share, trail) = hand.finish();
+        Worked {
+            share,
+            told: Told {
+                replies: Vec::new(machine),
+                trail,
+                fault,
+            },
+        }
     }
 
-    /// Each look is answered, sees no fewer changes than the one before, and finds the key itself or
-    /// nothing.
-    fn read<N: Naming>(&self, reader: Reader<N>, _number: u32) -> Count {
+    fn read<N: Naming>(&self, reader: Reader<N>) -> Seen {
         let mut reader = reader;
-        let mut count = Count::default();
-        let mut seen = 0;
+        let mut seen = Seen::nothing(self.machine);
         self.begun.wait_for(0);
-        for read in 0..READS {
-            let key = read % KEYS;
-            match reader.look(key) {
-                Ok(look) => {
-                    let is_own = look.found.is_none() || look.found == Some(key);
-                    count.add(is_own && seen <= look.at);
-                    seen = look.at;
-                }
-                Err(_) => count.add(false),
+        for look in 0..LOOKS {
+            seen.look(&mut reader, look % KEYS);
+            if look % TURN == 0 {
+                thread::yield_now();
             }
         }
-        self.ended.fetch_add(1, Ordering::SeqCst);
-        count
+        self.read.store(1, Ordering::SeqCst);
+        for _ in 0..MOST_TURNS {
+            if self.written.load(Ordering::SeqCst) == 2 {
+                break;
+            }
+            thread::yield_now();
+        }
+        seen.look(&mut reader, 0);
+        seen
+    }
+}
+
+/// How many changes a look saw.
+fn changes_in(look: Option<&Receipt>) -> u64 {
+    match look {
+        Some(Receipt::Looked { at, .. }) => *at,
+        _ => 0,
     }
 }
 
 #[test]
-fn each_of_a_million_reads_beside_a_writer_is_answered(rt: HostRuntime) -> Result<(), Fail> {
+fn looks_beside_writers_are_answered_and_explained(rt: HostRuntime) -> Result<(), Fail> {
     let machine = rt.alloc();
-    let crew = Beside {
-        machine,
-        begun: Meeting::new(),
-        ended: AtomicU64::new(0),
-    };
-    let Left { written, read, .. } = work_on_new_tree(rt, machine, LARGE, 2, &crew)?;
-    let all = Count {
-        right: READS,
-        wrong: 0,
-    };
-    assert_eq!(rt; read.as_slice(), &[all, all][..]);
-    assert!(rt; written.0.right > 1 && written.0.wrong == 0, "{written:?}");
+    let mut were_between = false;
+    for run in 0..RUNS {
+        let crew = Beside {
+            machine,
+            run,
+            begun: Meeting::new(),
+            read: AtomicU64::new(0),
+            written: AtomicU64::new(0),
+        };
+        let left = work_on_new_tree(rt, machine, LARGE, &crew)?;
+        let Book {
+            inserted,
+            removed,
+            modified,
+        } = left.table.survey(machine)?.book;
+        let all = inserted.saturating_add(removed).saturating_add(modified);
+        let looks = &left.seen.trail;
+        let middle = changes_in(looks.get(looks.len() / 2));
+        were_between = were_between || (0 < middle && middle < all);
+        assert_eq!(rt;
+            (left.zero.fault, left.one.fault, left.seen.unanswered),
+            (None, None, 0)
+        );
+        assert_eq!(rt; changes_in(looks.last()), all, "run {run}");
+        assert_eq!(rt; left.verdict(machine)?, Verdict::Yes, "run {run}");
+    }
+    assert!(rt; were_between);
     Ok(())
 }

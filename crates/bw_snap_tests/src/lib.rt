@@ -1,5 +1,5 @@
-//! Tests of readers without the lock: scripts of a worker and a reader, readers beside writers, and the
-//! faults of a tree's maker.
+//! Tests of a reader in a thread of its own, beside two workers: what a reader sees while one of them
+//! is held, and while both write and publish all the time.
 #![tactic(auto)]
 
 #[cfg(test)]
@@ -7,18 +7,6 @@ mod beside;
 #[cfg(test)]
 mod crew;
 #[cfg(test)]
-mod explained;
-#[cfg(test)]
-mod faults;
-#[cfg(test)]
-mod handed_out;
-#[cfg(test)]
-mod rows;
-#[cfg(test)]
-mod scripts;
+mod seen;
 #[cfg(test)]
 mod two_workers;
-#[cfg(test)]
-mod verdicts;
-#[cfg(test)]
-mod watched;

@@ -1,21 +1,23 @@
-//! A worker that helps another one on a tree with readers.
+//! A worker that is held in the middle of a change of shape, while another one does its task and
+//! publishes, and a reader sees what was published.
 
-use crate::crew::{Crew, Left, work_on_new_tree};
-use crate::verdicts::verdict_on;
+use crate::crew::{Crew, work_on_new_tree};
+use crate::seen::{Left, Seen};
 use bw_audit::Verdict;
 use bw_keys::{Fence, Key};
 use bw_snap::{Naming, ReadTree, Reader};
-use bw_step::{Kind, Look, Receipt};
+use bw_step::{Kind, Receipt};
 use bw_test_kit::{
     BESIDE_CALLS, Call, HELD_CALLS, HOLDS, HeldAfter, Reply, SMALL, Task, Told, Worked,
-    are_both_done, are_own_pairs, leaves_of, receipt,
+    are_both_done, are_own_pairs, leaves_of, receipt, work_by_hand,
 };
 use bw_tree::Share;
-use bw_work::Put;
+use bw_work::{Fault, Put};
 use std::alloc::Global;
 use std::sync::Wait;
 use std::sync::ledger::Ledger;
 use std::test::Fail;
+use std::thread::Threads;
 
 /// Each worker does a task, worker 1 while worker 0 is held.
 #[derive(Drop)]
@@ -24,9 +26,12 @@ struct Both {
     held: HeldAfter,
     zero: Task<'static>,
     one: Task<'static>,
+    /// The key that worker 1 puts last.
+    last: Key,
 }
 
-impl Crew<Told, bool> for Both {
+impl Crew for Both {
+    /// Worker 1 publishes before worker 0 goes on.
     fn write<R: Wait + Copy, N: Naming, D: Ledger>(
         &self,
         tree: &ReadTree<R, N, D>,
@@ -34,14 +39,37 @@ impl Crew<Told, bool> for Both {
         share: Share<N, D>,
     ) -> Worked<N, D, Told> {
         let task = if worker == 0 { self.zero } else { self.one };
-        self.held.work(self.machine, tree, share, worker, task)
+        self.held.begin(worker);
+        let mut worked = work_by_hand(self.machine, tree, share, (worker, &self.held), task);
+        if worker == 1 && tree.publish().is_err() {
+            worked.told.fault = Some(Fault::NoMemory);
+        }
+        self.held.end(worker);
+        worked
     }
 
-    /// As nothing is published, no reader sees a change.
-    fn read<N: Naming>(&self, reader: Reader<N>, _number: u32) -> bool {
+    fn read<N: Naming>(&self, reader: Reader<N>) -> Seen {
         let mut reader = reader;
+        let mut seen = Seen::nothing(self.machine);
         self.held.wait_for_end();
-        reader.look(6) == Ok(Look { found: None, at: 0 })
+        seen.look(&mut reader, self.last);
+        seen
+    }
+}
+
+/// What is left of both, where the reader saw so many changes, the last of worker 1 among them, and
+/// none that worker 0 made later.
+fn hold<R: Threads + Wait + Sync + Send + Copy>(
+    rt: R,
+    crew: &Both,
+    changes: u64,
+) -> Result<Left, Fail> {
+    let left = work_on_new_tree(rt, crew.machine, SMALL, crew)?;
+    let looked = receipt!(looked changes, crew.last, Some(crew.last));
+    if crew.held.came_about() && left.seen.trail.as_slice() == &[looked][..] {
+        Ok(left)
+    } else {
+        Err("the workers didn't meet, or the reader saw something else".into())
     }
 }
 
@@ -63,16 +91,17 @@ fn a_worker_helps_the_split_of_one_that_is_held(rt: HostRuntime) -> Result<(), F
         held: HeldAfter::new(Kind::Split),
         zero: Task::puts(1, 5),
         one: Task::calls(&ASKED),
+        last: 6,
     };
     let Left {
         table,
-        written: (zero, one),
-        read,
-    } = work_on_new_tree(rt, machine, SMALL, 2, &crew)?;
-    assert!(rt; crew.held.came_about() && zero.is_plain(), "{zero:?}");
+        zero,
+        one,
+        ..
+    } = hold(rt, &crew, 6)?;
+    assert!(rt; zero.is_plain(), "{zero:?}");
     assert_eq!(rt; one.replies.as_slice(), REPLIED.as_slice());
     assert_eq!(rt; one.trail.as_slice(), HELPED.as_slice());
-    assert_eq!(rt; read.as_slice(), &[true, true][..]);
     assert_eq!(rt; leaves_of(machine, &table)?.as_slice(), LEAVES.as_slice());
     assert!(rt; are_own_pairs(&table.pairs(machine)?, 6));
     Ok(())
@@ -87,20 +116,15 @@ fn a_worker_does_all_while_another_is_held_after_any_step(rt: HostRuntime) -> Re
             held: HeldAfter::new(kind),
             zero: Task::calls(&HELD_CALLS),
             one: Task::calls(&BESIDE_CALLS),
+            last: 105,
         };
-        let Left {
-            table,
-            written: (zero, one),
-            read,
-        } = work_on_new_tree(rt, machine, SMALL, 1, &crew)?;
-        assert!(rt; crew.held.came_about(), "{kind:?}");
-        assert_eq!(rt; read.as_slice(), &[true][..], "{kind:?}");
+        let left = hold(rt, &crew, before.saturating_add(5))?;
+        let both = (&left.zero, &left.one);
         assert!(rt;
-            are_both_done(machine, &table, before, (&zero, &one))?,
-            "{kind:?}: {zero:?} {one:?}"
+            are_both_done(machine, &left.table, before, both)?,
+            "{kind:?}: {both:?}"
         );
-        let verdict = verdict_on(machine, &table, &[zero.trail, one.trail])?;
-        assert_eq!(rt; verdict, Verdict::Yes, "{kind:?}");
+        assert_eq!(rt; left.verdict(machine)?, Verdict::Yes, "{kind:?}");
     }
     Ok(())
 }

@@ -1,11 +1,7 @@
-//! Tests of what stands on the mapping table: its book and the workers' shares, steps that several
-//! threads propose to a shared tree, and histories that are judged.
+//! Tests of what stands on the mapping table: steps that two threads propose to a shared tree, a tree
+//! whose share is lost, and histories and runs that were judged by hand.
 #![tactic(auto)]
 
-#[cfg(test)]
-mod booked;
-#[cfg(test)]
-mod drawn_histories;
 #[cfg(test)]
 mod drawn_steps;
 #[cfg(test)]

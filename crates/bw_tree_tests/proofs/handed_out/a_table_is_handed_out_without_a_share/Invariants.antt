@@ -1,14 +1,5 @@
 use Rattle.bw_tree_tests.proofs.handed_out.a_table_is_handed_out_without_a_share.Given as goal
 
-abbrev pub ghosts-of_booked-I-Ledger : goal.ghosts-of_booked-I-Ledger
-ghosts-of_booked-I-Ledger g a = record { name = a.blanks.insertions.name; parts = a.blanks.insertions.parts }
-
-abbrev pub ghosts-of_booked-D-Ledger : goal.ghosts-of_booked-D-Ledger
-ghosts-of_booked-D-Ledger g a = record { name = a.blanks.removals.name; parts = a.blanks.removals.parts }
-
-abbrev pub ghosts-of_booked-I-MadeBy : goal.ghosts-of_booked-I-MadeBy
-ghosts-of_booked-I-MadeBy g a = record { config = a.config }
-
 abbrev pub ghosts-of_tree-I-Ledger : goal.ghosts-of_tree-I-Ledger
 ghosts-of_tree-I-Ledger g a = record { name = a.blanks.insertions.name; parts = a.blanks.insertions.parts }
 
