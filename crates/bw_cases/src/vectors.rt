@@ -71,14 +71,15 @@ fn run<R: Threads + Wait + Sync + Send + Copy>(
     way: Way,
 ) -> Result<String> {
     match way {
-        Way::Alone => run_alone(alloc, vector.config()?, &vector.trace),
+        Way::Alone => run_alone(alloc, vector.config()?, vector.trace.as_bytes()),
         Way::Hand => {
+            let config = vector.config()?;
             run_by_hand::<Brand, Brand, _>(
                 rt,
                 alloc,
-                vector.config()?,
+                config,
                 Blanks::new(1),
-                &vector.trace,
+                vector.trace.as_bytes(),
             )
         }
         Way::Program(readers) => {

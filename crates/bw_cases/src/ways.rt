@@ -21,9 +21,9 @@ use std::sync::ledger::Ledger;
 fn work<S: Steps<Global, Step<Global>>>(
     alloc: Global,
     steps: &mut S,
-    trace: &str,
+    trace: &[u8],
 ) -> Result<String> {
-    let rows = read_trace(alloc, trace.as_bytes(), 1)?;
+    let rows = read_trace(alloc, trace, 1)?;
     let mut lines = String::new(alloc);
     for row in rows.iter() {
         let reply = do_act(steps, alloc, row.act)?;
@@ -48,7 +48,7 @@ fn ending(
     joined(alloc, replies, &String::from_utf8(history)?)
 }
 
-pub(crate) fn run_alone(alloc: Global, config: Config, trace: &str) -> Result<String> {
+pub(crate) fn run_alone(alloc: Global, config: Config, trace: &[u8]) -> Result<String> {
     let mut table = Table::new(alloc, alloc, config)?;
     let mut alone = Alone::new(alloc, alloc, &mut table);
     let replies = work(alloc, &mut alone, trace)?;
@@ -61,7 +61,7 @@ pub(crate) fn run_by_hand<I: MadeBy, D: Ledger, R: Wait + Drop>(
     alloc: Global,
     config: Config,
     blanks: Blanks,
-    trace: &str,
+    trace: &[u8],
 ) -> Result<String>
     requires insertions { Opens I.name I.parts blanks.insertions }
     requires removals { Opens D.name D.parts blanks.removals }
