@@ -51,11 +51,20 @@ pub(crate) struct Left {
 impl Left {
     /// What an audit says of the workers with what the reader saw.
     pub(crate) fn verdict(self, machine: Global) -> Result<Verdict, Fail> {
-        let pairs = self.table.pairs(machine)?;
+        let Left {
+            table,
+            zero,
+            one,
+            seen,
+        } = self;
+        let pairs = table.pairs(machine)?;
         if !is_ascending(&pairs) {
             return Err("the keys of the pairs don't rise".into());
         }
-        let trails = [self.zero.trail, self.one.trail, self.seen.trail];
+        let Told { trail: zero, .. } = zero;
+        let Told { trail: one, .. } = one;
+        let Seen { trail: seen, .. } = seen;
+        let trails = [zero, one, seen];
         Ok(audit(machine, &trails, &pairs)?)
     }
 }
