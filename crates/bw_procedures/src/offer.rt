@@ -11,7 +11,7 @@ use bw_step::{Denied, Receipt, Refused, Step};
 use std::alloc::Allocator;
 
 /// What a proposal came to.
-#[derive(Clone, Copy, Debug, PartialEq, Eq)]
+#[derive(Clone, Copy)]
 pub(crate) enum Answer {
     Accepted(Receipt),
     Refused(Refused),

@@ -17,21 +17,21 @@ use std::alloc::Allocator;
 
 /// The page that the last change of rounds led to. The next one leads up from it, or to a smaller key
 /// on its level.
-#[derive(Clone, Copy, Debug, PartialEq, Eq)]
+#[derive(Clone, Copy)]
 pub(crate) struct Rung {
     pub level: u8,
     pub low: Key,
 }
 
 /// A round that is to be done.
-#[derive(Clone, Copy, Debug, PartialEq, Eq)]
+#[derive(Clone, Copy)]
 pub(crate) struct Task {
     pub todo: Todo,
     pub rung: Rung,
 }
 
 /// What a round came to.
-#[derive(Clone, Copy, Debug, PartialEq, Eq)]
+#[derive(Clone, Copy)]
 pub(crate) enum Turn {
     /// A step was proposed, or effort spent instead.
     Over,

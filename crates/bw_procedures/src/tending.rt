@@ -243,7 +243,7 @@ fn after_mark<A: Allocator + Copy, S: Steps<A, Step<A>>>(
 }
 
 /// What tending has begun.
-#[derive(Clone, Copy, Debug, PartialEq, Eq)]
+#[derive(Clone, Copy)]
 enum Pending {
     /// The page was split off, and isn't named by its parent yet.
     Post(Pid),

@@ -22,7 +22,7 @@ use bw_step::{Go, Look, Place, Refused, Step, Todo, View};
 use std::alloc::Allocator;
 
 /// Where a writer's walk came to.
-#[derive(Clone, Copy, Debug, PartialEq, Eq)]
+#[derive(Clone, Copy)]
 enum Arrival {
     /// A place was gone.
     Gone,
@@ -33,7 +33,7 @@ enum Arrival {
 }
 
 /// What one attempt of a call came to.
-#[derive(Clone, Copy, Debug, PartialEq, Eq)]
+#[derive(Clone, Copy)]
 enum Tried<T> {
     /// The reply, from a look.
     Reply(T),

@@ -6,7 +6,7 @@ use bw_delta::NoMemory;
 use bw_work::Fault;
 
 /// Why a worker gave a row up.
-#[derive(Clone, Copy, Debug, PartialEq, Eq)]
+#[derive(Clone, Copy)]
 pub(crate) enum Stop<C> {
     /// Its call ended with this fault.
     Fault(Fault),

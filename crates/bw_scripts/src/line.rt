@@ -26,7 +26,7 @@ pub(crate) enum Line {
 }
 
 /// What is asked of the table as it is.
-#[derive(Clone, Copy, Debug, PartialEq, Eq)]
+#[derive(Clone, Copy)]
 pub(crate) enum Question {
     Peek(Pid),
     Look(Pid, Key),
@@ -38,7 +38,7 @@ pub(crate) enum Question {
 }
 
 /// Why a line can't be read.
-#[derive(Clone, Copy, Debug, PartialEq, Eq)]
+#[derive(Clone, Copy)]
 pub(crate) enum Unread {
     Words,
     /// The entries of a step's base page make no page.

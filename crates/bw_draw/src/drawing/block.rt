@@ -14,7 +14,7 @@ pub(crate) const INSET: Length = Length(6);
 pub(crate) const GAP: Length = Length(4);
 
 /// What a box is for.
-#[derive(Clone, Copy, Debug, PartialEq, Eq)]
+#[derive(Clone, Copy)]
 pub(crate) enum Kind {
     /// A base page.
     Base,

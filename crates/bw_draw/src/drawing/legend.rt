@@ -19,7 +19,7 @@ const APART: Length = Length(22);
 pub(crate) const ITEM_LINE: Length = Length(21);
 
 /// A mark of a drawing.
-#[derive(Clone, Copy, Debug, PartialEq, Eq)]
+#[derive(Clone, Copy)]
 pub(crate) enum Mark {
     /// A box of the class.
     Box(&'static str),
@@ -30,7 +30,7 @@ pub(crate) enum Mark {
 }
 
 /// A mark, and what it means.
-#[derive(Clone, Copy, Debug)]
+#[derive(Clone, Copy)]
 pub(crate) struct Item {
     pub(crate) mark: Mark,
     pub(crate) text: &'static str,
@@ -51,7 +51,7 @@ pub(crate) struct Legend {
 }
 
 /// Which marks a drawing has.
-#[derive(Clone, Copy, Debug)]
+#[derive(Clone, Copy)]
 struct Marks {
     change: bool,
     shape: bool,

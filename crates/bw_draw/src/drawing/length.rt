@@ -2,7 +2,7 @@ use std::fmt;
 use std::ops::{Add, Mul, Sub};
 
 /// A length or a place of a drawing, in pixels. It never wraps: at its ends it stays.
-#[derive(Clone, Copy, Debug, PartialEq, Eq, PartialOrd, Ord)]
+#[derive(Clone, Copy, PartialEq, Eq, PartialOrd, Ord)]
 pub(crate) struct Length(pub(crate) usize);
 
 impl Length {

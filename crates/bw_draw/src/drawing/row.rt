@@ -32,7 +32,7 @@ pub(crate) struct Row {
 }
 
 /// The pages of a level that are drawn.
-#[derive(Clone, Copy, Debug)]
+#[derive(Clone, Copy)]
 pub(crate) enum Window {
     /// All of them.
     Whole,
@@ -43,7 +43,7 @@ pub(crate) enum Window {
 }
 
 /// Where a page of a row stands, for the row above.
-#[derive(Clone, Copy, Debug)]
+#[derive(Clone, Copy)]
 pub(crate) struct Span {
     low: Key,
     left: Length,

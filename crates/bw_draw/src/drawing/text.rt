@@ -9,7 +9,7 @@ const LONGEST: u64 = 999_999_999;
 
 /// A number. A long one has its first three digits and its last three, and between them how many are
 /// left out, as 184‹14›615.
-#[derive(Clone, Copy, Debug)]
+#[derive(Clone, Copy)]
 pub(crate) struct Short(pub(crate) u64);
 
 impl fmt::Display for Short {
@@ -36,7 +36,7 @@ pub(crate) fn is_cut(text: &str) -> bool {
 }
 
 /// What a record does to the page.
-#[derive(Clone, Copy, Debug)]
+#[derive(Clone, Copy)]
 pub(crate) struct Told(pub(crate) Delta);
 
 impl fmt::Display for Told {
@@ -54,7 +54,7 @@ impl fmt::Display for Told {
 }
 
 /// What a merge does.
-#[derive(Clone, Copy, Debug)]
+#[derive(Clone, Copy)]
 pub(crate) struct Joined(pub(crate) Merging);
 
 impl fmt::Display for Joined {

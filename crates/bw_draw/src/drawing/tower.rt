@@ -23,7 +23,7 @@ pub(crate) struct Tower {
 }
 
 /// Where the next box goes, and which records are drawn.
-#[derive(Clone, Copy, Debug)]
+#[derive(Clone, Copy)]
 struct Spot {
     column: usize,
     top: Length,
@@ -36,7 +36,7 @@ struct Spot {
 }
 
 /// The columns that a part of a chain takes, and where it ends.
-#[derive(Clone, Copy, Debug)]
+#[derive(Clone, Copy)]
 struct Extent {
     columns: usize,
     bottom: Length,

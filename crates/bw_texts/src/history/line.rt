@@ -13,7 +13,7 @@ use bw_step::Receipt;
 use csv::ByteRecord;
 
 /// A row of a history.
-#[derive(Clone, Copy, Debug, PartialEq, Eq)]
+#[derive(Clone, Copy)]
 pub(crate) enum Line {
     /// What a worker was answered.
     Reply { worker: u32, receipt: Receipt },
@@ -118,7 +118,7 @@ fn read_pair(
     Ok(Line::Pair { key, value })
 }
 
-#[derive(Clone, Copy, Debug, PartialEq, Eq)]
+#[derive(Clone, Copy)]
 enum Form {
     Inserted,
     Deleted,

@@ -11,7 +11,7 @@ use clap::{ArgMatches, Command};
 use std::alloc::{AllocError, Global};
 
 /// How a trace is to be run, and what is to be printed of it.
-#[derive(Clone, Copy, Debug, PartialEq, Eq)]
+#[derive(Clone, Copy)]
 pub(crate) struct RunOptions {
     pub setting: Setting,
     /// Whether the replies are printed, before the leaves.

@@ -11,7 +11,7 @@ use clap::{Arg, ArgMatches, Command};
 use std::alloc::{AllocError, Global};
 
 /// How the table comes about that is to be shown.
-#[derive(Clone, Copy, Debug, PartialEq, Eq)]
+#[derive(Clone, Copy)]
 pub(crate) struct ShowOptions {
     pub setting: Setting,
     /// Whether a script of steps is read in place of a trace. It has the table's configuration itself.
