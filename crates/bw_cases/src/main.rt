@@ -6,6 +6,7 @@
 mod commands;
 mod program;
 mod scripts;
+mod shared;
 mod texts;
 mod vectors;
 mod ways;
@@ -26,6 +27,7 @@ fn tell<R: Threads + Wait + Sync + Send + Copy + Files + Input + AllocGlobal>(
     match argument.split_once('/') {
         Some(("commands", name)) => commands::agree(rt, alloc, &texts::read(&rt, argument)?, name),
         Some(("vectors", name)) => vectors::agree(rt, argument, name),
+        Some(("shared", _)) => shared::agree(rt, alloc, &texts::read(&rt, argument)?),
         Some(("steps", name)) => scripts::agree(&rt, argument, name),
         Some(("drawings", name)) => scripts::agree_drawn(&rt, argument, name),
         None if argument == "steps" => {

@@ -71,9 +71,9 @@ fn run<R: Threads + Wait + Sync + Send + Copy>(
     way: Way,
 ) -> Result<String> {
     match way {
-        Way::Alone => run_alone(alloc, vector.config()?, vector.trace.as_bytes()),
+        Way::Alone => run_alone(alloc, config_of(&vector.options)?, vector.trace.as_bytes()),
         Way::Hand => {
-            let config = vector.config()?;
+            let config = config_of(&vector.options)?;
             run_by_hand::<Brand, Brand, _>(
                 rt,
                 alloc,
@@ -93,25 +93,25 @@ fn run<R: Threads + Wait + Sync + Send + Copy>(
     }
 }
 
-impl Vector {
-    /// The configuration that the options give, with the usual numbers for those that aren't there.
-    fn config(&self) -> Result<Config> {
-        let mut config = Config::default();
-        let mut words = self.options.split_whitespace();
-        while let Some(name) = words.next() {
-            let number = words.next().context("an option has no number")?;
-            let number = number.parse::<u32>()?;
-            match name {
-                "--fanout" => config.fanout = number,
-                "--chain" => config.chain = number,
-                "--pages" => config.pages = number,
-                "--tries" => config.tries = number,
-                _ => bail!("{name} is no option"),
-            }
+/// The configuration that the options give, with the usual numbers for those that aren't there.
+pub(crate) fn config_of(options: &str) -> Result<Config> {
+    let mut config = Config::default();
+    let mut words = options.split_whitespace();
+    while let Some(name) = words.next() {
+        let number = words.next().context("an option has no number")?;
+        let number = number.parse::<u32>()?;
+        match name {
+            "--fanout" => config.fanout = number,
+            "--chain" => config.chain = number,
+            "--pages" => config.pages = number,
+            "--tries" => config.tries = number,
+            _ => bail!("{name} is no option"),
         }
-        Ok(config)
     }
+    Ok(config)
+}
 
+impl Vector {
     /// What the program prints of the trace.
     fn printed<R: Threads + Wait + Sync + Send + Copy>(
         &self,

@@ -9,7 +9,7 @@ use std::alloc::Global;
 
 /// What each worker of a trial does. The puts split a leaf twice, and the deletes merge one; what is
 /// removed twice is a range of which the first removal may have ended early.
-pub(crate) const ACTS: [Act; 20] = [
+pub(crate) const ACTS: [Act; 18] = [
     Act::Put { key: 1, value: 1 },
     Act::Put { key: 2, value: 2 },
     Act::Put { key: 3, value: 3 },
@@ -33,8 +33,6 @@ pub(crate) const ACTS: [Act; 20] = [
         low: 2,
         high: Fence::Key(7),
     },
-    Act::Set { key: 7, value: 70 },
-    Act::Put { key: 9, value: 9 },
     Act::Get { key: 0 },
 ];
 

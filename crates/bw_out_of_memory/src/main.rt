@@ -8,17 +8,12 @@ mod acts;
 mod ending;
 mod plain;
 mod readers;
-mod replays;
-mod rows;
 mod runs;
-mod texts;
 mod workers;
 
 use crate::ending::{Ending, Stop};
 use crate::readers::{beside_readers, publications};
-use crate::replays::replays;
 use crate::runs::run_with;
-use crate::texts::texts;
 use crate::workers::{alone, by_hand};
 use std::alloc::Global;
 use std::io::Read;
@@ -47,8 +42,6 @@ fn run_trial<R: Threads + Wait + Sync + Send + Copy>(
         "by_hand" => by_hand(rt, machine),
         "beside_readers" => beside_readers(rt, machine),
         "publications" => publications(rt, machine),
-        "replays" => replays(machine),
-        "texts" => texts(machine),
         "run" => run_with(rt, machine, 0),
         "run_with_reader" => run_with(rt, machine, 1),
         _ => Err(Stop::Broken("no such trial")),

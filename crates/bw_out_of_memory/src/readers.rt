@@ -25,9 +25,10 @@ macro_rules! puts {
     };
 }
 
-/// Groups of puts, each of which is published. A group has as many as there is room for in the first piece
-/// of memory that what is pending takes, so that a publication wants room for its mark.
-const GROUPS: [&[Act]; 3] = [puts!(0, 1, 2, 3), puts!(4, 5, 6, 7), puts!(8, 9, 10, 11)];
+/// Groups of puts, each of which is published. The first two have as many as there is room for in the first
+/// piece of memory that what is pending takes, so that a publication wants room for its mark; behind the third
+/// each copy was published before.
+const GROUPS: [&[Act]; 3] = [puts!(0, 1, 2, 3), puts!(4, 5, 6, 7), puts!(8)];
 
 /// Chains so long that the puts of the first group are all that is pending.
 const LONG_CHAINS: Config = Config {

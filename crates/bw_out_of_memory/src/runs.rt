@@ -2,7 +2,6 @@
 
 use crate::ending::{Ending, Stop, hold};
 use crate::plain::Plain;
-use crate::rows::row;
 use bw_run::{Act, Finished, Reply, Row, RunFault, is_trace_for, run};
 use bw_test_kit::SMALL;
 use bw_work::{Fault, Open};
@@ -10,17 +9,18 @@ use std::alloc::Global;
 use std::sync::Wait;
 use std::thread::Threads;
 
+/// Puts of the first worker, each of a key with itself as value, and a get.
+macro_rules! rows {
+    ($($key:literal),*; $sought:literal) => {
+        [
+            $(Row { worker: 0, act: Act::Put { key: $key, value: $key } },)*
+            Row { worker: 0, act: Act::Get { key: $sought } },
+        ]
+    };
+}
+
 /// The puts split a leaf twice, and at the last row a worker with a reader publishes them.
-const ROWS: [Row; 8] = [
-    row!(0 put 1 => 1),
-    row!(0 put 2 => 2),
-    row!(0 put 3 => 3),
-    row!(0 put 4 => 4),
-    row!(0 put 5 => 5),
-    row!(0 put 6 => 6),
-    row!(0 put 7 => 7),
-    row!(0 get 4),
-];
+const ROWS: [Row; 8] = rows!(1, 2, 3, 4, 5, 6, 7; 4);
 
 /// Takes what the rows were replied to.
 fn take_replies(plain: &mut Plain, replies: &[Reply]) -> Result<Ending, Stop> {

@@ -3,9 +3,9 @@
 
 use anyhow::Result;
 use nifforan::{Config, Fence, Map};
+use std::alloc::Global;
 
-fn main(rt: HostRuntime) -> Result<()> {
-    let mut map = Map::new(rt.alloc(), rt.alloc(), Config::default())?;
+fn change_and_read(rt: HostRuntime, map: &mut Map<Global>) -> Result<()> {
     for key in 1..11 {
         map.put(key, 100)?;
     }
@@ -19,4 +19,9 @@ fn main(rt: HostRuntime) -> Result<()> {
     println!(rt; "{} {:?}", map.len(), map.last())?;
     println!(rt; "{}", map.clear(5, Fence::Top).removed)?;
     Ok(())
+}
+
+fn main(rt: HostRuntime) -> Result<()> {
+    let mut map = Map::new(rt.alloc(), rt.alloc(), Config::default())?;
+    change_and_read(rt, &mut map)
 }

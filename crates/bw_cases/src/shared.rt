@@ -1,0 +1,200 @@
+//! Scripts of what workers and readers do on a tree: played line by line, with an answer to each.
+//!
+//! A script begins with its title and with the line that makes its tree; an empty line stands between two scripts.
+//! What a line is answered stands beneath it, behind `> `.
+//!
+//! | Line | It says |
+//! |---|---|
+//! | `tree WORKERS READERS OPTIONS` | the tree is made, with the options of a trace |
+//! | `W,put,K,V`, or another row of a trace | the worker makes the call |
+//! | `publish` | all is published, and the stamp is kept |
+//! | `reader R learn` | the reader learns of the newest stamp that is left |
+//! | `reader R get K`, `look K`, `scan LOW LIMIT` | the reader reads |
+//! | `close` | the tree is closed with all shares; then its leaves, book and pairs are told, and what its readers answer |
+//! | `abandon` | the same, but the shares are lost |
+
+ghost use Rattle.std.specs.Prelude.{◌≡◌};
+ghost use Rattle.bw_tree.specs.Shares.{Opens};
+
+use crate::texts::compare;
+use crate::vectors::config_of;
+use anyhow::{Context, Result, bail};
+use bw_keys::Config;
+use bw_run::{Reply, do_act};
+use bw_snap::{BlankBook, Naming, ReadTree, Reader, Stamp};
+use bw_table::Table;
+use bw_trace::read_trace;
+use bw_tree::{Blanks, Share};
+use bw_work::{Hand, Open};
+use std::alloc::Global;
+use std::marker::Brand;
+use std::sync::Wait;
+use std::sync::ledger::Ledger;
+
+/// The most workers that a tree has.
+const MOST_WORKERS: u32 = 64;
+
+/// The workers do the rows of the text.
+fn work<R: Wait + Copy, N: Naming, D: Ledger>(
+    alloc: Global,
+    tree: &ReadTree<R, N, D>,
+    shares: &mut Vec<Share<N, D>>,
+    rows: &str,
+    played: &mut String,
+) -> Result<()> {
+    for row in read_trace(alloc, rows.as_bytes(), MOST_WORKERS)? {
+        let share = shares.pop().context("no share is left")?;
+        let mut hand = Hand::new(alloc, alloc, tree, share, row.worker, &Open);
+        match do_act(&mut hand, alloc, row.act) {
+            Ok(reply) => writeln!(played, "> {reply}")?,
+            Err(fault) => writeln!(played, "> no reply: {fault}")?,
+        }
+        shares.push(hand.finish().0).ok().context("no memory")?;
+    }
+    Ok(())
+}
+
+/// The reader does what the words say.
+fn read<N: Naming>(
+    alloc: Global,
+    reader: &mut Reader<N>,
+    stamps: &mut Vec<Stamp<N>>,
+    words: &[&str],
+    played: &mut String,
+) -> Result<()> {
+    match words {
+        ["learn"] => reader.learn(stamps.pop().context("no stamp is left")?),
+        ["get", key] => writeln!(played, "> {}", Reply::Get(reader.get(key.parse()?)?))?,
+        ["look", key] => {
+            let look = reader.look(key.parse()?)?;
+            writeln!(played, "> {} at {}", Reply::Get(look.found), look.at)?;
+        }
+        ["scan", low, limit] => {
+            let mut pairs = vec![in alloc; (7, 77)]?;
+            reader.scan(low.parse()?, limit.parse()?, &mut pairs)?;
+            writeln!(played, "> {pairs:?}")?;
+        }
+        _ => bail!("no reading"),
+    }
+    Ok(())
+}
+
+/// Does what the lines say, and tells what they are answered.
+fn play_lines<R: Wait + Copy, N: Naming, D: Ledger>(
+    alloc: Global,
+    tree: &ReadTree<R, N, D>,
+    shares: &mut Vec<Share<N, D>>,
+    readers: &mut [Reader<N>],
+    lines: &str,
+    played: &mut String,
+) -> Result<()> {
+    let mut stamps = Vec::new(alloc);
+    for line in lines.lines().filter(|line| !line.starts_with("> ")) {
+        writeln!(played, "{line}")?;
+        let words: Vec<&str> = line.split(' ').collect(alloc)?;
+        match words.as_slice() {
+            ["close" | "abandon"] => {}
+            ["publish"] => stamps.push(tree.publish()?).ok().context("no memory")?,
+            ["reader", place, reading @ ..] => {
+                let reader = readers.get_mut(place.parse::<usize>()?);
+                read(
+                    alloc,
+                    reader.context("no reader")?,
+                    &mut stamps,
+                    reading,
+                    played,
+                )?;
+            }
+            _ => work(alloc, tree, shares, line, played)?,
+        }
+    }
+    Ok(())
+}
+
+/// Tells what is left of a tree.
+fn tell<N: Naming>(
+    alloc: Global,
+    table: &Table<Global>,
+    readers: Vec<Reader<N>>,
+    played: &mut String,
+) -> Result<()> {
+    let survey = table.survey(alloc)?;
+    for leaf in survey.leaves.iter() {
+        writeln!(played, "> {leaf}")?;
+    }
+    writeln!(played, "> {:?}", survey.book)?;
+    writeln!(played, "> {:?}", table.pairs(alloc)?)?;
+    for mut reader in readers {
+        let mut pairs = vec![in alloc; (7, 77)]?;
+        let scan = reader.scan(0, 10, &mut pairs);
+        let (get, look) = (reader.get(0), reader.look(0));
+        writeln!(played, "> {get:?} {look:?} {scan:?} {pairs:?}")?;
+    }
+    Ok(())
+}
+
+/// Plays the lines behind the one that makes the tree, owned here: ledgers aren't named at a call with a `&str`.
+fn play_over<R: Wait + Copy, N: Naming, D: Ledger>(
+    rt: R,
+    alloc: Global,
+    config: Config,
+    readers: u32,
+    blanks: Blanks,
+    book: BlankBook,
+    lines: &String,
+    played: &mut String,
+) -> Result<()>
+    requires insertions { Opens N.name N.parts blanks.insertions }
+    requires removals { Opens D.name D.parts blanks.removals }
+    requires book { book.seen.book ≡ N.book }
+    requires config { N.config ≡ config }
+{
+    let made = ReadTree::<R, N, D>::with_readers(rt, alloc, config, blanks, book, readers);
+    let (tree, mut shares, mut readers) = match made {
+        Ok(made) => made,
+        Err(fault) => return Ok(writeln!(played, "> {fault}")?),
+    };
+    let (workers, many) = (shares.len(), readers.len());
+    writeln!(played, "> {workers} workers, {many} readers")?;
+    play_lines(alloc, &tree, &mut shares, &mut readers, lines, played)?;
+    let table = if lines.contains("\nabandon\n") {
+        tree.into_table()
+    } else {
+        tree.close(shares)?
+    };
+    tell(alloc, &table, readers, played)
+}
+
+/// Plays the script, and gives it back as it is answered.
+fn play<R: Wait + Copy>(rt: R, alloc: Global, script: &str) -> Result<String> {
+    let (title, rest) = script.split_once('\n').context("a title alone")?;
+    let (tree, lines) = rest.split_once('\n').unwrap_or((rest, ""));
+    let mut played = format!(in alloc; "{title}\n{tree}\n")?;
+    let words: Vec<&str> = tree.splitn(4, ' ').collect(alloc)?;
+    let ["tree", workers, readers, options] = words.as_slice() else {
+        bail!("{tree}: no tree");
+    };
+    let lines = lines.to_string(alloc)?;
+    play_over::<R, Brand, Brand>(
+        rt,
+        alloc,
+        config_of(options)?,
+        readers.parse()?,
+        Blanks::new(workers.parse()?),
+        BlankBook::new(),
+        &lines,
+        &mut played,
+    )?;
+    Ok(played)
+}
+
+/// Plays the scripts of the text, and compares what each is answered with what stands in it.
+pub(crate) fn agree<R: Wait + Copy>(rt: R, alloc: Global, text: &str) -> Result<String> {
+    let mut lines = String::new(alloc);
+    for script in text.split("\n\n") {
+        let title = script.lines().next().context("no title")?;
+        compare(play(rt, alloc, script)?.trim_end(), script.trim_end()).context(title)?;
+        writeln!(lines, "{title}: as foretold")?;
+    }
+    Ok(lines)
+}
