@@ -1,4 +1,4 @@
-use Rattle.std.proofs.Common.{◌≡◌, ap, ◌∙◌, refl, drop, fold, ◌++◌, ◌∷◌, []}
+use Rattle.std.proofs.Common.{◌≡◌, ap, ◌∙◌, refl, drop, fold, ◌++◌, ◌∷◌, [], rules}
 use Rattle.bw_law.specs.Tables.{new_table}
 use Rattle.bw_snap.specs.declared.shown.Shown.{Shown}
 use Rattle.bw_snap.specs.declared.note.Note.TheVariants.{Mark}
@@ -77,3 +77,6 @@ invariant_of-self-in-Err g c =
     let notes = drop w.behind w.log.items in
     rw (c.append.ensures.desk, c.in-Err.ensures.pending, c.if-not-announce.ensures)
     (c.self.invariant.0, c.self.invariant.1, begins_itself (w.desk.shown.value.front.list ++ steps_of notes), c.self.invariant.3, refl)
+
+pub returns-clause-stamp : goal.returns-clause-stamp
+returns-clause-stamp g c = search rules
