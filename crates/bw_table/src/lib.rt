@@ -18,6 +18,7 @@ mod survey;
 mod table;
 mod visit;
 
+pub use bw_chain::Wished;
 pub use bw_step::{
     Book, Consolidate, CopyFault, Delete, Go, Grow, Insert, Kind, Leaf, Look, Mark, Merge, Modify,
     Next, Place, Receipt, Refused, Split, Stage, Step, Summary, Survey, TermAdd, TermDelete, Todo,
@@ -25,4 +26,5 @@ pub use bw_step::{
 };
 pub use fault::NewFault;
 pub use leaf::LeafRef;
+pub use steps::AtOnce;
 pub use table::Table;

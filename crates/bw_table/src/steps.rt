@@ -7,6 +7,7 @@ ghost use Rattle.bw_law.specs.Refusals.{refusal};
 ghost use Rattle.bw_law.specs.Effects.{TakesStep};
 ghost use Rattle.bw_table.specs.Answers.{fine_unless};
 
+mod at_once;
 mod consolidate;
 mod delete;
 mod grow;
@@ -19,6 +20,7 @@ mod split;
 mod term_add;
 mod term_delete;
 
+pub use crate::steps::at_once::AtOnce;
 use crate::table::Table;
 use bw_step::{Receipt, Refused, Step};
 use std::alloc::Allocator;
