@@ -20,7 +20,6 @@ mod split;
 mod term_add;
 mod term_delete;
 
-pub use crate::steps::at_once::AtOnce;
 use crate::table::Table;
 use bw_step::{Receipt, Refused, Step};
 use std::alloc::Allocator;

@@ -7,12 +7,13 @@ ghost use Rattle.bw_work.specs.Clearing.{IsMapWithout};
 ghost use Rattle.nifforan.specs.Clearing.{Loses};
 ghost use Rattle.nifforan.specs.Maps.{before_put, value_after_put, before_set, before_delete};
 
+use bw_chain::Wished;
 use bw_delta::{Base, Chain, NoMemory};
 use bw_keys::{Config, Fence, Key, Pid, Version};
 use bw_procedures::{
     Account, Cleared, Del, Done, Ends, Fault, Keep, Put, Set, Steps, clear, delete, put, set,
 };
-use bw_step::{CopyFault, Denied, Look, Next, Place, Receipt, Step, View};
+use bw_step::{AtOnce, CopyFault, Denied, Look, Next, Place, Receipt, Step, View};
 use bw_table::Table;
 use std::alloc::{Allocator, Global};
 
@@ -161,6 +162,18 @@ impl<A: Allocator + Copy> Steps<A, Step<A>> for Worker<A> {
     #[inline(always)]
     fn leaf_at_once(&self, key: Key) -> Option<View> {
         self.table.leaf_at_rest(key)
+    }
+
+    #[inline(always)]
+    fn change_at_once(&mut self, key: Key, wished: Wished) -> Option<AtOnce> {
+        if self.account.reserve_two().is_err() {
+            return None;
+        }
+        // The law of the table is told with its configuration.
+        let _config = self.table.config();
+        let done = self.table.change_at_once(key, wished)?;
+        self.account.done_at_once(done);
+        Some(done)
     }
 
     #[tactic(auto, using(bw_work::proofs::Calming::next_is_calm))]

@@ -23,16 +23,8 @@ use crate::table::Table;
 use bw_chain::{InPlace, Wished, change_in_place, cut_in_place, route_in_place, upper_half_of};
 use bw_delta::{Base, Delta};
 use bw_keys::{Fence, Key, Pid};
-use bw_step::{Book, Receipt, Stage, Summary};
+use bw_step::{AtOnce, Book, Receipt, Stage, Summary};
 use std::alloc::Allocator;
-
-/// What was done at once: the page of the key, and what is told of the key.
-#[derive(Clone, Copy, Debug, PartialEq, Eq)]
-pub struct AtOnce {
-    pub page: Pid,
-    /// The receipt of a look where there was nothing to be done; else that of the change.
-    pub receipt: Receipt,
-}
 
 impl<A: Allocator + Copy> Table<A> {
     /// Makes the wish come true for a key and consolidates its leaf, as a change and a consolidation
