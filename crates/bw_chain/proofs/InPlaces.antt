@@ -1,22 +1,26 @@
 -- What a change in place makes of a base page: the page of the chain with the record on top.
 use Rattle.std.proofs.Common.{◌≡◌, ℕ, ◌<◌, Bool, true, false, List, Option, refl, ap, sym, subst, ◌∙◌, arith, cond}
+use Rattle.std.proofs.lemmas.Bool.Decides.{nat_tests}
 use Rattle.std.specs.Prelude.{Some, None, IfSome, IfNone, is_some}
 use Rattle.bw_keys.specs.declared.page.Pid.{Pid}
 use Rattle.bw_keys.specs.declared.range.Fence.TheVariants.{Key}
+use Rattle.bw_keys.specs.Ranges.{end_of}
 use Rattle.bw_delta.specs.declared.chain.Delta.{Delta}
 use Rattle.bw_delta.specs.declared.chain.Delta.TheVariants.{Insert, Modify, Delete, Split, TermAdd}
 use Rattle.bw_delta.specs.declared.fences.Fences.{Fences}
-use Rattle.bw_delta.specs.Entries.{at, put, below}
-use Rattle.bw_delta.specs.Fence.{page_fences, fences_after}
-use Rattle.bw_delta.specs.Pages.{Page, Listed, IsPage, pairs_of, routes_of, lists_pairs}
-use Rattle.bw_delta.specs.Pairs.{pairs_listed, routes_listed, pairs_after, routes_after}
-use Rattle.bw_delta.specs.Records.{bare, above}
+use Rattle.bw_delta.specs.Entries.{at, put, below, rises}
+use Rattle.bw_delta.specs.Fence.{page_fences, fences, fences_after}
+use Rattle.bw_delta.specs.Pages.{Page, Listed, IsPage, pairs_of, routes_of, lists_pairs, listed_rises}
+use Rattle.bw_delta.specs.Pairs.{pairs, pairs_listed, routes_listed, pairs_after, routes_after}
+use Rattle.bw_delta.specs.Records.{Records, bare, above}
 use Rattle.bw_delta.specs.Sound.{IsSound, LiesIn, MayStandOver, page_for, page_with}
+use Rattle.bw_delta.proofs.At.{at-below_in}
 use Rattle.bw_delta.proofs.Stands.{page_for_is_page}
 use Rattle.bw_chain.specs.declared.in_place.InPlace.{InPlace}
 use Rattle.bw_chain.specs.declared.in_place.Wished.{Wished}
 use Rattle.bw_chain.specs.declared.in_place.Wished.TheVariants as wishes
-use Rattle.bw_chain.specs.InPlaces.{delta_for, pairs_with}
+use Rattle.bw_chain.specs.InPlaces.{delta_for, pairs_with, chain_with, page_behind_split, IsBehindSplit, uncovered}
+use Rattle.bw_chain.proofs.Places.{below-put, below-without}
 
 abbrev pub with_pairs : Page → List (ℕ × ℕ) → Page
 with_pairs page es = record page { listed = pairs_of es }
@@ -132,3 +136,62 @@ pub cut_lists : (separator : ℕ) (right : Pid) (page : Page) (listed : Listed) 
 cut_lists separator right page listed whole within later is =
     let WithListed : Listed → Type 0 = λ l. IsPage (record { low = page.low; high = Key separator; right = Some right; listed = l }) in
     subst WithListed is (cut_is_page separator right page whole within later)
+
+-- a base page that a split ended, with a record over the split's: it makes no difference which of the two is taken in first
+module _ (page : Page) (whole : IsPage page) (separator : ℕ) (right : Pid) (key : ℕ) (inside : key < separator) where
+  abbrev with_listed : Listed → Page
+  with_listed l = record page { listed = l }
+
+  abbrev ComesToSame : Delta → Listed → Type 0
+  ComesToSame delta l =
+      page_for (above (Split separator right) (bare (page_for (above delta (bare (with_listed l)))))) ≡ page_for (above delta (above (Split separator right) (bare (with_listed l))))
+
+  abbrev cut_off : List (ℕ × ℕ) → Page
+  cut_off es = record { low = page.low; high = Key separator; right = Some right; listed = pairs_of es }
+
+  insertion_comes : (value : ℕ) (l : Listed) → listed_rises page.low (end_of page.high) l ≡ true → ComesToSame (Insert key value) l
+  insertion_comes value (pairs_of es) rise = ap cut_off (below-put page.low (end_of page.high) separator key value es rise inside)
+  insertion_comes value (routes_of es) rise = refl
+
+  modification_comes : (value : ℕ) (l : Listed) → listed_rises page.low (end_of page.high) l ≡ true → ComesToSame (Modify key value) l
+  modification_comes value (pairs_of es) rise = ap cut_off (below-put page.low (end_of page.high) separator key value es rise inside)
+  modification_comes value (routes_of es) rise = refl
+
+  deletion_comes : (l : Listed) → ComesToSame (Delete key) l
+  deletion_comes (pairs_of es) = ap cut_off (below-without separator key es)
+  deletion_comes (routes_of es) = refl
+
+  comes_to_same : (wished : Wished) (had : Option ℕ) (delta : Delta) → Some delta ≡ delta_for wished key had → ComesToSame delta page.listed
+  comes_to_same wished had delta is = by_wish wished had is
+    where
+      rise : listed_rises page.low (end_of page.high) page.listed ≡ true
+      rise = grind (arith, nat_tests, whole)
+
+      Comes : Delta → Type 0
+      Comes d = ComesToSame d page.listed
+
+      by_wish : (w : Wished) (o : Option ℕ) → Some delta ≡ delta_for w key o → Comes delta
+      by_wish (wishes.Put value) None is = let same : delta ≡ Insert key value = cc in subst Comes (sym same) (insertion_comes value page.listed rise)
+      by_wish (wishes.Put value) (Some o) is = cc
+      by_wish (wishes.Set value) None is = let same : delta ≡ Insert key value = cc in subst Comes (sym same) (insertion_comes value page.listed rise)
+      by_wish (wishes.Set value) (Some o) is = let same : delta ≡ Modify key value = cc in subst Comes (sym same) (modification_comes value page.listed rise)
+      by_wish wishes.Delete None is = cc
+      by_wish wishes.Delete (Some o) is = let same : delta ≡ Delete key = cc in subst Comes (sym same) (deletion_comes page.listed)
+
+  -- the page that was changed and then cut
+  pub cut_behind : (wished : Wished) (had : Option ℕ) (delta : Option Delta) (mid new : Page) → delta ≡ delta_for wished key had → bare mid ≡ chain_with delta (bare page)
+      → new ≡ page_for (above (Split separator right) (bare mid)) → is_some delta ≡ true → new ≡ page_behind_split separator right delta page
+  cut_behind wished had None mid new is changed cut some = cc
+  cut_behind wished had (Some delta) mid new is changed cut some =
+      let mid_is : mid ≡ page_for (above delta (bare page)) = cc in
+      cut ∙ (ap (λ (m : Page). page_for (above (Split separator right) (bare m))) mid_is ∙ comes_to_same wished had delta is)
+
+-- what is found in the part that is left is found in the whole
+pub found_behind_cut : (separator key : ℕ) (right : Pid) (page : Page) → LiesIn key (fences (above (Split separator right) (bare page))) → at key (pairs (above (Split separator right) (bare page))) ≡ at key (pairs_listed page.listed)
+found_behind_cut separator key right page within = at-below_in separator key (pairs_listed page.listed) within.below_high
+
+pub uncovered_is : (delta : Delta) (old between : Records) → IsBehindSplit (Some delta) old between → uncovered between ≡ bare (page_for (above delta old))
+uncovered_is delta old between h = ap uncovered h.changed ∙ ap (λ (c : Records). bare (page_for (above delta c))) (sym h.before)
+
+pub still_covered : (old between : Records) → IsBehindSplit None old between → between ≡ old
+still_covered old between h = h.changed ∙ sym h.before

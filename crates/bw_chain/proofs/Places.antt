@@ -83,3 +83,14 @@ module _ {X : Type 0} where
         | inl past ↦ grind (arith, nat_tests, past.1, below_low (e.0 + 1) end key es, at-before (e.0 + 1) end key es, without_none (e.0 + 1) end key es)
         | inr first ↦ grind (arith, nat_tests, first.1, without-there (e.0 + 1) end key y es rest)
       ]
+
+  -- what is changed below a bound is changed among the entries below it
+  pub below-put : (low end bound key : ℕ) (x : X) (es : List (ℕ × X)) → rises low end es ≡ true → key < bound → below bound (put key x es) ≡ put key x (below bound es)
+  below-put low end bound key x [] h inside = grind (arith, nat_tests)
+  below-put low end bound key x (e ∷ es) h inside =
+      let rest : rises (e.0 + 1) end es ≡ true = grind (arith, nat_tests) in
+      grind (arith, nat_tests, below_low (e.0 + 1) end bound es, below-put (e.0 + 1) end bound key x es rest inside)
+
+  pub below-without : (bound key : ℕ) (es : List (ℕ × X)) → below bound (without key es) ≡ without key (below bound es)
+  below-without bound key [] = refl
+  below-without bound key (e ∷ es) = grind (arith, nat_tests, below-without bound key es)

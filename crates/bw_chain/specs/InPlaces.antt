@@ -5,6 +5,7 @@ use Rattle.bw_delta.specs.declared.chain.Delta.{Delta}
 use Rattle.bw_delta.specs.declared.chain.Delta.TheVariants as deltas
 use Rattle.bw_delta.specs.Entries.{at}
 use Rattle.bw_delta.specs.Fence.{is_leaf}
+use Rattle.bw_delta.specs.Pages.{Page}
 use Rattle.bw_delta.specs.Pairs.{pairs_after, routes}
 use Rattle.bw_delta.specs.Records.{Records, bare, above}
 use Rattle.bw_delta.specs.Sound.{page_for}
@@ -29,6 +30,24 @@ pairs_with (Some delta) es = pairs_after delta es
 abbrev pub chain_with : Option Delta → Records → Records
 chain_with None chain = chain
 chain_with (Some delta) chain = bare (page_for (above delta chain))
+
+-- the base page that a split ended, with the record that stands over the split's taken in, if there is one
+abbrev pub page_behind_split : ℕ → Pid → Option Delta → Page → Page
+page_behind_split separator right None page = page
+page_behind_split separator right (Some delta) page = page_for (above delta (above (deltas.Split separator right) (bare page)))
+
+-- the record of a split stands over a base page, which became another
+pub record IsBehindSplit (delta : Option Delta) (old new : Records) : Type 0 where
+  pub separator : ℕ
+  pub right : Pid
+  pub page : Page
+  pub before : old ≡ above (deltas.Split separator right) (bare page)
+  pub changed : new ≡ above (deltas.Split separator right) (bare (page_behind_split separator right delta page))
+
+-- the chain without its newest record
+abbrev pub uncovered : Records → Records
+uncovered (above delta chain) = chain
+uncovered chain = chain
 
 -- the inner page had no route at the separator, and is consolidated with this one
 pub record IsRouted (separator : ℕ) (child : Pid) (old new : Records) : Type 0 where

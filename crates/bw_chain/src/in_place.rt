@@ -9,14 +9,15 @@ ghost use Rattle.bw_delta.specs.Pages.{upper_part};
 ghost use Rattle.bw_delta.specs.Records.{bare, above};
 ghost use Rattle.bw_delta.specs.Sound.{LiesIn, page_for};
 ghost use Rattle.bw_chain.specs.Ascends.{IsAscending};
-ghost use Rattle.bw_chain.specs.InPlaces.{IsRouted, delta_for, pairs_with, chain_with};
+ghost use Rattle.bw_chain.specs.InPlaces.{IsRouted, IsBehindSplit, delta_for, pairs_with, chain_with, page_behind_split, uncovered};
 
 use crate::entries::sorted::count_below_key;
-use crate::page::halve;
+use crate::page::part_from;
 use crate::page::shape::allocator;
 use bw_delta::{Base, Chain, Delta, Entries, Node};
 use bw_keys::{Fence, Key, Pid};
 use std::alloc::Allocator;
+use std::mem;
 
 /// What is wished of a key.
 #[derive(Clone, Copy, Debug, PartialEq, Eq, Hash)]
@@ -38,8 +39,8 @@ pub struct InPlace {
     pub delta: Option<Delta>,
 }
 
-/// Makes the wish come true on the base page, if no record stands over it. None, and nothing
-/// changed, where one does or memory is short.
+/// Makes the wish come true on the base page, if no record stands over it, or that of its split alone,
+/// which a change takes in. None, and nothing changed, where another does or memory is short.
 #[inline(always)]
 pub fn change_in_place<A: Allocator + Copy>(
     chain: &mut Chain<A>,
@@ -54,7 +55,91 @@ pub fn change_in_place<A: Allocator + Copy>(
 {
     match &mut chain.node {
         Node::Bare(base) => change_on_base(base, key, wished),
-        Node::Above(_, _) | Node::Merged(_, _, _) => None,
+        Node::Above(_, _) => change_behind_split(chain, key, wished),
+        Node::Merged(_, _, _) => None,
+    }
+}
+
+/// The same where the record of a split stands over the base page: a look leaves it there.
+fn change_behind_split<A: Allocator + Copy>(
+    chain: &mut Chain<A>,
+    key: Key,
+    wished: Wished,
+) -> Option<InPlace>
+    requires within { LiesIn key (fences chain.old) }
+    ensures had { IfSome result (λ done. done.had ≡ at key (pairs chain.old)) }
+    ensures delta { IfSome result (λ done. done.delta ≡ delta_for wished key done.had) }
+    ensures changed { IfSome result (λ done. chain.new ≡ chain_with done.delta chain.old) }
+    ensures unchanged { IfNone result (chain.new ≡ chain.old) }
+{
+    let done = change_below_split(chain, key, wished)?;
+    if done.delta.is_some() {
+        uncover(chain);
+    }
+    Some(done)
+}
+
+fn change_below_split<A: Allocator + Copy>(
+    chain: &mut Chain<A>,
+    key: Key,
+    wished: Wished,
+) -> Option<InPlace>
+    requires within { LiesIn key (fences chain.old) }
+    ensures had { IfSome result (λ done. done.had ≡ at key (pairs chain.old)) }
+    ensures delta { IfSome result (λ done. done.delta ≡ delta_for wished key done.had) }
+    ensures changed { IfSome result (λ done. IsBehindSplit done.delta chain.old chain.new) }
+    ensures unchanged { IfNone result (chain.new ≡ chain.old) }
+{
+    match &mut chain.node {
+        Node::Above(delta, below) => {
+            let Delta::Split(separator, right) = *delta else {
+                return None;
+            };
+            match &mut below.node {
+                Node::Bare(base) => change_and_cut(base, separator, right, key, wished),
+                Node::Above(_, _) | Node::Merged(_, _, _) => None,
+            }
+        }
+        Node::Bare(_) | Node::Merged(_, _, _) => None,
+    }
+}
+
+/// Makes the wish come true on a base page that a split has ended before the separator, and ends it
+/// there if something is changed.
+fn change_and_cut<A: Allocator + Copy>(
+    base: &mut Base<A>,
+    separator: Key,
+    right: Pid,
+    key: Key,
+    wished: Wished,
+) -> Option<InPlace>
+    requires within { LiesIn key (fences (above (deltas.Split separator right) (bare base.old))) }
+    ensures had { IfSome result (λ done. done.had ≡ at key (pairs (above (deltas.Split separator right) (bare base.old)))) }
+    ensures delta { IfSome result (λ done. done.delta ≡ delta_for wished key done.had) }
+    ensures changed { IfSome result (λ done. base.new ≡ page_behind_split separator right done.delta base.old) }
+    ensures unchanged { IfNone result (base.new ≡ base.old) }
+{
+    if separator <= base.low || !base.high.is_above(separator) {
+        return None;
+    }
+    let done = change_on_base(base, key, wished)?;
+    if done.delta.is_some() {
+        cut_base(base, separator, right);
+    }
+    Some(done)
+}
+
+/// Takes the newest record off the chain.
+fn uncover<A: Allocator + Copy>(chain: &mut Chain<A>)
+    ensures { chain.new ≡ uncovered chain.old }
+{
+    let hole = Node::Bare(Base::empty(*allocator(chain)));
+    match mem::replace(&mut chain.node, hole) {
+        Node::Above(_, below) => {
+            let mut below = below;
+            mem::swap(chain, &mut *below);
+        }
+        node => chain.node = node,
     }
 }
 
@@ -196,14 +281,20 @@ fn route_listed<A: Allocator + Copy>(
     }
 }
 
-/// The upper half of a base page over which no record stands, with the separator at which it begins.
-/// None where a record does, where there are fewer than two entries, and where memory is short.
-pub fn upper_half_of<A: Allocator + Copy>(chain: &Chain<A>) -> Option<(Key, Base<A>)>
-    ensures { IfSome result (λ half. half.1 ≡ upper_part half.0 (page_for chain.now)) }
+/// The part of a base page over which no record stands from the entry with the number on, counted
+/// from 0, with the separator at which it begins. It has room for so many entries before it asks for
+/// memory again. None where a record stands there, where there is no such entry, and where memory is
+/// short.
+pub fn upper_part_of<A: Allocator + Copy>(
+    chain: &Chain<A>,
+    number: usize,
+    room: usize,
+) -> Option<(Key, Base<A>)>
+    ensures { IfSome result (λ part. part.1 ≡ upper_part part.0 (page_for chain.now)) }
 {
     match &chain.node {
-        Node::Bare(base) => match halve(*allocator(chain), base) {
-            Ok(half) => Some(half),
+        Node::Bare(base) => match part_from(*allocator(chain), base, number, room) {
+            Ok(part) => Some(part),
             Err(_) => None,
         },
         Node::Above(_, _) | Node::Merged(_, _, _) => None,
