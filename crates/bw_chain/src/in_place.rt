@@ -9,6 +9,7 @@ ghost use Rattle.bw_delta.specs.Pages.{upper_part};
 ghost use Rattle.bw_delta.specs.Records.{bare, above};
 ghost use Rattle.bw_delta.specs.Sound.{LiesIn, page_for};
 ghost use Rattle.bw_chain.specs.Ascends.{IsAscending};
+ghost use Rattle.bw_chain.specs.Pages.Halves.{listed_key_at};
 ghost use Rattle.bw_chain.specs.InPlaces.{IsRouted, IsBehindSplit, delta_for, pairs_with, chain_with, page_behind_split, uncovered};
 
 use crate::entries::sorted::count_below_key;
@@ -290,7 +291,8 @@ pub fn upper_part_of<A: Allocator + Copy>(
     number: usize,
     room: usize,
 ) -> Option<(Key, Base<A>)>
-    ensures { IfSome result (λ part. part.1 ≡ upper_part part.0 (page_for chain.now)) }
+    ensures separator { IfSome result (λ part. listed_key_at number (page_for chain.now).listed ≡ Some part.0) }
+    ensures page { IfSome result (λ part. part.1 ≡ upper_part part.0 (page_for chain.now)) }
 {
     match &chain.node {
         Node::Bare(base) => match part_from(*allocator(chain), base, number, room) {

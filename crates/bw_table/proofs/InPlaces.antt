@@ -1,10 +1,12 @@
 -- A change made in place is a step and the consolidation behind it.
-use Rattle.std.proofs.Common.{◌≡◌, ◌≢◌, ℕ, suc, ◌+◌, ◌<◌, ◌^◌, Bool, true, false, eqb, cond, List, length, set, refl, ap, sym, subst, ◌∙◌, arith}
-use Rattle.std.specs.Prelude.{Option, Some, None, unwrap_or, nat_lt}
+use Rattle.std.proofs.Common.{◌≡◌, ◌≢◌, ℕ, suc, ◌+◌, ◌<◌, ◌≤◌, ◌^◌, Bool, true, false, eqb, cond, List, length, set, refl, ap, sym, subst, ◌∙◌, arith}
+use Rattle.std.specs.Prelude.{Option, Some, None, unwrap_or, nat_lt, nat_le}
 use Rattle.std.proofs.lemmas.Bool.{eq-eqb}
 use Rattle.std.proofs.lemmas.Bool.Decides.{nat_tests}
 use Rattle.std.proofs.lemmas.List.{set-set, set-get_or}
+use Rattle.bw_keys.specs.declared.page.TheConstants.{MAX_DEPTH}
 use Rattle.bw_keys.specs.Reasons.{first_reason}
+use Rattle.bw_keys.specs.declared.page.Pid.{Pid}
 use Rattle.bw_delta.specs.declared.chain.Delta.{Delta}
 use Rattle.bw_delta.specs.declared.chain.Delta.TheVariants as deltas
 use Rattle.bw_delta.specs.declared.fences.Fences.{Fences}
@@ -30,24 +32,27 @@ use Rattle.bw_law.specs.Tables.{TableValue, TellsMap, SameMap, slot_at, slot_fen
 use Rattle.bw_law.proofs.Facts.{last_id_is_free, here_is_inside, leaf_count_fits, inner_count_fits, slots_are_few}
 use Rattle.bw_law.proofs.SameTests.{same_page_tells}
 use Rattle.bw_law.proofs.Slots.{slot_written, slot_kept}
-use Rattle.bw_table.specs.InPlaces.{IsBareLeaf, MayChangeAtOnce, MayPostAtOnce, MayCut, MaySplitAtOnce, TakesCut, slot_cut, TakesInPlace, TakesBoth, LooksOrTakes, IsDoneAtOnce, count_after, slot_with, receipt_for, step_for}
+use Rattle.bw_table.specs.InPlaces.{IsShallowLeaf, MayChangeAtOnce, MayPostAtOnce, MayCut, MaySplitAtOnce, TakesCut, slot_cut, TakesInPlace, TakesBoth, LooksOrTakes, IsDoneAtOnce, IsPosted, count_after, slot_with, receipt_for, step_for}
 use Rattle.bw_table.specs.Whole.{IsWhole}
 use Rattle.bw_law.proofs.AllSteps.{step_law}
 use Rattle.bw_table.proofs.Writes.{set-swap}
 use Rattle.bw_table.proofs.Whole.{whole_after, found_is_mapped}
 
+not_full : (depth : ℕ) → depth ≤ 1 → nat_le MAX_DEPTH depth ≡ false
+not_full depth shallow = grind (arith, nat_tests)
+
 not_last : (n : ℕ) → n + 1 < 2 ^ 64 → eqb n last_number ≡ false
 not_last n fits = grind (arith, nat_tests)
 
--- nothing speaks against the insertion of a key that a bare leaf hasn't
-insert_is_accepted : (slot : SlotValue) (number key : ℕ) → IsBareLeaf slot key → number + 1 < 2 ^ 64 → at key (pairs_in slot) ≡ None → first_reason (insert_reasons slot number slot.version key) ≡ None
+-- nothing speaks against the insertion of a key that a shallow leaf hasn't
+insert_is_accepted : (slot : SlotValue) (number key : ℕ) → IsShallowLeaf slot key → number + 1 < 2 ^ 64 → at key (pairs_in slot) ≡ None → first_reason (insert_reasons slot number slot.version key) ≡ None
 insert_is_accepted slot number key page fits none =
-    rw (page.posted, eq-eqb slot.version slot.version refl, page.leaf, page.within, none, page.no_records, not_last slot.version (omega (arith, page.version)), not_last number fits) refl
+    rw (page.posted, eq-eqb slot.version slot.version refl, page.leaf, page.within, none, not_full slot.depth page.shallow, not_last slot.version (omega (arith, page.version)), not_last number fits) refl
 
 -- nor against the change of one that it has
-found_is_accepted : (slot : SlotValue) (number key had : ℕ) → IsBareLeaf slot key → number + 1 < 2 ^ 64 → at key (pairs_in slot) ≡ Some had → first_reason (found_reasons slot number slot.version key) ≡ None
+found_is_accepted : (slot : SlotValue) (number key had : ℕ) → IsShallowLeaf slot key → number + 1 < 2 ^ 64 → at key (pairs_in slot) ≡ Some had → first_reason (found_reasons slot number slot.version key) ≡ None
 found_is_accepted slot number key had page fits found =
-    rw (page.posted, eq-eqb slot.version slot.version refl, page.leaf, page.within, found, page.no_records, not_last slot.version (omega (arith, page.version)), not_last number fits) refl
+    rw (page.posted, eq-eqb slot.version slot.version refl, page.leaf, page.within, found, not_full slot.depth page.shallow, not_last slot.version (omega (arith, page.version)), not_last number fits) refl
 
 -- nor against the consolidation of a leaf
 consolidate_is_accepted : (slot : SlotValue) (base : Page) → slot.stage ≡ Posted → slot.level ≡ 0 → slot.version + 1 < 2 ^ 64 → lists_pairs base.listed ≡ true → base ≡ page_for (chain_in slot) → first_reason (consolidate_reasons slot slot.version base) ≡ None
@@ -58,8 +63,8 @@ module _ (table : TableValue) (room : ℕ) (whole : IsWhole table room) (page ke
   here : is_in_row (slot_at table page).stage ≡ true
   here = ap is_in_row may.leaf.posted
 
-  pub bare_leaf_is_inside : page < length table.slots
-  bare_leaf_is_inside = here_is_inside table whole.lawful page here
+  pub leaf_is_inside : page < length table.slots
+  leaf_is_inside = here_is_inside table whole.lawful page here
 
   chain_of : (chain : Records) × IsPageOf (slot_at table page) chain
   chain_of = whole.lawful.pages page here
@@ -70,8 +75,8 @@ module _ (table : TableValue) (room : ℕ) (whole : IsWhole table room) (page ke
   own_range_holds : LiesIn key (slot_fences (slot_at table page))
   own_range_holds = let within = may.leaf.within in record { from_low = grind (arith, nat_tests); below_high = grind (arith, nat_tests) }
 
-  pub bare_leaf_takes : TakesInPlace (slot_at table page) key
-  bare_leaf_takes =
+  pub leaf_takes : TakesInPlace (slot_at table page) key
+  leaf_takes =
       let Lies : Fences → Type 0 = λ f. LiesIn key f in record {
         version = may.leaf.version;
         count = omega (arith, leaf_count_fits table whole.lawful page whole.booked here may.leaf.leaf, may.number);
@@ -102,7 +107,7 @@ module _ (table : TableValue) (room : ℕ) (whole : IsWhole table room) (page ke
   both : (step : Proposal) (delta : Delta) (receipt : Receipt) → refusal table step ≡ None → receipt ≡ receipt_of table step → after table step ≡ noted (set table.slots page (raised delta)) receipt
       → TakesBoth table step receipt page (noted (set table.slots page (slot_with (Some delta) (slot_at table page))) receipt)
   both step delta receipt accepted told goes =
-      let written : slot_in (set table.slots page (raised delta)) page ≡ raised delta = slot_written table.slots page (raised delta) bare_leaf_is_inside in
+      let written : slot_in (set table.slots page (raised delta)) page ≡ raised delta = slot_written table.slots page (raised delta) leaf_is_inside in
       let base : Page = base_with delta in
       let seen : ℕ = suc (slot_at table page).version in
       let rises : seen + 1 < 2 ^ 64 = omega (arith, may.leaf.version) in
@@ -195,7 +200,7 @@ tells_then_same (look number key found) old between new tells same =
 tells_then_same shape old between new tells same = λ k value. (λ maps. (tells k value).0 ((same k value).0 maps), λ maps. (same k value).1 ((tells k value).1 maps))
 
 -- what is told of it is what it makes of the map
-pub tells_at_once : (table : TableValue) (room page key number : ℕ) (receipt : Receipt) (new : TableValue) (step : Option Proposal) → IsWhole table room → IsBareLeaf (slot_at table page) key
+pub tells_at_once : (table : TableValue) (room page key number : ℕ) (receipt : Receipt) (new : TableValue) (step : Option Proposal) → IsWhole table room → IsShallowLeaf (slot_at table page) key
     → LooksOrTakes table page (Looked number key (at key (pairs_in (slot_at table page)))) receipt new step → TellsMap (telling_of receipt) table.slots new.slots
 tells_at_once table room page key number receipt new None whole leaf looks =
     let Tells : Receipt → TableValue → Type 0 = λ r t. TellsMap (telling_of r) table.slots t.slots in
@@ -314,6 +319,18 @@ module _ (table : TableValue) (room : ℕ) (whole : IsWhole table room) (parent 
       two_steps table posting (record table { slots = slots }) step (receipt_of table step) parent over_raised over_base
       (term_add_is_accepted (slot_at table parent) (slot_at table child) may absent) refl refl written accepts
       (ap (λ (s : List SlotValue). record table { slots = s }) (slots_are ∙ sym in_order))
+
+  -- what the test of the parent's list decided
+  pub posted_or_not : (done : Bool) (slots : List SlotValue) → (done ≡ true → at (slot_at table child).low (routes_in (slot_at table parent)) ≡ None) → (done ≡ true → is_leaf (chain_in (slot_at table parent)) ≡ false)
+      → (done ≡ true → slots ≡ set (set table.slots parent (slot_with (Some term) (slot_at table parent))) child (with_stage Posted (slot_at table child))) → (done ≡ false → slots ≡ table.slots)
+      → IsPosted table parent (pid child) done (record table { slots = slots })
+  posted_or_not true slots absent inner posted same = posted_at_once slots (absent refl) (inner refl) (posted refl)
+  posted_or_not false slots absent inner posted same = ap (λ (s : List SlotValue). record table { slots = s }) (same refl)
+
+pub whole_if_posted : (table : TableValue) (room parent : ℕ) (child : Pid) (done : Bool) (new : TableValue) → IsWhole table room → IsPosted table parent child done new → IsWhole new room
+whole_if_posted table room parent child true new whole posted =
+    whole_both table room parent (Shaped kinds.TermAdd (pid parent) (Some child)) new (term_add parent (slot_at table parent).version child.0 (slot_at table child.0).version) whole posted
+whole_if_posted table room parent child false new whole posted = let Whole : TableValue → Type 0 = λ t. IsWhole t room in subst Whole (sym posted) whole
 
 kind_fits : (leaf : Bool) (level : ℕ) → leaf ≡ eqb level 0 → cond leaf (nat_lt 0 level) (eqb level 0) ≡ false
 kind_fits true level is = grind (arith, nat_tests)

@@ -1,5 +1,5 @@
 -- A change of a key and the consolidation of its page, one behind the other, as one call does them.
-use Rattle.std.specs.Prelude.{◌≡◌, ℕ, suc, ◌+◌, ◌-◌, ◌<◌, ◌^◌, Bool, true, false, Option, Some, None, unwrap_or}
+use Rattle.std.specs.Prelude.{◌≡◌, ℕ, suc, ◌+◌, ◌-◌, ◌<◌, ◌≤◌, ◌^◌, Bool, true, false, Option, Some, None, unwrap_or}
 use Rattle.bw_keys.specs.declared.page.Pid.{Pid}
 use Rattle.bw_keys.specs.declared.range.Fence.TheVariants.{Key}
 use Rattle.bw_keys.specs.Ranges.{is_within}
@@ -10,6 +10,7 @@ use Rattle.bw_delta.specs.Fence.{fences}
 use Rattle.bw_delta.specs.Pages.{Page}
 use Rattle.bw_delta.specs.Records.{above}
 use Rattle.bw_delta.specs.Sound.{LiesIn, page_for}
+use Rattle.bw_chain.specs.Pages.Halves.{listed_key_at}
 use Rattle.bw_chain.specs.declared.in_place.Wished.{Wished}
 use Rattle.bw_chain.specs.declared.in_place.Wished.TheVariants as wishes
 use Rattle.bw_step.specs.declared.receipt.Kind.TheVariants as kinds
@@ -22,17 +23,17 @@ use Rattle.bw_law.specs.Refusals.{refusal, is_bad_key, is_leaving_at, last_id, n
 use Rattle.bw_law.specs.Slots.{SlotValue, chain_in, pairs_in, routes_in}
 use Rattle.bw_law.specs.Tables.{TableValue, slot_at, number_of}
 
--- a leaf without records, posted, whose range holds the key and whose version can rise twice
-pub record IsBareLeaf (slot : SlotValue) (key : ℕ) : Type 0 where
+-- a leaf with one record at most, posted, whose range holds the key and whose version can rise twice
+pub record IsShallowLeaf (slot : SlotValue) (key : ℕ) : Type 0 where
   pub posted : slot.stage ≡ Posted
   pub leaf : slot.level ≡ 0
-  pub no_records : slot.depth ≡ 0
+  pub shallow : slot.depth ≤ 1
   pub within : is_within slot.low slot.high key ≡ true
   pub version : slot.version + 2 < 2 ^ 64
 
 -- the page is such a leaf, and the book's number can rise
 pub record MayChangeAtOnce (table : TableValue) (page key : ℕ) : Type 0 where
-  pub leaf : IsBareLeaf (slot_at table page) key
+  pub leaf : IsShallowLeaf (slot_at table page) key
   pub number : number_of table.book + 1 < 2 ^ 64
 
 -- the numbers of a slot can rise, and its chain takes the key
@@ -136,10 +137,11 @@ slot_cut separator new count slot =
     consolidated (page_for (above (deltas.Split separator new) (chain_in slot)))
     (record (with_record (deltas.Split separator new) (slot.count - count) slot) { high = Key separator; right = Some new })
 
--- the page was split at a separator, and then consolidated
-pub record IsSplitAtOnce (old : TableValue) (page : ℕ) (receipt : Receipt) (new : TableValue) : Type 0 where
+-- the page was split at the key of its entry with the number, counted from 0, and then consolidated
+pub record IsSplitAtOnce (old : TableValue) (page number : ℕ) (receipt : Receipt) (new : TableValue) : Type 0 where
   pub separator : ℕ
   pub base : Page
+  pub its_key : listed_key_at number (page_for (chain_in (slot_at old page))).listed ≡ Some separator
   pub takes : TakesBoth old (split page (slot_at old page).version separator base) receipt page new
 
 -- both steps that name the new page in the parent, or nothing
@@ -149,7 +151,7 @@ IsPosted old parent new_page true new =
 IsPosted old parent new_page false new = new ≡ old
 
 -- The page was split and consolidated, and then the new page was named in the parent, which was consolidated, or wasn't.
-pub record IsSplitUnder (old : TableValue) (parent page : ℕ) (new_page : Pid) (posted : Bool) (new : TableValue) : Type 0 where
+pub record IsSplitUnder (old : TableValue) (parent page number : ℕ) (new_page : Pid) (posted : Bool) (new : TableValue) : Type 0 where
   pub between : TableValue
-  pub split : IsSplitAtOnce old page (Shaped kinds.Split (pid page) (Some new_page)) between
+  pub split : IsSplitAtOnce old page number (Shaped kinds.Split (pid page) (Some new_page)) between
   pub post : IsPosted between parent new_page posted new

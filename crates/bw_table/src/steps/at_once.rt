@@ -8,6 +8,7 @@ ghost use Rattle.bw_delta.specs.Pages.{listed_length, upper_part};
 ghost use Rattle.bw_delta.specs.Sound.{page_for};
 ghost use Rattle.bw_table.specs.SlotFacts.{HasSoundChain};
 ghost use Rattle.bw_chain.specs.InPlaces.{delta_for};
+ghost use Rattle.bw_chain.specs.Pages.Halves.{listed_key_at};
 ghost use Rattle.bw_step.specs.declared.view.Stage.TheVariants.{Posted};
 ghost use Rattle.bw_step.specs.declared.receipt.Kind.TheVariants as kinds;
 ghost use Rattle.bw_step.specs.declared.receipt.Receipt.TheVariants.{Shaped};
@@ -15,12 +16,12 @@ ghost use Rattle.bw_step.specs.Tellings.{telling_of};
 ghost use Rattle.bw_law.specs.Effects.{with_stage, upper_half};
 ghost use Rattle.bw_law.specs.Slots.{slot_in, chain_in, pairs_in, routes_in};
 ghost use Rattle.bw_law.specs.Tables.{TellsMap, slot_at, number_of, book_with};
-ghost use Rattle.bw_table.specs.InPlaces.{IsBareLeaf, MayChangeAtOnce, MayCut, MayPostAtOnce, MaySplitAtOnce, TakesCut, TakesInPlace, IsSplitAtOnce, IsSplitUnder, IsPosted, slot_cut, IsDoneAtOnce, count_after, slot_with, receipt_for};
+ghost use Rattle.bw_table.specs.InPlaces.{IsShallowLeaf, MayChangeAtOnce, MayCut, MayPostAtOnce, MaySplitAtOnce, TakesCut, TakesInPlace, IsSplitAtOnce, IsSplitUnder, IsPosted, slot_cut, IsDoneAtOnce, count_after, slot_with, receipt_for};
 
 use crate::book::number_of;
 use crate::slot::Slot;
 use crate::table::Table;
-use bw_chain::{InPlace, Wished, change_in_place, cut_in_place, route_in_place, upper_half_of};
+use bw_chain::{InPlace, Wished, change_in_place, cut_in_place, route_in_place, upper_part_of};
 use bw_delta::{Base, Delta};
 use bw_keys::{Fence, Key, Pid};
 use bw_step::{AtOnce, Book, Receipt, Stage, Summary};
@@ -29,8 +30,8 @@ use std::alloc::Allocator;
 impl<A: Allocator + Copy> Table<A> {
     /// Makes the wish come true for a key and consolidates its leaf, as a change and a consolidation
     /// one behind the other do. None, and nothing changed, where a page on the way to the leaf is in
-    /// the middle of a split or a merge, where records stand on the leaf, where a number is used up,
-    /// and where memory is short.
+    /// the middle of a split or a merge, where more than the record of its split stands on the leaf,
+    /// where a number is used up, and where memory is short.
     #[inline(always)]
     pub fn change_at_once(&mut self, key: Key, wished: Wished) -> Option<AtOnce>
         ensures done { IfSome result (λ done. IsDoneAtOnce self.old done.page.0 key wished done.receipt self.new) }
@@ -42,7 +43,7 @@ impl<A: Allocator + Copy> Table<A> {
         Some(AtOnce { page, receipt })
     }
 
-    /// The same on a page: None where it isn't a posted leaf without records whose range holds the key.
+    /// The same on a page: None where it isn't such a leaf, or its range doesn't hold the key.
     #[inline(always)]
     fn change_leaf(&mut self, page: Pid, key: Key, wished: Wished) -> Option<Receipt>
         ensures done { IfSome result (λ receipt. IsDoneAtOnce self.old page.0 key wished receipt self.new) }
@@ -64,7 +65,7 @@ impl<A: Allocator + Copy> Table<A> {
         let Some(slot) = self.slot(page) else {
             return false;
         };
-        self.number() < u64::MAX && slot.is_bare_leaf(key)
+        self.number() < u64::MAX && slot.is_shallow_leaf(key)
     }
 }
 
@@ -79,10 +80,7 @@ impl<A: Allocator + Copy> Table<A> {
         if !self.may_post_at_once(parent, child) {
             return false;
         }
-        if !post_at(&mut self.slots, parent, child) {
-            return false;
-        }
-        true
+        post_at(&mut self.slots, parent, child)
     }
 
     fn may_post_at_once(&self, parent: Pid, child: Pid) -> bool
@@ -150,15 +148,17 @@ impl<A: Allocator + Copy> Slot<A> {
 }
 
 impl<A: Allocator + Copy> Table<A> {
-    /// Splits a page in the middle and consolidates it, as the two steps one behind the other do. None,
-    /// and nothing changed, where it isn't a posted page without records, where it has too few entries
-    /// or begins the upper half with a page that is leaving, where no slot is free, where a number is
-    /// used up, and where memory is short.
-    pub fn split_at_once(&mut self, page: Pid) -> Option<Pid>
-        ensures done { IfSome result (λ new. IsSplitAtOnce self.old page.0 (Shaped kinds.Split page (Some new)) self.new) }
+    /// Splits a page before the entry with the number, counted from 0, and consolidates it, as the two
+    /// steps one behind the other do. The new page has room for as many entries as it may get before it
+    /// is split. None, and nothing changed, where it isn't a posted page without records, where that
+    /// entry is its first or isn't there or leads to a page that is leaving, where no slot is free,
+    /// where a number is used up, and where memory is short.
+    pub fn split_at_once(&mut self, page: Pid, number: usize) -> Option<Pid>
+        ensures done { IfSome result (λ new. IsSplitAtOnce self.old page.0 number (Shaped kinds.Split page (Some new)) self.new) }
         ensures unchanged { IfNone result (self.new ≡ self.old) }
     {
-        let (separator, base) = self.slot(page)?.upper_half()?;
+        let room = self.config.fanout as usize + 1;
+        let (separator, base) = self.slot(page)?.upper_part(number, room)?;
         if !self.may_split_at_once(page, separator) {
             return None;
         }
@@ -173,11 +173,11 @@ impl<A: Allocator + Copy> Table<A> {
     /// Splits a page, consolidates it, names the new page in the parent and consolidates that. Where the
     /// parent doesn't take the new page so, the page is split all the same, and the new one stays
     /// Unposted: false is told beside it.
-    pub fn split_under(&mut self, parent: Pid, page: Pid) -> Option<(Pid, bool)>
-        ensures done { IfSome result (λ done. IsSplitUnder self.old parent.0 page.0 done.0 done.1 self.new) }
+    pub fn split_under(&mut self, parent: Pid, page: Pid, number: usize) -> Option<(Pid, bool)>
+        ensures done { IfSome result (λ done. IsSplitUnder self.old parent.0 page.0 number done.0 done.1 self.new) }
         ensures unchanged { IfNone result (self.new ≡ self.old) }
     {
-        let new = self.split_at_once(page)?;
+        let new = self.split_at_once(page, number)?;
         let posted = self.post_at_once(parent, new);
         Some((new, posted))
     }
@@ -219,11 +219,13 @@ fn cut_at<A: Allocator + Copy>(
 }
 
 impl<A: Allocator + Copy> Slot<A> {
-    fn upper_half(&self) -> Option<(Key, Base<A>)>
-        ensures { IfSome result (λ half. half.1 ≡ upper_part half.0 (page_for (chain_in self.now))) }
+    /// Its entries from the one with the number on, with the key of that.
+    fn upper_part(&self, number: usize, room: usize) -> Option<(Key, Base<A>)>
+        ensures separator { IfSome result (λ part. listed_key_at number (page_for (chain_in self.now)).listed ≡ Some part.0) }
+        ensures page { IfSome result (λ part. part.1 ≡ upper_part part.0 (page_for (chain_in self.now))) }
     {
         match &self.chain {
-            Some(chain) => upper_half_of(chain),
+            Some(chain) => upper_part_of(chain, number, room),
             None => None,
         }
     }
@@ -329,15 +331,15 @@ fn note(book: &mut Book, key: Key, done: InPlace) -> Receipt
 }
 
 impl<A: Allocator + Copy> Slot<A> {
-    /// Whether this is a posted leaf without records whose range holds the key, and whose version
-    /// can rise twice.
+    /// Whether this is a posted leaf with one record at most, whose range holds the key and whose
+    /// version can rise twice.
     #[inline(always)]
-    fn is_bare_leaf(&self, key: Key) -> bool
-        ensures { IsTrue result → IsBareLeaf self.now key }
+    fn is_shallow_leaf(&self, key: Key) -> bool
+        ensures { IsTrue result → IsShallowLeaf self.now key }
     {
         self.stage == Stage::Posted
             && self.summary.level == 0
-            && self.summary.depth == 0
+            && self.summary.depth <= 1
             && self.version < u64::MAX - 1
             && self.holds(key)
     }

@@ -1,13 +1,13 @@
-use Rattle.bw_table.proofs.InPlaces.{bare_leaf_is_inside, bare_leaf_takes, done_at_once, whole_at_once, tells_at_once}
+use Rattle.bw_table.proofs.InPlaces.{leaf_is_inside, leaf_takes, done_at_once, whole_at_once, tells_at_once}
 use Rattle.bw_table.proofs.table.Table.change_leaf.Goals as goal
 
 pub change_at-requires-clause-exists : goal.change_at-requires-clause-exists
 change_at-requires-clause-exists g c =
-    bare_leaf_is_inside _ _ c.self.invariant c.args.page.0 c.args.key (rw (← c.self.view_is) at (c.may_change_at_once.ensures c.if-not-may_change_at_once.false))
+    leaf_is_inside _ _ c.self.invariant c.args.page.0 c.args.key (rw (← c.self.view_is) at (c.may_change_at_once.ensures c.if-not-may_change_at_once.false))
 
 pub change_at-requires-clause-takes : goal.change_at-requires-clause-takes
 change_at-requires-clause-takes g c =
-    bare_leaf_takes _ _ c.self.invariant c.args.page.0 c.args.key (rw (← c.self.view_is) at (c.may_change_at_once.ensures c.if-not-may_change_at_once.false))
+    leaf_takes _ _ c.self.invariant c.args.page.0 c.args.key (rw (← c.self.view_is) at (c.may_change_at_once.ensures c.if-not-may_change_at_once.false))
 
 pub note-requires : goal.note-requires
 note-requires g c = record { number = (rw (← c.self.view_is) at (c.may_change_at_once.ensures c.if-not-may_change_at_once.false)).number }

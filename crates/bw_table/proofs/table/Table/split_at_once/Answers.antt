@@ -26,7 +26,7 @@ returns-then-not-cut_at-clause-unchanged g c = rw (c.cut_at.ensures.unchanged c.
 pub invariant_of-self-2 : goal.invariant_of-self-2
 invariant_of-self-2 g c =
     let there = c.in_ok-slot.ensures.there in
-    let base_is = c.in_ok-separator.ensures in
+    let base_is = c.in_ok-separator.ensures.page in
     rw (c.take_last-new.ensures.rest, c.take_last-new.ensures.room)
     (whole_both _ _ c.args.page.0 _ _ _ c.self.invariant
     (splits_at_once _ _ c.self.invariant c.args.page.0 c.in_ok-separator.separator (rw (← c.self.view_is) at (c.may_split_at_once.ensures c.if-not-may_split_at_once.false))
@@ -35,11 +35,12 @@ invariant_of-self-2 g c =
 pub returns-clause-done : goal.returns-clause-done
 returns-clause-done g c =
     let there = c.in_ok-slot.ensures.there in
-    let base_is = c.in_ok-separator.ensures in
+    let base_is = c.in_ok-separator.ensures.page in
     rw (← c.self.view_is)
     (record {
       separator = c.in_ok-separator.separator;
       base = c.in_ok-separator.base;
+      its_key = rw (there, ← c.self.view_is) at c.in_ok-separator.ensures.separator;
       takes =
           rw c.take_last-new.ensures.rest
           (splits_at_once _ _ c.self.invariant c.args.page.0 c.in_ok-separator.separator (rw (← c.self.view_is) at (c.may_split_at_once.ensures c.if-not-may_split_at_once.false))
