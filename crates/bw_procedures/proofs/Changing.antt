@@ -106,8 +106,15 @@ spends_at_once (Modified m k old v) n = omega arith
 spends_at_once (Shaped kind p other) n = omega arith
 
 -- a wish that came true at once adds the receipt of its reply
-adds_at_once : {T : Type 0} → (is_of : T → Receipt → Type 0) (reply : T) (key : ℕ) (wished : Wished) (done : AtOnce) (a b : Seen) → IsTrueAtOnce key wished done a b → is_of reply done.receipt → AddsReceipt is_of reply a b × Grows a b
+pub adds_at_once : {T : Type 0} → (is_of : T → Receipt → Type 0) (reply : T) (key : ℕ) (wished : Wished) (done : AtOnce) (a b : Seen) → IsTrueAtOnce key wished done a b → is_of reply done.receipt → AddsReceipt is_of reply a b × Grows a b
 adds_at_once is_of reply key wished done a b h goes = (
   (done.receipt, ap without_shapes h.trail ∙ (without_shapes-append a.trail (done.receipt ∷ shapes_behind done.page done.receipt) ∙ ap (λ (l : List Receipt). without_shapes a.trail ++ l) (alone_at_once key wished done.page done.receipt h.told)), goes),
   counts_grow a b h.counts (let up = spends_at_once done.receipt a.effort in omega (arith, h.effort, up)),
 )
+
+-- so does a look that finds the wish true
+pub looked_at_once : {T : Type 0} → (is_of : T → Receipt → Type 0) (reply : T) (key : ℕ) (wished : Wished) (done : AtOnce) (a b : Seen) → IsTrueAtOnce key wished done a b
+    → (at k : ℕ) (found : Option ℕ) → done.receipt ≡ Looked at k found → ((n : ℕ) → is_of reply (Looked n key found)) → AddsReceipt is_of reply a b × Grows a b
+looked_at_once is_of reply key wished done a b h at k found is goes =
+    let told : IsReceiptFor key wished (Looked at k found) = subst (IsReceiptFor key wished) is h.told in
+    adds_at_once is_of reply key wished done a b h (subst (is_of reply) (sym (is ∙ ap (λ (x : ℕ). Looked at x found) told.0)) (goes at))

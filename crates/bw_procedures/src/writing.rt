@@ -81,7 +81,6 @@ pub(crate) fn write<A: Allocator + Copy, S: Steps<A, Step<A>>, W: Wish>(
 
 /// What is wished for, in one step of a worker that can do that, where the effort that is left covers
 /// the consolidation behind the change.
-#[tactic(auto, using(crate::proofs::Changing::answered_at_once, crate::proofs::Changing::changed_at_once))]
 #[inline(always)]
 fn write_at_once<A: Allocator + Copy, S: Steps<A, Step<A>>, W: Wish>(
     steps: &mut S,
