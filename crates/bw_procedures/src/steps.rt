@@ -60,7 +60,7 @@ pub trait Steps<A: Allocator + Copy, P: Proposes> {
     ghost use Rattle.bw_delta.specs.Sound.{IsSound};
     ghost use Rattle.bw_step.specs.Steps.{IsNext};
     ghost use Rattle.bw_procedures.specs.Seen.{Seen, ends_of, Visited, Looked, Copied, Installed, Idled};
-    ghost use Rattle.bw_procedures.specs.Calls.{IsAtLevel};
+    ghost use Rattle.bw_procedures.specs.Calls.{IsAtLevel, SplitAtOnce};
     ghost use Rattle.bw_procedures.specs.Writing.{ChangedAtOnce};
     ghost use Rattle.bw_procedures.specs.Facts.{Fact, quiet, on_the_way, holds, fresh, CalmNext, CalmPeek, CalmLook, CalmCopy, CalmAnew, ShowsCopy};
 
@@ -104,6 +104,22 @@ pub trait Steps<A: Allocator + Copy, P: Proposes> {
     fn change_at_once(&mut self, _key: Key, _wished: Wished) -> Option<AtOnce>
         ensures follows { follows self.old self.new }
         ensures seen { ChangedAtOnce _key _wished result (seen self.old) (seen self.new) }
+    {
+        None
+    }
+
+    /// Whether the worker splits pages in one step, where it may choose.
+    fn splits_at_once(&self) -> bool {
+        false
+    }
+
+    /// Splits a page, consolidates it, names the new page in the parent and consolidates that: by all
+    /// four steps, or the first two where the parent doesn't take the new page so. It answers the new
+    /// page. Their receipts are added to the trail, and each costs effort. None, and no step taken,
+    /// where the worker can't.
+    fn split_at_once(&mut self, _parent: Pid, _page: View) -> Option<Pid>
+        ensures follows { follows self.old self.new }
+        ensures seen { SplitAtOnce result (seen self.old) (seen self.new) }
     {
         None
     }
