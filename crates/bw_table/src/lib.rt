@@ -18,8 +18,9 @@ mod survey;
 mod table;
 mod visit;
 
+pub use bw_chain::Wished;
 pub use bw_step::{
-    Book, Consolidate, CopyFault, Delete, Go, Grow, Insert, Kind, Leaf, Look, Mark, Merge, Modify,
+    AtOnce, Book, Consolidate, CopyFault, Delete, Go, Grow, Insert, Kind, Leaf, Look, Mark, Merge, Modify,
     Next, Place, Receipt, Refused, Split, Stage, Step, Summary, Survey, TermAdd, TermDelete, Todo,
     View,
 };
