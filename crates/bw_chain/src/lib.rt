@@ -15,4 +15,6 @@ mod search;
 
 pub use page::{HalveFault, depth, fences, halve, is_leaf};
 pub use pass::{append_first_pairs, append_pairs, consolidate, count, is_upper_part, same};
-pub use search::{child, find, is_later_key, next_at, previous_at, route_at, route_before};
+pub use search::{
+    child, find, is_later_key, next_at, pairs_from, previous_at, route_at, route_before,
+};
