@@ -9,6 +9,7 @@ mod greatest;
 mod least;
 mod reach;
 mod separator;
+mod stretch;
 
 ghost use Rattle.std.specs.Prelude.{◌≡◌};
 ghost use Rattle.bw_delta.specs.Entries.{at, first_from, last_below, last_upto};
@@ -21,6 +22,7 @@ use crate::search::least::first_from;
 use bw_delta::Chain;
 use bw_keys::{Fence, Key, Pid};
 pub use separator::is_later_key;
+pub use stretch::pairs_from;
 use std::alloc::Allocator;
 
 /// The value at the key: that of the newest record which names the key, and the base page's where
