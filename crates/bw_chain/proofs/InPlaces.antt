@@ -8,7 +8,7 @@ use Rattle.bw_keys.specs.Ranges.{end_of}
 use Rattle.bw_delta.specs.declared.chain.Delta.{Delta}
 use Rattle.bw_delta.specs.declared.chain.Delta.TheVariants.{Insert, Modify, Delete, Split, TermAdd}
 use Rattle.bw_delta.specs.declared.fences.Fences.{Fences}
-use Rattle.bw_delta.specs.Entries.{at, put, below, rises}
+use Rattle.bw_delta.specs.Entries.{at, put, below}
 use Rattle.bw_delta.specs.Fence.{page_fences, fences, fences_after}
 use Rattle.bw_delta.specs.Pages.{Page, Listed, IsPage, pairs_of, routes_of, lists_pairs, listed_rises}
 use Rattle.bw_delta.specs.Pairs.{pairs, pairs_listed, routes_listed, pairs_after, routes_after}

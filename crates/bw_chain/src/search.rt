@@ -22,8 +22,8 @@ use crate::search::least::first_from;
 use bw_delta::Chain;
 use bw_keys::{Fence, Key, Pid};
 pub use separator::is_later_key;
-pub use stretch::pairs_from;
 use std::alloc::Allocator;
+pub use stretch::pairs_from;
 
 /// The value at the key: that of the newest record which names the key, and the base page's where
 /// none does (Levandoski et al., ICDE 2013, "page search"). The base page is searched by quarters.

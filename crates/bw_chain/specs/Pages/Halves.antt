@@ -1,5 +1,5 @@
 -- The parts of a base page's entries from one of them on.
-use Rattle.std.specs.Prelude.{ℕ, ◌/◌, List, Option, option_map, length, drop, slice_get}
+use Rattle.std.specs.Prelude.{ℕ, ◌/◌, List, Option, option_map, drop, slice_get}
 use Rattle.bw_delta.specs.Pages.{Listed, pairs_of, routes_of, listed_length}
 
 -- the key of the entry with the number, counted from 0

@@ -37,10 +37,7 @@ pub fn pairs_from<A: Allocator + Copy>(chain: &Chain<A>, key: Key) -> &[(Key, u6
     ensures { BeginsWith (from key (pairs chain.now)) result.now }
 {
     let stretch = stretch_around(chain, key);
-    below_end(
-        entries_from(stretch.pairs, Fence::Key(key)),
-        stretch.end,
-    )
+    below_end(entries_from(stretch.pairs, Fence::Key(key)), stretch.end)
 }
 
 /// The stretch round the key, or one that ends there where a record names the key.
