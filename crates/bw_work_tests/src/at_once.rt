@@ -75,7 +75,7 @@ struct Outcome {
     ends: Ends,
 }
 
-fn outcome<S: Steps<Global, Step<Global>>>(
+fn outcome_of<S: Steps<Global, Step<Global>>>(
     machine: Global,
     steps: &mut S,
     calls: &[Call],
@@ -106,7 +106,7 @@ impl Play<Outcome> for ByHand {
     ) -> Worked<S::Insertions, S::Removals, Outcome> {
         let calls: &[Call] = if worker == 0 { &self.calls } else { &[] };
         let mut hand = Hand::new(self.machine, self.machine, tree, share, worker, &Open);
-        let told = outcome(self.machine, &mut hand, calls);
+        let told = outcome_of(self.machine, &mut hand, calls);
         let (share, _) = hand.finish();
         Worked { share, told }
     }
@@ -120,7 +120,7 @@ fn changes_at_once_are_those_of_the_steps(rt: HostRuntime) -> Result<(), Fail> {
             let calls = drawn_calls(machine, seed)?;
             let mut table = Table::new(machine, machine, *config)?;
             let mut alone = Alone::new(machine, machine, &mut table);
-            let at_once = outcome(machine, &mut alone, &calls);
+            let at_once = outcome_of(machine, &mut alone, &calls);
             let by_hand = ByHand { machine, calls };
             let ended = play_on_new_tree(rt, machine, *config, Turns::OneByOne, &by_hand)?;
             assert_eq!(rt; at_once, ended.zero, "seed {seed}");
