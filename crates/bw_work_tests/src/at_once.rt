@@ -5,7 +5,9 @@
 use bw_keys::{Config, Fence};
 use bw_step::{Receipt, Step};
 use bw_table::Table;
-use bw_test_kit::{Call, LARGE, Play, Pages, Reply, SMALL, Task, Turns, Worked, play_on_new_tree, work};
+use bw_test_kit::{
+    Call, LARGE, Pages, Play, Reply, SMALL, Task, Turns, Worked, play_on_new_tree, work,
+};
 use bw_tree::{Share, Shared};
 use bw_work::{Alone, Ends, Fault, Hand, Open, Steps};
 use rand_core::{Rng, SeedableRng};
