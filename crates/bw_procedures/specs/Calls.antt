@@ -1,5 +1,5 @@
 -- What a call, or a part of one, leaves of the worker.
-use Rattle.std.specs.Prelude.{◌≡◌, ◌≢◌, ℕ, suc, ◌+◌, Bool, true, false, ◌-◌, ◌≤◌, ◌^◌, min, length, List, [], ◌∷◌, ◌++◌, Option, Some, None, Result, Ok, Err}
+use Rattle.std.specs.Prelude.{◌≡◌, ◌≢◌, ℕ, zero, suc, ◌+◌, Bool, true, false, ◌-◌, ◌≤◌, ◌^◌, min, length, List, [], ◌∷◌, ◌++◌, Option, Some, None, Result, Ok, Err}
 use Rattle.bw_keys.specs.declared.page.Pid.{Pid}
 use Rattle.bw_delta.specs.declared.fault.NoMemory.{NoMemory}
 use Rattle.bw_step.specs.Proposals.{Proposal, insert, delete, modify, consolidate, split, term_add, grow, mark, merge, term_delete}
@@ -38,7 +38,7 @@ IsEarned limit old new Worn = RoseBy 1 old.worn new.worn
 
 -- a count that was made one higher so often
 abbrev pub raised : ℕ → ℕ → ℕ
-raised 0 n = n
+raised zero n = n
 raised (suc times) n = one_more (raised times n)
 
 -- the receipts of a step that changes a page's shape, and of the page's consolidation

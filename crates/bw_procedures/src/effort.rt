@@ -33,5 +33,8 @@ pub(crate) fn covers<A: Allocator + Copy, S: Steps<A, Step<A>>>(
 ) -> bool
     ensures { IsTrue result ↔ ((S.seen steps.now).effort + cost ≤ limit) }
 {
-    limit.checked_sub(steps.effort()).is_some_and(|left| cost <= left)
+    match limit.checked_sub(steps.effort()) {
+        Some(left) => cost <= left,
+        None => false,
+    }
 }

@@ -5,7 +5,9 @@
 use bw_keys::{Config, Fence};
 use bw_step::{Receipt, Step};
 use bw_table::Table;
-use bw_test_kit::{Call, LARGE, Play, Pages, Reply, SMALL, Task, Turns, Worked, play_on_new_tree, work};
+use bw_test_kit::{
+    Call, LARGE, Pages, Play, Reply, SMALL, Task, Turns, Worked, play_on_new_tree, work,
+};
 use bw_tree::{Share, Shared};
 use bw_work::{Alone, Ends, Fault, Hand, Open, Steps};
 use rand_core::{Rng, SeedableRng};
@@ -75,7 +77,7 @@ struct Outcome {
     ends: Ends,
 }
 
-fn outcome<S: Steps<Global, Step<Global>>>(
+fn outcome_of<S: Steps<Global, Step<Global>>>(
     machine: Global,
     steps: &mut S,
     calls: &[Call],
@@ -106,7 +108,7 @@ impl Play<Outcome> for ByHand {
     ) -> Worked<S::Insertions, S::Removals, Outcome> {
         let calls: &[Call] = if worker == 0 { &self.calls } else { &[] };
         let mut hand = Hand::new(self.machine, self.machine, tree, share, worker, &Open);
-        let told = outcome(self.machine, &mut hand, calls);
+        let told = outcome_of(self.machine, &mut hand, calls);
         let (share, _) = hand.finish();
         Worked { share, told }
     }
@@ -120,7 +122,7 @@ fn changes_at_once_are_those_of_the_steps(rt: HostRuntime) -> Result<(), Fail> {
             let calls = drawn_calls(machine, seed)?;
             let mut table = Table::new(machine, machine, *config)?;
             let mut alone = Alone::new(machine, machine, &mut table);
-            let at_once = outcome(machine, &mut alone, &calls);
+            let at_once = outcome_of(machine, &mut alone, &calls);
             let by_hand = ByHand { machine, calls };
             let ended = play_on_new_tree(rt, machine, *config, Turns::OneByOne, &by_hand)?;
             assert_eq!(rt; at_once, ended.zero, "seed {seed}");
