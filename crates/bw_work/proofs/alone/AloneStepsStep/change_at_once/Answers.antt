@@ -7,8 +7,8 @@ returns-clause-follows g c = (
   refl,
   at_once_keeps_config c.args.self.now.table.now c.change_at_once.new.self c.in_ok-done.done.page.0 c.args.key c.args.wished c.in_ok-done.done.receipt c.in_ok-done.ensures.done,
   rw (c.done_at_once.ensures, c.reserve_two.ensures.seen)
-  (at_once_leads c.args.self.now.table.now c.change_at_once.new.self c.in_ok-done.done.page.0 c.args.key c.args.wished c.in_ok-done.done.receipt c.in_ok-done.ensures.done
-  c.args.self.now.account.seen.trail c.config-config.ensures.lawful c.config-config.ensures.booked c.in_ok-done.ensures.map),
+      (at_once_leads c.args.self.now.table.now c.change_at_once.new.self c.in_ok-done.done.page.0 c.args.key c.args.wished c.in_ok-done.done.receipt c.in_ok-done.ensures.done
+      c.args.self.now.account.seen.trail c.config-config.ensures.lawful c.config-config.ensures.booked c.in_ok-done.ensures.map),
 )
 
 pub returns-clause-seen : goal.returns-clause-seen
