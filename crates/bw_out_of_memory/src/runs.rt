@@ -58,8 +58,8 @@ fn judge(machine: Global, finished: &Finished) -> Result<Ending, Stop> {
     Ok(ending)
 }
 
-/// Why a run that has no end to show may begin again. `Memory` comes before the worker starts or behind all
-/// that it does, in the audit, and no other fault of the run's own behind its start.
+/// Why a run that has no end to show may begin again. A run tells `Memory` before its worker starts or in the
+/// audit, and its other faults before the worker starts: which calls of the gate there were shows it.
 fn refused(fault: RunFault, readers: u32, calls: u64) -> Stop {
     match fault {
         RunFault::Memory if calls == 0 || calls == CALLS => Stop::Memory,
