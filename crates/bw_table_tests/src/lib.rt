@@ -6,3 +6,5 @@
 mod memory;
 #[cfg(test)]
 mod rest;
+#[cfg(test)]
+mod stale;
