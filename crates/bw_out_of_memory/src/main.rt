@@ -8,11 +8,13 @@ mod acts;
 mod ending;
 mod plain;
 mod readers;
+mod replays;
 mod runs;
 mod workers;
 
 use crate::ending::{Ending, Stop};
 use crate::readers::{beside_readers, publications};
+use crate::replays::replays;
 use crate::runs::run_with;
 use crate::workers::{alone, by_hand};
 use std::alloc::Global;
@@ -42,6 +44,7 @@ fn run_trial<R: Threads + Wait + Sync + Send + Copy>(
         "by_hand" => by_hand(rt, machine),
         "beside_readers" => beside_readers(rt, machine),
         "publications" => publications(rt, machine),
+        "replays" => replays(machine),
         "run" => run_with(rt, machine, 0),
         "run_with_reader" => run_with(rt, machine, 1),
         _ => Err(Stop::Broken("no such trial")),
