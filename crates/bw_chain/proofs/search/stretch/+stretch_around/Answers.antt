@@ -1,6 +1,5 @@
-use Rattle.std.proofs.Common.{ℕ, ◌≡◌, sym, ap, ◌∙◌, arith}
+use Rattle.std.proofs.Common.{sym, ap, ◌∙◌, arith}
 use Rattle.bw_keys.specs.Ranges.{end_of}
-use Rattle.bw_delta.specs.Entries.{at}
 use Rattle.bw_delta.specs.Pairs.{pairs_listed}
 use Rattle.bw_delta.proofs.At.{at-joined_left, at-joined_right}
 use Rattle.bw_chain.specs.Changes.{entries_by, pair_change}
