@@ -81,6 +81,21 @@ fn tend_once<A: Allocator + Copy, S: Steps<A, Step<A>>>(
     Ok(None)
 }
 
+/// Splits a page that has too many entries, if there is a page that it can be split to.
+fn split_to_free_page<A: Allocator + Copy, S: Steps<A, Step<A>>>(
+    steps: &mut S,
+    limit: u64,
+    view: View,
+) -> Result<Option<Pid>, Fault>
+    ensures follows { S.follows steps.old steps.new }
+    ensures tended { IsTended limit result (S.seen steps.old) (S.seen steps.new) }
+{
+    if !is_spent(steps, limit) && steps.refuses_split(view.pid, view.version) {
+        return Err(Fault::TableFull);
+    }
+    split_page(steps, limit, view)
+}
+
 /// The page, unless it is leaving or gone.
 fn present<A: Allocator + Copy, S: Steps<A, Step<A>>>(steps: &mut S, page: Pid) -> Option<View>
     ensures follows { S.follows steps.old steps.new }
@@ -173,21 +188,6 @@ fn split_in_place<A: Allocator + Copy, S: Steps<A, Step<A>>>(
         Some(parent) if covers(steps, limit, SPLIT_COST) => Ok(steps.split_at_once(parent, view)),
         _ => Ok(None),
     }
-}
-
-/// Splits a page that has too many entries, if there is a page that it can be split to.
-fn split_to_free_page<A: Allocator + Copy, S: Steps<A, Step<A>>>(
-    steps: &mut S,
-    limit: u64,
-    view: View,
-) -> Result<Option<Pid>, Fault>
-    ensures follows { S.follows steps.old steps.new }
-    ensures tended { IsTended limit result (S.seen steps.old) (S.seen steps.new) }
-{
-    if !is_spent(steps, limit) && steps.refuses_split(view.pid, view.version) {
-        return Err(Fault::TableFull);
-    }
-    split_page(steps, limit, view)
 }
 
 /// Where a bare page is to be split, and its entries from there on.
