@@ -1,9 +1,11 @@
 pub mod Ascending
 pub mod Bridges
 pub mod Firsts
+pub mod InPlaces
 pub mod Lasts
 pub mod Overlays
 pub mod Partitions
+pub mod Places
 pub mod Sorted
 pub mod Pages
 pub mod Passing

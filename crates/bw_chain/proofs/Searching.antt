@@ -2,3 +2,4 @@
 pub mod Candidates
 pub mod Gaps
 pub mod Reaches
+pub mod Stretches

@@ -1,5 +1,6 @@
 pub mod Ascends
 pub mod Changes
+pub mod InPlaces
 pub mod Kinds
 pub mod Pages
 pub mod Passing

@@ -2,3 +2,4 @@
 pub mod Deciding
 pub mod Gaps
 pub mod Reaches
+pub mod Stretches

@@ -4,5 +4,6 @@
 mod halving;
 pub(crate) mod shape;
 
+pub(crate) use halving::part_from;
 pub use halving::{HalveFault, halve};
 pub use shape::{depth, fences, is_leaf};

@@ -99,7 +99,7 @@ fn pass_base<X: EntryValue, S: Sink<X>>(
 
 /// The entries below the end, which mostly all of them are.
 #[inline(always)]
-fn below_end<X: Copy>(entries: &[(Key, X)], end: Fence) -> &[(Key, X)]
+pub(crate) fn below_end<X: Copy>(entries: &[(Key, X)], end: Fence) -> &[(Key, X)]
     requires ascending { IsAscending entries.now }
     ensures { result.now ≡ below (end_of end) entries.now }
 {

@@ -9,6 +9,7 @@ mod greatest;
 mod least;
 mod reach;
 mod separator;
+mod stretch;
 
 ghost use Rattle.std.specs.Prelude.{◌≡◌};
 ghost use Rattle.bw_delta.specs.Entries.{at, first_from, last_below, last_upto};
@@ -22,6 +23,7 @@ use bw_delta::Chain;
 use bw_keys::{Fence, Key, Pid};
 pub use separator::is_later_key;
 use std::alloc::Allocator;
+pub use stretch::pairs_from;
 
 /// The value at the key: that of the newest record which names the key, and the base page's where
 /// none does (Levandoski et al., ICDE 2013, "page search"). The base page is searched by quarters.

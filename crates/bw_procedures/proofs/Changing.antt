@@ -1,9 +1,13 @@
 -- What a step that changes the map leaves.
-use Rattle.std.proofs.Common.{◌≡◌, ℕ, ◌≤◌, Bool, true, false, if◌then◌else◌, List, [], ◌∷◌, ◌++◌, Option, Some, Result, Ok, Err, refl, ap, ◌∙◌, arith}
+use Rattle.std.proofs.Common.{◌≡◌, ℕ, ◌≤◌, Bool, true, false, if◌then◌else◌, List, [], ◌∷◌, ◌++◌, Option, Some, Result, Ok, Err, refl, sym, ap, subst, ◌∙◌, arith}
+use Rattle.bw_keys.specs.declared.page.Pid.{Pid}
+use Rattle.bw_chain.specs.declared.in_place.Wished.{Wished}
+use Rattle.bw_chain.specs.declared.in_place.Wished.TheVariants.{Put, Set, Delete as TakeOut}
+use Rattle.bw_step.specs.declared.at_once.AtOnce.{AtOnce}
 use Rattle.bw_step.specs.Proposals.{Proposal, insert, delete, modify}
 use Rattle.bw_step.specs.Steps.{IsReceiptOf}
 use Rattle.bw_step.specs.declared.receipt.Receipt.{Receipt}
-use Rattle.bw_step.specs.declared.receipt.Receipt.TheVariants.{Inserted, Deleted, Modified, Looked}
+use Rattle.bw_step.specs.declared.receipt.Receipt.TheVariants.{Inserted, Deleted, Modified, Looked, Shaped}
 use Rattle.bw_step.specs.declared.view.Look.{Look}
 use Rattle.bw_step.specs.Tellings.{without_shapes}
 use Rattle.bw_step.proofs.Tellings.{without_shapes-append}
@@ -13,9 +17,9 @@ use Rattle.bw_procedures.specs.declared.offer.Answer.TheVariants as answers
 use Rattle.bw_procedures.specs.declared.reply.Put.TheVariants.{Inserted as PutInserted}
 use Rattle.bw_procedures.specs.declared.writing.Tried.{Tried}
 use Rattle.bw_procedures.specs.declared.writing.Tried.TheVariants.{Reply, Tend, Again, Kept}
-use Rattle.bw_procedures.specs.Seen.{Seen, SameCounts, IsAccepted, is_kept}
+use Rattle.bw_procedures.specs.Seen.{Seen, SameCounts, Grows, IsAccepted, is_kept}
 use Rattle.bw_procedures.specs.Seen.{Looked as LookTaken}
-use Rattle.bw_procedures.specs.Writing.{Attempts, LookAdds, FoundBy, IsReceiptOfPut, IsDeletionOf, IsSettingOf}
+use Rattle.bw_procedures.specs.Writing.{Attempts, AddsReceipt, AttemptsAtOnce, IsReceiptFor, IsChangeFor, IsTrueAtOnce, shapes_behind, effort_at_once, LookAdds, FoundBy, IsReceiptOfPut, IsDeletionOf, IsSettingOf}
 use Rattle.bw_procedures.specs.Calls.{Offered, OnlyReshapes, ChangesShape}
 use Rattle.bw_procedures.proofs.Reshaping.{counts_grow}
 
@@ -75,3 +79,42 @@ insertion_sets page seen key value receipt h = absurd h
 pub modification_sets : (page seen key value : ℕ) (receipt : Receipt) → IsReceiptOf (modify page seen key value) receipt → IsSettingOf key value receipt
 modification_sets page seen key value (Modified number k old v) h = h
 modification_sets page seen key value receipt h = absurd h
+
+-- no wish comes true by a change of the shape alone
+shape_is_no_change : (key : ℕ) (wished : Wished) (receipt : Receipt) → without_shapes (receipt ∷ []) ≡ [] → IsChangeFor key wished receipt → ⊥
+shape_is_no_change key (Put value) (Inserted n k v) none told = cc
+shape_is_no_change key (Put value) receipt none told = told
+shape_is_no_change key (Set value) (Inserted n k v) none told = cc
+shape_is_no_change key (Set value) (Modified n k old v) none told = cc
+shape_is_no_change key (Set value) receipt none told = told
+shape_is_no_change key TakeOut (Deleted n k v) none told = cc
+shape_is_no_change key TakeOut receipt none told = told
+
+-- beside the receipt of a wish that came true stands at most that of a consolidation
+alone_at_once : (key : ℕ) (wished : Wished) (page : Pid) (receipt : Receipt) → IsReceiptFor key wished receipt → without_shapes (receipt ∷ shapes_behind page receipt) ≡ receipt ∷ []
+alone_at_once key wished page (Inserted n k v) told = refl
+alone_at_once key wished page (Deleted n k v) told = refl
+alone_at_once key wished page (Modified n k old v) told = refl
+alone_at_once key wished page (Looked at k found) told = refl
+alone_at_once key wished page (Shaped kind p other) told = absurd (shape_is_no_change key wished (Shaped kind p other) refl told)
+
+spends_at_once : (receipt : Receipt) (n : ℕ) → n ≤ effort_at_once receipt n
+spends_at_once (Looked at k found) n = omega arith
+spends_at_once (Inserted m k v) n = omega arith
+spends_at_once (Deleted m k v) n = omega arith
+spends_at_once (Modified m k old v) n = omega arith
+spends_at_once (Shaped kind p other) n = omega arith
+
+-- a wish that came true at once adds the receipt of its reply
+pub adds_at_once : {T : Type 0} → (is_of : T → Receipt → Type 0) (reply : T) (key : ℕ) (wished : Wished) (done : AtOnce) (a b : Seen) → IsTrueAtOnce key wished done a b → is_of reply done.receipt → AddsReceipt is_of reply a b × Grows a b
+adds_at_once is_of reply key wished done a b h goes = (
+  (done.receipt, ap without_shapes h.trail ∙ (without_shapes-append a.trail (done.receipt ∷ shapes_behind done.page done.receipt) ∙ ap (λ (l : List Receipt). without_shapes a.trail ++ l) (alone_at_once key wished done.page done.receipt h.told)), goes),
+  counts_grow a b h.counts (let up = spends_at_once done.receipt a.effort in omega (arith, h.effort, up)),
+)
+
+-- so does a look that finds the wish true
+pub looked_at_once : {T : Type 0} → (is_of : T → Receipt → Type 0) (reply : T) (key : ℕ) (wished : Wished) (done : AtOnce) (a b : Seen) → IsTrueAtOnce key wished done a b
+    → (at k : ℕ) (found : Option ℕ) → done.receipt ≡ Looked at k found → ((n : ℕ) → is_of reply (Looked n key found)) → AddsReceipt is_of reply a b × Grows a b
+looked_at_once is_of reply key wished done a b h at k found is goes =
+    let told : IsReceiptFor key wished (Looked at k found) = subst (IsReceiptFor key wished) is h.told in
+    adds_at_once is_of reply key wished done a b h (subst (is_of reply) (sym (is ∙ ap (λ (x : ℕ). Looked at x found) told.0)) (goes at))

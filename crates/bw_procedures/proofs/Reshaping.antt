@@ -1,5 +1,6 @@
 -- What steps that change only the tree's shape leave.
-use Rattle.std.proofs.Common.{ℕ, ◌≤◌, [], ◌∷◌, Result, Ok, Err, IfErr, OnOk, ap, ◌∙◌, append-nil, arith}
+use Rattle.std.proofs.Common.{◌≡◌, ◌≢◌, ℕ, zero, suc, ◌+◌, ◌<◌, ◌≤◌, ◌^◌, List, [], ◌∷◌, ◌++◌, length, Option, Some, None, Result, Ok, Err, IfErr, OnOk, refl, sym, ap, subst, ◌∙◌, append-nil, arith}
+use Rattle.bw_keys.specs.declared.page.Pid.{Pid}
 use Rattle.bw_step.specs.Proposals.{Proposal, insert, delete, modify}
 use Rattle.bw_step.specs.declared.receipt.Receipt.{Receipt}
 use Rattle.bw_step.specs.declared.receipt.Receipt.TheVariants.{Shaped}
@@ -7,7 +8,8 @@ use Rattle.bw_step.specs.Tellings.{without_shapes}
 use Rattle.bw_step.proofs.Tellings.{without_shapes-append}
 use Rattle.bw_procedures.specs.Seen.{Seen, SameCounts, Grows, IsAccepted}
 use Rattle.bw_procedures.specs.declared.fault.Fault.{Fault}
-use Rattle.bw_procedures.specs.Calls.{OnlyReshapes, ReshapesWithin, IsEarned, RoseBy, ChangesShape}
+use Rattle.bw_procedures.specs.Calls.{OnlyReshapes, ReshapesWithin, IsEarned, RoseBy, ChangesShape, raised, TakesShapes, SplitAtOnce}
+use Rattle.bw_procedures.specs.Tending.{IsTended}
 
 pub counts_grow : (a b : Seen) → SameCounts a b → a.effort ≤ b.effort → Grows a b
 counts_grow a b p q = record { config = p.config; effort = q; full = omega arith; tall = omega arith; worn = omega arith }
@@ -37,3 +39,37 @@ within_cost cost limit (Err fault) a b is = tt
 pub within_earned : {T : Type 0} → (cost limit : ℕ) (result : Result T Fault) (a b : Seen) → ReshapesWithin cost limit result a b → IfErr result (IsEarned limit a b)
 within_earned cost limit (Ok it) a b is = tt
 within_earned cost limit (Err fault) a b is = is.1
+
+raised_up : (times n : ℕ) → n ≤ raised times n
+raised_up zero n = omega arith
+raised_up (suc times) n = let up = raised_up times n in omega (arith, up)
+
+raised_once : (times n : ℕ) → RoseBy 1 n (raised (suc times) n)
+raised_once times n = let up = raised_up times n in omega (arith, up)
+
+-- steps that change only the shape, taken at once
+shapes_taken : (receipts : List Receipt) (a b : Seen) → receipts ≢ [] → TakesShapes receipts a b → OnlyReshapes a b × RoseBy 1 a.effort b.effort
+shapes_taken [] a b some h = absurd (some refl)
+shapes_taken (receipt ∷ rest) a b some h =
+    let rose : RoseBy 1 a.effort b.effort = subst (RoseBy 1 a.effort) (sym h.effort) (raised_once (length rest) a.effort) in
+    let up : a.effort ≤ b.effort = let more = raised_up (suc (length rest)) a.effort in omega (arith, more, h.effort) in (
+      record {
+        without_shapes = ap without_shapes h.trail ∙ (without_shapes-append a.trail (receipt ∷ rest) ∙ (ap (λ (l : List Receipt). without_shapes a.trail ++ l) h.shapes ∙ append-nil (without_shapes a.trail)));
+        grows = counts_grow a b h.counts up;
+      },
+      rose,
+    )
+
+-- a page that was split at once brings the effort nearer to the limit
+pub split_tends : (limit : ℕ) (split : Option Pid) (a b c : Seen) → limit < 2 ^ 64 → OnlyReshapes a b → b.effort + 4 ≤ limit → SplitAtOnce split b c → IsTended limit (Ok split) a c
+split_tends limit None a b c fits before covered same = let Tended : Seen → Type 0 = λ s. IsTended limit (Ok None) a s in subst Tended (sym same) (before, tt)
+split_tends limit (Some page) a b c fits before covered split =
+    let taken = shapes_taken split.0 b c split.1 split.2 in
+    let x = before.grows in
+    let y = taken.0.grows in (
+      record {
+        without_shapes = taken.0.without_shapes ∙ before.without_shapes;
+        grows = record { config = y.config ∙ x.config; effort = omega (arith, x.effort, y.effort); full = omega (arith, x.full, y.full); tall = omega (arith, x.tall, y.tall); worn = omega (arith, x.worn, y.worn) };
+      },
+      omega (arith, x.effort, taken.1),
+    )

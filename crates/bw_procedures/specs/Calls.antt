@@ -1,7 +1,10 @@
 -- What a call, or a part of one, leaves of the worker.
-use Rattle.std.specs.Prelude.{◌≡◌, ℕ, ◌+◌, ◌-◌, ◌≤◌, ◌^◌, min, List, [], ◌∷◌, ◌++◌, Option, Some, None, Result, Ok, Err}
+use Rattle.std.specs.Prelude.{◌≡◌, ◌≢◌, ℕ, zero, suc, ◌+◌, Bool, true, false, ◌-◌, ◌≤◌, ◌^◌, min, length, List, [], ◌∷◌, ◌++◌, Option, Some, None, Result, Ok, Err}
+use Rattle.bw_keys.specs.declared.page.Pid.{Pid}
 use Rattle.bw_delta.specs.declared.fault.NoMemory.{NoMemory}
 use Rattle.bw_step.specs.Proposals.{Proposal, insert, delete, modify, consolidate, split, term_add, grow, mark, merge, term_delete}
+use Rattle.bw_step.specs.declared.receipt.Kind.{Kind}
+use Rattle.bw_step.specs.declared.receipt.Kind.TheVariants as kinds
 use Rattle.bw_step.specs.declared.receipt.Receipt.{Receipt}
 use Rattle.bw_step.specs.declared.receipt.Receipt.TheVariants as receipts
 use Rattle.bw_step.specs.declared.refused.Refused.{Refused}
@@ -14,7 +17,7 @@ use Rattle.bw_procedures.specs.declared.fault.Fault.{Fault}
 use Rattle.bw_procedures.specs.declared.fault.Fault.TheVariants.{Contended, NoMemory as NoRoom, TableFull, TooTall, Worn}
 use Rattle.bw_procedures.specs.declared.offer.Answer.{Answer}
 use Rattle.bw_procedures.specs.declared.offer.Answer.TheVariants as answers
-use Rattle.bw_procedures.specs.Seen.{Seen, SameButEffort, SameCounts, Grows}
+use Rattle.bw_procedures.specs.Seen.{Seen, one_more, SameButEffort, SameCounts, Grows}
 use Rattle.bw_procedures.specs.Facts.{Fact, holds, fresh}
 
 -- a count rose by so much, or is at its end
@@ -32,6 +35,32 @@ IsEarned limit old new NoRoom = Unit {0}
 IsEarned limit old new TableFull = RoseBy 1 old.full new.full
 IsEarned limit old new TooTall = RoseBy 1 old.tall new.tall
 IsEarned limit old new Worn = RoseBy 1 old.worn new.worn
+
+-- a count that was made one higher so often
+abbrev pub raised : ℕ → ℕ → ℕ
+raised zero n = n
+raised (suc times) n = one_more (raised times n)
+
+-- the receipts of a step that changes a page's shape, and of the page's consolidation
+abbrev pub receipts_of_shape : Kind → Pid → Pid → List Receipt
+receipts_of_shape kind page other = receipts.Shaped kind page (Some other) ∷ receipts.Shaped kinds.Consolidate page None ∷ []
+
+-- a page was split, and the new one's term was added to the parent, or wasn't
+abbrev pub receipts_of_split : Pid → Pid → Pid → Bool → List Receipt
+receipts_of_split page parent new_page true = receipts_of_shape kinds.Split page new_page ++ receipts_of_shape kinds.TermAdd parent new_page
+receipts_of_split page parent new_page false = receipts_of_shape kinds.Split page new_page
+
+-- the receipts of steps that change only the tree's shape were added, each at the cost of one effort
+pub record TakesShapes (receipts : List Receipt) (old new : Seen) : Type 0 where
+  pub shapes : without_shapes receipts ≡ []
+  pub counts : SameCounts old new
+  pub trail : new.trail ≡ old.trail ++ receipts
+  pub effort : new.effort ≡ raised (length receipts) old.effort
+
+-- a page was split at once, by these steps, or nothing was done
+abbrev pub SplitAtOnce : Option Pid → Seen → Seen → Type 0
+SplitAtOnce None old new = new ≡ old
+SplitAtOnce (Some page) old new = (receipts : List Receipt) × (receipts ≢ []) × TakesShapes receipts old new
 
 -- no receipt and no count: only the effort may have risen
 pub record OnlySpends (old new : Seen) : Type 0 where

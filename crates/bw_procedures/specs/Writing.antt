@@ -1,5 +1,10 @@
 -- What put, set and delete leave of the worker: one receipt for each reply.
-use Rattle.std.specs.Prelude.{◌≡◌, ◌⊎◌, ℕ, Bool, true, false, [], ◌∷◌, ◌++◌, Option, Some, None, Result, Ok, Err}
+use Rattle.std.specs.Prelude.{◌≡◌, ◌⊎◌, ℕ, Bool, true, false, List, [], ◌∷◌, ◌++◌, Option, Some, None, Result, Ok, Err}
+use Rattle.bw_keys.specs.declared.page.Pid.{Pid}
+use Rattle.bw_chain.specs.declared.in_place.Wished.{Wished}
+use Rattle.bw_chain.specs.declared.in_place.Wished.TheVariants as wishes
+use Rattle.bw_step.specs.declared.at_once.AtOnce.{AtOnce}
+use Rattle.bw_step.specs.declared.receipt.Kind.TheVariants as kinds
 use Rattle.bw_step.specs.declared.receipt.Receipt.{Receipt}
 use Rattle.bw_step.specs.declared.receipt.Receipt.TheVariants as receipts
 use Rattle.bw_step.specs.declared.view.Look.{Look}
@@ -13,11 +18,12 @@ use Rattle.bw_procedures.specs.declared.reply.Put.TheVariants.{Inserted, Present
 use Rattle.bw_procedures.specs.declared.reply.Set.{Set}
 use Rattle.bw_procedures.specs.declared.reply.Set.TheVariants as sets
 use Rattle.bw_procedures.specs.declared.steps.Keep.{Keep}
+use Rattle.bw_procedures.specs.declared.steps.Keep.TheVariants.{IfFound, IfNone, Never}
 use Rattle.bw_procedures.specs.declared.writing.Arrival.{Arrival}
 use Rattle.bw_procedures.specs.declared.writing.Arrival.TheVariants.{Gone, Here, Help}
 use Rattle.bw_procedures.specs.declared.writing.Tried.{Tried}
 use Rattle.bw_procedures.specs.declared.writing.Tried.TheVariants.{Reply, Tend, Again, Kept}
-use Rattle.bw_procedures.specs.Seen.{Seen, Grows, is_kept}
+use Rattle.bw_procedures.specs.Seen.{Seen, SameCounts, Grows, is_kept, one_more}
 use Rattle.bw_procedures.specs.Calls.{OnlyReshapes, IsEarned, RoseBy}
 
 -- the receipt that goes with a put's reply: the insertion of the pair, or the look that found the key's value
@@ -49,6 +55,48 @@ IsSettingOf key value (receipts.Inserted number k v) = (k ≡ key) × (v ≡ val
 IsSettingOf key value (receipts.Modified number k old v) = (k ≡ key) × (v ≡ value)
 IsSettingOf key value receipt = ⊥
 
+-- which looks answer a wish: those that find it true
+abbrev pub keep_for : Wished → Keep
+keep_for (wishes.Put value) = IfFound
+keep_for (wishes.Set value) = Never
+keep_for wishes.Delete = IfNone
+
+-- the receipt of a change by which a wish comes true
+abbrev pub IsChangeFor : ℕ → Wished → Receipt → Type 0
+IsChangeFor key (wishes.Put value) receipt = IsReceiptOfPut key value Inserted receipt
+IsChangeFor key (wishes.Set value) receipt = IsSettingOf key value receipt
+IsChangeFor key wishes.Delete receipt = IsDeletionOf key receipt
+
+-- the receipt that goes with a wish that came true: that of its change, or of a look that answers it
+abbrev pub IsReceiptFor : ℕ → Wished → Receipt → Type 0
+IsReceiptFor key wished (receipts.Looked at k found) = (k ≡ key) × (is_kept (keep_for wished) found ≡ true)
+IsReceiptFor key wished receipt = IsChangeFor key wished receipt
+
+-- what is added behind the receipt of what was done at once: nothing to a look, and the consolidation of the page to a change
+abbrev pub shapes_behind : Pid → Receipt → List Receipt
+shapes_behind page (receipts.Looked at key found) = []
+shapes_behind page receipt = receipts.Shaped kinds.Consolidate page None ∷ []
+
+abbrev pub receipts_at_once : AtOnce → List Receipt
+receipts_at_once done = done.receipt ∷ shapes_behind done.page done.receipt
+
+-- a consolidation costs effort, and a look doesn't
+abbrev pub effort_at_once : Receipt → ℕ → ℕ
+effort_at_once (receipts.Looked at key found) n = n
+effort_at_once receipt n = one_more n
+
+-- what a wish that came true at once leaves
+pub record IsTrueAtOnce (key : ℕ) (wished : Wished) (done : AtOnce) (old new : Seen) : Type 0 where
+  pub told : IsReceiptFor key wished done.receipt
+  pub counts : SameCounts old new
+  pub trail : new.trail ≡ old.trail ++ receipts_at_once done
+  pub effort : new.effort ≡ effort_at_once done.receipt old.effort
+
+-- a wish came true at once, or nothing was done
+abbrev pub ChangedAtOnce : ℕ → Wished → Option AtOnce → Seen → Seen → Type 0
+ChangedAtOnce key wished None old new = new ≡ old
+ChangedAtOnce key wished (Some done) old new = IsTrueAtOnce key wished done old new
+
 -- one receipt that isn't Shaped was added, and it is this reply's
 abbrev pub AddsReceipt : {T : Type 0} → (T → Receipt → Type 0) → T → Seen → Seen → Type 0
 AddsReceipt is_of reply old new = (receipt : Receipt) × (without_shapes new.trail ≡ without_shapes old.trail ++ receipt ∷ []) × is_of reply receipt
@@ -65,6 +113,14 @@ Attempts is_of passes_posts limit (Ok (Tend reply page)) old new = AddsReceipt i
 Attempts is_of passes_posts limit (Ok Again) old new = OnlyReshapes old new × RoseBy 1 old.effort new.effort
 Attempts is_of passes_posts limit (Ok (Kept fault)) old new = OnlyReshapes old new × IsEarned limit old new fault × (passes_posts ≡ false)
 Attempts is_of passes_posts limit (Err fault) old new = OnlyReshapes old new × IsEarned limit old new fault
+
+-- an attempt at once: nothing, or a reply
+abbrev pub AttemptsAtOnce : {T : Type 0} → (T → Receipt → Type 0) → Option (Tried T) → Seen → Seen → Type 0
+AttemptsAtOnce is_of None old new = new ≡ old
+AttemptsAtOnce is_of (Some (Reply reply)) old new = AddsReceipt is_of reply old new × Grows old new
+AttemptsAtOnce is_of (Some (Tend reply page)) old new = AddsReceipt is_of reply old new × Grows old new
+AttemptsAtOnce is_of (Some Again) old new = ⊥
+AttemptsAtOnce is_of (Some (Kept fault)) old new = ⊥
 
 -- help on a writer's walk
 abbrev pub Helped : {T : Type 0} → Bool → ℕ → Result (Tried T) Fault → Seen → Seen → Type 0

@@ -1,12 +1,14 @@
 //! What a worker keeps of the atomic steps that it took.
 
-ghost use Rattle.std.specs.Prelude.{◌≡◌, ◌<◌, ◌∷◌, ◌++◌, [], OnOk, length, vec_capacity};
+ghost use Rattle.std.specs.Prelude.{◌≡◌, ◌+◌, ◌<◌, ◌∷◌, ◌++◌, [], OnOk, length, vec_capacity};
+ghost use Rattle.bw_procedures.specs.Calls.{raised, receipts_of_shape, receipts_of_split};
+ghost use Rattle.bw_procedures.specs.Writing.{receipts_at_once, effort_at_once};
 ghost use Rattle.bw_procedures.specs.Seen.{ends_of, one_more, visit_effort, look_effort, trail_after_look, copy_effort, receipt_effort, full_after, tall_after, worn_after};
 
 use crate::steps::{Ends, Keep};
 use bw_delta::NoMemory;
-use bw_keys::{Config, Key};
-use bw_step::{CopyFault, Go, Look, Receipt, Refused};
+use bw_keys::{Config, Key, Pid};
+use bw_step::{AtOnce, CopyFault, Go, Kind, Look, Receipt, Refused};
 use std::alloc::Global;
 use std::marker::Model;
 use std::mem;
@@ -133,6 +135,74 @@ impl Account {
     {
         self.trail.reserve(1)?;
         Ok(())
+    }
+
+    /// Makes room for two more receipts.
+    #[inline(always)]
+    pub fn reserve_two(&mut self) -> Result<(), NoMemory>
+        ensures seen { self.new.seen ≡ self.old.seen }
+        ensures room { OnOk result (length self.new.seen.trail + 1 < self.new.room) }
+    {
+        self.trail.reserve(2)?;
+        Ok(())
+    }
+
+    /// Makes room for four more receipts.
+    pub fn reserve_four(&mut self) -> Result<(), NoMemory>
+        ensures seen { self.new.seen ≡ self.old.seen }
+        ensures room { OnOk result (length self.new.seen.trail + 3 < self.new.room) }
+    {
+        self.trail.reserve(4)?;
+        Ok(())
+    }
+
+    /// A key was looked at, or changed and its page consolidated, which costs effort.
+    #[inline(always)]
+    pub fn done_at_once(&mut self, done: AtOnce)
+        requires { length self.old.seen.trail + 1 < self.old.room }
+        ensures { self.new.seen ≡ record self.old.seen { trail = self.old.seen.trail ++ receipts_at_once done; effort = effort_at_once done.receipt self.old.seen.effort } }
+    {
+        self.trail.push_reserved(done.receipt);
+        if let Receipt::Looked { .. } = done.receipt {
+            return;
+        }
+        self.trail.push_reserved(Receipt::Shaped {
+            kind: Kind::Consolidate,
+            page: done.page,
+            other: None,
+        });
+        self.effort = self.effort.saturating_add(1);
+    }
+
+    /// A page was split and consolidated, and then the new page was named in the parent, which was
+    /// consolidated, or wasn't.
+    pub fn split_at_once(&mut self, page: Pid, parent: Pid, new: Pid, posted: bool)
+        requires { length self.old.seen.trail + 3 < self.old.room }
+        ensures { self.new.seen ≡ record self.old.seen { trail = self.old.seen.trail ++ receipts_of_split page parent new posted; effort = raised (length (receipts_of_split page parent new posted)) self.old.seen.effort } }
+    {
+        self.reshaped(Kind::Split, page, new);
+        if posted {
+            self.reshaped(Kind::TermAdd, parent, new);
+        }
+    }
+
+    /// A step that changed a page's shape was taken, and the page consolidated.
+    fn reshaped(&mut self, kind: Kind, page: Pid, other: Pid)
+        requires { length self.old.seen.trail + 1 < self.old.room }
+        ensures seen { self.new.seen ≡ record self.old.seen { trail = self.old.seen.trail ++ receipts_of_shape kind page other; effort = raised 2 self.old.seen.effort } }
+        ensures room { self.new.room ≡ self.old.room }
+    {
+        self.trail.push_reserved(Receipt::Shaped {
+            kind,
+            page,
+            other: Some(other),
+        });
+        self.trail.push_reserved(Receipt::Shaped {
+            kind: Kind::Consolidate,
+            page,
+            other: None,
+        });
+        self.effort = self.effort.saturating_add(2);
     }
 
     /// No step was taken, at the cost of one effort.

@@ -11,6 +11,7 @@ use crate::reply::{Del, Done};
 use crate::steps::{Keep, Steps};
 use crate::wish::Wish;
 use crate::writing::write;
+use bw_chain::Wished;
 use bw_delta::Spare;
 use bw_keys::Key;
 use bw_step::{Delete, Receipt, Step, View};
@@ -66,6 +67,11 @@ impl Wish for Deletion {
     #[inline(always)]
     fn keep(self) -> Keep {
         Keep::IfNone
+    }
+
+    #[inline(always)]
+    fn wished(self) -> Wished {
+        Wished::Delete
     }
 
     #[inline(always)]

@@ -1,6 +1,6 @@
 //! When a call gives up.
 
-ghost use Rattle.std.specs.Prelude.{◌≡◌, ◌≤◌, ◌↔◌, IsTrue};
+ghost use Rattle.std.specs.Prelude.{◌≡◌, ◌+◌, ◌≤◌, ◌↔◌, IsTrue};
 ghost use Rattle.bw_procedures.specs.Calls.{limit_of};
 
 use crate::steps::Steps;
@@ -23,4 +23,18 @@ pub(crate) fn is_spent<A: Allocator + Copy, S: Steps<A, Step<A>>>(steps: &S, lim
     ensures { IsTrue result ↔ (limit ≤ (S.seen steps.now).effort) }
 {
     steps.effort() >= limit
+}
+
+/// Whether the worker may spend so much before it comes to the limit.
+pub(crate) fn covers<A: Allocator + Copy, S: Steps<A, Step<A>>>(
+    steps: &S,
+    limit: u64,
+    cost: u64,
+) -> bool
+    ensures { IsTrue result ↔ ((S.seen steps.now).effort + cost ≤ limit) }
+{
+    match limit.checked_sub(steps.effort()) {
+        Some(left) => cost <= left,
+        None => false,
+    }
 }

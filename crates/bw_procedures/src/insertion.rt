@@ -11,6 +11,7 @@ use crate::reply::{Done, Put};
 use crate::steps::{Keep, Steps};
 use crate::wish::Wish;
 use crate::writing::write;
+use bw_chain::Wished;
 use bw_delta::Spare;
 use bw_keys::Key;
 use bw_step::{Insert, Receipt, Step, View};
@@ -69,6 +70,11 @@ impl Wish for Insertion {
     #[inline(always)]
     fn keep(self) -> Keep {
         Keep::IfFound
+    }
+
+    #[inline(always)]
+    fn wished(self) -> Wished {
+        Wished::Put(self.value)
     }
 
     #[inline(always)]

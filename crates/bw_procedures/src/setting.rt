@@ -11,6 +11,7 @@ use crate::reply::{Done, Set};
 use crate::steps::{Keep, Steps};
 use crate::wish::Wish;
 use crate::writing::write;
+use bw_chain::Wished;
 use bw_delta::Spare;
 use bw_keys::Key;
 use bw_step::{Insert, Modify, Receipt, Step, View};
@@ -68,6 +69,11 @@ impl Wish for Setting {
     #[inline(always)]
     fn keep(self) -> Keep {
         Keep::Never
+    }
+
+    #[inline(always)]
+    fn wished(self) -> Wished {
+        Wished::Set(self.value)
     }
 
     #[inline(always)]

@@ -3,10 +3,10 @@
 ghost use Rattle.std.specs.Prelude.{◌≡◌};
 ghost use Rattle.bw_procedures.specs.Seen.{is_kept};
 
-use bw_chain::consolidate;
+use bw_chain::{Wished, consolidate};
 use bw_delta::{Base, Chain, NoMemory};
 use bw_keys::{Config, Key, Pid, Version};
-use bw_step::{CopyFault, Denied, Look, Next, Place, Proposes, Receipt, View};
+use bw_step::{AtOnce, CopyFault, Denied, Look, Next, Place, Proposes, Receipt, View};
 use std::alloc::Allocator;
 
 /// When a look is added to the trail.
@@ -60,7 +60,8 @@ pub trait Steps<A: Allocator + Copy, P: Proposes> {
     ghost use Rattle.bw_delta.specs.Sound.{IsSound};
     ghost use Rattle.bw_step.specs.Steps.{IsNext};
     ghost use Rattle.bw_procedures.specs.Seen.{Seen, ends_of, Visited, Looked, Copied, Installed, Idled};
-    ghost use Rattle.bw_procedures.specs.Calls.{IsAtLevel};
+    ghost use Rattle.bw_procedures.specs.Calls.{IsAtLevel, SplitAtOnce};
+    ghost use Rattle.bw_procedures.specs.Writing.{ChangedAtOnce};
     ghost use Rattle.bw_procedures.specs.Facts.{Fact, quiet, on_the_way, holds, fresh, CalmNext, CalmPeek, CalmLook, CalmCopy, CalmAnew, ShowsCopy};
 
     // the worker's configuration, its trail, its effort and its counts
@@ -92,6 +93,33 @@ pub trait Steps<A: Allocator + Copy, P: Proposes> {
     fn leaf_at_once(&self, _key: Key) -> Option<View>
         ensures level { IsAtLevel 0 result }
         ensures calm { calm self.now quiet → IfSome result (λ view. calm self.now (holds _key 0 view.pid) × calm self.now (fresh view.pid view.version)) }
+    {
+        None
+    }
+
+    /// Makes a wish come true for a key, where the worker can do that in one step: by a look that finds
+    /// it true, which is added to the trail, or by the change and the consolidation of its leaf behind
+    /// that, whose receipts are added and whose effort is spent. A worker that can't says none, and does
+    /// nothing.
+    fn change_at_once(&mut self, _key: Key, _wished: Wished) -> Option<AtOnce>
+        ensures follows { follows self.old self.new }
+        ensures seen { ChangedAtOnce _key _wished result (seen self.old) (seen self.new) }
+    {
+        None
+    }
+
+    /// Whether the worker splits pages in one step, where it may choose.
+    fn splits_at_once(&self) -> bool {
+        false
+    }
+
+    /// Splits a page, consolidates it, names the new page in the parent and consolidates that: by all
+    /// four steps, or the first two where the parent doesn't take the new page so. It answers the new
+    /// page. Their receipts are added to the trail, and each costs effort. None, and no step taken,
+    /// where the worker can't.
+    fn split_at_once(&mut self, _parent: Pid, _page: View) -> Option<Pid>
+        ensures follows { follows self.old self.new }
+        ensures seen { SplitAtOnce result (seen self.old) (seen self.new) }
     {
         None
     }

@@ -6,7 +6,7 @@ ghost use Rattle.bw_procedures.specs.Calls.{ReshapesWithin, OnlyReshapes, IsEarn
 ghost use Rattle.bw_procedures.specs.Tending.{IsTended};
 
 use crate::consolidation::consolidate;
-use crate::effort::{is_spent, limit};
+use crate::effort::{covers, is_spent, limit};
 use crate::fault::Fault;
 use crate::helping::help_within;
 use crate::offer::{Answer, reshape};
@@ -18,6 +18,9 @@ use bw_delta::{Base, Chain, Node, Spare};
 use bw_keys::{Key, Pid};
 use bw_step::{CopyFault, Mark, Receipt, Split, Stage, Step, Todo, View};
 use std::alloc::Allocator;
+
+/// What a split, the term of its page and the two consolidations behind them cost.
+const SPLIT_COST: u64 = 4;
 
 /// Consolidates, splits or removes the page where its chain is long, its entries many or few, and then
 /// tends the page above that this changed. Only receipts of the tree's shape are added.
@@ -125,6 +128,10 @@ fn split_page<A: Allocator + Copy, S: Steps<A, Step<A>>>(
     ensures follows { S.follows steps.old steps.new }
     ensures tended { IsTended limit result (S.seen steps.old) (S.seen steps.new) }
 {
+    if let Some(new) = split_in_place(steps, limit, view)? {
+        settle(steps, limit, Pending::Post(new))?;
+        return page_above(steps, limit, view.level, view.low);
+    }
     let chain = match steps.copy_page(view.pid, view.version) {
         Ok(chain) => chain,
         Err(CopyFault::NoMemory) => return Err(Fault::NoMemory),
@@ -146,6 +153,25 @@ fn split_page<A: Allocator + Copy, S: Steps<A, Step<A>>>(
     match reshape(steps, limit, step)? {
         Answer::Accepted(receipt) => Ok(after_split(steps, limit, view.level, separator, receipt)?),
         Answer::Refused(_) => Ok(None),
+    }
+}
+
+/// Splits it at once, where the worker does that and the effort that is left covers the steps. It
+/// answers the new page.
+fn split_in_place<A: Allocator + Copy, S: Steps<A, Step<A>>>(
+    steps: &mut S,
+    limit: u64,
+    view: View,
+) -> Result<Option<Pid>, Fault>
+    ensures follows { S.follows steps.old steps.new }
+    ensures tended { IsTended limit result (S.seen steps.old) (S.seen steps.new) }
+{
+    if !steps.splits_at_once() {
+        return Ok(None);
+    }
+    match page_above(steps, limit, view.level, view.low)? {
+        Some(parent) if covers(steps, limit, SPLIT_COST) => Ok(steps.split_at_once(parent, view)),
+        _ => Ok(None),
     }
 }
 

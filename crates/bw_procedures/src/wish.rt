@@ -1,6 +1,7 @@
 //! What a call wishes of one key.
 
 use crate::steps::Keep;
+use bw_chain::Wished;
 use bw_delta::Spare;
 use bw_keys::Key;
 use bw_step::{Receipt, Step, View};
@@ -16,6 +17,7 @@ pub(crate) trait Wish: Copy {
     ghost use Rattle.bw_procedures.specs.declared.steps.Keep.{Keep};
     ghost use Rattle.bw_procedures.specs.Seen.{is_kept};
     ghost use Rattle.bw_procedures.specs.Calls.{ChangesShape};
+    ghost use Rattle.bw_procedures.specs.Writing.{keep_for, IsChangeFor};
 
     /// What the call replies.
     type Reply: Drop;
@@ -38,6 +40,11 @@ pub(crate) trait Wish: Copy {
     /// Which looks are added to the trail: those that answer the call.
     fn keep(self) -> Keep
         ensures { result ≡ keep_of self };
+
+    /// The same, for a worker that can do it at once.
+    fn wished(self) -> Wished
+        ensures keep { keep_for result ≡ keep_of self }
+        ensures made { (receipt : Receipt) → IsChangeFor (key_of self) result receipt → is_made self receipt };
 
     /// The reply, where what the leaf has at the key answers the call. None where the step is to be
     /// proposed.

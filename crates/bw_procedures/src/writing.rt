@@ -5,7 +5,7 @@ ghost use Rattle.std.specs.Prelude.{◌≡◌, true, IfOk, IfErr, IfSome, OnErr}
 ghost use Rattle.bw_procedures.specs.Seen.{Grows};
 ghost use Rattle.bw_step.specs.Tellings.{without_shapes};
 ghost use Rattle.bw_procedures.specs.Calls.{OnlySpends, OnlyReshapes, limit_of, IsEarned};
-ghost use Rattle.bw_procedures.specs.Writing.{AddsReceipt, ArrivalCosts, Attempts, Helped, EndsEarned, FoundBy};
+ghost use Rattle.bw_procedures.specs.Writing.{AddsReceipt, ArrivalCosts, Attempts, AttemptsAtOnce, Helped, EndsEarned, FoundBy};
 
 use crate::consolidation::consolidate;
 use crate::effort::{is_spent, limit};
@@ -18,7 +18,7 @@ use crate::tending::tend_within;
 use crate::wish::Wish;
 use bw_delta::Spare;
 use bw_keys::{Key, Pid};
-use bw_step::{Go, Look, Place, Refused, Step, Todo, View};
+use bw_step::{Go, Look, Place, Receipt, Refused, Step, Todo, View};
 use std::alloc::Allocator;
 
 /// Where a writer's walk came to.
@@ -59,6 +59,11 @@ pub(crate) fn write<A: Allocator + Copy, S: Steps<A, Step<A>>, W: Wish>(
     ensures kept { IfOk result (λ done. IfSome done.fault (IsEarned (limit_of (S.seen steps.old)) (S.seen steps.old) (S.seen steps.new))) }
 {
     let limit = limit(steps);
+    match write_at_once(steps, limit, wish) {
+        Some(Tried::Reply(reply)) => return Ok(Done { reply, fault: None }),
+        Some(Tried::Tend(reply, page)) => return Ok(finish(steps, limit, None, reply, page)),
+        Some(Tried::Again | Tried::Kept(_)) | None => {}
+    }
     let mut kept: Option<Fault> = None;
     'again: loop {
         let passes_posts = kept.is_some();
@@ -71,6 +76,30 @@ pub(crate) fn write<A: Allocator + Copy, S: Steps<A, Step<A>>, W: Wish>(
         if is_spent(steps, limit) {
             return Err(Fault::Contended);
         }
+    }
+}
+
+/// What is wished for, in one step of a worker that can do that, where the effort that is left covers
+/// the consolidation behind the change.
+#[inline(always)]
+fn write_at_once<A: Allocator + Copy, S: Steps<A, Step<A>>, W: Wish>(
+    steps: &mut S,
+    limit: u64,
+    wish: W,
+) -> Option<Tried<W::Reply>>
+    ensures follows { S.follows steps.old steps.new }
+    ensures attempts { AttemptsAtOnce (W.is_receipt_of wish) result (S.seen steps.old) (S.seen steps.new) }
+{
+    if is_spent(steps, limit) {
+        return None;
+    }
+    let done = steps.change_at_once(wish.key(), wish.wished())?;
+    match done.receipt {
+        Receipt::Looked { found, .. } => match wish.answered(found) {
+            Some(reply) => Some(Tried::Reply(reply)),
+            None => unreachable!(),
+        },
+        receipt => Some(Tried::Tend(wish.reply(receipt), done.page)),
     }
 }
 

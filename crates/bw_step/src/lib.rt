@@ -2,6 +2,7 @@
 //! proposed steps, receipts of accepted ones, and the reasons why a step is not taken.
 #![tactic(auto)]
 
+mod at_once;
 mod fault;
 mod place;
 mod proposes;
@@ -12,6 +13,7 @@ mod steps;
 mod survey;
 mod view;
 
+pub use at_once::AtOnce;
 pub use fault::{CopyFault, Denied};
 pub use place::{Go, Next, Place, Todo};
 pub use proposes::Proposes;

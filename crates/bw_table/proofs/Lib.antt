@@ -1,3 +1,4 @@
+pub mod InPlaces
 pub mod Doing
 pub mod FreeIds
 pub mod LiveRoutes

@@ -1,4 +1,5 @@
 pub mod Answers
+pub mod InPlaces
 pub mod Codes
 pub mod FreeLists
 pub mod LeafRows

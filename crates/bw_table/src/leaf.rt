@@ -2,12 +2,14 @@
 
 ghost use Rattle.std.specs.Prelude.{◌≡◌, ◌<◌, ◌≤◌};
 ghost use Rattle.bw_keys.specs.Ranges.{end_of};
-ghost use Rattle.bw_delta.specs.Entries.{first_from, last_upto};
+ghost use Rattle.bw_chain.specs.Passing.Heads.{BeginsWith};
+ghost use Rattle.bw_delta.specs.Entries.{first_from, from, last_upto};
 ghost use Rattle.bw_law.specs.Laws.{IsLeafOf};
 ghost use Rattle.bw_table.specs.Orders.{ArePairsWithin};
 
 use crate::slot::Slot;
 use crate::table::Table;
+use bw_chain::pairs_from;
 use bw_keys::{Fence, Key, Pid};
 use std::alloc::Allocator;
 use std::marker::Model;
@@ -68,6 +70,20 @@ impl<'t, A: Allocator + Copy> LeafRef<'t, A> {
         ensures { result ≡ first_from key self.now.pairs }
     {
         self.slot.next_at(key)
+    }
+
+    /// Pairs of the leaf from the key on, as they lie side by side: all of them, unless a record of
+    /// the leaf names one of their keys; then those before the least such key, which may be none. It
+    /// takes no memory.
+    #[inline(always)]
+    pub fn pairs_from(&self, key: Key) -> &'t [(Key, u64)]
+        ensures { BeginsWith (from key self.now.pairs) result.now }
+    {
+        let slot = self.slot;
+        match &slot.chain {
+            Some(chain) => pairs_from(chain, key),
+            None => &[],
+        }
     }
 
     /// The pair with the greatest key at or below the key, if the leaf has one. It takes no memory.

@@ -34,7 +34,7 @@ const EMPTIED: [Change; 5] = [
 ];
 
 /// The tree of three leaves after some more steps.
-fn after(alloc: Global, changes: &[Change]) -> Result<Table<Global>, Fail> {
+pub(crate) fn after(alloc: Global, changes: &[Change]) -> Result<Table<Global>, Fail> {
     let mut table = Table::new(alloc, alloc, SMALL)?;
     take_all(alloc, &mut table, &THREE_LEAVES)?;
     take_all(alloc, &mut table, changes)?;

@@ -3,3 +3,4 @@ pub mod Copies
 pub mod Following
 pub mod Sharing
 pub mod Removals
+pub mod InPlaces

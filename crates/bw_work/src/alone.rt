@@ -1,10 +1,11 @@
 ghost use Rattle.std.specs.Prelude.{◌≡◌, []};
 ghost use Rattle.bw_procedures.specs.Seen.{ends_of};
 
+use bw_chain::Wished;
 use bw_delta::{Base, Chain, NoMemory};
 use bw_keys::{Config, Key, Pid, Version};
 use bw_procedures::{Account, Ends, Keep, Steps};
-use bw_step::{CopyFault, Denied, Look, Next, Place, Receipt, Step, View};
+use bw_step::{AtOnce, CopyFault, Denied, Look, Next, Place, Receipt, Step, View};
 use bw_table::Table;
 use std::alloc::{Allocator, Global};
 
@@ -102,6 +103,22 @@ impl<'t, A: Allocator + Copy> Steps<A, Step<A>> for Alone<'t, A> {
     #[inline(always)]
     fn leaf_at_once(&self, key: Key) -> Option<View> {
         self.table.leaf_at_rest(key)
+    }
+
+    #[inline(always)]
+    fn change_at_once(&mut self, key: Key, wished: Wished) -> Option<AtOnce> {
+        // A tending would leave longer chains as they are.
+        if self.account.config().chain != 1 {
+            return None;
+        }
+        if self.account.reserve_two().is_err() {
+            return None;
+        }
+        // The law of the table is told with its configuration.
+        let _config = self.table.config();
+        let done = self.table.change_at_once(key, wished)?;
+        self.account.done_at_once(done);
+        Some(done)
     }
 
     #[tactic(auto, using(crate::proofs::Calming::next_is_calm))]

@@ -5,6 +5,8 @@
 #[cfg(test)]
 mod alone;
 #[cfg(test)]
+mod at_once;
+#[cfg(test)]
 mod calls;
 #[cfg(test)]
 mod held;

@@ -135,6 +135,7 @@ impl<A: Allocator + Copy> Map<A> {
         Range {
             table: &self.worker.table,
             leaf: self.worker.table.leaf_of(low),
+            lent: &[],
             next: Fence::Key(low),
             high,
         }

@@ -1,9 +1,9 @@
 //! The pairs of a map in a range of keys, one after the other.
 
-ghost use Rattle.std.specs.Prelude.{◌≡◌, IfSome, IfNone};
+ghost use Rattle.std.specs.Prelude.{◌≡◌, [], ◌∷◌, IfSome, IfNone};
 ghost use Rattle.bw_keys.specs.Ranges.{end_of, key_count};
 ghost use Rattle.bw_table.specs.Orders.{HasNoKeyWithin, IsNextAt};
-ghost use Rattle.nifforan.specs.Reading.{IsLeafFor, below_end, end_past};
+ghost use Rattle.nifforan.specs.Reading.{IsLeafFor, AreLent, below_end, end_past};
 
 use bw_keys::{Fence, Key};
 use bw_table::{LeafRef, Table};
@@ -11,11 +11,14 @@ use std::alloc::Allocator;
 use std::marker::Model;
 
 /// The pairs of a map whose keys lie in a range, in the order of their keys. It takes no memory: it
-/// holds a leaf of the map, and searches for the next one only at the leaf's end.
+/// holds a leaf of the map, and walks along the leaf's own list. It searches only at the leaf's end,
+/// and for each key that a record of the leaf names.
 #[derive(Drop)]
 pub struct Range<'m, A: Allocator + Copy> {
     pub(crate) table: &'m Table<A>,
     pub(crate) leaf: LeafRef<'m, A>,
+    /// The leaf's pairs that come next, as they lie side by side in it, or some of them.
+    pub(crate) lent: &'m [(Key, u64)],
     /// Where the keys begin that are left.
     pub(crate) next: Fence,
     /// Where they end.
@@ -26,7 +29,7 @@ impl<'m, A: Allocator + Copy> Model for Range<'m, A> {
     ghost use Rattle.std.specs.Coded.{coded_list, coded×, coded_ℕ};
     ghost use Rattle.bw_keys.specs.Ranges.{end_of};
     ghost use Rattle.nifforan.specs.Maps.{Pairs, pairs_of, within};
-    ghost use Rattle.nifforan.specs.Reading.{IsLeafFor};
+    ghost use Rattle.nifforan.specs.Reading.{IsLeafFor, AreLent};
 
     ghost Value = { Pairs };
 
@@ -34,7 +37,7 @@ impl<'m, A: Allocator + Copy> Model for Range<'m, A> {
 
     ghost view = { λ r. within (end_of r.next) (end_of r.high) (pairs_of r.table.now.slots) };
 
-    ghost invariant = { λ r. IsLeafFor r.table.now r.leaf (end_of r.next) };
+    ghost invariant = { λ r. IsLeafFor r.table.now r.leaf (end_of r.next) × AreLent r.leaf (end_of r.next) r.lent.now };
 }
 
 impl<'m, A: Allocator + Copy> Iterator for Range<'m, A> {
@@ -51,7 +54,8 @@ impl<'m, A: Allocator + Copy> Iterator for Range<'m, A> {
             Fence::Key(from) => from,
             Fence::Top => return None,
         };
-        let pair = below(self.high, next_from(self.table, &mut self.leaf, from));
+        let found = next_from(self.table, &mut self.leaf, &mut self.lent, from);
+        let pair = below(self.high, found);
         self.next = past(pair);
         pair
     }
@@ -82,10 +86,47 @@ fn past(pair: Option<(Key, u64)>) -> Fence
     }
 }
 
-/// The pair of the table with the least key at or above the key, if there is one. The leaf has it then.
+/// The pair of the table with the least key at or above the key, if there is one: the first of those
+/// that are lent, or the one that is searched for where none are left. The leaf has it then.
+#[inline(always)]
 fn next_from<'m, A: Allocator + Copy>(
     table: &'m Table<A>,
     leaf: &mut LeafRef<'m, A>,
+    lent: &mut &'m [(Key, u64)],
+    key: Key,
+) -> Option<(Key, u64)>
+    requires leaf { IsLeafFor table.now leaf.old key }
+    requires lent { AreLent leaf.old key lent.old.now }
+    ensures next { IfSome result (IsNextAt table.now key) }
+    ensures none { IfNone result (HasNoKeyWithin table.now key key_count) }
+    ensures leaf { IfSome result (λ pair. IsLeafFor table.now leaf.new pair.0) }
+    ensures last { IsLeafFor table.now leaf.new key_count }
+    ensures lent { AreLent leaf.new (end_past result) lent.new.now }
+{
+    if let Some(pair) = take_first(lent) {
+        return Some(pair);
+    }
+    searched_from(table, leaf, lent, key)
+}
+
+/// Takes the first pair of those that are lent.
+#[inline(always)]
+fn take_first<'m>(lent: &mut &'m [(Key, u64)]) -> Option<(Key, u64)>
+    ensures first { IfSome result (λ pair. lent.old.now ≡ pair ∷ lent.new.now) }
+    ensures none { IfNone result (lent.new.now ≡ []) }
+{
+    let (first, rest) = lent.split_first()?;
+    let pair = *first;
+    *lent = rest;
+    Some(pair)
+}
+
+/// The pair of the table with the least key at or above the key, searched for from leaf to leaf, and the
+/// pairs that lie behind it. The leaf that has it is held then.
+fn searched_from<'m, A: Allocator + Copy>(
+    table: &'m Table<A>,
+    leaf: &mut LeafRef<'m, A>,
+    lent: &mut &'m [(Key, u64)],
     key: Key,
 ) -> Option<(Key, u64)>
     requires { IsLeafFor table.now leaf.old key }
@@ -93,9 +134,14 @@ fn next_from<'m, A: Allocator + Copy>(
     ensures none { IfNone result (HasNoKeyWithin table.now key key_count) }
     ensures leaf { IfSome result (λ pair. IsLeafFor table.now leaf.new pair.0) }
     ensures last { IsLeafFor table.now leaf.new key_count }
+    ensures lent { AreLent leaf.new (end_past result) lent.new.now }
 {
     let mut from = key;
     'leaves: loop {
+        *lent = leaf.pairs_from(from);
+        if let Some(pair) = take_first(lent) {
+            return Some(pair);
+        }
         if let Some(pair) = leaf.next_at(from) {
             return Some(pair);
         }

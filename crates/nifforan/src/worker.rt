@@ -7,12 +7,13 @@ ghost use Rattle.bw_work.specs.Clearing.{IsMapWithout};
 ghost use Rattle.nifforan.specs.Clearing.{Loses};
 ghost use Rattle.nifforan.specs.Maps.{before_put, value_after_put, before_set, before_delete};
 
+use bw_chain::Wished;
 use bw_delta::{Base, Chain, NoMemory};
 use bw_keys::{Config, Fence, Key, Pid, Version};
 use bw_procedures::{
     Account, Cleared, Del, Done, Ends, Fault, Keep, Put, Set, Steps, clear, delete, put, set,
 };
-use bw_step::{CopyFault, Denied, Look, Next, Place, Receipt, Step, View};
+use bw_step::{AtOnce, CopyFault, Denied, Look, Next, Place, Receipt, Step, View};
 use bw_table::Table;
 use std::alloc::{Allocator, Global};
 
@@ -163,6 +164,35 @@ impl<A: Allocator + Copy> Steps<A, Step<A>> for Worker<A> {
         self.table.leaf_at_rest(key)
     }
 
+    #[inline(always)]
+    fn change_at_once(&mut self, key: Key, wished: Wished) -> Option<AtOnce> {
+        if self.account.reserve_two().is_err() {
+            return None;
+        }
+        // The law of the table is told with its configuration.
+        let _config = self.table.config();
+        let done = self.table.change_at_once(key, wished)?;
+        self.account.done_at_once(done);
+        Some(done)
+    }
+
+    #[inline(always)]
+    fn splits_at_once(&self) -> bool {
+        true
+    }
+
+    fn split_at_once(&mut self, parent: Pid, page: View) -> Option<Pid> {
+        if self.account.reserve_four().is_err() {
+            return None;
+        }
+        // The law of the table is told with its configuration.
+        let _config = self.table.config();
+        let number = first_to_go(page);
+        let (new, posted) = self.table.split_under(parent, page.pid, number)?;
+        self.account.split_at_once(page.pid, parent, new, posted);
+        Some(new)
+    }
+
     #[tactic(auto, using(bw_work::proofs::Calming::next_is_calm))]
     #[inline(always)]
     fn visit(&mut self, place: Place, key: Key, goal: u8) -> Next {
@@ -241,5 +271,15 @@ impl<A: Allocator + Copy> Steps<A, Step<A>> for Worker<A> {
     #[inline(always)]
     fn trail(&self) -> &[Receipt] {
         self.account.trail()
+    }
+}
+
+/// The number of the first entry that goes to the new page where the page is split: in the middle, or
+/// at three quarters of the last page of a level, since keys that rise all come to the new one.
+fn first_to_go(page: View) -> usize {
+    let count = page.count as usize;
+    match page.high {
+        Fence::Top => count / 4 * 3,
+        Fence::Key(_) => count / 2,
     }
 }

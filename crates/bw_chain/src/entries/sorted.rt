@@ -23,7 +23,7 @@ fn count_below<X: Copy>(entries: &[(Key, X)], fence: Fence) -> usize
 /// How many of the entries lie below the key: those that were passed, and at most `left` more. Each
 /// step compares the entries at the ends of three quarters of what is left, and adds up what it
 /// finds. It takes no branch on an entry: no processor can guess the way that a search takes.
-fn count_below_key<X: Copy>(entries: &[(Key, X)], key: Key) -> usize
+pub(crate) fn count_below_key<X: Copy>(entries: &[(Key, X)], key: Key) -> usize
     requires ascending { IsAscending entries.now }
     ensures { result ≡ length (below key entries.now) }
 {

@@ -1,11 +1,11 @@
-ghost use Rattle.std.specs.Prelude.{◌≡◌, ◌↔◌, ◌<◌, length, Some, Err, IfOk};
+ghost use Rattle.std.specs.Prelude.{◌≡◌, ◌↔◌, ◌<◌, ◌≤◌, length, drop, Some, Err, IfOk};
 ghost use Rattle.bw_delta.specs.Pages.{listed_length, upper_part};
 ghost use Rattle.bw_delta.specs.PageView.{listed};
-ghost use Rattle.bw_chain.specs.Pages.Halves.{listed_middle_key, listed_upper_half, middle_key, upper_half};
+ghost use Rattle.bw_chain.specs.Pages.Halves.{listed_middle_key, listed_key_at, listed_behind, key_at};
 
 use bw_delta::{Base, Entries};
 use bw_keys::Key;
-use std::alloc::Allocator;
+use std::alloc::{AllocError, Allocator};
 use thiserror::Error;
 
 /// Why a base page is not halved.
@@ -27,7 +27,27 @@ pub fn halve<A: Allocator + Copy>(alloc: A, base: &Base<A>) -> Result<(Key, Base
     ensures separator { IfOk result (λ half. listed_middle_key base.now.listed ≡ Some half.0) }
     ensures page { IfOk result (λ half. half.1 ≡ upper_part half.0 base.now) }
 {
-    let (separator, entries) = upper_entries(alloc, &base.entries)?;
+    let middle = base.len() / 2;
+    if middle == 0 {
+        return Err(HalveFault::TooSmall);
+    }
+    part_from(alloc, base, middle, 0)
+}
+
+/// The part of a base page from the entry with the number on, counted from 0, with the separator at
+/// which it begins. The part has room for so many entries before it asks for memory again. `TooSmall`
+/// is answered where there is no such entry.
+pub(crate) fn part_from<A: Allocator + Copy>(
+    alloc: A,
+    base: &Base<A>,
+    number: usize,
+    room: usize,
+) -> Result<(Key, Base<A>), HalveFault>
+    ensures small { (result ≡ Err HalveFault.TooSmall) ↔ (listed_length base.now.listed ≤ number) }
+    ensures separator { IfOk result (λ part. listed_key_at number base.now.listed ≡ Some part.0) }
+    ensures page { IfOk result (λ part. part.1 ≡ upper_part part.0 base.now) }
+{
+    let (separator, entries) = listed_from(alloc, &base.entries, number, room)?;
     let upper = Base {
         low: separator,
         high: base.high,
@@ -37,43 +57,59 @@ pub fn halve<A: Allocator + Copy>(alloc: A, base: &Base<A>) -> Result<(Key, Base
     Ok((separator, upper))
 }
 
-/// The key of the middle entry, and the entries from it on, of whichever kind.
-fn upper_entries<A: Allocator + Copy>(
+/// The key of the entry with the number, and the entries from it on, of whichever kind.
+fn listed_from<A: Allocator + Copy>(
     alloc: A,
     entries: &Entries<A>,
+    number: usize,
+    room: usize,
 ) -> Result<(Key, Entries<A>), HalveFault>
-    ensures small { (result ≡ Err HalveFault.TooSmall) ↔ (listed_length (listed entries.now) < 2) }
-    ensures separator { IfOk result (λ half. listed_middle_key (listed entries.now) ≡ Some half.0) }
-    ensures upper { IfOk result (λ half. listed half.1 ≡ listed_upper_half (listed entries.now)) }
+    ensures small { (result ≡ Err HalveFault.TooSmall) ↔ (listed_length (listed entries.now) ≤ number) }
+    ensures separator { IfOk result (λ part. listed_key_at number (listed entries.now) ≡ Some part.0) }
+    ensures upper { IfOk result (λ part. listed part.1 ≡ listed_behind number (listed entries.now)) }
 {
     match entries {
         Entries::Pairs(pairs) => {
-            let (separator, upper) = upper_half(alloc, pairs)?;
+            let (separator, upper) = entries_from(alloc, pairs, number, room)?;
             Ok((separator, Entries::Pairs(upper)))
         }
         Entries::Routes(routes) => {
-            let (separator, upper) = upper_half(alloc, routes)?;
+            let (separator, upper) = entries_from(alloc, routes, number, room)?;
             Ok((separator, Entries::Routes(upper)))
         }
     }
 }
 
-/// The key of the middle entry, and the entries from it on.
-fn upper_half<A: Allocator + Copy, X: Copy>(
+/// The key of the entry with the number, and the entries from it on.
+fn entries_from<A: Allocator + Copy, X: Copy>(
     alloc: A,
     entries: &[(Key, X)],
+    number: usize,
+    room: usize,
 ) -> Result<(Key, Vec<(Key, X), A>), HalveFault>
-    ensures small { (result ≡ Err HalveFault.TooSmall) ↔ (length entries.now < 2) }
-    ensures separator { IfOk result (λ half. middle_key entries.now ≡ Some half.0) }
-    ensures upper { IfOk result (λ half. half.1.items ≡ upper_half entries.now) }
+    ensures small { (result ≡ Err HalveFault.TooSmall) ↔ (length entries.now ≤ number) }
+    ensures separator { IfOk result (λ part. key_at number entries.now ≡ Some part.0) }
+    ensures upper { IfOk result (λ part. part.1.items ≡ drop number entries.now) }
 {
-    let middle = entries.len() / 2;
-    if middle == 0 {
+    if entries.len() <= number {
         return Err(HalveFault::TooSmall);
     }
-    let separator = entries[middle].0;
-    match Vec::from_slice(alloc, &entries[middle..]) {
+    let separator = entries[number].0;
+    match with_room(alloc, &entries[number..], room) {
         Ok(upper) => Ok((separator, upper)),
         Err(_) => Err(HalveFault::NoMemory),
     }
+}
+
+/// A copy of the entries, with room for so many, or for all of them if that is more.
+fn with_room<A: Allocator + Copy, X: Copy>(
+    alloc: A,
+    entries: &[(Key, X)],
+    room: usize,
+) -> Result<Vec<(Key, X), A>, AllocError>
+    ensures { IfOk result (λ copy. copy.items ≡ entries.now) }
+{
+    let mut copy = Vec::with_capacity(alloc, room.max(entries.len()))?;
+    copy.extend_from_slice(entries)?;
+    Ok(copy)
 }

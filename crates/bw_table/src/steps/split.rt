@@ -55,7 +55,7 @@ impl<A: Allocator + Copy> Table<A> {
     }
 
     /// Whether the page that is routed at the separator is being removed.
-    fn is_leaving_at(&self, slot: &Slot<A>, separator: Key) -> bool
+    pub(super) fn is_leaving_at(&self, slot: &Slot<A>, separator: Key) -> bool
         ensures { result ≡ is_leaving_at self.now.slots (at separator (routes_in slot.now)) }
     {
         match slot.route_at(separator) {

@@ -1,36 +1,19 @@
-use Rattle.std.proofs.Common.{sym, ◌∙◌, ap, subst, arith}
-use Rattle.std.specs.Prelude.{◌≡◌, max}
-use Rattle.bw_keys.specs.Ranges.{key_count, end_of}
-use Rattle.bw_chain.proofs.Firsts.{first_from-bound}
-use Rattle.bw_table.specs.Orders.{HasNoKeyWithin}
-use Rattle.nifforan.proofs.Reading.{next_is_here, none_is_here, none_before_next, held_for}
+use Rattle.std.proofs.Common.{◌<◌, arith}
+use Rattle.bw_keys.specs.Ranges.{key_count}
+use Rattle.nifforan.proofs.Reading.{at_once, lent_is_next, lent_is_held, rest_is_next}
 use Rattle.nifforan.proofs.range.next_from.Goals as goal
 
 pub returns-in-Some-clause-next : goal.returns-in-Some-clause-next
-returns-in-Some-clause-next g c = next_is_here c.args.table.now c.leaves.leaf c.args.key c.leaves.from c.leaves.invariant c.in-Some.pair (sym c.next_at.ensures ∙ c.in-Some.is)
+returns-in-Some-clause-next g c =
+    let is_key : c.args.key < key_count = omega (arith, c.ranges.key.fits) in
+    lent_is_next c.args.table.now c.args.leaf.now c.args.key c.args.key (at_once c.args.table.now c.args.leaf.now c.args.key is_key c.requires.leaf) c.in-Some.pair c.take_first.new.lent.now (rw c.in-Some.ensures.first at (c.requires.lent is_key))
 
 pub returns-in-Some-clause-leaf : goal.returns-in-Some-clause-leaf
 returns-in-Some-clause-leaf g c =
-    held_for c.args.table.now c.leaves.leaf c.args.key c.leaves.from c.leaves.invariant c.in-Some.pair.0 (first_from-bound c.leaves.from c.in-Some.pair c.leaves.leaf.pairs (sym c.next_at.ensures ∙ c.in-Some.is))
+    let is_key : c.args.key < key_count = omega (arith, c.ranges.key.fits) in
+    lent_is_held c.args.table.now c.args.leaf.now c.args.key c.args.key (at_once c.args.table.now c.args.leaf.now c.args.key is_key c.requires.leaf) c.in-Some.pair c.take_first.new.lent.now (rw c.in-Some.ensures.first at (c.requires.lent is_key))
 
-pub returns-in-Some-clause-last : goal.returns-in-Some-clause-last
-returns-in-Some-clause-last g c = held_for c.args.table.now c.leaves.leaf c.args.key c.leaves.from c.leaves.invariant key_count (omega (arith, c.leaves.invariant.is_key))
-
-pub leaves-preserved : goal.leaves-preserved
-leaves-preserved g c =
-    let table = c.args.table.now in
-    let next : c.max-from.result ≡ max c.leaves.from (end_of c.leaves.leaf.high) = c.max-from.ensures ∙ ap (max c.leaves.from) (sym (ap end_of (sym c.high.ensures ∙ c.in-Key.is))) in record {
-      later = omega (arith, c.leaves.invariant.later, next);
-      is_key = omega (arith, c.max-from.type_inv);
-      none = subst (HasNoKeyWithin table c.args.key) (sym next) (none_before_next table c.leaves.leaf c.args.key c.leaves.from c.leaves.invariant (sym c.next_at.ensures ∙ c.in_default.is));
-      held = record { lawful = c.leaves.invariant.held.lawful; pairs = c.leaf_of.ensures.pairs; begins = c.leaf_of.ensures.low };
-    }
-
-pub returns-in-Top-clause-none : goal.returns-in-Top-clause-none
-returns-in-Top-clause-none g c =
-    let table = c.args.table.now in
-    let ends = ap end_of (sym c.high.ensures ∙ c.in-Top.is) in
-    subst (HasNoKeyWithin table c.args.key) ends (none_is_here table c.leaves.leaf c.args.key c.leaves.from c.leaves.invariant (sym c.next_at.ensures ∙ c.in_default.is))
-
-pub returns-in-Top-clause-last : goal.returns-in-Top-clause-last
-returns-in-Top-clause-last g c = held_for c.args.table.now c.leaves.leaf c.args.key c.leaves.from c.leaves.invariant key_count (omega (arith, c.leaves.invariant.is_key))
+pub returns-in-Some-clause-lent : goal.returns-in-Some-clause-lent
+returns-in-Some-clause-lent g c _ =
+    let is_key : c.args.key < key_count = omega (arith, c.ranges.key.fits) in
+    rest_is_next c.args.table.now c.args.leaf.now c.args.key c.args.key (at_once c.args.table.now c.args.leaf.now c.args.key is_key c.requires.leaf) c.in-Some.pair c.take_first.new.lent.now (rw c.in-Some.ensures.first at (c.requires.lent is_key))

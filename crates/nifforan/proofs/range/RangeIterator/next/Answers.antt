@@ -10,14 +10,14 @@ pub returns-in-Top-clause-steps : goal.returns-in-Top-clause-steps
 returns-in-Top-clause-steps g c =
     let table = c.self.inside.table.now in
     let high : ℕ = end_of c.self.inside.high in
-    let none = sym c.self.view_is ∙ (ap (λ (f : Fence). within (end_of f) high (pairs_of table.slots)) c.in-Top.is ∙ none_left table c.self.invariant.lawful high) in (none, none)
+    let none = sym c.self.view_is ∙ (ap (λ (f : Fence). within (end_of f) high (pairs_of table.slots)) c.in-Top.is ∙ none_left table c.self.invariant.0.lawful high) in (none, none)
 
 pub returns-clause-steps : goal.returns-clause-steps
 returns-clause-steps g c =
     let table = c.self.inside.table.now in
     let high : ℕ = end_of c.self.inside.high in
-    let first = next_is_first table c.self.invariant.lawful c.in-Key.from c.next_from.result c.next_from.ensures.next c.next_from.ensures.none in
-    let step = first_is_taken table c.self.invariant.lawful c.in-Key.from high c.next_from.result c.below-pair.result first c.below-pair.ensures in
+    let first = next_is_first table c.self.invariant.0.lawful c.in-Key.from c.next_from-found.result c.next_from-found.ensures.next c.next_from-found.ensures.none in
+    let step = first_is_taken table c.self.invariant.0.lawful c.in-Key.from high c.next_from-found.result c.below-pair.result first c.below-pair.ensures in
     let before = sym (ap (λ (f : Fence). within (end_of f) high (pairs_of table.slots)) c.in-Key.is) ∙ c.self.view_is in
     subst (λ (s : Pairs). YieldsFirst (λ (left : Pairs). left) s c.below-pair.result (within (end_of c.past-self-inside.result) high (pairs_of table.slots))) before
     (subst (λ (n : ℕ). YieldsFirst (λ (left : Pairs). left) (within c.in-Key.from high (pairs_of table.slots)) c.below-pair.result (within n high (pairs_of table.slots))) (sym c.past-self-inside.ensures) step)
@@ -26,8 +26,8 @@ pub returns-clause-goes : goal.returns-clause-goes
 returns-clause-goes g c =
     let table = c.self.inside.table.now in
     let high : ℕ = end_of c.self.inside.high in
-    let first = next_is_first table c.self.invariant.lawful c.in-Key.from c.next_from.result c.next_from.ensures.next c.next_from.ensures.none in
-    let step = first_is_taken table c.self.invariant.lawful c.in-Key.from high c.next_from.result c.below-pair.result first c.below-pair.ensures in
+    let first = next_is_first table c.self.invariant.0.lawful c.in-Key.from c.next_from-found.result c.next_from-found.ensures.next c.next_from-found.ensures.none in
+    let step = first_is_taken table c.self.invariant.0.lawful c.in-Key.from high c.next_from-found.result c.below-pair.result first c.below-pair.ensures in
     let before = sym (ap (λ (f : Fence). within (end_of f) high (pairs_of table.slots)) c.in-Key.is) ∙ c.self.view_is in
     yields_progress _ (λ s. tt) c.args.self.now c.below-pair.result (within (end_of c.past-self-inside.result) high (pairs_of table.slots))
     (subst (λ (s : Pairs). YieldsFirst (λ (left : Pairs). left) s c.below-pair.result (within (end_of c.past-self-inside.result) high (pairs_of table.slots))) before

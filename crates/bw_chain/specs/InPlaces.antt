@@ -1,0 +1,56 @@
+-- What a change in place makes of a chain, and which record it is one with.
+use Rattle.std.specs.Prelude.{◌≡◌, ℕ, false, List, Option, Some, None}
+use Rattle.bw_keys.specs.declared.page.Pid.{Pid}
+use Rattle.bw_delta.specs.declared.chain.Delta.{Delta}
+use Rattle.bw_delta.specs.declared.chain.Delta.TheVariants as deltas
+use Rattle.bw_delta.specs.Entries.{at}
+use Rattle.bw_delta.specs.Fence.{is_leaf}
+use Rattle.bw_delta.specs.Pages.{Page}
+use Rattle.bw_delta.specs.Pairs.{pairs_after, routes}
+use Rattle.bw_delta.specs.Records.{Records, bare, above}
+use Rattle.bw_delta.specs.Sound.{page_for}
+use Rattle.bw_chain.specs.declared.in_place.Wished.{Wished}
+use Rattle.bw_chain.specs.declared.in_place.Wished.TheVariants as wishes
+
+-- the record by which the wish comes true for a key that had the value, or none: no record where it is true already
+abbrev pub delta_for : Wished → ℕ → Option ℕ → Option Delta
+delta_for (wishes.Put value) key None = Some (deltas.Insert key value)
+delta_for (wishes.Put value) key (Some had) = None
+delta_for (wishes.Set value) key None = Some (deltas.Insert key value)
+delta_for (wishes.Set value) key (Some had) = Some (deltas.Modify key value)
+delta_for wishes.Delete key None = None
+delta_for wishes.Delete key (Some had) = Some (deltas.Delete key)
+
+-- the pairs with what the record makes of them, if there is one
+abbrev pub pairs_with : Option Delta → List (ℕ × ℕ) → List (ℕ × ℕ)
+pairs_with None es = es
+pairs_with (Some delta) es = pairs_after delta es
+
+-- the chain that is consolidated with the record on top, if there is one
+abbrev pub chain_with : Option Delta → Records → Records
+chain_with None chain = chain
+chain_with (Some delta) chain = bare (page_for (above delta chain))
+
+-- the base page that a split ended, with the record that stands over the split's taken in, if there is one
+abbrev pub page_behind_split : ℕ → Pid → Option Delta → Page → Page
+page_behind_split separator right None page = page
+page_behind_split separator right (Some delta) page = page_for (above delta (above (deltas.Split separator right) (bare page)))
+
+-- the record of a split stands over a base page, which became another
+pub record IsBehindSplit (delta : Option Delta) (old new : Records) : Type 0 where
+  pub separator : ℕ
+  pub right : Pid
+  pub page : Page
+  pub before : old ≡ above (deltas.Split separator right) (bare page)
+  pub changed : new ≡ above (deltas.Split separator right) (bare (page_behind_split separator right delta page))
+
+-- the chain without its newest record
+abbrev pub uncovered : Records → Records
+uncovered (above delta chain) = chain
+uncovered chain = chain
+
+-- the inner page had no route at the separator, and is consolidated with this one
+pub record IsRouted (separator : ℕ) (child : Pid) (old new : Records) : Type 0 where
+  pub inner : is_leaf old ≡ false
+  pub absent : at separator (routes old) ≡ None
+  pub routed : new ≡ bare (page_for (above (deltas.TermAdd separator child) old))

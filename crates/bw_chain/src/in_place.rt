@@ -1,0 +1,342 @@
+//! A change of one key, made in the list of a base page over which no record stands.
+
+ghost use Rattle.std.specs.Prelude.{◌≡◌, ◌<◌, None, Some, true, false, length, IfSome, IfNone};
+ghost use Rattle.bw_delta.specs.declared.chain.Delta.TheVariants as deltas;
+ghost use Rattle.bw_delta.specs.Entries.{at, put, below};
+ghost use Rattle.bw_delta.specs.Fence.{fences};
+ghost use Rattle.bw_delta.specs.Pairs.{pairs, pairs_listed};
+ghost use Rattle.bw_delta.specs.Pages.{upper_part};
+ghost use Rattle.bw_delta.specs.Records.{bare, above};
+ghost use Rattle.bw_delta.specs.Sound.{LiesIn, page_for};
+ghost use Rattle.bw_chain.specs.Ascends.{IsAscending};
+ghost use Rattle.bw_chain.specs.Pages.Halves.{listed_key_at};
+ghost use Rattle.bw_chain.specs.InPlaces.{IsRouted, IsBehindSplit, delta_for, pairs_with, chain_with, page_behind_split, uncovered};
+
+use crate::entries::sorted::count_below_key;
+use crate::page::part_from;
+use crate::page::shape::allocator;
+use bw_delta::{Base, Chain, Delta, Entries, Node};
+use bw_keys::{Fence, Key, Pid};
+use std::alloc::Allocator;
+use std::mem;
+
+/// What is wished of a key.
+#[derive(Clone, Copy, Debug, PartialEq, Eq, Hash)]
+pub enum Wished {
+    /// That it gets the value, unless it has one.
+    Put(u64),
+    /// That it has the value.
+    Set(u64),
+    /// That it has none.
+    Delete,
+}
+
+/// What a change in place did.
+#[derive(Clone, Copy, Debug, PartialEq, Eq)]
+pub struct InPlace {
+    /// What the key had.
+    pub had: Option<u64>,
+    /// The record that would have done the same; none where nothing was to be done.
+    pub delta: Option<Delta>,
+}
+
+/// Makes the wish come true on the base page, if no record stands over it, or that of its split alone,
+/// which a change takes in. None, and nothing changed, where another does or memory is short.
+#[inline(always)]
+pub fn change_in_place<A: Allocator + Copy>(
+    chain: &mut Chain<A>,
+    key: Key,
+    wished: Wished,
+) -> Option<InPlace>
+    requires within { LiesIn key (fences chain.old) }
+    ensures had { IfSome result (λ done. done.had ≡ at key (pairs chain.old)) }
+    ensures delta { IfSome result (λ done. done.delta ≡ delta_for wished key done.had) }
+    ensures changed { IfSome result (λ done. chain.new ≡ chain_with done.delta chain.old) }
+    ensures unchanged { IfNone result (chain.new ≡ chain.old) }
+{
+    match &mut chain.node {
+        Node::Bare(base) => change_on_base(base, key, wished),
+        Node::Above(_, _) => change_behind_split(chain, key, wished),
+        Node::Merged(_, _, _) => None,
+    }
+}
+
+/// The same where the record of a split stands over the base page: a look leaves it there.
+fn change_behind_split<A: Allocator + Copy>(
+    chain: &mut Chain<A>,
+    key: Key,
+    wished: Wished,
+) -> Option<InPlace>
+    requires within { LiesIn key (fences chain.old) }
+    ensures had { IfSome result (λ done. done.had ≡ at key (pairs chain.old)) }
+    ensures delta { IfSome result (λ done. done.delta ≡ delta_for wished key done.had) }
+    ensures changed { IfSome result (λ done. chain.new ≡ chain_with done.delta chain.old) }
+    ensures unchanged { IfNone result (chain.new ≡ chain.old) }
+{
+    let done = change_below_split(chain, key, wished)?;
+    if done.delta.is_some() {
+        uncover(chain);
+    }
+    Some(done)
+}
+
+fn change_below_split<A: Allocator + Copy>(
+    chain: &mut Chain<A>,
+    key: Key,
+    wished: Wished,
+) -> Option<InPlace>
+    requires within { LiesIn key (fences chain.old) }
+    ensures had { IfSome result (λ done. done.had ≡ at key (pairs chain.old)) }
+    ensures delta { IfSome result (λ done. done.delta ≡ delta_for wished key done.had) }
+    ensures changed { IfSome result (λ done. IsBehindSplit done.delta chain.old chain.new) }
+    ensures unchanged { IfNone result (chain.new ≡ chain.old) }
+{
+    match &mut chain.node {
+        Node::Above(delta, below) => {
+            let Delta::Split(separator, right) = *delta else {
+                return None;
+            };
+            match &mut below.node {
+                Node::Bare(base) => change_and_cut(base, separator, right, key, wished),
+                Node::Above(_, _) | Node::Merged(_, _, _) => None,
+            }
+        }
+        Node::Bare(_) | Node::Merged(_, _, _) => None,
+    }
+}
+
+/// Makes the wish come true on a base page that a split has ended before the separator, and ends it
+/// there if something is changed.
+fn change_and_cut<A: Allocator + Copy>(
+    base: &mut Base<A>,
+    separator: Key,
+    right: Pid,
+    key: Key,
+    wished: Wished,
+) -> Option<InPlace>
+    requires within { LiesIn key (fences (above (deltas.Split separator right) (bare base.old))) }
+    ensures had { IfSome result (λ done. done.had ≡ at key (pairs (above (deltas.Split separator right) (bare base.old)))) }
+    ensures delta { IfSome result (λ done. done.delta ≡ delta_for wished key done.had) }
+    ensures changed { IfSome result (λ done. base.new ≡ page_behind_split separator right done.delta base.old) }
+    ensures unchanged { IfNone result (base.new ≡ base.old) }
+{
+    if separator <= base.low || !base.high.is_above(separator) {
+        return None;
+    }
+    let done = change_on_base(base, key, wished)?;
+    if done.delta.is_some() {
+        cut_base(base, separator, right);
+    }
+    Some(done)
+}
+
+/// Takes the newest record off the chain.
+fn uncover<A: Allocator + Copy>(chain: &mut Chain<A>)
+    ensures { chain.new ≡ uncovered chain.old }
+{
+    let hole = Node::Bare(Base::empty(*allocator(chain)));
+    match mem::replace(&mut chain.node, hole) {
+        Node::Above(_, below) => {
+            let mut below = below;
+            mem::swap(chain, &mut *below);
+        }
+        node => chain.node = node,
+    }
+}
+
+#[inline(always)]
+fn change_on_base<A: Allocator + Copy>(
+    base: &mut Base<A>,
+    key: Key,
+    wished: Wished,
+) -> Option<InPlace>
+    requires within { LiesIn key (fences (bare base.old)) }
+    ensures had { IfSome result (λ done. done.had ≡ at key (pairs_listed base.old.listed)) }
+    ensures delta { IfSome result (λ done. done.delta ≡ delta_for wished key done.had) }
+    ensures changed { IfSome result (λ done. bare base.new ≡ chain_with done.delta (bare base.old)) }
+    ensures unchanged { IfNone result (base.new ≡ base.old) }
+{
+    match &mut base.entries {
+        Entries::Pairs(pairs) => change_listed(pairs, key, wished),
+        Entries::Routes(_) => None,
+    }
+}
+
+#[inline(always)]
+fn change_listed<A: Allocator + Copy>(
+    pairs: &mut Vec<(Key, u64), A>,
+    key: Key,
+    wished: Wished,
+) -> Option<InPlace>
+    requires ascending { IsAscending pairs.old.items }
+    ensures had { IfSome result (λ done. done.had ≡ at key pairs.old.items) }
+    ensures delta { IfSome result (λ done. done.delta ≡ delta_for wished key done.had) }
+    ensures changed { IfSome result (λ done. pairs.new.items ≡ pairs_with done.delta pairs.old.items) }
+    ensures unchanged { IfNone result (pairs.new.items ≡ pairs.old.items) }
+{
+    let place = count_below_key(pairs, key);
+    let had = entry_at(pairs, key, place);
+    match (wished, had) {
+        (Wished::Put(_), Some(_)) | (Wished::Delete, None) => Some(InPlace { had, delta: None }),
+        (Wished::Put(value) | Wished::Set(value), None) => insert_at(pairs, place, key, value),
+        (Wished::Set(value), Some(_)) => {
+            pairs[place] = (key, value);
+            Some(InPlace {
+                had,
+                delta: Some(Delta::Modify(key, value)),
+            })
+        }
+        (Wished::Delete, Some(_)) => {
+            let _pair = pairs.remove(place);
+            Some(InPlace {
+                had,
+                delta: Some(Delta::Delete(key)),
+            })
+        }
+    }
+}
+
+/// Puts a new pair in the place of its key.
+#[inline(always)]
+fn insert_at<A: Allocator + Copy>(
+    pairs: &mut Vec<(Key, u64), A>,
+    place: usize,
+    key: Key,
+    value: u64,
+) -> Option<InPlace>
+    requires ascending { IsAscending pairs.old.items }
+    requires place { place ≡ length (below key pairs.old.items) }
+    requires absent { at key pairs.old.items ≡ None }
+    ensures had { IfSome result (λ done. done.had ≡ None) }
+    ensures delta { IfSome result (λ done. done.delta ≡ Some (deltas.Insert key value)) }
+    ensures changed { IfSome result (λ done. pairs.new.items ≡ pairs_with done.delta pairs.old.items) }
+    ensures unchanged { IfNone result (pairs.new.items ≡ pairs.old.items) }
+{
+    match pairs.insert(place, (key, value)) {
+        Ok(()) => Some(InPlace {
+            had: None,
+            delta: Some(Delta::Insert(key, value)),
+        }),
+        Err(_) => None,
+    }
+}
+
+/// What stands at the key, whose place it is.
+#[inline(always)]
+fn entry_at<X: Copy>(entries: &[(Key, X)], key: Key, place: usize) -> Option<X>
+    requires ascending { IsAscending entries.now }
+    requires place { place ≡ length (below key entries.now) }
+    ensures value { result ≡ at key entries.now }
+    ensures inside { IfSome result (λ value. place < length entries.now) }
+{
+    if place < entries.len() {
+        let entry = entries[place];
+        if entry.0 == key {
+            return Some(entry.1);
+        }
+    }
+    None
+}
+
+/// Adds a route on the base page of an inner page, if no record stands over it and it has no route
+/// at the separator. False, and nothing changed, where that isn't so or memory is short.
+#[inline(always)]
+pub fn route_in_place<A: Allocator + Copy>(chain: &mut Chain<A>, separator: Key, child: Pid) -> bool
+    requires within { LiesIn separator (fences chain.old) }
+    ensures routed { result ≡ true → IsRouted separator child chain.old chain.new }
+    ensures unchanged { result ≡ false → chain.new ≡ chain.old }
+{
+    match &mut chain.node {
+        Node::Bare(base) => route_on_base(base, separator, child),
+        Node::Above(_, _) | Node::Merged(_, _, _) => false,
+    }
+}
+
+#[inline(always)]
+fn route_on_base<A: Allocator + Copy>(base: &mut Base<A>, separator: Key, child: Pid) -> bool
+    requires within { LiesIn separator (fences (bare base.old)) }
+    ensures routed { result ≡ true → IsRouted separator child (bare base.old) (bare base.new) }
+    ensures unchanged { result ≡ false → base.new ≡ base.old }
+{
+    match &mut base.entries {
+        Entries::Pairs(_) => false,
+        Entries::Routes(routes) => route_listed(routes, separator, child),
+    }
+}
+
+#[inline(always)]
+fn route_listed<A: Allocator + Copy>(
+    routes: &mut Vec<(Key, Pid), A>,
+    separator: Key,
+    child: Pid,
+) -> bool
+    requires ascending { IsAscending routes.old.items }
+    ensures absent { result ≡ true → at separator routes.old.items ≡ None }
+    ensures put { result ≡ true → routes.new.items ≡ put separator child routes.old.items }
+    ensures unchanged { result ≡ false → routes.new.items ≡ routes.old.items }
+{
+    let place = count_below_key(routes, separator);
+    match entry_at(routes, separator, place) {
+        Some(_) => false,
+        None => routes.insert(place, (separator, child)).is_ok(),
+    }
+}
+
+/// The part of a base page over which no record stands from the entry with the number on, counted
+/// from 0, with the separator at which it begins. It has room for so many entries before it asks for
+/// memory again. None where a record stands there, where there is no such entry, and where memory is
+/// short.
+pub fn upper_part_of<A: Allocator + Copy>(
+    chain: &Chain<A>,
+    number: usize,
+    room: usize,
+) -> Option<(Key, Base<A>)>
+    ensures separator { IfSome result (λ part. listed_key_at number (page_for chain.now).listed ≡ Some part.0) }
+    ensures page { IfSome result (λ part. part.1 ≡ upper_part part.0 (page_for chain.now)) }
+{
+    match &chain.node {
+        Node::Bare(base) => match part_from(*allocator(chain), base, number, room) {
+            Ok(part) => Some(part),
+            Err(_) => None,
+        },
+        Node::Above(_, _) | Node::Merged(_, _, _) => None,
+    }
+}
+
+/// Ends a base page before the separator, with a link to the page there, if no record stands over
+/// it. False, and nothing changed, where one does.
+pub fn cut_in_place<A: Allocator + Copy>(chain: &mut Chain<A>, separator: Key, right: Pid) -> bool
+    requires within { LiesIn separator (fences chain.old) }
+    requires later { (fences chain.old).low < separator }
+    ensures cut { result ≡ true → chain.new ≡ bare (page_for (above (deltas.Split separator right) chain.old)) }
+    ensures unchanged { result ≡ false → chain.new ≡ chain.old }
+{
+    match &mut chain.node {
+        Node::Bare(base) => {
+            cut_base(base, separator, right);
+            true
+        }
+        Node::Above(_, _) | Node::Merged(_, _, _) => false,
+    }
+}
+
+fn cut_base<A: Allocator + Copy>(base: &mut Base<A>, separator: Key, right: Pid)
+    requires within { LiesIn separator (fences (bare base.old)) }
+    requires later { (fences (bare base.old)).low < separator }
+    ensures { base.new ≡ page_for (above (deltas.Split separator right) (bare base.old)) }
+{
+    match &mut base.entries {
+        Entries::Pairs(pairs) => cut_listed(pairs, separator),
+        Entries::Routes(routes) => cut_listed(routes, separator),
+    }
+    base.high = Fence::Key(separator);
+    base.right = Some(right);
+}
+
+fn cut_listed<A: Allocator + Copy, X: Copy>(entries: &mut Vec<(Key, X), A>, separator: Key)
+    requires ascending { IsAscending entries.old.items }
+    ensures { entries.new.items ≡ below separator entries.old.items }
+{
+    let count = count_below_key(entries, separator);
+    entries.truncate(count);
+}

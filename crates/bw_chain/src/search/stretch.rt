@@ -1,0 +1,121 @@
+//! Pairs of a chain that lie side by side on a base page, lent as they lie there. No record above the
+//! page speaks of a key among them, so that they are the chain's: a page without records is one
+//! stretch, and one on which only its split stands is another.
+
+ghost use Rattle.std.specs.Prelude.{◌≡◌, ◌≢◌, ℕ, ◌<◌, ◌≤◌, min, max, List};
+ghost use Rattle.bw_keys.specs.Ranges.{end_of};
+ghost use Rattle.bw_delta.specs.Entries.{from};
+ghost use Rattle.bw_delta.specs.Pairs.{pairs, pairs_listed};
+ghost use Rattle.bw_delta.specs.Sound.{IsSound};
+ghost use Rattle.bw_chain.specs.Ascends.{IsAscending};
+ghost use Rattle.bw_chain.specs.Changes.{changed, entries_by, pair_change};
+ghost use Rattle.bw_chain.specs.Passing.Heads.{BeginsWith};
+ghost use Rattle.bw_chain.specs.Searching.Stretches.{AreSameWithin};
+
+use crate::entries::bounds::at_most;
+use crate::entries::change::Change;
+use crate::entries::sorted::entries_from;
+use crate::entries::value::EntryValue;
+use crate::pass::below_end;
+use bw_delta::{Chain, Node};
+use bw_keys::{Fence, Key};
+use std::alloc::Allocator;
+
+/// The pairs of a base page, which say what the chain does at each key below the end, from some key on.
+#[derive(Clone, Copy)]
+struct Stretch<'a> {
+    pairs: &'a [(Key, u64)],
+    low: Key,
+    end: Fence,
+}
+
+/// Pairs of the chain from the key on, side by side, up to the first key from there on that a record
+/// names: all of them where none does. It takes one walk over the records, and no memory.
+#[tactic(auto, using(crate::proofs::Bridges::both_kinds))]
+pub fn pairs_from<A: Allocator + Copy>(chain: &Chain<A>, key: Key) -> &[(Key, u64)]
+    requires sound { IsSound chain.now }
+    ensures { BeginsWith (from key (pairs chain.now)) result.now }
+{
+    let stretch = stretch_around(chain, key);
+    below_end(entries_from(stretch.pairs, Fence::Key(key)), stretch.end)
+}
+
+/// The stretch round the key, or one that ends there where a record names the key.
+fn stretch_around<A: Allocator + Copy>(chain: &Chain<A>, key: Key) -> Stretch<'_>
+    ensures begins { result.low ≤ key }
+    ensures same { AreSameWithin result.low (end_of result.end) result.pairs.now (entries_by pairs_listed pair_change chain.now) }
+    ensures ascending { IsAscending result.pairs.now }
+{
+    match &chain.node {
+        Node::Bare(base) => Stretch {
+            pairs: u64::entries_on(base),
+            low: 0,
+            end: Fence::Top,
+        },
+        Node::Above(delta, below) => {
+            let stretch = stretch_around(below, key);
+            stretch_under(u64::change_by(*delta), key, stretch)
+        }
+        Node::Merged(merging, left, right) => {
+            if key < merging.separator {
+                part_before(stretch_around(left, key), merging.separator)
+            } else {
+                part_behind(stretch_around(right, key), merging.separator)
+            }
+        }
+    }
+}
+
+/// What a change leaves of a stretch round the key.
+fn stretch_under(change: Change<u64>, key: Key, stretch: Stretch<'_>) -> Stretch<'_>
+    requires begins { stretch.low ≤ key }
+    ensures begins { result.low ≤ key }
+    ensures pairs { result.pairs ≡ stretch.entry.pairs }
+    ensures same { (es : List (ℕ × ℕ)) → AreSameWithin stretch.entry.low (end_of stretch.entry.end) stretch.entry.pairs.now es → AreSameWithin result.low (end_of result.end) stretch.entry.pairs.now (changed change es) }
+{
+    match change {
+        Change::Put(named, _) => beside(stretch, named, key),
+        Change::Without(named) => beside(stretch, named, key),
+        Change::Below(bound) => part_before(stretch, bound),
+        Change::Nothing => stretch,
+    }
+}
+
+/// The part of a stretch round the key that lies on its side of a named key, or before that one where
+/// the key itself is named.
+fn beside(stretch: Stretch<'_>, named: Key, key: Key) -> Stretch<'_>
+    requires begins { stretch.low ≤ key }
+    ensures begins { result.low ≤ key }
+    ensures pairs { result.pairs ≡ stretch.entry.pairs }
+    ensures inside { (q : ℕ) → result.low ≤ q → q < end_of result.end → (stretch.entry.low ≤ q) × (q < end_of stretch.entry.end) }
+    ensures others { (q : ℕ) → result.low ≤ q → q < end_of result.end → named ≢ q }
+{
+    match named.checked_add(1) {
+        Some(next) if next <= key => part_behind(stretch, next),
+        _ => part_before(stretch, named),
+    }
+}
+
+/// The part of a stretch before the key.
+fn part_before(stretch: Stretch<'_>, key: Key) -> Stretch<'_>
+    ensures low { result.low ≡ stretch.entry.low }
+    ensures end { end_of result.end ≡ min (end_of stretch.entry.end) key }
+    ensures pairs { result.pairs ≡ stretch.entry.pairs }
+{
+    Stretch {
+        end: at_most(stretch.end, key),
+        ..stretch
+    }
+}
+
+/// The part of a stretch from the key on.
+fn part_behind(stretch: Stretch<'_>, key: Key) -> Stretch<'_>
+    ensures low { result.low ≡ max stretch.entry.low key }
+    ensures end { result.end ≡ stretch.entry.end }
+    ensures pairs { result.pairs ≡ stretch.entry.pairs }
+{
+    Stretch {
+        low: stretch.low.max(key),
+        ..stretch
+    }
+}

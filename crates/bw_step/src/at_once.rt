@@ -1,0 +1,12 @@
+use crate::receipt::Receipt;
+use bw_keys::Pid;
+
+/// What was done at once for a key: a look at it, or a change of it and the consolidation of its page
+/// behind that.
+#[derive(Clone, Copy, Debug, PartialEq, Eq, Hash)]
+pub struct AtOnce {
+    /// The key's leaf.
+    pub page: Pid,
+    /// The receipt of the look, or of the change.
+    pub receipt: Receipt,
+}

@@ -1,0 +1,157 @@
+-- A change of a key and the consolidation of its page, one behind the other, as one call does them.
+use Rattle.std.specs.Prelude.{◌≡◌, ℕ, suc, ◌+◌, ◌-◌, ◌<◌, ◌≤◌, ◌^◌, Bool, true, false, Option, Some, None, unwrap_or}
+use Rattle.bw_keys.specs.declared.page.Pid.{Pid}
+use Rattle.bw_keys.specs.declared.range.Fence.TheVariants.{Key}
+use Rattle.bw_keys.specs.Ranges.{is_within}
+use Rattle.bw_delta.specs.declared.chain.Delta.{Delta}
+use Rattle.bw_delta.specs.declared.chain.Delta.TheVariants as deltas
+use Rattle.bw_delta.specs.Entries.{at}
+use Rattle.bw_delta.specs.Fence.{fences}
+use Rattle.bw_delta.specs.Pages.{Page}
+use Rattle.bw_delta.specs.Records.{above}
+use Rattle.bw_delta.specs.Sound.{LiesIn, page_for}
+use Rattle.bw_chain.specs.Pages.Halves.{listed_key_at}
+use Rattle.bw_chain.specs.declared.in_place.Wished.{Wished}
+use Rattle.bw_chain.specs.declared.in_place.Wished.TheVariants as wishes
+use Rattle.bw_step.specs.declared.receipt.Kind.TheVariants as kinds
+use Rattle.bw_step.specs.declared.receipt.Receipt.{Receipt}
+use Rattle.bw_step.specs.declared.receipt.Receipt.TheVariants.{Inserted, Deleted, Modified, Looked, Shaped}
+use Rattle.bw_step.specs.declared.view.Stage.TheVariants.{Posted, Unposted}
+use Rattle.bw_step.specs.Proposals.{Proposal, insert, delete, modify, consolidate, split, term_add}
+use Rattle.bw_law.specs.Effects.{TakesStep, with_record, consolidated, pid}
+use Rattle.bw_law.specs.Refusals.{refusal, is_bad_key, is_leaving_at, last_id, new_id}
+use Rattle.bw_law.specs.Slots.{SlotValue, chain_in, pairs_in, routes_in}
+use Rattle.bw_law.specs.Tables.{TableValue, slot_at, number_of}
+
+-- a leaf with one record at most, posted, whose range holds the key and whose version can rise twice
+pub record IsShallowLeaf (slot : SlotValue) (key : ℕ) : Type 0 where
+  pub posted : slot.stage ≡ Posted
+  pub leaf : slot.level ≡ 0
+  pub shallow : slot.depth ≤ 1
+  pub within : is_within slot.low slot.high key ≡ true
+  pub version : slot.version + 2 < 2 ^ 64
+
+-- the page is such a leaf, and the book's number can rise
+pub record MayChangeAtOnce (table : TableValue) (page key : ℕ) : Type 0 where
+  pub leaf : IsShallowLeaf (slot_at table page) key
+  pub number : number_of table.book + 1 < 2 ^ 64
+
+-- the numbers of a slot can rise, and its chain takes the key
+pub record TakesInPlace (slot : SlotValue) (key : ℕ) : Type 0 where
+  pub version : slot.version + 2 < 2 ^ 64
+  pub count : slot.count + 1 < 2 ^ 64
+  pub within : LiesIn key (fences (chain_in slot))
+
+-- a posted inner page without records takes the term of a page below it that has none yet; the versions can rise
+pub record MayPostAtOnce (over under : SlotValue) : Type 0 where
+  pub over_posted : over.stage ≡ Posted
+  pub unposted : under.stage ≡ Unposted
+  pub above : over.level ≡ under.level + 1
+  pub no_records : over.depth ≡ 0
+  pub within : is_within over.low over.high under.low ≡ true
+  pub version : over.version + 2 < 2 ^ 64
+  pub under_version : under.version + 1 < 2 ^ 64
+
+-- a posted page without records has the separator as a later key, and its version can rise twice
+pub record MayCut (slot : SlotValue) (separator : ℕ) : Type 0 where
+  pub posted : slot.stage ≡ Posted
+  pub no_records : slot.depth ≡ 0
+  pub within : is_within slot.low slot.high separator ≡ true
+  pub after_low : slot.low < separator
+  pub good : is_bad_key slot false separator ≡ false
+  pub version : slot.version + 2 < 2 ^ 64
+
+-- the slot's version can rise twice, and its chain can end at the separator
+pub record TakesCut (slot : SlotValue) (separator : ℕ) : Type 0 where
+  pub version : slot.version + 2 < 2 ^ 64
+  pub within : LiesIn separator (fences (chain_in slot))
+  pub after_low : (fences (chain_in slot)).low < separator
+
+-- a posted page without records may be split at the separator, and there is a slot for the new page; the versions can rise
+pub record MaySplitAtOnce (table : TableValue) (page separator : ℕ) : Type 0 where
+  pub cut : MayCut (slot_at table page) separator
+  pub staying : is_leaving_at table.slots (at separator (routes_in (slot_at table page))) ≡ false
+  pub room : last_id table.free ≡ Some (new_id table)
+  pub new_version : (slot_at table (new_id table)).version + 1 < 2 ^ 64
+
+-- the number of entries with what the record makes of them
+abbrev pub count_after : Delta → ℕ → ℕ
+count_after (deltas.Insert key value) count = suc count
+count_after (deltas.Modify key value) count = count
+count_after (deltas.Delete key) count = count - 1
+count_after (deltas.Split separator right) count = count
+count_after deltas.Remove count = count
+count_after (deltas.TermAdd separator child) count = suc count
+count_after (deltas.TermDelete separator) count = count - 1
+
+-- the page with a record more, consolidated; the page as it is where there is no record
+abbrev pub slot_with : Option Delta → SlotValue → SlotValue
+slot_with None slot = slot
+slot_with (Some delta) slot = consolidated (page_for (above delta (chain_in slot))) (with_record delta (count_after delta slot.count) slot)
+
+-- what is told of a record on a page, before which there were so many changes, and of a look where there is no record
+abbrev pub receipt_for : ℕ → ℕ → Option ℕ → Option Delta → Receipt
+receipt_for number key had None = Looked number key had
+receipt_for number key had (Some (deltas.Insert k value)) = Inserted (suc number) k value
+receipt_for number key had (Some (deltas.Modify k value)) = Modified (suc number) k (unwrap_or had 0) value
+receipt_for number key had (Some (deltas.Delete k)) = Deleted (suc number) k (unwrap_or had 0)
+receipt_for number key had (Some (deltas.Split separator right)) = Looked number key had
+receipt_for number key had (Some deltas.Remove) = Looked number key had
+receipt_for number key had (Some (deltas.TermAdd separator child)) = Looked number key had
+receipt_for number key had (Some (deltas.TermDelete separator)) = Looked number key had
+
+-- the step by which the wish comes true on a page of the version, for a key that had the value, or none: no step where it is true already
+abbrev pub step_for : ℕ → ℕ → ℕ → Wished → Option ℕ → Option Proposal
+step_for page seen key (wishes.Put value) None = Some (insert page seen key value)
+step_for page seen key (wishes.Put value) (Some had) = None
+step_for page seen key (wishes.Set value) None = Some (insert page seen key value)
+step_for page seen key (wishes.Set value) (Some had) = Some (modify page seen key value)
+step_for page seen key wishes.Delete None = None
+step_for page seen key wishes.Delete (Some had) = Some (delete page seen key)
+
+-- The table took the step, which has the receipt, and then the consolidation of the page; neither was refused.
+pub record TakesBoth (old : TableValue) (step : Proposal) (receipt : Receipt) (page : ℕ) (new : TableValue) : Type 0 where
+  pub between : TableValue
+  pub seen : ℕ
+  pub base : Page
+  pub accepted : refusal old step ≡ None
+  pub changed : TakesStep old step receipt between
+  pub still_accepted : refusal between (consolidate page seen base) ≡ None
+  pub consolidated : TakesStep between (consolidate page seen base) (Shaped kinds.Consolidate (pid page) None) new
+
+-- one look and no change, or both steps
+abbrev pub LooksOrTakes : TableValue → ℕ → Receipt → Receipt → TableValue → Option Proposal → Type 0
+LooksOrTakes old page look receipt new None = (receipt ≡ look) × (new ≡ old)
+LooksOrTakes old page look receipt new (Some step) = TakesBoth old step receipt page new
+
+-- the wish came true on the page
+abbrev pub IsDoneAtOnce : TableValue → ℕ → ℕ → Wished → Receipt → TableValue → Type 0
+IsDoneAtOnce old page key wished receipt new =
+    let slot = slot_at old page in
+    let had = at key (pairs_in slot) in
+    LooksOrTakes old page (Looked (number_of old.book) key had) receipt new (step_for page slot.version key wished had)
+
+-- the page that ends before the separator, where so many entries go to the new page
+abbrev pub slot_cut : ℕ → Pid → ℕ → SlotValue → SlotValue
+slot_cut separator new count slot =
+    consolidated (page_for (above (deltas.Split separator new) (chain_in slot)))
+    (record (with_record (deltas.Split separator new) (slot.count - count) slot) { high = Key separator; right = Some new })
+
+-- the page was split at the key of its entry with the number, counted from 0, and then consolidated
+pub record IsSplitAtOnce (old : TableValue) (page number : ℕ) (receipt : Receipt) (new : TableValue) : Type 0 where
+  pub separator : ℕ
+  pub base : Page
+  pub its_key : listed_key_at number (page_for (chain_in (slot_at old page))).listed ≡ Some separator
+  pub takes : TakesBoth old (split page (slot_at old page).version separator base) receipt page new
+
+-- both steps that name the new page in the parent, or nothing
+abbrev pub IsPosted : TableValue → ℕ → Pid → Bool → TableValue → Type 0
+IsPosted old parent new_page true new =
+    TakesBoth old (term_add parent (slot_at old parent).version new_page.0 (slot_at old new_page.0).version) (Shaped kinds.TermAdd (pid parent) (Some new_page)) parent new
+IsPosted old parent new_page false new = new ≡ old
+
+-- The page was split and consolidated, and then the new page was named in the parent, which was consolidated, or wasn't.
+pub record IsSplitUnder (old : TableValue) (parent page number : ℕ) (new_page : Pid) (posted : Bool) (new : TableValue) : Type 0 where
+  pub between : TableValue
+  pub split : IsSplitAtOnce old page number (Shaped kinds.Split (pid page) (Some new_page)) between
+  pub post : IsPosted between parent new_page posted new

@@ -1,0 +1,380 @@
+//! A change of one key and the consolidation of its page, made in the place where the page lies.
+
+ghost use Rattle.std.specs.Prelude.{◌≡◌, ◌≢◌, ◌+◌, ◌<◌, ◌^◌, None, Some, true, false, IsTrue, IfSome, IfNone, length, slice_set};
+ghost use Rattle.bw_delta.specs.declared.chain.Delta.TheVariants as deltas;
+ghost use Rattle.bw_delta.specs.Entries.{at};
+ghost use Rattle.bw_delta.specs.Fence.{is_leaf};
+ghost use Rattle.bw_delta.specs.Pages.{listed_length, upper_part};
+ghost use Rattle.bw_delta.specs.Sound.{page_for};
+ghost use Rattle.bw_table.specs.SlotFacts.{HasSoundChain};
+ghost use Rattle.bw_chain.specs.InPlaces.{delta_for};
+ghost use Rattle.bw_chain.specs.Pages.Halves.{listed_key_at};
+ghost use Rattle.bw_step.specs.declared.view.Stage.TheVariants.{Posted};
+ghost use Rattle.bw_step.specs.declared.receipt.Kind.TheVariants as kinds;
+ghost use Rattle.bw_step.specs.declared.receipt.Receipt.TheVariants.{Shaped};
+ghost use Rattle.bw_step.specs.Tellings.{telling_of};
+ghost use Rattle.bw_law.specs.Effects.{with_stage, upper_half};
+ghost use Rattle.bw_law.specs.Slots.{slot_in, chain_in, pairs_in, routes_in};
+ghost use Rattle.bw_law.specs.Tables.{TellsMap, slot_at, number_of, book_with};
+ghost use Rattle.bw_table.specs.InPlaces.{IsShallowLeaf, MayChangeAtOnce, MayCut, MayPostAtOnce, MaySplitAtOnce, TakesCut, TakesInPlace, IsSplitAtOnce, IsSplitUnder, IsPosted, slot_cut, IsDoneAtOnce, count_after, slot_with, receipt_for};
+
+use crate::book::number_of;
+use crate::slot::Slot;
+use crate::table::Table;
+use bw_chain::{InPlace, Wished, change_in_place, cut_in_place, route_in_place, upper_part_of};
+use bw_delta::{Base, Delta};
+use bw_keys::{Fence, Key, Pid};
+use bw_step::{AtOnce, Book, Receipt, Stage, Summary};
+use std::alloc::Allocator;
+
+impl<A: Allocator + Copy> Table<A> {
+    /// Makes the wish come true for a key and consolidates its leaf, as a change and a consolidation
+    /// one behind the other do. None, and nothing changed, where a page on the way to the leaf is in
+    /// the middle of a split or a merge, where more than the record of its split stands on the leaf,
+    /// where a number is used up, and where memory is short.
+    #[inline(always)]
+    pub fn change_at_once(&mut self, key: Key, wished: Wished) -> Option<AtOnce>
+        ensures done { IfSome result (λ done. IsDoneAtOnce self.old done.page.0 key wished done.receipt self.new) }
+        ensures map { IfSome result (λ done. TellsMap (telling_of done.receipt) self.old.slots self.new.slots) }
+        ensures unchanged { IfNone result (self.new ≡ self.old) }
+    {
+        let page = self.leaf_at_rest(key)?.pid;
+        let receipt = self.change_leaf(page, key, wished)?;
+        Some(AtOnce { page, receipt })
+    }
+
+    /// The same on a page: None where it isn't such a leaf, or its range doesn't hold the key.
+    #[inline(always)]
+    fn change_leaf(&mut self, page: Pid, key: Key, wished: Wished) -> Option<Receipt>
+        ensures done { IfSome result (λ receipt. IsDoneAtOnce self.old page.0 key wished receipt self.new) }
+        ensures map { IfSome result (λ receipt. TellsMap (telling_of receipt) self.old.slots self.new.slots) }
+        ensures unchanged { IfNone result (self.new ≡ self.old) }
+    {
+        if !self.may_change_at_once(page, key) {
+            return None;
+        }
+        let done = change_at(&mut self.slots, page, key, wished)?;
+        Some(note(&mut self.book, key, done))
+    }
+
+    /// Whether the page is a leaf that takes the change of a key in place, by all but its memory.
+    #[inline(always)]
+    fn may_change_at_once(&self, page: Pid, key: Key) -> bool
+        ensures { IsTrue result → MayChangeAtOnce self.now page.0 key }
+    {
+        let Some(slot) = self.slot(page) else {
+            return false;
+        };
+        self.number() < u64::MAX && slot.is_shallow_leaf(key)
+    }
+}
+
+impl<A: Allocator + Copy> Table<A> {
+    /// Names a page that no parent names yet in its parent, and consolidates the parent, as the two
+    /// steps one behind the other do. False, and nothing changed, where the one isn't a posted page
+    /// without records whose range holds the low of the other, where a number is used up, and where
+    /// memory is short.
+    pub fn post_at_once(&mut self, parent: Pid, child: Pid) -> bool
+        ensures { IsPosted self.old parent.0 child result self.new }
+    {
+        if !self.may_post_at_once(parent, child) {
+            return false;
+        }
+        post_at(&mut self.slots, parent, child)
+    }
+
+    fn may_post_at_once(&self, parent: Pid, child: Pid) -> bool
+        ensures { IsTrue result → MayPostAtOnce (slot_at self.now parent.0) (slot_at self.now child.0) }
+    {
+        let (Some(over), Some(under)) = (self.slot(parent), self.slot(child)) else {
+            return false;
+        };
+        over.may_post(under)
+    }
+}
+
+/// Adds the term in the slot of the parent, and posts the child.
+fn post_at<A: Allocator + Copy>(slots: &mut Vec<Slot<A>>, parent: Pid, child: Pid) -> bool
+    requires exists { parent.0 < length slots.old.items }
+    requires child_exists { child.0 < length slots.old.items }
+    requires apart { child.0 ≢ parent.0 }
+    requires takes { TakesInPlace (slot_in slots.old.items parent.0) (slot_in slots.old.items child.0).low }
+    requires version { (slot_in slots.old.items child.0).version + 1 < 2 ^ 64 }
+    ensures absent { result ≡ true → at (slot_in slots.old.items child.0).low (routes_in (slot_in slots.old.items parent.0)) ≡ None }
+    ensures inner { result ≡ true → is_leaf (chain_in (slot_in slots.old.items parent.0)) ≡ false }
+    ensures posted { let over = slot_in slots.old.items parent.0 in let under = slot_in slots.old.items child.0 in result ≡ true → slots.new.items ≡ slice_set (slice_set slots.old.items parent.0 (slot_with (Some (deltas.TermAdd under.low child)) over)) child.0 (with_stage Posted under) }
+    ensures unchanged { result ≡ false → slots.new.items ≡ slots.old.items }
+{
+    let low = slots[child.0 as usize].low();
+    if !slots[parent.0 as usize].route_in_place(low, child) {
+        return false;
+    }
+    slots[child.0 as usize].post();
+    true
+}
+
+impl<A: Allocator + Copy> Slot<A> {
+    fn may_post(&self, under: &Slot<A>) -> bool
+        ensures { IsTrue result → MayPostAtOnce self.now under.now }
+    {
+        self.stage == Stage::Posted
+            && under.stage == Stage::Unposted
+            && self.is_above(under)
+            && self.summary.depth == 0
+            && self.holds(under.summary.low)
+            && self.version < u64::MAX - 1
+            && under.version < u64::MAX
+    }
+
+    /// Adds a route in the base page's own list.
+    fn route_in_place(&mut self, separator: Key, child: Pid) -> bool
+        requires { TakesInPlace self.old separator }
+        ensures absent { result ≡ true → at separator (routes_in self.old) ≡ None }
+        ensures inner { result ≡ true → is_leaf (chain_in self.old) ≡ false }
+        ensures routed { result ≡ true → self.new ≡ slot_with (Some (deltas.TermAdd separator child)) self.old }
+        ensures unchanged { result ≡ false → self.new ≡ self.old }
+    {
+        let Some(chain) = &mut self.chain else {
+            return false;
+        };
+        if !route_in_place(chain, separator, child) {
+            return false;
+        }
+        self.version += 2;
+        self.summary.count += 1;
+        self.summary.depth = 0;
+        true
+    }
+}
+
+impl<A: Allocator + Copy> Table<A> {
+    /// Splits a page before the entry with the number, counted from 0, and consolidates it, as the two
+    /// steps one behind the other do. The new page has room for as many entries as it may get before it
+    /// is split. None, and nothing changed, where it isn't a posted page without records, where that
+    /// entry is its first or isn't there or leads to a page that is leaving, where no slot is free,
+    /// where a number is used up, and where memory is short.
+    pub fn split_at_once(&mut self, page: Pid, number: usize) -> Option<Pid>
+        ensures done { IfSome result (λ new. IsSplitAtOnce self.old page.0 number (Shaped kinds.Split page (Some new)) self.new) }
+        ensures unchanged { IfNone result (self.new ≡ self.old) }
+    {
+        let room = self.config.fanout as usize + 1;
+        let (separator, base) = self.slot(page)?.upper_part(number, room)?;
+        if !self.may_split_at_once(page, separator) {
+            return None;
+        }
+        let new = Pid(self.free.last()?);
+        if !cut_at(&mut self.slots, page, new, separator, base) {
+            return None;
+        }
+        let _new = self.free.take_last();
+        Some(new)
+    }
+
+    /// Splits a page, consolidates it, names the new page in the parent and consolidates that. Where the
+    /// parent doesn't take the new page so, the page is split all the same, and the new one stays
+    /// Unposted: false is told beside it.
+    pub fn split_under(&mut self, parent: Pid, page: Pid, number: usize) -> Option<(Pid, bool)>
+        ensures done { IfSome result (λ done. IsSplitUnder self.old parent.0 page.0 number done.0 done.1 self.new) }
+        ensures unchanged { IfNone result (self.new ≡ self.old) }
+    {
+        let new = self.split_at_once(page, number)?;
+        let posted = self.post_at_once(parent, new);
+        Some((new, posted))
+    }
+
+    fn may_split_at_once(&self, page: Pid, separator: Key) -> bool
+        ensures { IsTrue result → MaySplitAtOnce self.now page.0 separator }
+    {
+        let (Some(slot), Some(new)) = (self.slot(page), self.new_slot()) else {
+            return false;
+        };
+        slot.may_cut(separator) && !new.is_worn() && !self.is_leaving_at(slot, separator)
+    }
+}
+
+/// Ends the page before the separator, and gives its upper part to the new one.
+fn cut_at<A: Allocator + Copy>(
+    slots: &mut Vec<Slot<A>>,
+    page: Pid,
+    new: Pid,
+    separator: Key,
+    base: Base<A>,
+) -> bool
+    requires exists { page.0 < length slots.old.items }
+    requires new_exists { new.0 < length slots.old.items }
+    requires apart { new.0 ≢ page.0 }
+    requires takes { TakesCut (slot_in slots.old.items page.0) separator }
+    requires new_version { (slot_in slots.old.items new.0).version + 1 < 2 ^ 64 }
+    ensures split { let slot = slot_in slots.old.items page.0 in result ≡ true → slots.new.items ≡ slice_set (slice_set slots.old.items page.0 (slot_cut separator new (listed_length base.listed) slot)) new.0 (upper_half (slot_in slots.old.items new.0).version separator base slot) }
+    ensures unchanged { result ≡ false → slots.new.items ≡ slots.old.items }
+{
+    let count = base.len() as u64;
+    match slots[page.0 as usize].cut_in_place(separator, new, count) {
+        Some(upper) => {
+            slots[new.0 as usize].hold(Stage::Unposted, upper, base);
+            true
+        }
+        None => false,
+    }
+}
+
+impl<A: Allocator + Copy> Slot<A> {
+    /// Its entries from the one with the number on, with the key of that.
+    fn upper_part(&self, number: usize, room: usize) -> Option<(Key, Base<A>)>
+        ensures separator { IfSome result (λ part. listed_key_at number (page_for (chain_in self.now)).listed ≡ Some part.0) }
+        ensures page { IfSome result (λ part. part.1 ≡ upper_part part.0 (page_for (chain_in self.now))) }
+    {
+        match &self.chain {
+            Some(chain) => upper_part_of(chain, number, room),
+            None => None,
+        }
+    }
+
+    fn may_cut(&self, separator: Key) -> bool
+        requires sound { HasSoundChain self.now }
+        ensures { IsTrue result → MayCut self.now separator }
+    {
+        self.stage == Stage::Posted
+            && self.summary.depth == 0
+            && self.version < u64::MAX - 1
+            && self.summary.low < separator
+            && self.holds(separator)
+            && self.is_later_key(separator)
+    }
+
+    /// Ends the page before the separator, and answers the summary of the part from it on.
+    fn cut_in_place(&mut self, separator: Key, new: Pid, count: u64) -> Option<Summary>
+        requires takes { TakesCut self.old separator }
+        ensures upper { IfSome result (λ upper. upper ≡ record { low = separator; high = self.old.high; right = self.old.right; level = self.old.level; count = count; depth = 0 }) }
+        ensures lower { IfSome result (λ upper. self.new ≡ slot_cut separator new count self.old) }
+        ensures unchanged { IfNone result (self.new ≡ self.old) }
+    {
+        let upper = Summary {
+            low: separator,
+            count,
+            depth: 0,
+            ..self.summary
+        };
+        let Some(chain) = &mut self.chain else {
+            return None;
+        };
+        if !cut_in_place(chain, separator, new) {
+            return None;
+        }
+        self.version += 2;
+        self.summary.count = self.summary.count.saturating_sub(count);
+        self.summary.depth = 0;
+        self.summary.high = Fence::Key(separator);
+        self.summary.right = Some(new);
+        Some(upper)
+    }
+}
+
+/// Makes the wish come true in the slot of a leaf.
+#[inline(always)]
+fn change_at<A: Allocator + Copy>(
+    slots: &mut Vec<Slot<A>>,
+    page: Pid,
+    key: Key,
+    wished: Wished,
+) -> Option<InPlace>
+    requires exists { page.0 < length slots.old.items }
+    requires takes { TakesInPlace (slot_in slots.old.items page.0) key }
+    ensures had { IfSome result (λ done. done.had ≡ at key (pairs_in (slot_in slots.old.items page.0))) }
+    ensures delta { IfSome result (λ done. done.delta ≡ delta_for wished key done.had) }
+    ensures changed { IfSome result (λ done. slots.new.items ≡ slice_set slots.old.items page.0 (slot_with done.delta (slot_in slots.old.items page.0))) }
+    ensures unchanged { IfNone result (slots.new.items ≡ slots.old.items) }
+{
+    slots[page.0 as usize].change_in_place(key, wished)
+}
+
+/// Counts what was done in the book, and tells it.
+#[inline(always)]
+fn note(book: &mut Book, key: Key, done: InPlace) -> Receipt
+    requires number { number_of book.old + 1 < 2 ^ 64 }
+    ensures receipt { result ≡ receipt_for (number_of book.old) key done.had done.delta }
+    ensures book { book.new ≡ book_with book.old (telling_of result) }
+{
+    let number = number_of(*book);
+    match done.delta {
+        Some(Delta::Insert(key, value)) => {
+            book.inserted += 1;
+            Receipt::Inserted {
+                number: number + 1,
+                key,
+                value,
+            }
+        }
+        Some(Delta::Modify(key, value)) => {
+            book.modified += 1;
+            Receipt::Modified {
+                number: number + 1,
+                key,
+                old: done.had.unwrap_or(0),
+                value,
+            }
+        }
+        Some(Delta::Delete(key)) => {
+            book.removed += 1;
+            Receipt::Deleted {
+                number: number + 1,
+                key,
+                value: done.had.unwrap_or(0),
+            }
+        }
+        _ => Receipt::Looked {
+            at: number,
+            key,
+            found: done.had,
+        },
+    }
+}
+
+impl<A: Allocator + Copy> Slot<A> {
+    /// Whether this is a posted leaf with one record at most, whose range holds the key and whose
+    /// version can rise twice.
+    #[inline(always)]
+    fn is_shallow_leaf(&self, key: Key) -> bool
+        ensures { IsTrue result → IsShallowLeaf self.now key }
+    {
+        self.stage == Stage::Posted
+            && self.summary.level == 0
+            && self.summary.depth <= 1
+            && self.version < u64::MAX - 1
+            && self.holds(key)
+    }
+
+    /// Makes the wish come true in the base page's own list.
+    #[inline(always)]
+    fn change_in_place(&mut self, key: Key, wished: Wished) -> Option<InPlace>
+        requires { TakesInPlace self.old key }
+        ensures had { IfSome result (λ done. done.had ≡ at key (pairs_in self.old)) }
+        ensures delta { IfSome result (λ done. done.delta ≡ delta_for wished key done.had) }
+        ensures changed { IfSome result (λ done. self.new ≡ slot_with done.delta self.old) }
+        ensures unchanged { IfNone result (self.new ≡ self.old) }
+    {
+        let Some(chain) = &mut self.chain else {
+            return None;
+        };
+        let done = change_in_place(chain, key, wished)?;
+        if let Some(delta) = done.delta {
+            self.version += 2;
+            self.summary.count = count_after(delta, self.summary.count);
+            self.summary.depth = 0;
+        }
+        Some(done)
+    }
+}
+
+/// How many entries there are with the record.
+#[inline(always)]
+fn count_after(delta: Delta, count: u64) -> u64
+    requires { count + 1 < 2 ^ 64 }
+    ensures { result ≡ count_after delta count }
+{
+    match delta {
+        Delta::Insert(_, _) | Delta::TermAdd(_, _) => count + 1,
+        Delta::Delete(_) | Delta::TermDelete(_) => count.saturating_sub(1),
+        Delta::Modify(_, _) | Delta::Split(_, _) | Delta::Remove => count,
+    }
+}
