@@ -82,8 +82,8 @@ returns-clause-list g c =
     let told = c.surely_told-inner.ensures in
     rw (told.desk, told.log.0, told.log.1) (ap (λ (f : Announced). f.list) front ∙ lists, ap steps_of end.2)
 
-pub invariant_of-self-in-Err : goal.invariant_of-self-in-Err
-invariant_of-self-in-Err g c =
+pub invariant_of-self : goal.invariant_of-self
+invariant_of-self g c =
     let w = c.self.inside.writer in
     let notes = drop w.behind w.log.items in
     rw (c.append.ensures.desk, c.in-Err.ensures.pending, c.announce.ensures)
