@@ -16,5 +16,5 @@ mod search;
 pub use page::{HalveFault, depth, fences, halve, is_leaf};
 pub use pass::{append_first_pairs, append_pairs, consolidate, count, is_upper_part, same};
 pub use search::{
-    child, find, is_later_key, next_at, pairs_from, previous_at, route_at, route_before,
+    child, find, is_later_key, next_at, pairs_from, pairs_upto, previous_at, route_at, route_before,
 };

@@ -22,7 +22,7 @@ use crate::search::least::first_from;
 use bw_delta::Chain;
 use bw_keys::{Fence, Key, Pid};
 pub use separator::is_later_key;
-pub use stretch::pairs_from;
+pub use stretch::{pairs_from, pairs_upto};
 use std::alloc::Allocator;
 
 /// The value at the key: that of the newest record which names the key, and the base page's where

@@ -1,4 +1,3 @@
 pub mod Ranges
 pub mod Reasons
 pub mod Limits
-pub mod Rooms
