@@ -39,7 +39,7 @@ struct Tally {
 
 // The kind of the operations.
 struct Work {
-    enum class Kind { load, mix, zipf, set, scan };
+    enum class Kind { load, mix, zipf, set, remove, scan };
 
     std::string_view name;
     Kind kind;
@@ -48,7 +48,10 @@ struct Work {
     // whether keys are put in rising order, and not in one that is drawn
     bool is_rising = false;
 
-    bool has_deletes() const { return (kind == Kind::mix || kind == Kind::zipf) && gets < 100; }
+    // whether each key has one turn
+    bool has_each_key() const { return kind == Kind::load || kind == Kind::remove; }
+
+    bool has_deletes() const { return kind == Kind::remove || ((kind == Kind::mix || kind == Kind::zipf) && gets < 100); }
 };
 
 inline constexpr std::array works = {
@@ -64,6 +67,7 @@ inline constexpr std::array works = {
     Work{"zipf95", Work::Kind::zipf, 95},
     Work{"zipf50", Work::Kind::zipf, 50},
     Work{"set", Work::Kind::set},
+    Work{"delete", Work::Kind::remove},
     Work{"scan", Work::Kind::scan},
 };
 
@@ -77,7 +81,7 @@ struct Task {
     std::uint32_t turns() const { return operations / threads; }
 
     // How many operations all threads do together.
-    std::uint32_t count() const { return work.kind == Work::Kind::load ? keys : turns() * threads; }
+    std::uint32_t count() const { return work.has_each_key() ? keys : turns() * threads; }
 
     // The keys, each once, in the order in which they are put.
     std::vector<std::uint32_t> order() const {
@@ -115,6 +119,8 @@ struct Task {
             return mix(worker, known, index);
         case Work::Kind::set:
             return set_often(worker, index);
+        case Work::Kind::remove:
+            return remove_each(worker, known, index);
         case Work::Kind::scan:
             return scan_often(worker, index);
         }
@@ -133,6 +139,17 @@ private:
         Tally tally;
         for (std::size_t place = worker; place < known.size(); place += threads) {
             tally.inserted += index.put(known[place], known[place]);
+        }
+        return tally;
+    }
+
+    template <class Index>
+    Tally remove_each(std::uint32_t worker, const std::vector<std::uint32_t> &known, Index &index) const {
+        Tally tally;
+        if constexpr (Index::can_remove) {
+            for (std::size_t place = worker; place < known.size(); place += threads) {
+                tally.removed += index.remove(2 * Key{known[place]}).has_value();
+            }
         }
         return tally;
     }

@@ -24,10 +24,12 @@ public:
     Map(const Map &) = delete;
     Map &operator=(const Map &) = delete;
     // The map that is moved from is closed: each call on it throws.
-    Map(Map &&other) noexcept : handle(std::exchange(other.handle, nifforan{nullptr})) {}
+    Map(Map &&other) noexcept
+        : handle(std::exchange(other.handle, nifforan{nullptr})), cut_short(std::exchange(other.cut_short, NIFFORAN_OK)) {}
     Map &operator=(Map &&other) noexcept {
         Map moved(std::move(other));
         std::swap(handle, moved.handle);
+        std::swap(cut_short, moved.cut_short);
         return *this;
     }
 
@@ -38,10 +40,13 @@ public:
     }
     std::optional<std::uint64_t> get(std::uint64_t key) { return value(nifforan_get(&handle, key)); }
     // Gives the key the value unless it has one, and answers the one that it had.
-    std::optional<std::uint64_t> put(std::uint64_t key, std::uint64_t v) { return value(nifforan_put(&handle, key, v)); }
+    std::optional<std::uint64_t> put(std::uint64_t key, std::uint64_t v) { return before(nifforan_put(&handle, key, v)); }
     // Gives the key the value, and answers the one that it had.
-    std::optional<std::uint64_t> set(std::uint64_t key, std::uint64_t v) { return value(nifforan_set(&handle, key, v)); }
-    std::optional<std::uint64_t> erase(std::uint64_t key) { return value(nifforan_delete(&handle, key)); }
+    std::optional<std::uint64_t> set(std::uint64_t key, std::uint64_t v) { return before(nifforan_set(&handle, key, v)); }
+    std::optional<std::uint64_t> erase(std::uint64_t key) { return before(nifforan_delete(&handle, key)); }
+    // What cut the care for the pages short in the last put, set or erase: NIFFORAN_OK, or a fault. Its answer stands
+    // all the same, and a later call takes the care up again.
+    std::uint32_t care() const { return cut_short; }
     // Takes out the keys from low to high, both included, and answers how many. Where it throws, some of them are out.
     std::uint64_t clear(std::uint64_t low, std::uint64_t high) {
         const nifforan_cleared cleared = nifforan_clear(&handle, low, high);
@@ -71,7 +76,14 @@ private:
         return reply.value;
     }
 
+    // The value before a call, which may have left the care for the pages undone.
+    std::optional<std::uint64_t> before(const nifforan_reply &reply) {
+        cut_short = reply.care;
+        return value(reply);
+    }
+
     nifforan handle = NIFFORAN_CLOSED;
+    std::uint32_t cut_short = NIFFORAN_OK;
 };
 
 }  // namespace nifforan_cpp

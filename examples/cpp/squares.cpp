@@ -15,6 +15,12 @@ int main() {
     std::printf("the last ten come to %llu\n", (unsigned long long)sum);
     const std::uint64_t cleared = map.clear(0, 990);
     std::printf("%llu cleared, %llu left\n", (unsigned long long)cleared, (unsigned long long)map.size());
+    nifforan_settings few = NIFFORAN_USUAL_SETTINGS;
+    few.fanout = few.chain = 4;
+    few.pages = 8;
+    nifforan_cpp::Map full(few);
+    for (std::uint64_t n = 1; full.care() == NIFFORAN_OK; n++) full.put(n, n * n);
+    std::printf("no page is left to split at %llu squares\n", (unsigned long long)full.size());
     try {
         made.size();
         return 1;

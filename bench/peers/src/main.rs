@@ -20,7 +20,7 @@ const USAGE: &str = "usage: peers STRUCTURE WORK THREADS KEYS OPERATIONS
        peers beside STRUCTURE WORK THREADS KEYS OPERATIONS
        peers tallies KEYS OPERATIONS
 STRUCTURE is btree (one thread, and no other beside it), mutex or rwlock;
-WORK is load, rising, set, scan, list, the percent of gets beside puts and deletes, or zipf with a percent
+WORK is load, rising, set, delete, scan, list, the percent of gets beside puts and deletes, or zipf with a percent
 behind it (100 if there is none), and fill or fill-rising are scans after the one or other load.";
 
 #[derive(Clone, Copy, PartialEq, Eq)]

@@ -30,6 +30,8 @@ pub enum Work {
     Zipf { gets: u32 },
     /// Keys that are there are given other values.
     Set,
+    /// Each key of a map is taken out once.
+    Delete,
     /// The first hundred pairs from a key on.
     Scan,
     /// All pairs.
@@ -38,7 +40,7 @@ pub enum Work {
 
 impl Work {
     /// The kinds that `bench/compare` times.
-    pub const ALL: [Work; 12] = [
+    pub const ALL: [Work; 13] = [
         Work::Load(Order::Drawn),
         Work::Load(Order::Rising),
         Work::Fill(Order::Drawn),
@@ -50,6 +52,7 @@ impl Work {
         Work::Zipf { gets: 95 },
         Work::Zipf { gets: 50 },
         Work::Set,
+        Work::Delete,
         Work::Scan,
     ];
 
@@ -60,6 +63,7 @@ impl Work {
             "fill" => Some(Work::Fill(Order::Drawn)),
             "fill-rising" => Some(Work::Fill(Order::Rising)),
             "set" => Some(Work::Set),
+            "delete" => Some(Work::Delete),
             "scan" => Some(Work::Scan),
             "list" => Some(Work::List),
             "zipf" => Some(Work::Zipf { gets: 100 }),
@@ -98,6 +102,7 @@ impl fmt::Display for Work {
             Work::Zipf { gets: 100 } => f.write_str("zipf"),
             Work::Zipf { gets } => write!(f, "zipf{gets}"),
             Work::Set => f.write_str("set"),
+            Work::Delete => f.write_str("delete"),
             Work::Scan => f.write_str("scan"),
             Work::List => f.write_str("list"),
         }
@@ -134,7 +139,7 @@ impl Task {
     /// How many operations all threads do together.
     pub fn count(&self) -> u32 {
         match self.work {
-            Work::Load(_) => self.keys,
+            Work::Load(_) | Work::Delete => self.keys,
             _ => self.turns() * self.threads,
         }
     }
@@ -152,11 +157,11 @@ impl Task {
         }
     }
 
-    /// The keys of all operations, where workers don't draw them as they go: those of a load are in
-    /// the order of its puts, and Zipf's take too long to be drawn while a clock runs.
+    /// The keys of all operations, where workers don't draw them as they go: those of a load, and of
+    /// deletes, are in the order of the puts, and Zipf's take too long to be drawn while a clock runs.
     pub fn known_keys(&self, order: Vec<u32>) -> Vec<u32> {
         match self.work {
-            Work::Load(_) => order,
+            Work::Load(_) | Work::Delete => order,
             Work::Zipf { .. } => zipf::draw(2 * self.keys, self.count()),
             _ => Vec::new(),
         }
@@ -185,6 +190,7 @@ impl Task {
     pub fn work(&self, worker: u32, keys: &[u32], mut index: impl Worker) -> Tally {
         match self.work {
             Work::Load(_) => self.load(worker, keys, &mut index),
+            Work::Delete => self.delete_each(worker, keys, &mut index),
             Work::Mix { gets } | Work::Zipf { gets } => self.mix(worker, gets, keys, &mut index),
             Work::Set => self.set_often(worker, &mut index),
             Work::Fill(_) | Work::Scan | Work::List => self.scan_often(worker, &mut index),
@@ -196,6 +202,16 @@ impl Task {
         let own = keys.iter().skip(worker as usize);
         for key in own.step_by(self.threads as usize) {
             tally.inserted += u64::from(index.put(u64::from(*key), u64::from(*key)));
+        }
+        tally
+    }
+
+    fn delete_each(&self, worker: u32, keys: &[u32], index: &mut impl Worker) -> Tally {
+        let mut tally = Tally::default();
+        let own = keys.iter().skip(worker as usize);
+        for key in own.step_by(self.threads as usize) {
+            let removed = black_box(index.delete(2 * u64::from(*key)));
+            tally.removed += u64::from(removed.is_some());
         }
         tally
     }

@@ -48,8 +48,9 @@ pub struct Settings {
     pub fanout: u32,
     /// How many changes a page may carry before it is written anew, 1 to 32.
     pub chain: u32,
-    /// How many pages the map has room for, 8 to 65,536. The usual 4,096 hold some 28,000 rising or 42,000 random
-    /// keys; past that each insertion takes longer, and [`Map::care`] says so.
+    /// How many pages the map has room for, 8 to 65,536, at 156 bytes each, which `Map::new` takes. The usual 16,384
+    /// hold some 500,000 rising or 700,000 random keys; past that each insertion takes longer, and [`Map::care`] says
+    /// so.
     pub pages: u32,
     /// How many attempts one call may make, 1 to 1,000.
     pub tries: u32,
@@ -59,12 +60,12 @@ pub struct Settings {
 }
 
 impl Default for Settings {
-    /// Pages of 16 pairs and 8 changes, room for 4,096 pages, 1,000 tries, and versions from 0 on.
+    /// Pages of 64 pairs, written anew after each change, room for 16,384 of them, 1,000 tries, and versions from 0 on.
     fn default() -> Settings {
         Settings {
-            fanout: 16,
-            chain: 8,
-            pages: 4096,
+            fanout: 64,
+            chain: 1,
+            pages: 16_384,
             tries: 1000,
             first_version: 0,
         }

@@ -1,6 +1,7 @@
-//! Times the tree on the machine that it runs on: alone, shared by threads, and read without the lock.
+//! Times the tree on the machine that it runs on: alone, as a map, shared by threads, and read without the lock.
 #![tactic(auto)]
 
+mod maps;
 mod readers;
 mod request;
 mod tally;

@@ -1,5 +1,6 @@
 //! What workers were answered.
 
+use bw_work::{Del, Put, Set};
 use std::fmt;
 
 /// How many calls found or changed something. It tells nothing of time, so two programs that do the
@@ -23,6 +24,31 @@ impl Tally {
     pub(crate) fn of_get(found: Option<u64>) -> Tally {
         Tally {
             found: u64::from(found.is_some()),
+            ..Tally::default()
+        }
+    }
+
+    /// Of a put.
+    pub(crate) fn of_put(reply: Put) -> Tally {
+        Tally {
+            inserted: u64::from(matches!(reply, Put::Inserted)),
+            ..Tally::default()
+        }
+    }
+
+    /// Of a set.
+    pub(crate) fn of_set(reply: Set) -> Tally {
+        Tally {
+            inserted: u64::from(matches!(reply, Set::Inserted)),
+            replaced: u64::from(matches!(reply, Set::Replaced(_))),
+            ..Tally::default()
+        }
+    }
+
+    /// Of a delete.
+    pub(crate) fn of_delete(reply: Del) -> Tally {
+        Tally {
+            removed: u64::from(matches!(reply, Del::Removed(_))),
             ..Tally::default()
         }
     }

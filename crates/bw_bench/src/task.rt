@@ -29,6 +29,8 @@ pub(crate) enum Work {
     Zipf { gets: u32 },
     /// Keys that are there are given other values.
     Set,
+    /// Each key of a map is taken out once.
+    Delete,
     /// The first hundred pairs from a key on.
     Scan,
     /// All pairs.
@@ -37,7 +39,7 @@ pub(crate) enum Work {
 
 impl Work {
     /// The kinds that `bench/compare` times in its maps, by their words.
-    pub(crate) const ALL: [(&'static str, Work); 12] = [
+    pub(crate) const ALL: [(&'static str, Work); 13] = [
         ("load", Work::Load(Order::Drawn)),
         ("rising", Work::Load(Order::Rising)),
         ("fill", Work::Fill(Order::Drawn)),
@@ -49,13 +51,14 @@ impl Work {
         ("zipf95", Work::Zipf { gets: 95 }),
         ("zipf50", Work::Zipf { gets: 50 }),
         ("set", Work::Set),
+        ("delete", Work::Delete),
         ("scan", Work::Scan),
     ];
 
     /// Whether nothing is changed.
     pub(crate) fn only_reads(self) -> bool {
         match self {
-            Work::Load(_) | Work::Set => false,
+            Work::Load(_) | Work::Set | Work::Delete => false,
             Work::Mix { gets } | Work::Zipf { gets } => gets == 100,
             Work::Fill(_) | Work::Scan | Work::List => true,
         }
@@ -118,7 +121,7 @@ impl Task {
     /// How many operations all workers do together.
     pub(crate) fn count(&self) -> u32 {
         match self.work {
-            Work::Load(_) => self.keys,
+            Work::Load(_) | Work::Delete => self.keys,
             _ => self.turns().saturating_mul(self.workers),
         }
     }
@@ -147,15 +150,15 @@ impl Task {
         self.keys.saturating_mul(2).max(1)
     }
 
-    /// The keys of all operations, where workers don't draw them as they go: those of a load are in
-    /// the order of its puts, and Zipf's take too long to be drawn while a clock runs.
+    /// The keys of all operations, where workers don't draw them as they go: those of a load, and of
+    /// deletes, are in the order of the puts, and Zipf's take too long to be drawn while a clock runs.
     pub(crate) fn known_keys(
         &self,
         alloc: Global,
         order: Vec<u32>,
     ) -> Result<Vec<u32>, AllocError> {
         match self.work {
-            Work::Load(_) => Ok(order),
+            Work::Load(_) | Work::Delete => Ok(order),
             Work::Zipf { .. } => zipf::draw(alloc, self.end(), self.count()),
             _ => Ok(Vec::new(alloc)),
         }

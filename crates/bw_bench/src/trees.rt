@@ -1,10 +1,11 @@
-//! The tree under a task's operations, by a worker that has it for itself, by workers that share it, or by
-//! readers.
+//! The tree under a task's operations, by a worker that has it for itself, by a map, by workers that share
+//! it, or by readers.
 
 ghost use Rattle.std.specs.Prelude.{◌≡◌};
 ghost use Rattle.bw_tree.specs.Shares.{Opens};
 
 use crate::Stop;
+use crate::maps::run_map;
 use crate::readers::{Trial, try_readers};
 use crate::tally::Tally;
 use crate::task::Task;
@@ -28,6 +29,8 @@ use std::time::{Clock, Instant};
 pub(crate) enum Structure {
     /// By one worker, without a lock.
     Alone,
+    /// By a map for one thread.
+    Map,
     /// By workers that share it, each in a thread of its own.
     Hand,
     /// By readers of what was published, each in a thread of its own.
@@ -35,11 +38,17 @@ pub(crate) enum Structure {
 }
 
 impl Structure {
-    pub(crate) const ALL: [Structure; 3] = [Structure::Alone, Structure::Hand, Structure::Reader];
+    pub(crate) const ALL: [Structure; 4] = [
+        Structure::Alone,
+        Structure::Map,
+        Structure::Hand,
+        Structure::Reader,
+    ];
 
     pub(crate) fn word(self) -> &'static str {
         match self {
             Structure::Alone => "alone",
+            Structure::Map => "map",
             Structure::Hand => "hand",
             Structure::Reader => "reader",
         }
@@ -57,7 +66,7 @@ impl Structure {
     /// Whether the task can be done so.
     pub(crate) fn is_for(self, task: &Task) -> bool {
         match self {
-            Structure::Alone => task.workers == 1,
+            Structure::Alone | Structure::Map => task.workers == 1,
             Structure::Hand => true,
             Structure::Reader => task.work.only_reads() && task.workers <= MAX_READERS,
         }
@@ -72,6 +81,7 @@ impl Structure {
     ) -> Result<Timed, Stop> {
         match self {
             Structure::Alone => run_alone(&rt, alloc, task),
+            Structure::Map => run_map(&rt, alloc, task),
             Structure::Hand => run_shared(rt, alloc, task),
             Structure::Reader => Ok(try_readers(rt, alloc, task, Trial::Reads, 1)?.timed),
         }

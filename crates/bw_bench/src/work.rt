@@ -1,17 +1,19 @@
 //! A task's operations, by one worker, over any form of atomic steps.
 
+ghost use Rattle.std.specs.Prelude.{◌<◌, ◌^◌};
+
 use crate::Stop;
 use crate::tally::Tally;
 use crate::task::{Task, Work};
 use bw_keys::Key;
 use bw_step::Step;
-use bw_work::{Del, Put, Set, Steps, delete, get, page_from, put, set};
+use bw_work::{Steps, delete, get, page_from, put, set};
 use rand_core::Rng;
 use rand_pcg::Pcg32;
 use std::alloc::Global;
 
 /// How many pairs a scan asks for.
-const SCANNED: usize = 100;
+pub(crate) const SCANNED: usize = 100;
 
 /// Puts every second key of those that are drawn later, where the task begins with a map.
 pub(crate) fn fill<S: Steps<Global, Step<Global>>>(
@@ -37,15 +39,15 @@ pub(crate) fn work<S: Steps<Global, Step<Global>>>(
     keys: &[u32],
 ) -> Result<Tally, Stop> {
     match task.work {
-        Work::Load(_) => load(steps, task, worker, keys),
+        Work::Load(_) | Work::Delete => each_key(steps, task, worker, keys),
         Work::Mix { gets } | Work::Zipf { gets } => mix(steps, task, worker, gets, keys),
         Work::Set => set_often(steps, task, worker),
         Work::Fill(_) | Work::Scan | Work::List => scan_often(steps, alloc, task, worker),
     }
 }
 
-/// Puts each key whose turn it is.
-fn load<S: Steps<Global, Step<Global>>>(
+/// Puts each key whose turn it is, or takes it out.
+fn each_key<S: Steps<Global, Step<Global>>>(
     steps: &mut S,
     task: &Task,
     worker: u32,
@@ -55,10 +57,24 @@ fn load<S: Steps<Global, Step<Global>>>(
     for (place, key) in order.iter().enumerate() {
         let turn = (place as u64).checked_rem(u64::from(task.workers));
         if turn == Some(u64::from(worker)) {
-            tally = tally.plus(put_one(steps, u64::from(*key))?);
+            tally = tally.plus(known_one(steps, task, u64::from(*key))?);
         }
     }
     Ok(tally)
+}
+
+/// Puts a key, or takes the one out that a map was filled with.
+fn known_one<S: Steps<Global, Step<Global>>>(
+    steps: &mut S,
+    task: &Task,
+    key: Key,
+) -> Result<Tally, Stop>
+    requires { key < 2 ^ 32 }
+{
+    match task.work {
+        Work::Delete => delete_one(steps, 2 * key),
+        _ => put_one(steps, key),
+    }
 }
 
 /// Gets, puts and deletes.
@@ -93,19 +109,11 @@ fn get_one<S: Steps<Global, Step<Global>>>(steps: &mut S, key: Key) -> Result<Ta
 
 /// Gives the key itself as its value.
 fn put_one<S: Steps<Global, Step<Global>>>(steps: &mut S, key: Key) -> Result<Tally, Stop> {
-    let done = put(steps, key, key)?;
-    Ok(Tally {
-        inserted: u64::from(matches!(done.reply, Put::Inserted)),
-        ..Tally::default()
-    })
+    Ok(Tally::of_put(put(steps, key, key)?.reply))
 }
 
 fn delete_one<S: Steps<Global, Step<Global>>>(steps: &mut S, key: Key) -> Result<Tally, Stop> {
-    let done = delete(steps, key)?;
-    Ok(Tally {
-        removed: u64::from(matches!(done.reply, Del::Removed(_))),
-        ..Tally::default()
-    })
+    Ok(Tally::of_delete(delete(steps, key)?.reply))
 }
 
 /// Sets drawn keys that are there, to drawn values.
@@ -129,12 +137,7 @@ fn set_one<S: Steps<Global, Step<Global>>>(
     key: Key,
     value: u64,
 ) -> Result<Tally, Stop> {
-    let done = set(steps, key, value)?;
-    Ok(Tally {
-        inserted: u64::from(matches!(done.reply, Set::Inserted)),
-        replaced: u64::from(matches!(done.reply, Set::Replaced(_))),
-        ..Tally::default()
-    })
+    Ok(Tally::of_set(set(steps, key, value)?.reply))
 }
 
 /// A put or a delete, in equal parts, of a drawn key.
@@ -165,7 +168,7 @@ pub(crate) fn drawn_key(rng: &mut Pcg32, task: &Task) -> Key {
 }
 
 /// A key that the map was filled with.
-fn filled_key(rng: &mut Pcg32, task: &Task) -> Key {
+pub(crate) fn filled_key(rng: &mut Pcg32, task: &Task) -> Key {
     2 * u64::from(rng.next_u32() % task.keys.max(1))
 }
 

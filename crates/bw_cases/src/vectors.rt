@@ -93,9 +93,15 @@ fn run<R: Threads + Wait + Sync + Send + Copy>(
     }
 }
 
-/// The configuration that the options give, with the usual numbers for those that aren't there.
+/// The configuration that the options give, with the program's numbers for those that aren't there.
 pub(crate) fn config_of(options: &str) -> Result<Config> {
-    let mut config = Config::default();
+    let mut config = Config {
+        fanout: 16,
+        chain: 8,
+        pages: 4096,
+        tries: 1000,
+        first_version: 0,
+    };
     let mut words = options.split_whitespace();
     while let Some(name) = words.next() {
         let number = words.next().context("an option has no number")?;

@@ -7,6 +7,8 @@ mod builders;
 #[cfg(test)]
 mod drawn;
 #[cfg(test)]
+mod in_place;
+#[cfg(test)]
 mod keys;
 #[cfg(test)]
 mod memory;

@@ -1,3 +1,4 @@
 pub mod Ranges
 pub mod Reasons
 pub mod Limits
+pub mod Rooms

@@ -22,4 +22,4 @@ abbrev pub first_bad_field : Config → Option Field
 first_bad_field config = first_reason (field_reasons config)
 
 abbrev pub usual_config : Config
-usual_config = record { fanout = 16; chain = 8; pages = 4096; tries = 1000; first_version = 0 }
+usual_config = record { fanout = 64; chain = 1; pages = 16384; tries = 1000; first_version = 0 }

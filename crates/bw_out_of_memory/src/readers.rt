@@ -51,17 +51,25 @@ fn see<N: Naming>(
     Ok(())
 }
 
-/// Publishes, once more where memory was refused: until then the reader sees what it saw before, and then
-/// all.
-fn publish<R: Wait + Copy, N: Naming, D: Ledger>(
+/// The put that comes between a refused publication and the next one.
+const FURTHER: [Act; 1] = [Act::Put { key: 15, value: 15 }];
+
+/// Publishes what the map has, and the put beside it where memory was refused: until then the reader
+/// sees what it saw before, and then all.
+fn publish<R: Wait + Copy, N: Naming, D: Ledger, S: Steps<Global, Step<Global>>>(
     tree: &ReadTree<R, N, D>,
+    steps: &mut S,
+    machine: Global,
     reader: &mut Reader<N>,
-    (before, after): (&Plain, &Plain),
+    before: &Plain,
+    plain: &mut Plain,
 ) -> Result<Ending, Stop> {
     see(reader, before, "readers see what is published")?;
     let (stamp, ending) = match tree.publish() {
         Ok(stamp) => (stamp, Ending::Whole),
         Err(_) => {
+            let ending = act_all(steps, machine, &FURTHER, plain)?;
+            hold(ending == Ending::Whole, "memory is refused once")?;
             see(reader, before, "a refused publication shows nothing")?;
             let Ok(stamp) = tree.publish() else {
                 return Err(Stop::Broken("memory is refused once"));
@@ -70,7 +78,7 @@ fn publish<R: Wait + Copy, N: Naming, D: Ledger>(
         }
     };
     reader.learn(stamp);
-    see(reader, after, "a publication shows all")?;
+    see(reader, plain, "a publication shows all")?;
     Ok(ending)
 }
 
@@ -87,7 +95,7 @@ fn publish_all<R: Wait + Copy, N: Naming, D: Ledger, S: Steps<Global, Step<Globa
     for acts in groups {
         let before = *plain;
         ending = ending.and(act_all(steps, machine, *acts, plain)?);
-        ending = ending.and(publish(tree, reader, (&before, plain))?);
+        ending = ending.and(publish(tree, steps, machine, reader, &before, plain)?);
     }
     Ok(ending)
 }

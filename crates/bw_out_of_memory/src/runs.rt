@@ -3,10 +3,12 @@
 use crate::ending::{Ending, Stop, hold};
 use crate::plain::Plain;
 use bw_run::{Act, Finished, Reply, Row, RunFault, is_trace_for, run};
+use bw_step::Kind;
 use bw_test_kit::SMALL;
-use bw_work::{Fault, Open};
+use bw_work::{Fault, Gate};
 use std::alloc::Global;
 use std::sync::Wait;
+use std::sync::atomic::{AtomicU64, Ordering};
 use std::thread::Threads;
 
 /// Puts of the first worker, each of a key with itself as value, and a get.
@@ -21,6 +23,22 @@ macro_rules! rows {
 
 /// The puts split a leaf twice, and at the last row a worker with a reader publishes them.
 const ROWS: [Row; 8] = rows!(1, 2, 3, 4, 5, 6, 7; 4);
+
+/// How often the worker calls its gate in all: for three consolidations, for two splits, and for the root and the
+/// term over the new leaves.
+const CALLS: u64 = 7;
+
+/// Counts the calls of the worker.
+#[derive(Drop)]
+struct Counted {
+    calls: AtomicU64,
+}
+
+impl Gate for Counted {
+    fn at(&self, _worker: u32, _kind: Kind) {
+        self.calls.fetch_add(1, Ordering::SeqCst);
+    }
+}
 
 /// Takes what the rows were replied to.
 fn take_replies(plain: &mut Plain, replies: &[Reply]) -> Result<Ending, Stop> {
@@ -40,13 +58,18 @@ fn judge(machine: Global, finished: &Finished) -> Result<Ending, Stop> {
     Ok(ending)
 }
 
-/// Why a run that has no end to show may begin again.
-fn refused(fault: RunFault, readers: u32) -> Stop {
+/// Why a run that has no end to show may begin again. A run tells `Memory` before its worker starts or in the
+/// audit, and its other faults before the worker starts: which calls of the gate there were shows it.
+fn refused(fault: RunFault, readers: u32, calls: u64) -> Stop {
     match fault {
-        RunFault::Memory | RunFault::Threads => Stop::Memory,
-        RunFault::NoReader if readers > 0 => Stop::Memory,
+        RunFault::Memory if calls == 0 || calls == CALLS => Stop::Memory,
+        RunFault::Threads if calls == 0 => Stop::Memory,
+        RunFault::NoReader if readers > 0 && calls == 0 => Stop::Memory,
         RunFault::Stopped(0, row, Fault::NoMemory) if (1..=ROWS.len()).contains(&row) => {
             Stop::Memory
+        }
+        RunFault::Memory | RunFault::Threads | RunFault::NoReader => {
+            Stop::Broken("a run tells its own faults before its worker starts or in the audit")
         }
         _ => Stop::Broken("memory alone is wanting"),
     }
@@ -62,8 +85,11 @@ pub(crate) fn run_with<R: Threads + Wait + Sync + Send + Copy>(
     if !is_trace_for(&rows, 1) {
         return Err(Stop::Broken("the rows are one worker's"));
     }
-    match run(rt, machine, SMALL, 1, readers, &rows, &Open) {
+    let gate = Counted {
+        calls: AtomicU64::new(0),
+    };
+    match run(rt, machine, SMALL, 1, readers, &rows, &gate) {
         Ok(finished) => judge(machine, &finished),
-        Err(fault) => Err(refused(fault, readers)),
+        Err(fault) => Err(refused(fault, readers, gate.calls.load(Ordering::SeqCst))),
     }
 }

@@ -1,3 +1,4 @@
+ghost use Rattle.std.specs.Prelude.{◌≡◌, None, Some, IfOk, IfErr};
 ghost use Rattle.bw_procedures.specs.Texts.{reply_text};
 
 use crate::fault::Fault;
@@ -38,7 +39,22 @@ pub struct Done<T> {
     pub fault: Option<Fault>,
 }
 
+impl<T: Copy> Done<T> {
+    /// The reply, unless a fault stands beside it, which is told then: for callers who want to know of
+    /// it by `?`. The reply stands all the same.
+    pub fn into_result(self) -> Result<T, Fault>
+        ensures reply { IfOk result (λ reply. (reply ≡ self.reply) × (self.fault ≡ None)) }
+        ensures fault { IfErr result (λ fault. self.fault ≡ Some fault) }
+    {
+        match self.fault {
+            None => Ok(self.reply),
+            Some(fault) => Err(fault),
+        }
+    }
+}
+
 /// What came of the removal of a range of keys.
+#[must_use]
 #[derive(Clone, Copy, Debug, PartialEq, Eq, Hash)]
 pub struct Cleared {
     /// How many keys were taken out.

@@ -54,12 +54,13 @@ pub struct Ends {
 ///
 /// `P` is the step over `A`.
 pub trait Steps<A: Allocator + Copy, P: Proposes> {
-    ghost use Rattle.std.specs.Prelude.{◌≡◌, ◌≤◌, ℕ, List, IfOk, IfSome};
+    ghost use Rattle.std.specs.Prelude.{◌≡◌, ◌≤◌, ℕ, List, true, false, IfOk, IfSome};
+    ghost use Rattle.bw_step.specs.declared.refused.Refused.TheVariants as reasons;
     ghost use Rattle.bw_delta.specs.Records.{bare};
     ghost use Rattle.bw_delta.specs.Entries.{from};
     ghost use Rattle.bw_delta.specs.Sound.{IsSound};
     ghost use Rattle.bw_step.specs.Steps.{IsNext};
-    ghost use Rattle.bw_procedures.specs.Seen.{Seen, ends_of, Visited, Looked, Copied, Installed, Idled};
+    ghost use Rattle.bw_procedures.specs.Seen.{Seen, ends_of, Visited, Looked, Copied, Installed, Idled, IsRefused};
     ghost use Rattle.bw_procedures.specs.Calls.{IsAtLevel, SplitAtOnce};
     ghost use Rattle.bw_procedures.specs.Writing.{ChangedAtOnce};
     ghost use Rattle.bw_procedures.specs.Facts.{Fact, quiet, on_the_way, holds, fresh, CalmNext, CalmPeek, CalmLook, CalmCopy, CalmAnew, ShowsCopy};
@@ -138,6 +139,17 @@ pub trait Steps<A: Allocator + Copy, P: Proposes> {
         ensures seen { seen self.new ≡ seen self.old }
         ensures page { IfSome result (λ view. view.pid ≡ pid) }
         ensures calm { CalmPeek (calm self.new) pid result };
+
+    /// Refuses to split a leaf where no slot is free for a new page, as the step would be refused. So no
+    /// page is copied for such a step: the refusal costs its effort, and is counted. It tells whether it
+    /// did. A worker that can't tell before doesn't, and proposes the step.
+    fn refuses_split(&mut self, _leaf: Pid, _version: Version) -> bool
+        ensures follows { follows self.old self.new }
+        ensures refused { result ≡ true → IsRefused reasons.TableFull (seen self.old) (seen self.new) }
+        ensures unchanged { result ≡ false → seen self.new ≡ seen self.old }
+    {
+        false
+    }
 
     /// What the map has at the key, if the page is a leaf in its row whose range holds the key; if it
     /// isn't, that costs effort. `keep` says when the look is added to the trail.

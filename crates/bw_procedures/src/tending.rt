@@ -72,13 +72,28 @@ fn tend_once<A: Allocator + Copy, S: Steps<A, Step<A>>>(
     };
     let fanout = u64::from(steps.config().fanout);
     if view.count > fanout && view.depth == 0 {
-        return split_page(steps, limit, view);
+        return split_to_free_page(steps, limit, view);
     }
     let is_small = view.count < fanout / 4 && view.stage == Stage::Posted;
     if is_small && view.level < steps.root().level {
         return mark_page(steps, limit, view);
     }
     Ok(None)
+}
+
+/// Splits a page that has too many entries, if there is a page that it can be split to.
+fn split_to_free_page<A: Allocator + Copy, S: Steps<A, Step<A>>>(
+    steps: &mut S,
+    limit: u64,
+    view: View,
+) -> Result<Option<Pid>, Fault>
+    ensures follows { S.follows steps.old steps.new }
+    ensures tended { IsTended limit result (S.seen steps.old) (S.seen steps.new) }
+{
+    if !is_spent(steps, limit) && steps.refuses_split(view.pid, view.version) {
+        return Err(Fault::TableFull);
+    }
+    split_page(steps, limit, view)
 }
 
 /// The page, unless it is leaving or gone.

@@ -2,3 +2,4 @@ pub mod Adding
 pub mod Beginnings
 pub mod Notes
 pub mod Crossing
+pub mod Seats

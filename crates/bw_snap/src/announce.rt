@@ -8,6 +8,7 @@ use crate::ends::WritingEnd;
 use crate::front::{Add, Front, Head, Naming, Nothing, Rising};
 use crate::proposed::List;
 use logbook::{Offer, Plain};
+use std::sync::Wait;
 
 /// The step asks for the published list, and then what is pending.
 impl<N: Naming> Plain<WritingEnd<N>, List, u64> for Add {
@@ -20,9 +21,29 @@ impl<N: Naming> Plain<WritingEnd<N>, List, u64> for Add {
 }
 
 impl Front {
-    /// Adds the published list with what is pending to the book, unless the book has a list that
-    /// this front hasn't seen.
-    pub(crate) fn announce<N: Naming>(&mut self, head: &Head<N>, writer: &WritingEnd<N>) -> bool
+    /// Adds the published list with what is pending to the book. The book's word is written under the
+    /// tree's lock alone, so the first try finds it as it was left. No clause of the book says so: hence a
+    /// loop, and not a fault that never comes. After 2^64 - 1 lists it wouldn't end.
+    pub(crate) fn announce<N: Naming, R: Wait>(
+        &mut self,
+        head: &Head<N>,
+        writer: &WritingEnd<N>,
+        rt: &R,
+    )
+        requires book { self.old.book ≡ N.book }
+        requires list { BeginsWith (writer.now.desk.shown.value.front.list ++ steps_of (drop writer.now.behind writer.now.log.items)) self.old.list }
+        ensures { self.new ≡ record { list = writer.now.desk.shown.value.front.list ++ steps_of (drop writer.now.behind writer.now.log.items); book = N.book } }
+    {
+        for _ in rt.forever() {
+            if self.try_announce(head, writer) {
+                return;
+            }
+        }
+        unreachable!()
+    }
+
+    /// The same, unless the book has a list that this front hasn't seen.
+    fn try_announce<N: Naming>(&mut self, head: &Head<N>, writer: &WritingEnd<N>) -> bool
         requires book { self.old.book ≡ N.book }
         requires list { BeginsWith (writer.now.desk.shown.value.front.list ++ steps_of (drop writer.now.behind writer.now.log.items)) self.old.list }
         ensures { MatchBool result (self.new ≡ record { list = writer.now.desk.shown.value.front.list ++ steps_of (drop writer.now.behind writer.now.log.items); book = N.book }) (self.new ≡ self.old) }

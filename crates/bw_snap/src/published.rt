@@ -12,7 +12,7 @@ ghost use Rattle.bw_tree.specs.Shares.{no_changes, counted, shared_in, sum_of, O
 ghost use Rattle.bw_tree.specs.Trees.{IsTree, CountsPairs};
 ghost use Rattle.bw_snap.specs.Trees.{IsPublished, IsDenialOf, IsSnapFault, MayBeRead, is_bad_reader_number};
 
-use crate::ends::{WritingEnd, advance, append, begin};
+use crate::ends::{WritingEnd, advance, append, begin, newcomer, surely_told};
 use crate::fault::SnapFault;
 use crate::front::{BlankBook, Front, Head, Naming};
 use crate::note::Note;
@@ -23,13 +23,17 @@ use bw_keys::Config;
 use bw_step::{Denied, Receipt, Step};
 use bw_table::Table;
 use bw_tree::{Blanks, Booked, MadeBy, MissingShare, NewFault, Share};
-use std::alloc::{AllocError, Global};
+use std::alloc::Global;
 use std::marker::Model;
 use std::sync::Wait;
 use std::sync::ledger::Ledger;
 
 /// The most readers that a tree may have.
 pub const MAX_READERS: u32 = 16;
+
+/// How many stamps there may be at once that are neither used up nor dropped. There is one for each
+/// worker.
+pub const MAX_STAMPS: u32 = 64;
 
 /// A booked table, with the writing end of two published copies of it and the front of all that was
 /// announced. Steps that were taken since the last publication are pending.
@@ -47,6 +51,7 @@ impl<R: Wait + Drop, N: Naming, D: Ledger> Model for Published<R, N, D> {
     ghost use Rattle.bw_snap.specs.Trees.{PublishedValue};
     ghost use Rattle.bw_snap.specs.Snapshots.{LeadTo, IsSnapshot, BeginsWith};
     ghost use Rattle.bw_snap.specs.Notes.{steps_of};
+    ghost use Rattle.left_right.specs.Sides.{view as seen_by};
 
     ghost Value = { PublishedValue };
 
@@ -57,7 +62,8 @@ impl<R: Wait + Drop, N: Naming, D: Ledger> Model for Published<R, N, D> {
     ghost invariant = { λ p. LeadTo p.writer.desk.shown.value.table (steps_of (drop p.writer.behind p.writer.log.items)) p.booked
         × IsSnapshot N.config p.writer.desk.shown.value.front.list p.writer.desk.shown.value.table
         × BeginsWith (p.writer.desk.shown.value.front.list ++ steps_of (drop p.writer.behind p.writer.log.items)) p.announced.list
-        × (p.writer.desk.shown.value.front.book ≡ N.book) × (p.announced.book ≡ N.book) };
+        × (p.writer.desk.shown.value.front.book ≡ N.book) × (p.announced.book ≡ N.book)
+        × (seen_by p.writer.desk.place ≡ p.writer.desk.shown.value.front.list) };
 }
 
 impl<R: Wait + Drop, N: Naming, D: Ledger> Drop for Published<R, N, D> {
@@ -99,7 +105,7 @@ impl<R: Wait + Drop, N: Naming, D: Ledger> Published<R, N, D> {
             Err(fault) => return Err(fault),
         };
         let (head, announced) = book.named::<N>();
-        let writer = match begin(machine, config, &announced, readers as usize) {
+        let writer = match begin(machine, config, &announced, (readers + MAX_STAMPS) as usize) {
             Ok(writer) => writer,
             Err(NoMemory) => return Err(SnapFault::NoMemory),
         };
@@ -123,11 +129,12 @@ impl<R: Wait + Drop, N: Naming, D: Ledger> Published<R, N, D> {
         self.booked.table()
     }
 
-    /// Makes a reader that has seen what is published.
-    pub(crate) fn reader(&self) -> Result<Reader<N>, AllocError>
-        ensures { IfOk result (λ reader. reader ≡ self.now.list) }
+    /// Makes a reader of what is published, while that is nothing.
+    pub(crate) fn reader(&self) -> Result<Reader<N>, NoMemory>
+        requires { self.now.list ≡ [] }
+        ensures { IfOk result (λ reader. reader ≡ []) }
     {
-        let inner = self.writer.factory().reader()?;
+        let inner = newcomer(self.writer.factory())?;
         Ok(Reader::over(inner, self.writer.published().front.again()))
     }
 
@@ -164,16 +171,17 @@ impl<R: Wait + Drop, N: Naming, D: Ledger> Published<R, N, D> {
         }
     }
 
-    /// Publishes what is pending, and stamps the list that was published.
+    /// Publishes what is pending, and stamps the list that was published. It is refused where memory
+    /// is, and where there are `MAX_STAMPS` stamps. The stamp's place is kept before anything is
+    /// published, so that it is there when the stamp is made.
     pub fn publish(&mut self) -> Result<Stamp<N>, NoMemory>
         ensures table { OnOk result ((self.new.table ≡ self.old.table) × (self.new.published ≡ self.old.table)) }
         ensures list { OnOk result ((self.new.list ≡ self.old.list ++ self.old.pending) × (self.new.pending ≡ [])) }
         ensures stamp { IfOk result (λ stamp. stamp ≡ self.new.list) }
         ensures unchanged { OnErr result (self.new ≡ self.old) }
     {
-        if !self.announced.announce(&self.head, &self.writer) {
-            return Err(NoMemory);
-        }
+        let kept = newcomer(self.writer.factory())?;
+        self.announced.announce(&self.head, &self.writer, &self.rt);
         match append(&mut self.writer, Note::Mark(self.announced.again())) {
             Ok(()) => {}
             Err(NoMemory) => return Err(NoMemory),
@@ -182,7 +190,9 @@ impl<R: Wait + Drop, N: Naming, D: Ledger> Published<R, N, D> {
             Ok(()) => {}
             Err(_) => return Err(NoMemory),
         }
-        Ok(Stamp::over(self.writer.published().front.again()))
+        drop(kept);
+        let inner = surely_told(&mut self.writer, &self.rt);
+        Ok(Stamp::over(inner, self.writer.published().front.again()))
     }
 
     /// Gives the table out, and asks for no share, as `Booked::into_table` does. The published

@@ -71,7 +71,8 @@ impl<R: Wait + Copy, N: Naming, D: Ledger> ReadTree<R, N, D> {
         Ok((tree, shares, readers))
     }
 
-    /// Publishes all that was taken, and stamps the list that was published.
+    /// Publishes all that was taken, and stamps the list that was published. It is refused as
+    /// `Published::publish` is: for want of memory, and where there are `MAX_STAMPS` stamps.
     pub fn publish(&self) -> Result<Stamp<N>, NoMemory> {
         self.published.lock(&self.rt).publish()
     }

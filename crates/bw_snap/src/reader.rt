@@ -1,6 +1,7 @@
 //! Readers that take no lock.
 
 ghost use Rattle.std.specs.Prelude.{◌≡◌, ◌⊎◌, [], IfOk, OnOk, OnErr};
+ghost use Rattle.left_right.specs.Sides.{view};
 ghost use Rattle.bw_snap.specs.Snapshots.{BeginsWith};
 ghost use Rattle.bw_snap.specs.Answers.{IsFoundIn, IsLookIn, IsListedIn};
 
@@ -26,6 +27,8 @@ impl<N: Naming> Model for Reader<N> {
     ghost use Rattle.std.specs.Prelude.{◌≡◌, List};
     ghost use Rattle.bw_step.specs.Proposals.{Proposal};
     ghost use Rattle.bw_snap.specs.Codes.{steps_code};
+    ghost use Rattle.bw_snap.specs.Snapshots.{BeginsWith};
+    ghost use Rattle.left_right.specs.Sides.{view as seen_by};
 
     ghost Value = { List Proposal };
 
@@ -33,12 +36,13 @@ impl<N: Naming> Model for Reader<N> {
 
     ghost view = { λ r. r.front.list };
 
-    ghost invariant = { λ r. r.front.book ≡ N.book };
+    ghost invariant = { λ r. (r.front.book ≡ N.book) × BeginsWith (seen_by r.inner.place) r.front.list };
 }
 
 impl<N: Naming> Reader<N> {
     pub(crate) fn over(inner: ReadingEnd<N>, front: Front) -> Reader<N>
-        requires { front.book ≡ N.book }
+        requires book { front.book ≡ N.book }
+        requires list { BeginsWith (view inner.place) front.list }
         ensures { result ≡ front.list }
     {
         Reader { inner, front }
@@ -52,7 +56,9 @@ impl<N: Naming> Reader<N> {
         ensures stamp { BeginsWith self.new stamp }
     {
         if stamp.front.goes_on(&self.front) {
-            self.front = stamp.front;
+            let Stamp { inner, front } = stamp;
+            self.inner = inner;
+            self.front = front;
         }
     }
 
@@ -78,11 +84,11 @@ impl<N: Naming> Reader<N> {
         ensures closed { OnErr result (self.new ≡ self.old) }
     {
         match replace_with(&mut self.inner, key, read) {
-            Some(glance) if glance.front.goes_on(&self.front) => {
+            Some(glance) => {
                 self.front = glance.front;
                 Ok(glance.look)
             }
-            _ => Err(Closed),
+            None => Err(Closed),
         }
     }
 
@@ -100,13 +106,13 @@ impl<N: Naming> Reader<N> {
         ensures fault { OnErr result ((self.new ≡ self.old) × (out.new ≡ out.old)) }
     {
         match replace_with(&mut self.inner, (low, limit), read_pairs) {
-            Some(Ok(scan)) if scan.front.goes_on(&self.front) => {
+            Some(Ok(scan)) => {
                 self.front = scan.front;
                 *out = scan.pairs;
                 Ok(())
             }
             Some(Err(NoMemory)) => Err(ScanFault::NoMemory),
-            _ => Err(ScanFault::Closed),
+            None => Err(ScanFault::Closed),
         }
     }
 }

@@ -6,6 +6,8 @@ ghost use Rattle.bw_law.specs.Runs.{next_table};
 
 use crate::front::{Front, Naming};
 use crate::note::Note;
+use crate::proposed::List;
+use atomic_table::{Join, Split};
 use bw_step::Step;
 use bw_table::Table;
 use crossbeam_utils::rule::{Outcome, Protocol};
@@ -73,28 +75,49 @@ fn take(table: &mut Table<Global>, step: Step<Global>)
     let _ = table.install(step);
 }
 
-/// A published table is where its list leads, and the list stands in the book of this name.
+/// The rule of what is published, over what readers, stamps and the writing end have seen. Each of
+/// them has a view, which is a list, and the published list begins with each view.
 pub struct Backed<N> {
     of: PhantomData<N>,
 }
 
-impl<N: Naming> Protocol<Shown, ()> for Backed<N> {
-    ghost use Rattle.std.specs.Prelude.{◌≡◌};
-    ghost use Rattle.bw_snap.specs.Snapshots.{IsSnapshot};
+impl<N: Naming> Protocol<Shown, List> for Backed<N> {
+    ghost use Rattle.std.specs.Prelude.{[]};
+    ghost use Rattle.bw_snap.specs.Views.{Backs};
 
-    ghost holds = { λ s views. IsSnapshot N.config s.front.list s.table × (s.front.book ≡ N.book) };
+    ghost holds = { λ s views. Backs N.config N.book s.table s.front views };
 
-    ghost first = { tt };
+    ghost first = { [] };
 }
 
-/// Who enters or publishes sees such a table.
+/// Who enters or publishes sees a table whose list begins with its view, and that list is its view
+/// from then on.
 pub struct Sees<N> {
     of: PhantomData<N>,
 }
 
-impl<N: Naming> Outcome<Shown, ()> for Sees<N> {
-    ghost use Rattle.std.specs.Prelude.{◌≡◌};
-    ghost use Rattle.bw_snap.specs.Snapshots.{IsSnapshot};
+impl<N: Naming> Outcome<Shown, List> for Sees<N> {
+    ghost use Rattle.bw_snap.specs.Views.{SeesOn};
 
-    ghost then = { λ v x y w. IsSnapshot N.config y.front.list y.table × (y.front.book ≡ N.book) };
+    ghost then = { λ v x y w. SeesOn N.config N.book v y.table y.front w };
+}
+
+/// The writing end tells all that it has seen, and keeps it.
+pub struct Tells;
+
+impl Split<List> for Tells {
+    ghost left = { λ v. v };
+
+    ghost right = { λ v. v };
+}
+
+/// A reader that has seen nothing takes in what it is told.
+pub struct Takes;
+
+impl Join<List> for Takes {
+    ghost use Rattle.std.specs.Prelude.{[]};
+
+    ghost both = { λ v w. w };
+
+    ghost spent = { [] };
 }

@@ -1,5 +1,5 @@
 //! Tests of a reader in a thread of its own, beside two workers: what a reader sees while one of them
-//! is held, and while both write and publish all the time.
+//! is held, and while both write and publish all the time; and of the room for stamps.
 #![tactic(auto)]
 
 #[cfg(test)]
@@ -8,5 +8,7 @@ mod beside;
 mod crew;
 #[cfg(test)]
 mod seen;
+#[cfg(test)]
+mod stamps;
 #[cfg(test)]
 mod two_workers;

@@ -1,5 +1,5 @@
 -- A change made in place is a step and the consolidation behind it.
-use Rattle.std.proofs.Common.{◌≡◌, ◌≢◌, ℕ, suc, ◌+◌, ◌<◌, ◌≤◌, ◌^◌, Bool, true, false, eqb, cond, List, length, set, refl, ap, sym, subst, ◌∙◌, arith}
+use Rattle.std.proofs.Common.{◌≡◌, ◌≢◌, ℕ, suc, ◌+◌, ◌<◌, ◌≤◌, ◌^◌, Bool, true, false, eqb, cond, List, [], ◌∷◌, length, set, refl, ap, sym, subst, ◌∙◌, arith}
 use Rattle.std.specs.Prelude.{Option, Some, None, unwrap_or, nat_lt, nat_le}
 use Rattle.std.proofs.lemmas.Bool.{eq-eqb}
 use Rattle.std.proofs.lemmas.Bool.Decides.{nat_tests}
@@ -25,18 +25,58 @@ use Rattle.bw_step.specs.declared.view.Stage.TheVariants.{Free, Posted}
 use Rattle.bw_step.specs.Proposals.{Proposal, insert, delete, modify, consolidate, split, term_add}
 use Rattle.bw_step.specs.Stages.{is_in_row}
 use Rattle.bw_step.specs.Tellings.{Telling, change, look, shape, telling_of}
-use Rattle.bw_law.specs.Effects.{lower_half, upper_half, with_record, with_stage, pid, consolidated, after, receipt_of}
+use Rattle.bw_law.specs.Effects.{TakesStep, lower_half, upper_half, with_record, with_stage, pid, consolidated, after, receipt_of}
 use Rattle.bw_law.specs.Refusals.{last_id, all_but_last, new_id, is_other_kind, split_reasons, refusal, term_add_reasons, insert_reasons, found_reasons, consolidate_reasons}
+use Rattle.bw_law.specs.Runs.{TakesInTurn}
 use Rattle.bw_law.specs.Slots.{SlotValue, slot_in, chain_in, pairs_in, routes_in, empty_page, free_slot, last_number}
 use Rattle.bw_law.specs.Tables.{TableValue, TellsMap, SameMap, slot_at, slot_fences, number_of, book_with, IsPageOf}
 use Rattle.bw_law.proofs.Facts.{last_id_is_free, here_is_inside, leaf_count_fits, inner_count_fits, slots_are_few}
 use Rattle.bw_law.proofs.SameTests.{same_page_tells}
 use Rattle.bw_law.proofs.Slots.{slot_written, slot_kept}
-use Rattle.bw_table.specs.InPlaces.{IsShallowLeaf, MayChangeAtOnce, MayPostAtOnce, MayCut, MaySplitAtOnce, TakesCut, slot_cut, TakesInPlace, TakesBoth, LooksOrTakes, IsDoneAtOnce, IsPosted, count_after, slot_with, receipt_for, step_for}
+use Rattle.bw_table.specs.InPlaces.{IsShallowLeaf, MayChangeAtOnce, MayPostAtOnce, MayCut, MaySplitAtOnce, TakesCut, slot_cut, TakesInPlace, TakesBoth, both_steps, LooksOrTakes, IsDoneAtOnce, IsPosted, count_after, slot_with, receipt_for, step_for}
 use Rattle.bw_table.specs.Whole.{IsWhole}
 use Rattle.bw_law.proofs.AllSteps.{step_law}
 use Rattle.bw_table.proofs.Writes.{set-swap}
 use Rattle.bw_table.proofs.Whole.{whole_after, found_is_mapped}
+
+-- a step and the consolidation behind it, with the table between
+pub record TakesTwo (old : TableValue) (step : Proposal) (receipt : Receipt) (page : ℕ) (new : TableValue) : Type 0 where
+  pub between : TableValue
+  pub seen : ℕ
+  pub base : Page
+  pub accepted : refusal old step ≡ None
+  pub changed : TakesStep old step receipt between
+  pub still_accepted : refusal between (consolidate page seen base) ≡ None
+  pub consolidated : TakesStep between (consolidate page seen base) (Shaped kinds.Consolidate (pid page) None) new
+
+closed : (old : TableValue) (step : Proposal) (receipt : Receipt) (page : ℕ) (new : TableValue) → TakesTwo old step receipt page new → TakesBoth old step receipt page new
+closed old step receipt page new two = record { seen = two.seen; base = two.base; takes = (two.between, two.accepted, two.changed, (new, two.still_accepted, two.consolidated, refl)) }
+
+-- the first of steps that were taken in turn
+record TakesFirst (old : TableValue) (step : Proposal) (receipt : Receipt) (rest : List (Proposal × Receipt)) (new : TableValue) : Type 0 where
+  next : TableValue
+  accepted : refusal old step ≡ None
+  taken : TakesStep old step receipt next
+  others : TakesInTurn next rest new
+
+first_of : (old : TableValue) (step : Proposal) (receipt : Receipt) (rest : List (Proposal × Receipt)) (new : TableValue) → TakesInTurn old ((step, receipt) ∷ rest) new → TakesFirst old step receipt rest new
+first_of old step receipt rest new turn = record { next = turn.0; accepted = turn.1; taken = turn.2; others = turn.3 }
+
+opened : (old : TableValue) (step : Proposal) (receipt : Receipt) (page : ℕ) (new : TableValue) → TakesBoth old step receipt page new → TakesTwo old step receipt page new
+opened old step receipt page new both =
+    let consolidation : Proposal = consolidate page both.seen both.base in
+    let told : Receipt = Shaped kinds.Consolidate (pid page) None in
+    let first = first_of old step receipt ((consolidation, told) ∷ []) new both.takes in
+    let second = first_of first.next consolidation told [] new first.others in
+    record {
+      between = first.next;
+      seen = both.seen;
+      base = both.base;
+      accepted = first.accepted;
+      changed = first.taken;
+      still_accepted = second.accepted;
+      consolidated = subst (TakesStep first.next consolidation told) (sym second.others) second.taken;
+    }
 
 not_full : (depth : ℕ) → depth ≤ 1 → nat_le MAX_DEPTH depth ≡ false
 not_full depth shallow = grind (arith, nat_tests)
@@ -116,7 +156,8 @@ module _ (table : TableValue) (room : ℕ) (whole : IsWhole table room) (page ke
       let accepts : Accepts (raised delta) =
       consolidate_is_accepted (raised delta) base may.leaf.posted may.leaf.leaf rises (is_leaf_still delta) (ap page_for (sym (chain_raised delta)))
       in
-      record {
+      closed table step receipt page (noted (set table.slots page (slot_with (Some delta) (slot_at table page))) receipt)
+      (record {
         between = after table step;
         seen = seen;
         base = base;
@@ -130,7 +171,7 @@ module _ (table : TableValue) (room : ℕ) (whole : IsWhole table room) (page ke
               ∙ ap (λ (t : TableValue). after t (consolidate page seen base)) (sym goes);
           told = refl;
         };
-      }
+      })
 
   -- what is noted where nothing is to be done is the table as it was
   nothing_noted : (number : ℕ) (had : Option ℕ) → noted (set table.slots page (slot_at table page)) (Looked number key had) ≡ table
@@ -177,12 +218,15 @@ module _ (table : TableValue) (room : ℕ) (whole : IsWhole table room) (page ke
       let ByHad : Option ℕ → Type 0 = λ o. LooksOrTakes table page (Looked (number_of table.book) key o) receipt (noted slots receipt) (step_for page (slot_at table page).version key wished o) in
       subst ByHad found third
 
--- the table is whole after both steps
-pub whole_both : (table : TableValue) (room page : ℕ) (receipt : Receipt) (new : TableValue) (step : Proposal) → IsWhole table room → TakesBoth table step receipt page new → IsWhole new room
-whole_both table room page receipt new step whole takes =
+-- the table is whole after steps that it took in turn
+whole_in_turn : (table : TableValue) (room : ℕ) (steps : List (Proposal × Receipt)) (new : TableValue) → IsWhole table room → TakesInTurn table steps new → IsWhole new room
+whole_in_turn table room [] new whole turn = let Whole : TableValue → Type 0 = λ t. IsWhole t room in subst Whole (sym turn) whole
+whole_in_turn table room (taken ∷ rest) new whole turn =
     let Whole : TableValue → Type 0 = λ t. IsWhole t room in
-    let between : IsWhole takes.between room = subst Whole (sym takes.changed.leads) (whole_after table step room whole takes.accepted) in
-    subst Whole (sym takes.consolidated.leads) (whole_after takes.between (consolidate page takes.seen takes.base) room between takes.still_accepted)
+    whole_in_turn turn.0 room rest new (subst Whole (sym turn.2.leads) (whole_after table taken.0 room whole turn.1)) turn.3
+
+pub whole_both : (table : TableValue) (room page : ℕ) (receipt : Receipt) (new : TableValue) (step : Proposal) → IsWhole table room → TakesBoth table step receipt page new → IsWhole new room
+whole_both table room page receipt new step whole both = whole_in_turn table room (both_steps step receipt page both.seen both.base) new whole both.takes
 
 pub whole_at_once : (table : TableValue) (room page : ℕ) (seen receipt : Receipt) (new : TableValue) (step : Option Proposal) → IsWhole table room → LooksOrTakes table page seen receipt new step → IsWhole new room
 whole_at_once table room page seen receipt new None whole looks = let Whole : TableValue → Type 0 = λ t. IsWhole t room in subst Whole (sym looks.1) whole
@@ -208,7 +252,8 @@ tells_at_once table room page key number receipt new None whole leaf looks =
     (found_is_mapped table page key whole.lawful (rw (leaf.posted, leaf.leaf) refl) leaf.within, λ k value. (λ maps. maps, λ maps. maps))
     in
     subst (λ (t : TableValue). Tells receipt t) (sym looks.1) (subst (λ (r : Receipt). Tells r table) (sym looks.0) maps)
-tells_at_once table room page key number receipt new (Some step) whole leaf takes =
+tells_at_once table room page key number receipt new (Some step) whole leaf both =
+    let takes = opened table step receipt page new both in
     let first = step_law table step whole.lawful whole.booked takes.accepted in
     let Whole : TableValue → Type 0 = λ t. IsWhole t room in
     let between : IsWhole takes.between room = subst Whole (sym takes.changed.leads) (whole_after table step room whole takes.accepted) in
@@ -223,7 +268,8 @@ two_steps : (table mid new : TableValue) (step : Proposal) (receipt : Receipt) (
     → refusal table step ≡ None → receipt ≡ receipt_of table step → after table step ≡ mid → slot_at mid page ≡ raised → first_reason (consolidate_reasons raised raised.version base) ≡ None
     → new ≡ record mid { slots = set mid.slots page (consolidated base raised) } → TakesBoth table step receipt page new
 two_steps table mid new step receipt page raised base accepted told goes written accepts new_is =
-    let Accepts : SlotValue → Type 0 = λ s. first_reason (consolidate_reasons s raised.version base) ≡ None in record {
+    let Accepts : SlotValue → Type 0 = λ s. first_reason (consolidate_reasons s raised.version base) ≡ None in
+    closed table step receipt page new (record {
       between = mid;
       seen = raised.version;
       base = base;
@@ -231,7 +277,7 @@ two_steps table mid new step receipt page raised base accepted told goes written
       changed = record { leads = sym goes; told = told };
       still_accepted = subst Accepts (sym written) accepts;
       consolidated = record { leads = new_is ∙ ap (λ (s : SlotValue). record mid { slots = set mid.slots page (consolidated base s) }) (sym written); told = refl };
-    }
+    })
 
 -- nothing speaks against the term that a bare page takes
 term_add_is_accepted : (over under : SlotValue) → MayPostAtOnce over under → at under.low (routes_in over) ≡ None → first_reason (term_add_reasons over under over.version under.version) ≡ None

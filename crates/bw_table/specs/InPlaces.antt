@@ -1,5 +1,5 @@
 -- A change of a key and the consolidation of its page, one behind the other, as one call does them.
-use Rattle.std.specs.Prelude.{◌≡◌, ℕ, suc, ◌+◌, ◌-◌, ◌<◌, ◌≤◌, ◌^◌, Bool, true, false, Option, Some, None, unwrap_or}
+use Rattle.std.specs.Prelude.{◌≡◌, ℕ, suc, ◌+◌, ◌-◌, ◌<◌, ◌≤◌, ◌^◌, Bool, true, false, List, [], ◌∷◌, slice_set, Option, Some, None, unwrap_or}
 use Rattle.bw_keys.specs.declared.page.Pid.{Pid}
 use Rattle.bw_keys.specs.declared.range.Fence.TheVariants.{Key}
 use Rattle.bw_keys.specs.Ranges.{is_within}
@@ -7,7 +7,7 @@ use Rattle.bw_delta.specs.declared.chain.Delta.{Delta}
 use Rattle.bw_delta.specs.declared.chain.Delta.TheVariants as deltas
 use Rattle.bw_delta.specs.Entries.{at}
 use Rattle.bw_delta.specs.Fence.{fences}
-use Rattle.bw_delta.specs.Pages.{Page}
+use Rattle.bw_delta.specs.Pages.{Page, listed_length}
 use Rattle.bw_delta.specs.Records.{above}
 use Rattle.bw_delta.specs.Sound.{LiesIn, page_for}
 use Rattle.bw_chain.specs.Pages.Halves.{listed_key_at}
@@ -18,9 +18,10 @@ use Rattle.bw_step.specs.declared.receipt.Receipt.{Receipt}
 use Rattle.bw_step.specs.declared.receipt.Receipt.TheVariants.{Inserted, Deleted, Modified, Looked, Shaped}
 use Rattle.bw_step.specs.declared.view.Stage.TheVariants.{Posted, Unposted}
 use Rattle.bw_step.specs.Proposals.{Proposal, insert, delete, modify, consolidate, split, term_add}
-use Rattle.bw_law.specs.Effects.{TakesStep, with_record, consolidated, pid}
-use Rattle.bw_law.specs.Refusals.{refusal, is_bad_key, is_leaving_at, last_id, new_id}
-use Rattle.bw_law.specs.Slots.{SlotValue, chain_in, pairs_in, routes_in}
+use Rattle.bw_law.specs.Effects.{with_record, with_stage, upper_half, consolidated, pid}
+use Rattle.bw_law.specs.Refusals.{is_bad_key, is_leaving_at, last_id, new_id}
+use Rattle.bw_law.specs.Runs.{TakesInTurn}
+use Rattle.bw_law.specs.Slots.{SlotValue, slot_in, chain_in, pairs_in, routes_in}
 use Rattle.bw_law.specs.Tables.{TableValue, slot_at, number_of}
 
 -- a leaf with one record at most, posted, whose range holds the key and whose version can rise twice
@@ -109,15 +110,15 @@ step_for page seen key (wishes.Set value) (Some had) = Some (modify page seen ke
 step_for page seen key wishes.Delete None = None
 step_for page seen key wishes.Delete (Some had) = Some (delete page seen key)
 
--- The table took the step, which has the receipt, and then the consolidation of the page; neither was refused.
+-- a step with its receipt, and behind it the consolidation of a page
+abbrev pub both_steps : Proposal → Receipt → ℕ → ℕ → Page → List (Proposal × Receipt)
+both_steps step receipt page seen base = (step, receipt) ∷ (consolidate page seen base, Shaped kinds.Consolidate (pid page) None) ∷ []
+
+-- the table took the step, and then the consolidation of the page; neither was refused
 pub record TakesBoth (old : TableValue) (step : Proposal) (receipt : Receipt) (page : ℕ) (new : TableValue) : Type 0 where
-  pub between : TableValue
   pub seen : ℕ
   pub base : Page
-  pub accepted : refusal old step ≡ None
-  pub changed : TakesStep old step receipt between
-  pub still_accepted : refusal between (consolidate page seen base) ≡ None
-  pub consolidated : TakesStep between (consolidate page seen base) (Shaped kinds.Consolidate (pid page) None) new
+  pub takes : TakesInTurn old (both_steps step receipt page seen base) new
 
 -- one look and no change, or both steps
 abbrev pub LooksOrTakes : TableValue → ℕ → Receipt → Receipt → TableValue → Option Proposal → Type 0
@@ -136,6 +137,23 @@ abbrev pub slot_cut : ℕ → Pid → ℕ → SlotValue → SlotValue
 slot_cut separator new count slot =
     consolidated (page_for (above (deltas.Split separator new) (chain_in slot)))
     (record (with_record (deltas.Split separator new) (slot.count - count) slot) { high = Key separator; right = Some new })
+
+-- the slots with a record taken in on the page, if there is one
+abbrev pub slots_with : ℕ → Option Delta → List SlotValue → List SlotValue
+slots_with page delta slots = slice_set slots page (slot_with delta (slot_in slots page))
+
+-- the slots where the parent has the term of the child, which is posted
+abbrev pub slots_posted : ℕ → Pid → List SlotValue → List SlotValue
+slots_posted parent child slots =
+    let over = slot_in slots parent in
+    let under = slot_in slots child.0 in
+    slice_set (slice_set slots parent (slot_with (Some (deltas.TermAdd under.low child)) over)) child.0 (with_stage Posted under)
+
+-- the slots where the page ends before the separator, and the new page has the rest
+abbrev pub slots_split : ℕ → Pid → ℕ → Page → List SlotValue → List SlotValue
+slots_split page new separator base slots =
+    let slot = slot_in slots page in
+    slice_set (slice_set slots page (slot_cut separator new (listed_length base.listed) slot)) new.0 (upper_half (slot_in slots new.0).version separator base slot)
 
 -- the page was split at the key of its entry with the number, counted from 0, and then consolidated
 pub record IsSplitAtOnce (old : TableValue) (page number : ℕ) (receipt : Receipt) (new : TableValue) : Type 0 where

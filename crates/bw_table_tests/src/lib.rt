@@ -8,3 +8,5 @@ mod at_once;
 mod memory;
 #[cfg(test)]
 mod rest;
+#[cfg(test)]
+mod stale;

@@ -9,16 +9,51 @@ use Rattle.bw_step.specs.declared.receipt.Receipt.TheVariants.{Looked, Shaped}
 use Rattle.bw_step.specs.declared.receipt.Kind.TheVariants as kinds
 use Rattle.bw_step.specs.Proposals.{Proposal, insert, delete, modify, consolidate, term_add, split as split_step}
 use Rattle.bw_step.specs.Tellings.{telling_of, without_shapes}
-use Rattle.bw_law.specs.Effects.{after, receipt_of, pid}
+use Rattle.bw_law.specs.Effects.{TakesStep, receipt_of, pid}
+use Rattle.bw_law.specs.Refusals.{refusal}
+use Rattle.bw_law.specs.Runs.{TakesInTurn}
 use Rattle.bw_law.specs.Slots.{pairs_in}
 use Rattle.bw_law.specs.Tables.{TableValue, TellsMap, slot_at, number_of, book_with, Lawful, Booked}
 use Rattle.bw_law.proofs.AllSteps.{step_law}
-use Rattle.bw_table.specs.InPlaces.{TakesBoth, LooksOrTakes, IsDoneAtOnce, IsSplitUnder, step_for}
+use Rattle.bw_table.specs.InPlaces.{TakesBoth, both_steps, LooksOrTakes, IsDoneAtOnce, IsSplitUnder, step_for}
 use Rattle.bw_procedures.specs.Seen.{Seen}
 use Rattle.bw_procedures.specs.Calls.{SplitAtOnce, raised, receipts_of_shape, receipts_of_split}
 use Rattle.bw_procedures.specs.Writing.{IsReceiptFor, shapes_behind}
 use Rattle.bw_work.specs.Leading.{Tells, Leads, leads_join}
 use Rattle.bw_work.proofs.Following.{leads_by, step_leads}
+
+-- the receipts of steps that were taken
+abbrev receipts_in : List (Proposal × Receipt) → List Receipt
+receipts_in [] = []
+receipts_in (taken ∷ rest) = taken.1 ∷ receipts_in rest
+
+-- a table is lawful and booked after each of the steps that it took
+law_after : (old next : TableValue) (step : Proposal) (receipt : Receipt) → Lawful old → Booked old → refusal old step ≡ None → TakesStep old step receipt next → Lawful next × Booked next
+law_after old next step receipt law booked accepted takes =
+    let kept = step_law old step law booked accepted in
+    (subst Lawful (sym takes.leads) kept.lawful, subst Booked (sym takes.leads) kept.booked)
+
+law_in_turn : (steps : List (Proposal × Receipt)) (old new : TableValue) → Lawful old → Booked old → TakesInTurn old steps new → Lawful new × Booked new
+law_in_turn [] old new law booked turn = (subst Lawful (sym turn) law, subst Booked (sym turn) booked)
+law_in_turn (taken ∷ rest) old new law booked turn = let kept = law_after old turn.0 taken.0 taken.1 law booked turn.1 turn.2 in law_in_turn rest turn.0 new kept.0 kept.1 turn.3
+
+-- and their receipts lead from the old table to the new
+turn_leads : (steps : List (Proposal × Receipt)) (old new : TableValue) (trail : List Receipt) → Lawful old → Booked old → TakesInTurn old steps new → Leads old trail new (trail ++ receipts_in steps)
+turn_leads [] old new trail law booked turn = ([], refl, turn)
+turn_leads (taken ∷ rest) old new trail law booked turn =
+    let kept = law_after old turn.0 taken.0 taken.1 law booked turn.1 turn.2 in
+    let first : Leads old trail turn.0 (trail ++ taken.1 ∷ []) = step_leads old taken.0 taken.1 turn.0 trail law booked turn.1 turn.2 in
+    let others : Leads turn.0 (trail ++ taken.1 ∷ []) new ((trail ++ taken.1 ∷ []) ++ receipts_in rest) = turn_leads rest turn.0 new (trail ++ taken.1 ∷ []) kept.0 kept.1 turn.3 in
+    subst (λ l. Leads old trail new l) (append_assoc trail (taken.1 ∷ []) (receipts_in rest)) (leads_join old trail turn.0 (trail ++ taken.1 ∷ []) new ((trail ++ taken.1 ∷ []) ++ receipts_in rest) first others)
+
+-- no step changes the configuration
+turn_keeps_config : (steps : List (Proposal × Receipt)) (old new : TableValue) → TakesInTurn old steps new → new.config ≡ old.config
+turn_keeps_config [] old new turn = ap (λ (t : TableValue). t.config) turn
+turn_keeps_config (taken ∷ rest) old new turn = turn_keeps_config rest turn.0 new turn.3 ∙ ap (λ (t : TableValue). t.config) turn.2.leads
+
+-- the first of steps that were taken has its receipt
+told_first : (old new : TableValue) (step : Proposal) (receipt : Receipt) (rest : List (Proposal × Receipt)) → TakesInTurn old ((step, receipt) ∷ rest) new → receipt ≡ receipt_of old step
+told_first old new step receipt rest turn = turn.2.told
 
 module _ (old new : TableValue) (page key seen : ℕ) (receipt : Receipt) where
   abbrev behind : Receipt
@@ -26,15 +61,10 @@ module _ (old new : TableValue) (page key seen : ℕ) (receipt : Receipt) where
 
   -- both steps lead on
   both_lead : (trail : List Receipt) (step : Proposal) → Lawful old → Booked old → TakesBoth old step receipt page new → Leads old trail new (trail ++ receipt ∷ behind ∷ [])
-  both_lead trail step law booked both =
-      let kept = step_law old step law booked both.accepted in
-      let law_between : Lawful both.between = subst Lawful (sym both.changed.leads) kept.lawful in
-      let booked_between : Booked both.between = subst Booked (sym both.changed.leads) kept.booked in
-      let first : Leads old trail both.between (trail ++ receipt ∷ []) = step_leads old step receipt both.between trail law booked both.accepted both.changed in
-      let second : Leads both.between (trail ++ receipt ∷ []) new ((trail ++ receipt ∷ []) ++ behind ∷ []) =
-      step_leads both.between (consolidate page both.seen both.base) behind new (trail ++ receipt ∷ []) law_between booked_between both.still_accepted both.consolidated
-      in
-      subst (λ l. Leads old trail new l) (append_assoc trail (receipt ∷ []) (behind ∷ [])) (leads_join old trail both.between (trail ++ receipt ∷ []) new ((trail ++ receipt ∷ []) ++ behind ∷ []) first second)
+  both_lead trail step law booked both = turn_leads (both_steps step receipt page both.seen both.base) old new trail law booked both.takes
+
+  told_by_both : (step : Proposal) → TakesBoth old step receipt page new → receipt ≡ receipt_of old step
+  told_by_both step both = told_first old new step receipt ((consolidate page both.seen both.base, behind) ∷ []) both.takes
 
   abbrev IsDone : Wished → Option ℕ → Type 0
   IsDone wished had = LooksOrTakes old page (Looked (number_of old.book) key had) receipt new (step_for page seen key wished had)
@@ -52,7 +82,7 @@ module _ (old new : TableValue) (page key seen : ℕ) (receipt : Receipt) where
 
       steps_lead : (step : Proposal) → shapes_behind (pid page) (receipt_of old step) ≡ behind ∷ [] → TakesBoth old step receipt page new → Leads old trail new (trail ++ receipt ∷ shapes_behind (pid page) receipt)
       steps_lead step shape both =
-          let is : shapes_behind (pid page) receipt ≡ behind ∷ [] = ap (shapes_behind (pid page)) both.changed.told ∙ shape in
+          let is : shapes_behind (pid page) receipt ≡ behind ∷ [] = ap (shapes_behind (pid page)) (told_by_both step both) ∙ shape in
           subst (λ l. Leads old trail new (trail ++ receipt ∷ l)) (sym is) (both_lead trail step law booked both)
 
       by_wish : (w : Wished) (o : Option ℕ) → IsDone w o → Leads old trail new (trail ++ receipt ∷ shapes_behind (pid page) receipt)
@@ -65,15 +95,15 @@ module _ (old new : TableValue) (page key seen : ℕ) (receipt : Receipt) where
 
   -- and its receipt is that of the wish
   done_is_told : (wished : Wished) (had : Option ℕ) → IsDone wished had → IsReceiptFor key wished receipt
-  done_is_told (wishes.Put value) None d = subst (IsReceiptFor key (wishes.Put value)) (sym d.changed.told) (refl, refl)
+  done_is_told (wishes.Put value) None d = subst (IsReceiptFor key (wishes.Put value)) (sym (told_by_both (insert page seen key value) d)) (refl, refl)
   done_is_told (wishes.Put value) (Some o) d = subst (IsReceiptFor key (wishes.Put value)) (sym d.0) (refl, refl)
-  done_is_told (wishes.Set value) None d = subst (IsReceiptFor key (wishes.Set value)) (sym d.changed.told) (refl, refl)
-  done_is_told (wishes.Set value) (Some o) d = subst (IsReceiptFor key (wishes.Set value)) (sym d.changed.told) (refl, refl)
+  done_is_told (wishes.Set value) None d = subst (IsReceiptFor key (wishes.Set value)) (sym (told_by_both (insert page seen key value) d)) (refl, refl)
+  done_is_told (wishes.Set value) (Some o) d = subst (IsReceiptFor key (wishes.Set value)) (sym (told_by_both (modify page seen key value) d)) (refl, refl)
   done_is_told wishes.Delete None d = subst (IsReceiptFor key wishes.Delete) (sym d.0) (refl, refl)
-  done_is_told wishes.Delete (Some o) d = subst (IsReceiptFor key wishes.Delete) (sym d.changed.told) refl
+  done_is_told wishes.Delete (Some o) d = subst (IsReceiptFor key wishes.Delete) (sym (told_by_both (delete page seen key) d)) refl
 
   both_keep_config : (step : Proposal) → TakesBoth old step receipt page new → new.config ≡ old.config
-  both_keep_config step both = ap (λ (t : TableValue). t.config) both.consolidated.leads ∙ ap (λ (t : TableValue). t.config) both.changed.leads
+  both_keep_config step both = turn_keeps_config (both_steps step receipt page both.seen both.base) old new both.takes
 
   done_keeps_config : (step : Option Proposal) (look : Receipt) → LooksOrTakes old page look receipt new step → new.config ≡ old.config
   done_keeps_config None look d = ap (λ (t : TableValue). t.config) d.1
@@ -90,12 +120,7 @@ module _ (old new : TableValue) (page key : ℕ) (wished : Wished) (receipt : Re
   at_once_keeps_config = done_keeps_config old new page key (slot_at old page).version receipt (step_for page (slot_at old page).version key wished (at key (pairs_in (slot_at old page)))) (Looked (number_of old.book) key (at key (pairs_in (slot_at old page)))) done
 
 law_kept : (old new : TableValue) (step : Proposal) (receipt : Receipt) (page : ℕ) → Lawful old → Booked old → TakesBoth old step receipt page new → Lawful new × Booked new
-law_kept old new step receipt page law booked both =
-    let first = step_law old step law booked both.accepted in
-    let law_between : Lawful both.between = subst Lawful (sym both.changed.leads) first.lawful in
-    let booked_between : Booked both.between = subst Booked (sym both.changed.leads) first.booked in
-    let then = step_law both.between (consolidate page both.seen both.base) law_between booked_between both.still_accepted in
-    (subst Lawful (sym both.consolidated.leads) then.lawful, subst Booked (sym both.consolidated.leads) then.booked)
+law_kept old new step receipt page law booked both = law_in_turn (both_steps step receipt page both.seen both.base) old new law booked both.takes
 
 -- a page that was split at once
 module _ (old new : TableValue) (parent page number : ℕ) (new_page : Pid) where

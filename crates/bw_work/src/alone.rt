@@ -5,7 +5,7 @@ use bw_chain::Wished;
 use bw_delta::{Base, Chain, NoMemory};
 use bw_keys::{Config, Key, Pid, Version};
 use bw_procedures::{Account, Ends, Keep, Steps};
-use bw_step::{AtOnce, CopyFault, Denied, Look, Next, Place, Receipt, Step, View};
+use bw_step::{AtOnce, CopyFault, Denied, Look, Next, Place, Receipt, Refused, Step, View};
 use bw_table::Table;
 use std::alloc::{Allocator, Global};
 
@@ -132,6 +132,17 @@ impl<'t, A: Allocator + Copy> Steps<A, Step<A>> for Alone<'t, A> {
     #[inline(always)]
     fn peek(&mut self, pid: Pid) -> Option<View> {
         self.table.peek(pid)
+    }
+
+    #[inline(always)]
+    fn refuses_split(&mut self, leaf: Pid, version: Version) -> bool {
+        if !self.table.has_no_page_for(leaf, version) {
+            return false;
+        }
+        // The law of the table is told with its configuration.
+        let _config = self.table.config();
+        self.account.refused(Refused::TableFull);
+        true
     }
 
     #[inline(always)]

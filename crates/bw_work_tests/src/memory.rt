@@ -102,7 +102,11 @@ fn had_room<A: Allocator + Copy>(
 ) -> Option<bool> {
     let mut had_room = true;
     for key in 1..=puts {
-        had_room = had_room && alone.put(key, key).is_ok_and(|done| done.fault.is_none());
+        had_room = had_room
+            && alone
+                .put(key, key)
+                .and_then(|done| done.into_result())
+                .is_ok();
     }
     for call in calls {
         match fault_of(machine, alone, *call) {

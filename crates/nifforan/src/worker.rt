@@ -13,7 +13,7 @@ use bw_keys::{Config, Fence, Key, Pid, Version};
 use bw_procedures::{
     Account, Cleared, Del, Done, Ends, Fault, Keep, Put, Set, Steps, clear, delete, put, set,
 };
-use bw_step::{AtOnce, CopyFault, Denied, Look, Next, Place, Receipt, Step, View};
+use bw_step::{AtOnce, CopyFault, Denied, Look, Next, Place, Receipt, Refused, Step, View};
 use bw_table::Table;
 use std::alloc::{Allocator, Global};
 
@@ -204,6 +204,17 @@ impl<A: Allocator + Copy> Steps<A, Step<A>> for Worker<A> {
     #[inline(always)]
     fn peek(&mut self, pid: Pid) -> Option<View> {
         self.table.peek(pid)
+    }
+
+    #[inline(always)]
+    fn refuses_split(&mut self, leaf: Pid, version: Version) -> bool {
+        if !self.table.has_no_page_for(leaf, version) {
+            return false;
+        }
+        // The law of the table is told with its configuration.
+        let _config = self.table.config();
+        self.account.refused(Refused::TableFull);
+        true
     }
 
     #[inline(always)]

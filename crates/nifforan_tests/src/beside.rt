@@ -196,6 +196,10 @@ impl Beside {
             map.previous_at(low) == plain.range(..=low).next_back().map(owned),
             map.range(low, Fence::Key(high))
                 .eq(plain.range(low..high).map(owned)),
+            map.range(low, Fence::Top).eq(plain.range(low..).map(owned)),
+            map.range(0, Fence::Key(low))
+                .eq(plain.range(..low).map(owned)),
+            map.range(high, Fence::Key(low)).count() == 0,
             map.iter().eq(plain.iter().map(owned)),
         ];
         !alike.contains(&false)

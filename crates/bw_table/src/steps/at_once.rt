@@ -1,6 +1,6 @@
 //! A change of one key and the consolidation of its page, made in the place where the page lies.
 
-ghost use Rattle.std.specs.Prelude.{◌≡◌, ◌≢◌, ◌+◌, ◌<◌, ◌^◌, None, Some, true, false, IsTrue, IfSome, IfNone, length, slice_set};
+ghost use Rattle.std.specs.Prelude.{◌≡◌, ◌≢◌, ◌+◌, ◌<◌, ◌^◌, None, Some, true, false, IsTrue, IfSome, IfNone, length};
 ghost use Rattle.bw_delta.specs.declared.chain.Delta.TheVariants as deltas;
 ghost use Rattle.bw_delta.specs.Entries.{at};
 ghost use Rattle.bw_delta.specs.Fence.{is_leaf};
@@ -16,7 +16,7 @@ ghost use Rattle.bw_step.specs.Tellings.{telling_of};
 ghost use Rattle.bw_law.specs.Effects.{with_stage, upper_half};
 ghost use Rattle.bw_law.specs.Slots.{slot_in, chain_in, pairs_in, routes_in};
 ghost use Rattle.bw_law.specs.Tables.{TellsMap, slot_at, number_of, book_with};
-ghost use Rattle.bw_table.specs.InPlaces.{IsShallowLeaf, MayChangeAtOnce, MayCut, MayPostAtOnce, MaySplitAtOnce, TakesCut, TakesInPlace, IsSplitAtOnce, IsSplitUnder, IsPosted, slot_cut, IsDoneAtOnce, count_after, slot_with, receipt_for};
+ghost use Rattle.bw_table.specs.InPlaces.{IsShallowLeaf, MayChangeAtOnce, MayCut, MayPostAtOnce, MaySplitAtOnce, TakesCut, TakesInPlace, IsSplitAtOnce, IsSplitUnder, IsPosted, slot_cut, IsDoneAtOnce, count_after, slot_with, slots_with, slots_posted, slots_split, receipt_for};
 
 use crate::book::number_of;
 use crate::slot::Slot;
@@ -102,7 +102,7 @@ fn post_at<A: Allocator + Copy>(slots: &mut Vec<Slot<A>>, parent: Pid, child: Pi
     requires version { (slot_in slots.old.items child.0).version + 1 < 2 ^ 64 }
     ensures absent { result ≡ true → at (slot_in slots.old.items child.0).low (routes_in (slot_in slots.old.items parent.0)) ≡ None }
     ensures inner { result ≡ true → is_leaf (chain_in (slot_in slots.old.items parent.0)) ≡ false }
-    ensures posted { let over = slot_in slots.old.items parent.0 in let under = slot_in slots.old.items child.0 in result ≡ true → slots.new.items ≡ slice_set (slice_set slots.old.items parent.0 (slot_with (Some (deltas.TermAdd under.low child)) over)) child.0 (with_stage Posted under) }
+    ensures posted { result ≡ true → slots.new.items ≡ slots_posted parent.0 child slots.old.items }
     ensures unchanged { result ≡ false → slots.new.items ≡ slots.old.items }
 {
     let low = slots[child.0 as usize].low();
@@ -205,7 +205,7 @@ fn cut_at<A: Allocator + Copy>(
     requires apart { new.0 ≢ page.0 }
     requires takes { TakesCut (slot_in slots.old.items page.0) separator }
     requires new_version { (slot_in slots.old.items new.0).version + 1 < 2 ^ 64 }
-    ensures split { let slot = slot_in slots.old.items page.0 in result ≡ true → slots.new.items ≡ slice_set (slice_set slots.old.items page.0 (slot_cut separator new (listed_length base.listed) slot)) new.0 (upper_half (slot_in slots.old.items new.0).version separator base slot) }
+    ensures split { result ≡ true → slots.new.items ≡ slots_split page.0 new separator base slots.old.items }
     ensures unchanged { result ≡ false → slots.new.items ≡ slots.old.items }
 {
     let count = base.len() as u64;
@@ -282,7 +282,7 @@ fn change_at<A: Allocator + Copy>(
     requires takes { TakesInPlace (slot_in slots.old.items page.0) key }
     ensures had { IfSome result (λ done. done.had ≡ at key (pairs_in (slot_in slots.old.items page.0))) }
     ensures delta { IfSome result (λ done. done.delta ≡ delta_for wished key done.had) }
-    ensures changed { IfSome result (λ done. slots.new.items ≡ slice_set slots.old.items page.0 (slot_with done.delta (slot_in slots.old.items page.0))) }
+    ensures changed { IfSome result (λ done. slots.new.items ≡ slots_with page.0 done.delta slots.old.items) }
     ensures unchanged { IfNone result (slots.new.items ≡ slots.old.items) }
 {
     slots[page.0 as usize].change_in_place(key, wished)

@@ -19,7 +19,7 @@ invariant_of-self-in-Ok-install g c =
     let pending : steps_of (drop c.append.new.writer.behind c.append.new.writer.log.items) ≡ steps_of notes ++ step ∷ [] =
     ap steps_of c.in-Ok-append.ensures.pending ∙ (steps_of-append notes (Step c.args.twin ∷ []) ∙ ap (λ (p : Proposal). steps_of notes ++ p ∷ []) c.requires) in
     let run = leads_one_more v.table c.self.inside.booked c.install.new.self (steps_of notes) step c.self.invariant.0 accepted taken.leads in
-    rw (c.append.ensures.desk, pending) (run, c.self.invariant.1, begins_one_more v.front.list (steps_of notes) step c.self.inside.announced.list c.self.invariant.2, c.self.invariant.3, c.self.invariant.4)
+    rw (c.append.ensures.desk, pending) (run, c.self.invariant.1, begins_one_more v.front.list (steps_of notes) step c.self.inside.announced.list c.self.invariant.2, c.self.invariant.3, c.self.invariant.4, c.self.invariant.5)
 
 pub returns-in-Ok-install-clause-pending : goal.returns-in-Ok-install-clause-pending
 returns-in-Ok-install-clause-pending g c =

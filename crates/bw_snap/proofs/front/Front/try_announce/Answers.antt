@@ -5,7 +5,7 @@ use Rattle.bw_snap.specs.Notes.{steps_of}
 use Rattle.bw_snap.specs.Fronts.{newest}
 use Rattle.bw_snap.proofs.Adding.{adding_keeps_the_rule, was_added}
 use Rattle.bw_snap.proofs.Beginnings.{one_more_rises, one_more_is_newest}
-use Rattle.bw_snap.proofs.front.Front.announce.Goals as goal
+use Rattle.bw_snap.proofs.front.Front.try_announce.Goals as goal
 
 pub compare_exchange-found-requires : goal.compare_exchange-found-requires
 compare_exchange-found-requires g c =

@@ -1,0 +1,129 @@
+//! The map for one thread under a task's operations.
+
+use crate::Stop;
+use crate::tally::Tally;
+use crate::task::{Task, Work};
+use crate::trees::Timed;
+use crate::work::{SCANNED, drawn_part, filled_key, key_at};
+use bw_keys::{Fence, Key};
+use nifforan::Map;
+use rand_core::Rng;
+use rand_pcg::Pcg32;
+use std::alloc::{AllocError, Global};
+use std::time::{Clock, Instant};
+
+/// Does the task on a new map.
+pub(crate) fn run_map(rt: &impl Clock, alloc: Global, task: &Task) -> Result<Timed, Stop> {
+    let order = task.order(alloc)?;
+    let mut map = Map::new(alloc, alloc, task.config)?;
+    if !matches!(task.work, Work::Load(_)) {
+        fill(&mut map, order.as_slice())?;
+    }
+    let keys = task.known_keys(alloc, order)?;
+    let start = Instant::now(rt)?;
+    let tally = match task.work {
+        Work::Load(_) => load(&mut map, keys.as_slice())?,
+        Work::Delete => delete_each(&mut map, keys.as_slice())?,
+        Work::Mix { gets } | Work::Zipf { gets } => mix(&mut map, task, gets, keys.as_slice())?,
+        Work::Set => set_often(&mut map, task)?,
+        Work::Fill(_) | Work::Scan | Work::List => scan_often(&map, alloc, task)?,
+    };
+    let seconds = start.elapsed(rt)?.as_secs_f64();
+    Ok(Timed { tally, seconds })
+}
+
+/// Puts every second key of those that are drawn later.
+fn fill(map: &mut Map<Global>, order: &[u32]) -> Result<(), Stop> {
+    for key in order {
+        map.put(2 * u64::from(*key), u64::from(*key))?;
+    }
+    Ok(())
+}
+
+/// Puts each key.
+fn load(map: &mut Map<Global>, keys: &[u32]) -> Result<Tally, Stop> {
+    let mut tally = Tally::default();
+    for key in keys {
+        tally = tally.plus(put_one(map, u64::from(*key))?);
+    }
+    Ok(tally)
+}
+
+/// Gives the key itself as its value.
+fn put_one(map: &mut Map<Global>, key: Key) -> Result<Tally, Stop> {
+    Ok(Tally::of_put(map.put(key, key)?.reply))
+}
+
+/// Takes each key out.
+fn delete_each(map: &mut Map<Global>, keys: &[u32]) -> Result<Tally, Stop> {
+    let mut tally = Tally::default();
+    for key in keys {
+        tally = tally.plus(delete_one(map, 2 * u64::from(*key))?);
+    }
+    Ok(tally)
+}
+
+fn delete_one(map: &mut Map<Global>, key: Key) -> Result<Tally, Stop> {
+    Ok(Tally::of_delete(map.delete(key)?.reply))
+}
+
+/// Gets, puts and deletes.
+fn mix(map: &mut Map<Global>, task: &Task, gets: u32, keys: &[u32]) -> Result<Tally, Stop> {
+    let mut tally = Tally::default();
+    let mut rng = Pcg32::new(0, 1);
+    let part = task.part(0, keys);
+    for turn in 0..task.turns() {
+        let key = key_at(&mut rng, task, part, turn);
+        let draw = rng.next_u32() % 200;
+        let answered = if draw / 2 < gets {
+            Tally::of_get(map.get(key))
+        } else if draw % 2 == 0 {
+            put_one(map, key)?
+        } else {
+            delete_one(map, key)?
+        };
+        tally = tally.plus(answered);
+    }
+    Ok(tally)
+}
+
+/// Sets drawn keys that are there, to drawn values.
+fn set_often(map: &mut Map<Global>, task: &Task) -> Result<Tally, Stop> {
+    let mut tally = Tally::default();
+    let mut rng = Pcg32::new(0, 1);
+    for _ in 0..task.turns() {
+        let key = filled_key(&mut rng, task);
+        let value = u64::from(rng.next_u32());
+        tally = tally.plus(Tally::of_set(map.set(key, value)?.reply));
+    }
+    Ok(tally)
+}
+
+/// Scans from drawn keys on, or lists all pairs.
+fn scan_often(map: &Map<Global>, alloc: Global, task: &Task) -> Result<Tally, Stop> {
+    let mut tally = Tally::default();
+    let mut rng = Pcg32::new(0, 1);
+    for _ in 0..task.turns() {
+        let (low, limit) = drawn_part(&mut rng, task);
+        let pairs = scan(map, alloc, low, limit)?;
+        tally = tally.plus(Tally::of_scan(pairs.len()));
+    }
+    Ok(tally)
+}
+
+/// The first pairs from a key on.
+fn scan(
+    map: &Map<Global>,
+    alloc: Global,
+    low: Key,
+    limit: usize,
+) -> Result<Vec<(Key, u64)>, AllocError> {
+    let mut pairs = Vec::with_capacity(alloc, SCANNED)?;
+    for pair in map.range(low, Fence::Top) {
+        if pairs.len() >= limit {
+            break;
+        }
+        pairs.push(pair)?;
+    }
+    Ok(pairs)
+}

@@ -1,0 +1,28 @@
+//! Whether there is a page that another one could be split to.
+
+ghost use Rattle.std.specs.Prelude.{◌≡◌, None, true};
+ghost use Rattle.bw_law.specs.Refusals.{last_id};
+
+use crate::steps::shared::check_open;
+use crate::table::Table;
+use bw_keys::{Pid, Version};
+use std::alloc::Allocator;
+
+impl<A: Allocator + Copy> Table<A> {
+    /// Whether a split of the leaf into halves would be refused as no slot is free for the new page, and
+    /// for no other reason: the leaf has the version that was seen, no record, and isn't being removed.
+    /// It tells before the page is copied for the split.
+    pub fn has_no_page_for(&self, leaf: Pid, seen: Version) -> bool
+        ensures { result ≡ true → last_id self.now.free ≡ None }
+    {
+        if self.new_slot().is_some() {
+            return false;
+        }
+        match self.slot(leaf) {
+            Some(slot) => {
+                slot.summary.level == 0 && slot.summary.depth == 0 && check_open(slot, seen).is_ok()
+            }
+            None => false,
+        }
+    }
+}
