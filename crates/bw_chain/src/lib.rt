@@ -18,5 +18,5 @@ pub use in_place::{InPlace, Wished, change_in_place, cut_in_place, route_in_plac
 pub use page::{HalveFault, depth, fences, halve, is_leaf};
 pub use pass::{append_first_pairs, append_pairs, consolidate, count, is_upper_part, same};
 pub use search::{
-    child, find, is_later_key, next_at, pairs_from, previous_at, route_at, route_before,
+    child, find, is_later_key, next_at, pairs_from, pairs_upto, previous_at, route_at, route_before,
 };

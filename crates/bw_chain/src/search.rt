@@ -23,7 +23,7 @@ use bw_delta::Chain;
 use bw_keys::{Fence, Key, Pid};
 pub use separator::is_later_key;
 use std::alloc::Allocator;
-pub use stretch::pairs_from;
+pub use stretch::{pairs_from, pairs_upto};
 
 /// The value at the key: that of the newest record which names the key, and the base page's where
 /// none does (Levandoski et al., ICDE 2013, "page search"). The base page is searched by quarters.

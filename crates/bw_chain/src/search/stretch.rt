@@ -2,17 +2,17 @@
 //! page speaks of a key among them, so that they are the chain's: a page without records is one
 //! stretch, and one on which only its split stands is another.
 
-ghost use Rattle.std.specs.Prelude.{◌≡◌, ◌≢◌, ℕ, ◌<◌, ◌≤◌, min, max, List};
+ghost use Rattle.std.specs.Prelude.{◌≡◌, ◌≢◌, ℕ, ◌+◌, ◌<◌, ◌≤◌, min, max, List};
 ghost use Rattle.bw_keys.specs.Ranges.{end_of};
-ghost use Rattle.bw_delta.specs.Entries.{from};
+ghost use Rattle.bw_delta.specs.Entries.{below, from};
 ghost use Rattle.bw_delta.specs.Pairs.{pairs, pairs_listed};
 ghost use Rattle.bw_delta.specs.Sound.{IsSound};
 ghost use Rattle.bw_chain.specs.Ascends.{IsAscending};
 ghost use Rattle.bw_chain.specs.Changes.{changed, entries_by, pair_change};
-ghost use Rattle.bw_chain.specs.Passing.Heads.{BeginsWith};
+ghost use Rattle.bw_chain.specs.Passing.Heads.{BeginsWith, EndsWith};
 ghost use Rattle.bw_chain.specs.Searching.Stretches.{AreSameWithin};
 
-use crate::entries::bounds::at_most;
+use crate::entries::bounds::{at_most, past};
 use crate::entries::change::Change;
 use crate::entries::sorted::entries_from;
 use crate::entries::value::EntryValue;
@@ -38,6 +38,21 @@ pub fn pairs_from<A: Allocator + Copy>(chain: &Chain<A>, key: Key) -> &[(Key, u6
 {
     let stretch = stretch_around(chain, key);
     below_end(entries_from(stretch.pairs, Fence::Key(key)), stretch.end)
+}
+
+/// Pairs of the chain up to the key, side by side, from behind the last key up to there that a record
+/// names: all of them where none does. It takes one walk over the records, and no memory.
+#[tactic(auto, using(crate::proofs::Bridges::both_kinds))]
+pub fn pairs_upto<A: Allocator + Copy>(chain: &Chain<A>, key: Key) -> &[(Key, u64)]
+    requires sound { IsSound chain.now }
+    ensures { EndsWith (below (key + 1) (pairs chain.now)) result.now }
+{
+    let stretch = stretch_around(chain, key);
+    if !stretch.end.is_above(key) {
+        return &[];
+    }
+    let upto = below_end(stretch.pairs, past(key));
+    entries_from(upto, Fence::Key(stretch.low))
 }
 
 /// The stretch round the key, or one that ends there where a record names the key.
