@@ -1,15 +1,15 @@
 //! Leaves, lent for reading in the order of the keys.
 
-ghost use Rattle.std.specs.Prelude.{◌≡◌, ◌<◌, ◌≤◌};
+ghost use Rattle.std.specs.Prelude.{◌≡◌, ◌+◌, ◌<◌, ◌≤◌};
 ghost use Rattle.bw_keys.specs.Ranges.{end_of};
-ghost use Rattle.bw_chain.specs.Passing.Heads.{BeginsWith};
-ghost use Rattle.bw_delta.specs.Entries.{first_from, from, last_upto};
+ghost use Rattle.bw_chain.specs.Passing.Heads.{BeginsWith, EndsWith};
+ghost use Rattle.bw_delta.specs.Entries.{below, first_from, from, last_upto};
 ghost use Rattle.bw_law.specs.Laws.{IsLeafOf};
 ghost use Rattle.bw_table.specs.Orders.{ArePairsWithin};
 
 use crate::slot::Slot;
 use crate::table::Table;
-use bw_chain::pairs_from;
+use bw_chain::{pairs_from, pairs_upto};
 use bw_keys::{Fence, Key, Pid};
 use std::alloc::Allocator;
 use std::marker::Model;
@@ -82,6 +82,20 @@ impl<'t, A: Allocator + Copy> LeafRef<'t, A> {
         let slot = self.slot;
         match &slot.chain {
             Some(chain) => pairs_from(chain, key),
+            None => &[],
+        }
+    }
+
+    /// Pairs of the leaf up to the key, as they lie side by side: all of them, unless a record of the
+    /// leaf names one of their keys; then those behind the greatest such key, which may be none. It takes
+    /// no memory.
+    #[inline(always)]
+    pub fn pairs_upto(&self, key: Key) -> &'t [(Key, u64)]
+        ensures { EndsWith (below (key + 1) self.now.pairs) result.now }
+    {
+        let slot = self.slot;
+        match &slot.chain {
+            Some(chain) => pairs_upto(chain, key),
             None => &[],
         }
     }
