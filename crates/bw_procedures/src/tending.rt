@@ -70,15 +70,33 @@ fn tend_once<A: Allocator + Copy, S: Steps<A, Step<A>>>(
     let Some(view) = shorten(steps, limit, page)? else {
         return Ok(None);
     };
-    let fanout = u64::from(steps.config().fanout);
-    if view.count > fanout && view.depth == 0 {
+    let fanout = steps.config().fanout;
+    if is_many(fanout, view.count) && view.depth == 0 {
         return split_to_free_page(steps, limit, view);
     }
-    let is_small = view.count < fanout / 4 && view.stage == Stage::Posted;
+    let is_small = is_few(fanout, view.count) && view.stage == Stage::Posted;
     if is_small && view.level < steps.root().level {
         return mark_page(steps, limit, view);
     }
     Ok(None)
+}
+
+/// Whether a page with so many entries is to be split.
+#[inline(always)]
+fn is_many(fanout: u32, count: u64) -> bool {
+    count > u64::from(fanout)
+}
+
+/// Whether a page with so many entries is to be merged, if it may be.
+#[inline(always)]
+fn is_few(fanout: u32, count: u64) -> bool {
+    count < u64::from(fanout) / 4
+}
+
+/// Whether a page with so many entries, and no records, is tended as it is.
+#[inline(always)]
+pub(crate) fn is_fair(fanout: u32, count: u64) -> bool {
+    !is_many(fanout, count) && !is_few(fanout, count)
 }
 
 /// Splits a page that has too many entries, if there is a page that it can be split to.
@@ -123,7 +141,7 @@ fn shorten<A: Allocator + Copy, S: Steps<A, Step<A>>>(
     };
     let config = steps.config();
     let is_long = u32::from(view.depth) >= config.chain;
-    let is_big = view.count > u64::from(config.fanout) && view.depth > 0;
+    let is_big = is_many(config.fanout, view.count) && view.depth > 0;
     if !is_long && !is_big {
         return Ok(Some(view));
     }

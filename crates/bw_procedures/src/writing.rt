@@ -14,7 +14,7 @@ use crate::helping::help_within;
 use crate::offer::{Answer, change};
 use crate::reply::Done;
 use crate::steps::{Keep, Steps};
-use crate::tending::tend_within;
+use crate::tending::{is_fair, tend_within};
 use crate::wish::Wish;
 use bw_delta::Spare;
 use bw_keys::{Key, Pid};
@@ -35,7 +35,7 @@ enum Arrival {
 /// What one attempt of a call came to.
 #[derive(Clone, Copy)]
 enum Tried<T> {
-    /// The reply, from a look.
+    /// The reply, from a look, or from a change behind which no page is to be tended.
     Reply(T),
     /// The reply, from an accepted change of the page, which is to be tended.
     Tend(T, Pid),
@@ -80,7 +80,7 @@ pub(crate) fn write<A: Allocator + Copy, S: Steps<A, Step<A>>, W: Wish>(
 }
 
 /// What is wished for, in one step of a worker that can do that, where the effort that is left covers
-/// the consolidation behind the change.
+/// the consolidation behind the change. A leaf whose count stays fair needs no tending.
 #[inline(always)]
 fn write_at_once<A: Allocator + Copy, S: Steps<A, Step<A>>, W: Wish>(
     steps: &mut S,
@@ -99,7 +99,14 @@ fn write_at_once<A: Allocator + Copy, S: Steps<A, Step<A>>, W: Wish>(
             Some(reply) => Some(Tried::Reply(reply)),
             None => unreachable!(),
         },
-        receipt => Some(Tried::Tend(wish.reply(receipt), done.page)),
+        receipt => {
+            let reply = wish.reply(receipt);
+            if is_fair(steps.config().fanout, done.count) {
+                Some(Tried::Reply(reply))
+            } else {
+                Some(Tried::Tend(reply, done.page))
+            }
+        }
     }
 }
 

@@ -9,4 +9,6 @@ pub struct AtOnce {
     pub page: Pid,
     /// The receipt of the look, or of the change.
     pub receipt: Receipt,
+    /// How many entries the leaf has then.
+    pub count: u64,
 }

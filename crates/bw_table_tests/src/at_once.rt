@@ -25,8 +25,8 @@ struct Row {
     before: &'static [Change],
     key: Key,
     wished: Wished,
-    /// The page and the receipt.
-    done: Option<(u32, Receipt)>,
+    /// The page, how many pairs it has then, and the receipt.
+    done: Option<(u32, u64, Receipt)>,
     /// The steps that do the same.
     steps: &'static [Change],
 }
@@ -37,21 +37,21 @@ static ROWS: [Row; 12] = [
         before: &[],
         key: 1,
         wished: Wished::Set(9),
-        done: Some((0, receipt!(modified 8, 1, 1 => 9))),
+        done: Some((0, 2, receipt!(modified 8, 1, 1 => 9))),
         steps: &[Change::Modify(0, 1, 9), Change::Consolidate(0)],
     },
     Row {
         before: &[],
         key: 0,
         wished: Wished::Put(9),
-        done: Some((0, receipt!(inserted 8, 0 => 9))),
+        done: Some((0, 3, receipt!(inserted 8, 0 => 9))),
         steps: &[Change::Insert(0, 0, 9), Change::Consolidate(0)],
     },
     Row {
         before: &[],
         key: 4,
         wished: Wished::Delete,
-        done: Some((1, receipt!(deleted 8, 4))),
+        done: Some((1, 1, receipt!(deleted 8, 4))),
         steps: &[Change::Delete(1, 4), Change::Consolidate(1)],
     },
     // and by a look it isn't
@@ -59,7 +59,7 @@ static ROWS: [Row; 12] = [
         before: &[],
         key: 3,
         wished: Wished::Put(9),
-        done: Some((1, receipt!(looked 7, 3, Some(3)))),
+        done: Some((1, 2, receipt!(looked 7, 3, Some(3)))),
         steps: &[],
     },
     // a leaf without records
@@ -67,28 +67,28 @@ static ROWS: [Row; 12] = [
         before: &[],
         key: 6,
         wished: Wished::Set(9),
-        done: Some((3, receipt!(modified 8, 6, 6 => 9))),
+        done: Some((3, 3, receipt!(modified 8, 6, 6 => 9))),
         steps: &[Change::Modify(3, 6, 9), Change::Consolidate(3)],
     },
     Row {
         before: &[],
         key: 8,
         wished: Wished::Set(9),
-        done: Some((3, receipt!(inserted 8, 8 => 9))),
+        done: Some((3, 4, receipt!(inserted 8, 8 => 9))),
         steps: &[Change::Insert(3, 8, 9), Change::Consolidate(3)],
     },
     Row {
         before: &[],
         key: 5,
         wished: Wished::Delete,
-        done: Some((3, receipt!(deleted 8, 5))),
+        done: Some((3, 2, receipt!(deleted 8, 5))),
         steps: &[Change::Delete(3, 5), Change::Consolidate(3)],
     },
     Row {
         before: &[],
         key: 9,
         wished: Wished::Delete,
-        done: Some((3, receipt!(looked 7, 9, None))),
+        done: Some((3, 3, receipt!(looked 7, 9, None))),
         steps: &[],
     },
     // another record, a second one, and a page that leaves
@@ -117,7 +117,7 @@ static ROWS: [Row; 12] = [
         before: &[Change::Mark(1, 2)],
         key: 6,
         wished: Wished::Set(9),
-        done: Some((3, receipt!(modified 8, 6, 6 => 9))),
+        done: Some((3, 3, receipt!(modified 8, 6, 6 => 9))),
         steps: &[Change::Modify(3, 6, 9), Change::Consolidate(3)],
     },
 ];
@@ -128,9 +128,10 @@ fn a_change_at_once_is_two_steps(rt: HostRuntime) -> Result<(), Fail> {
     for row in ROWS.iter() {
         let mut table = after(alloc, row.before)?;
         let done = table.change_at_once(row.key, row.wished);
-        let wanted = row.done.map(|(page, receipt)| AtOnce {
+        let wanted = row.done.map(|(page, count, receipt)| AtOnce {
             page: Pid(page),
             receipt,
+            count,
         });
         assert_eq!(rt; done, wanted);
         let mut by_steps = after(alloc, row.before)?;

@@ -36,11 +36,28 @@ impl<A: Allocator + Copy> Table<A> {
     pub fn change_at_once(&mut self, key: Key, wished: Wished) -> Option<AtOnce>
         ensures done { IfSome result (λ done. IsDoneAtOnce self.old done.page.0 key wished done.receipt self.new) }
         ensures map { IfSome result (λ done. TellsMap (telling_of done.receipt) self.old.slots self.new.slots) }
+        ensures count { IfSome result (λ done. done.count ≡ (slot_at self.new done.page.0).count) }
         ensures unchanged { IfNone result (self.new ≡ self.old) }
     {
         let page = self.leaf_at_rest(key)?.pid;
         let receipt = self.change_leaf(page, key, wished)?;
-        Some(AtOnce { page, receipt })
+        let count = self.count_of(page);
+        Some(AtOnce {
+            page,
+            receipt,
+            count,
+        })
+    }
+
+    /// How many entries the page has.
+    #[inline(always)]
+    fn count_of(&self, page: Pid) -> u64
+        ensures { result ≡ (slot_at self.now page.0).count }
+    {
+        match self.slot(page) {
+            Some(slot) => slot.summary.count,
+            None => 0,
+        }
     }
 
     /// The same on a page: None where it isn't such a leaf, or its range doesn't hold the key.
