@@ -101,13 +101,13 @@ template <typename Map> static void round_of(Took &took, std::uint64_t keys) {
 
 static void rows(std::uint64_t keys, long rounds) {
     Took plain{"std::map", "", {}, {}}, absl{"absl::btree_map", "", {}, {}};
-    Took fewer{"nifforan", "2", {}, {}}, more{"nifforan", "8", {}, {}};
+    Took fewer{"nifforan", "1", {}, {}}, more{"nifforan", "8", {}, {}};
     for (long i = 0; i < rounds; i++) {
         round_of<Plain<std::map<std::uint64_t, std::uint64_t>>>(plain, keys);
 #ifdef HAS_ABSL
         round_of<Plain<absl::btree_map<std::uint64_t, std::uint64_t>>>(absl, keys);
 #endif
-        round_of<Library<2>>(fewer, keys);
+        round_of<Library<1>>(fewer, keys);
         round_of<Library<8>>(more, keys);
     }
     for (const Took *took : {&plain, &absl, &fewer, &more}) {

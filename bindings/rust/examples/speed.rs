@@ -1,4 +1,4 @@
-//! Times puts and gets of the library beside `BTreeMap`'s, in one process: nanoseconds of processor time a call, the
+//! Times calls of the library beside `BTreeMap`'s, in one process: nanoseconds of processor time a call, the
 //! median of so many rounds (the first argument, or five) in which each map has its turn. Processor time leaves out
 //! when other programs run.
 
@@ -6,16 +6,90 @@ use nifforan::{Map, Settings};
 use std::collections::BTreeMap;
 use std::hint::black_box;
 
-const KEYS: [u32; 3] = [1_000, 100_000, 1_000_000];
+const KEYS: [u64; 3] = [10_000, 100_000, 1_000_000];
 
-/// The most changes that a page may carry: few are good for gets, many for puts.
-const CHAINS: [u32; 2] = [2, 8];
+/// The most changes that a page may carry before it is written anew: 1 is the usual setting.
+const CHAINS: [u32; 2] = [1, 8];
 
-/// What a call took in each round, nanoseconds.
-#[derive(Default)]
-struct Took {
-    puts: Vec<f64>,
-    gets: Vec<f64>,
+/// How many pairs a scan reads.
+const SCANNED: usize = 100;
+
+/// A scan is made for each so many keys.
+const KEYS_A_SCAN: u64 = 50;
+
+const WORKS: [&str; 6] = [
+    "puts, random order",
+    "puts, rising order",
+    "sets",
+    "gets",
+    "scans of 100",
+    "deletes",
+];
+
+/// What is timed.
+trait Ordered {
+    /// The value that was there stays.
+    fn put(&mut self, key: u64, value: u64) -> Option<u64>;
+    fn set(&mut self, key: u64, value: u64) -> Option<u64>;
+    fn get(&self, key: u64) -> Option<u64>;
+    fn delete(&mut self, key: u64) -> Option<u64>;
+    /// The sum of the first values from the key on.
+    fn scan(&self, low: u64) -> u64;
+}
+
+impl Ordered for BTreeMap<u64, u64> {
+    fn put(&mut self, key: u64, value: u64) -> Option<u64> {
+        use std::collections::btree_map::Entry;
+        match self.entry(key) {
+            Entry::Vacant(place) => {
+                place.insert(value);
+                None
+            }
+            Entry::Occupied(there) => Some(*there.get()),
+        }
+    }
+
+    fn set(&mut self, key: u64, value: u64) -> Option<u64> {
+        self.insert(key, value)
+    }
+
+    fn get(&self, key: u64) -> Option<u64> {
+        self.get(&key).copied()
+    }
+
+    fn delete(&mut self, key: u64) -> Option<u64> {
+        self.remove(&key)
+    }
+
+    fn scan(&self, low: u64) -> u64 {
+        sum(self.range(low..).map(|(_, value)| *value))
+    }
+}
+
+impl Ordered for Map {
+    fn put(&mut self, key: u64, value: u64) -> Option<u64> {
+        self.insert_if_absent(key, value).expect("there is room")
+    }
+
+    fn set(&mut self, key: u64, value: u64) -> Option<u64> {
+        self.insert(key, value).expect("there is room")
+    }
+
+    fn get(&self, key: u64) -> Option<u64> {
+        self.get(key)
+    }
+
+    fn delete(&mut self, key: u64) -> Option<u64> {
+        self.remove(key).expect("a delete takes no page")
+    }
+
+    fn scan(&self, low: u64) -> u64 {
+        sum(self.range(low..).map(|(_, value)| value))
+    }
+}
+
+fn sum(values: impl Iterator<Item = u64>) -> u64 {
+    values.take(SCANNED).fold(0, u64::wrapping_add)
 }
 
 /// Keys in random order: the finalizer of splitmix64, which is one to one.
@@ -50,70 +124,71 @@ fn processor_time() -> i64 {
     time.seconds * 1_000_000_000 + time.nanoseconds
 }
 
-fn nanoseconds(calls: u32, work: impl FnOnce()) -> f64 {
+fn nanoseconds(calls: u64, mut call: impl FnMut(u64)) -> f64 {
     let start = processor_time();
-    work();
-    (processor_time() - start) as f64 / f64::from(calls)
+    for n in 0..calls {
+        call(black_box(n));
+    }
+    (processor_time() - start) as f64 / calls as f64
 }
 
-fn median(rounds: &mut [f64]) -> f64 {
-    rounds.sort_by(f64::total_cmp);
-    rounds[rounds.len() / 2]
+/// What a call of each work takes on two new maps. Keys are got and set in another order than they were put in.
+fn times<M: Ordered>(new: impl Fn() -> M, keys: u64) -> [f64; WORKS.len()] {
+    let anywhere = |n: u64| mixed(mixed(n) % keys);
+    let mut map = new();
+    let put = nanoseconds(keys, |n| assert_eq!(map.put(mixed(n), n), None));
+    let set = nanoseconds(keys, |n| assert!(map.set(anywhere(n), n).is_some()));
+    let get = nanoseconds(keys, |n| assert!(map.get(anywhere(n)).is_some()));
+    let scan = nanoseconds(keys / KEYS_A_SCAN, |n| {
+        black_box(map.scan(anywhere(n)));
+    });
+    let delete = nanoseconds(keys, |n| assert!(map.delete(mixed(n)).is_some()));
+    drop(map);
+    let mut map = new();
+    let rising = nanoseconds(keys, |n| assert_eq!(map.put(n, n), None));
+    [put, rising, set, get, scan, delete]
 }
 
-fn library(took: &mut Took, keys: u32, chain: u32) {
+fn library(keys: u64, chain: u32) -> Map {
     // room for the keys, also where pages are a quarter full
     let settings = Settings {
         fanout: 64,
         chain,
-        pages: (keys / 16).clamp(64, 65536),
+        pages: (keys as u32 / 16).clamp(64, 65536),
         ..Settings::default()
     };
-    let mut map = Map::new(&settings).expect("the settings are good");
-    took.puts.push(nanoseconds(keys, || {
-        for n in 0..keys.into() {
-            assert_eq!(map.insert_if_absent(mixed(n), n), Ok(None));
-        }
-    }));
-    took.gets.push(nanoseconds(keys, || {
-        for n in 0..keys.into() {
-            assert_eq!(map.get(black_box(mixed(n))), Some(n));
-        }
-    }));
+    Map::new(&settings).expect("the settings are good")
 }
 
-fn plain(took: &mut Took, keys: u32) {
-    let mut map = BTreeMap::new();
-    took.puts.push(nanoseconds(keys, || {
-        for n in 0..keys.into() {
-            assert_eq!(*map.entry(mixed(n)).or_insert(n), n);
-        }
-    }));
-    took.gets.push(nanoseconds(keys, || {
-        for n in 0..keys.into() {
-            assert_eq!(map.get(&black_box(mixed(n))), Some(&n));
-        }
-    }));
+/// The median of each work over rounds.
+fn medians(rounds: &[[f64; WORKS.len()]]) -> [f64; WORKS.len()] {
+    std::array::from_fn(|work| {
+        let mut times: Vec<f64> = rounds.iter().map(|round| round[work]).collect();
+        times.sort_by(f64::total_cmp);
+        times[times.len() / 2]
+    })
 }
 
-fn rows(keys: u32, rounds: usize) {
-    let mut theirs = Took::default();
-    let mut ours = CHAINS.map(|_| Took::default());
+fn rows(keys: u64, rounds: usize) {
+    let mut theirs = Vec::new();
+    let mut ours = CHAINS.map(|_| Vec::new());
     for _ in 0..rounds {
-        plain(&mut theirs, keys);
+        theirs.push(times(BTreeMap::new, keys));
         for (took, chain) in ours.iter_mut().zip(CHAINS) {
-            library(took, keys, chain);
+            took.push(times(|| library(keys, chain), keys));
         }
     }
-    let (puts, gets) = (median(&mut theirs.puts), median(&mut theirs.gets));
-    println!("| {keys} | BTreeMap |  | {puts:.0} | {gets:.0} |  |  |");
-    for (took, chain) in ours.iter_mut().zip(CHAINS) {
-        let (put, get) = (median(&mut took.puts), median(&mut took.gets));
-        println!(
-            "| {keys} | nifforan | {chain} | {put:.0} | {get:.0} | {:.2} | {:.2} |",
-            puts / put,
-            gets / get
-        );
+    let theirs = medians(&theirs);
+    let ours = ours.map(|took| medians(&took));
+    for (work, name) in WORKS.iter().enumerate() {
+        print!("| {name} | {keys} | {:.0} |", theirs[work]);
+        for took in &ours {
+            print!(" {:.0} |", took[work]);
+        }
+        for took in &ours {
+            print!(" {:.2} |", theirs[work] / took[work]);
+        }
+        println!();
     }
 }
 
@@ -121,10 +196,14 @@ fn main() {
     let rounds = std::env::args()
         .nth(1)
         .map_or(5, |word| word.parse().expect("rounds, a number from 1 on"));
-    println!(
-        "| keys | map | chain | put, ns | get, ns | puts by BTreeMap's | gets by BTreeMap's |"
-    );
-    println!("|---|---|---|---|---|---|---|");
+    print!("| work | keys | BTreeMap, ns |");
+    for chain in CHAINS {
+        print!(" chain {chain}, ns |");
+    }
+    for chain in CHAINS {
+        print!(" chain {chain} by BTreeMap |");
+    }
+    println!("\n|---|---|---|{}", "---|".repeat(2 * CHAINS.len()));
     for keys in KEYS {
         rows(keys, rounds);
     }
