@@ -49,8 +49,8 @@ pub struct Settings {
     /// How many changes a page may carry before it is written anew, 1 to 32.
     pub chain: u32,
     /// How many pages the map has room for, 8 to 65,536, at 156 bytes each, which `Map::new` takes. The usual 16,384
-    /// hold some 500,000 rising or 700,000 random keys; past that each insertion takes longer, and [`Map::care`] says
-    /// so.
+    /// hold some 770,000 rising, 715,000 random or 520,000 falling keys; past that each insertion takes longer, and
+    /// [`Map::care`] says so.
     pub pages: u32,
     /// How many attempts one call may make, 1 to 1,000.
     pub tries: u32,
