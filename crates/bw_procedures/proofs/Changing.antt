@@ -19,8 +19,9 @@ use Rattle.bw_procedures.specs.declared.writing.Tried.{Tried}
 use Rattle.bw_procedures.specs.declared.writing.Tried.TheVariants.{Reply, Tend, Again, Kept}
 use Rattle.bw_procedures.specs.Seen.{Seen, SameCounts, Grows, IsAccepted, is_kept}
 use Rattle.bw_procedures.specs.Seen.{Looked as LookTaken}
-use Rattle.bw_procedures.specs.Writing.{Attempts, AddsReceipt, AttemptsAtOnce, IsReceiptFor, IsChangeFor, IsTrueAtOnce, shapes_behind, effort_at_once, LookAdds, FoundBy, IsReceiptOfPut, IsDeletionOf, IsSettingOf}
+use Rattle.bw_procedures.specs.Writing.{Attempts, AddsReceipt, IsReceiptFor, IsChangeFor, IsTrueAtOnce, shapes_behind, effort_at_once, LookAdds, FoundBy, IsReceiptOfPut, IsDeletionOf, IsSettingOf}
 use Rattle.bw_procedures.specs.Calls.{Offered, OnlyReshapes, ChangesShape}
+use Rattle.bw_procedures.proofs.Trails.{adds_by, adds_nothing}
 use Rattle.bw_procedures.proofs.Reshaping.{counts_grow}
 
 pub adds_without_shapes : (a b : Seen) (r : Receipt) → without_shapes (r ∷ []) ≡ r ∷ [] → b.trail ≡ a.trail ++ r ∷ [] → without_shapes b.trail ≡ without_shapes a.trail ++ r ∷ []
@@ -28,19 +29,19 @@ adds_without_shapes a b r is e = ap without_shapes e ∙ (without_shapes-append 
 
 pub change_accepted : (step : Proposal) (limit : ℕ) (receipt : Receipt) (a b : Seen) → (ChangesShape step → ⊥) → IsAccepted step receipt a b → Offered step limit (Ok (answers.Accepted receipt)) a b
 change_accepted (insert page seen key value) limit (Inserted n k v) a b change h =
-    (h.told, adds_without_shapes a b (Inserted n k v) refl h.trail, counts_grow a b h.counts (omega (arith, h.effort)))
+    (h.told, adds_without_shapes a b (Inserted n k v) refl h.trail, counts_grow a b h.counts (adds_by a.trail b.trail (Inserted n k v ∷ []) h.trail) (omega (arith, h.effort)))
 change_accepted (delete page seen key) limit (Deleted n k v) a b change h =
-    (h.told, adds_without_shapes a b (Deleted n k v) refl h.trail, counts_grow a b h.counts (omega (arith, h.effort)))
+    (h.told, adds_without_shapes a b (Deleted n k v) refl h.trail, counts_grow a b h.counts (adds_by a.trail b.trail (Deleted n k v ∷ []) h.trail) (omega (arith, h.effort)))
 change_accepted (modify page seen key value) limit (Modified n k old v) a b change h =
-    (h.told, adds_without_shapes a b (Modified n k old v) refl h.trail, counts_grow a b h.counts (omega (arith, h.effort)))
+    (h.told, adds_without_shapes a b (Modified n k old v) refl h.trail, counts_grow a b h.counts (adds_by a.trail b.trail (Modified n k old v ∷ []) h.trail) (omega (arith, h.effort)))
 change_accepted (insert page seen key value) limit receipt a b change h = absurd h.told
 change_accepted (delete page seen key) limit receipt a b change h = absurd h.told
 change_accepted (modify page seen key value) limit receipt a b change h = absurd h.told
 change_accepted step limit receipt a b change h = absurd (change tt)
 
 look_adds : (kept : Bool) (key at : ℕ) (found : Option ℕ) (a b : Seen) → SameCounts a b → b.trail ≡ (if kept then a.trail ++ Looked at key found ∷ [] else a.trail) → a.effort ≤ b.effort → LookAdds kept key found a b
-look_adds true key at found a b counts trail effort = ((at, adds_without_shapes a b (Looked at key found) refl trail), counts_grow a b counts effort)
-look_adds false key at found a b counts trail effort = record { without_shapes = ap without_shapes trail; grows = counts_grow a b counts effort }
+look_adds true key at found a b counts trail effort = ((at, adds_without_shapes a b (Looked at key found) refl trail), counts_grow a b counts (adds_by a.trail b.trail (Looked at key found ∷ []) trail) effort)
+look_adds false key at found a b counts trail effort = record { without_shapes = ap without_shapes trail; grows = counts_grow a b counts (adds_nothing a.trail b.trail trail) effort }
 
 pub found_by : (keep : Keep) (key : ℕ) (look : Look) (a b : Seen) → LookTaken keep key (Ok (Some look)) a b → FoundBy keep key (Ok (Some look)) a b
 found_by keep key look a b h = look_adds (is_kept keep look.found) key look.at look.found a b h.0 h.1 (omega (arith, h.2))
@@ -109,7 +110,7 @@ spends_at_once (Shaped kind p other) n = omega arith
 pub adds_at_once : {T : Type 0} → (is_of : T → Receipt → Type 0) (reply : T) (key : ℕ) (wished : Wished) (done : AtOnce) (a b : Seen) → IsTrueAtOnce key wished done a b → is_of reply done.receipt → AddsReceipt is_of reply a b × Grows a b
 adds_at_once is_of reply key wished done a b h goes = (
   (done.receipt, ap without_shapes h.trail ∙ (without_shapes-append a.trail (done.receipt ∷ shapes_behind done.page done.receipt) ∙ ap (λ (l : List Receipt). without_shapes a.trail ++ l) (alone_at_once key wished done.page done.receipt h.told)), goes),
-  counts_grow a b h.counts (let up = spends_at_once done.receipt a.effort in omega (arith, h.effort, up)),
+  counts_grow a b h.counts (adds_by a.trail b.trail (done.receipt ∷ shapes_behind done.page done.receipt) h.trail) (let up = spends_at_once done.receipt a.effort in omega (arith, h.effort, up)),
 )
 
 -- so does a look that finds the wish true

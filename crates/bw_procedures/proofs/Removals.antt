@@ -14,9 +14,10 @@ use Rattle.bw_procedures.specs.Told.{told_of_delete}
 use Rattle.bw_procedures.specs.Writing.{AddsReceipt, IsReceiptOfDelete}
 use Rattle.bw_procedures.specs.Clearing.{IsRemovalOf, AreRemovals, removal_in, removals_in, AddsRemovals, HasRemovalOf, IsSwept, AreRemovalsOf, LieBelow, StartFrom, RemovesFirst, RemovesBelow, RemovesOne, RemovesKey}
 use Rattle.bw_procedures.proofs.Receipts.{adds, delete_told, none_told}
+use Rattle.bw_procedures.proofs.Trails.{adds_then}
 
 pub grow_then : (a b c : Seen) → Grows a b → Grows b c → Grows a c
-grow_then a b c p q = record { config = q.config ∙ p.config; effort = omega (arith, p.effort, q.effort); full = omega (arith, p.full, q.full); tall = omega (arith, p.tall, q.tall); worn = omega (arith, p.worn, q.worn) }
+grow_then a b c p q = record { config = q.config ∙ p.config; trail = adds_then a.trail b.trail c.trail p.trail q.trail; effort = omega (arith, p.effort, q.effort); full = omega (arith, p.full, q.full); tall = omega (arith, p.tall, q.tall); worn = omega (arith, p.worn, q.worn) }
 
 -- removals in a range are removals in a wider one
 pub removals_lower : (low at high : ℕ) (xs : List Told) → low ≤ at → AreRemovals at high xs → AreRemovals low high xs
@@ -46,8 +47,8 @@ adds_none low high a b same = record { added = []; trail = same ∙ sym (append-
 pub adds_within : (low high end n : ℕ) (a b : Seen) → high ≤ end → AddsRemovals low high n a b → AddsRemovals low end n a b
 adds_within low high end n a b le more = record { added = more.added; trail = more.trail; removals = removals_upper low high end more.added le more.removals; count = more.count }
 
-pub adds_then : (low middle at high n m : ℕ) (a b c : Seen) → low ≤ at → middle ≤ at → middle ≤ high → AddsRemovals low middle n a b → AddsRemovals at high m b c → AddsRemovals low high (n + m) a c
-adds_then low middle at high n m a b c le before within first then = record {
+pub adds_both : (low middle at high n m : ℕ) (a b c : Seen) → low ≤ at → middle ≤ at → middle ≤ high → AddsRemovals low middle n a b → AddsRemovals at high m b c → AddsRemovals low high (n + m) a c
+adds_both low middle at high n m a b c le before within first then = record {
   added = first.added ++ then.added;
   trail = added_then a b c first.added then.added first.trail then.trail;
   removals = removals_append low middle at high first.added then.added le before within first.removals then.removals;
@@ -66,7 +67,7 @@ no_fault (Some fault) ended = cc
 
 -- the part of the range that lies in one more leaf
 pub adds_leaf : (low at next high n m : ℕ) (a b c : Seen) → low ≤ at → at ≤ next → AddsRemovals low (min at high) n a b → AddsRemovals at (min next high) m b c → AddsRemovals low (min next high) (n + m) a c
-adds_leaf low at next high n m a b c le rise first then = adds_then low (min at high) at (min next high) n m a b c le (omega arith) (omega (arith, rise)) first then
+adds_leaf low at next high n m a b c le rise first then = adds_both low (min at high) at (min next high) n m a b c le (omega arith) (omega (arith, rise)) first then
 
 pub adds_leaf_of : (low at next high n m : ℕ) (a b c : Seen) → low ≤ at → at ≤ next → AddsRemovals low (min at high) n a b → AddsRemovals at (min next high) m b c → AddsRemovals low high (n + m) a c
 adds_leaf_of low at next high n m a b c le rise first then = adds_within low (min next high) high (n + m) a c (omega arith) (adds_leaf low at next high n m a b c le rise first then)

@@ -1,18 +1,19 @@
 -- What steps that change only the tree's shape leave.
-use Rattle.std.proofs.Common.{◌≡◌, ◌≢◌, ℕ, zero, suc, ◌+◌, ◌<◌, ◌≤◌, ◌^◌, List, [], ◌∷◌, ◌++◌, length, Option, Some, None, Result, Ok, Err, IfErr, OnOk, refl, sym, ap, subst, ◌∙◌, append-nil, arith}
+use Rattle.std.proofs.Common.{◌≢◌, ℕ, zero, suc, ◌+◌, ◌<◌, ◌≤◌, ◌^◌, List, [], ◌∷◌, ◌++◌, length, Option, Some, None, Result, Ok, Err, IfErr, OnOk, refl, sym, ap, subst, ◌∙◌, append-nil, arith}
 use Rattle.bw_keys.specs.declared.page.Pid.{Pid}
 use Rattle.bw_step.specs.Proposals.{Proposal, insert, delete, modify}
 use Rattle.bw_step.specs.declared.receipt.Receipt.{Receipt}
 use Rattle.bw_step.specs.declared.receipt.Receipt.TheVariants.{Shaped}
 use Rattle.bw_step.specs.Tellings.{without_shapes}
 use Rattle.bw_step.proofs.Tellings.{without_shapes-append}
-use Rattle.bw_procedures.specs.Seen.{Seen, SameCounts, Grows, IsAccepted}
+use Rattle.bw_procedures.specs.Seen.{Seen, SameCounts, OnlyAdds, Grows, IsAccepted}
+use Rattle.bw_procedures.proofs.Trails.{adds_by, adds_then}
 use Rattle.bw_procedures.specs.declared.fault.Fault.{Fault}
 use Rattle.bw_procedures.specs.Calls.{OnlyReshapes, ReshapesWithin, IsEarned, RoseBy, ChangesShape, raised, TakesShapes, SplitAtOnce}
 use Rattle.bw_procedures.specs.Tending.{IsTended}
 
-pub counts_grow : (a b : Seen) → SameCounts a b → a.effort ≤ b.effort → Grows a b
-counts_grow a b p q = record { config = p.config; effort = q; full = omega arith; tall = omega arith; worn = omega arith }
+pub counts_grow : (a b : Seen) → SameCounts a b → OnlyAdds a.trail b.trail → a.effort ≤ b.effort → Grows a b
+counts_grow a b p adds q = record { config = p.config; trail = adds; effort = q; full = omega arith; tall = omega arith; worn = omega arith }
 
 pub shape_accepted : (step : Proposal) (receipt : Receipt) (a b : Seen) → ChangesShape step → IsAccepted step receipt a b → OnlyReshapes a b × RoseBy 1 a.effort b.effort
 shape_accepted (insert page seen key value) receipt a b shape h = absurd shape
@@ -21,7 +22,7 @@ shape_accepted (modify page seen key value) receipt a b shape h = absurd shape
 shape_accepted step (Shaped kind page other) a b shape h = (
   record {
     without_shapes = ap without_shapes h.trail ∙ (without_shapes-append a.trail (Shaped kind page other ∷ []) ∙ append-nil (without_shapes a.trail));
-    grows = counts_grow a b h.counts (omega (arith, h.effort));
+    grows = counts_grow a b h.counts (adds_by a.trail b.trail (Shaped kind page other ∷ []) h.trail) (omega (arith, h.effort));
   },
   omega (arith, h.effort),
 )
@@ -55,7 +56,7 @@ shapes_taken (receipt ∷ rest) a b some h =
     let up : a.effort ≤ b.effort = let more = raised_up (suc (length rest)) a.effort in omega (arith, more, h.effort) in (
       record {
         without_shapes = ap without_shapes h.trail ∙ (without_shapes-append a.trail (receipt ∷ rest) ∙ (ap (λ (l : List Receipt). without_shapes a.trail ++ l) h.shapes ∙ append-nil (without_shapes a.trail)));
-        grows = counts_grow a b h.counts up;
+        grows = counts_grow a b h.counts (adds_by a.trail b.trail (receipt ∷ rest) h.trail) up;
       },
       rose,
     )
@@ -69,7 +70,7 @@ split_tends limit (Some page) a b c fits before covered split =
     let y = taken.0.grows in (
       record {
         without_shapes = taken.0.without_shapes ∙ before.without_shapes;
-        grows = record { config = y.config ∙ x.config; effort = omega (arith, x.effort, y.effort); full = omega (arith, x.full, y.full); tall = omega (arith, x.tall, y.tall); worn = omega (arith, x.worn, y.worn) };
+        grows = record { config = y.config ∙ x.config; trail = adds_then a.trail b.trail c.trail x.trail y.trail; effort = omega (arith, x.effort, y.effort); full = omega (arith, x.full, y.full); tall = omega (arith, x.tall, y.tall); worn = omega (arith, x.worn, y.worn) };
       },
       omega (arith, x.effort, taken.1),
     )

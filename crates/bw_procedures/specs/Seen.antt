@@ -52,9 +52,15 @@ pub record SameCounts (old new : Seen) : Type 0 where
   pub tall : new.tall ≡ old.tall
   pub worn : new.worn ≡ old.worn
 
--- nothing falls
+-- receipts were only added: the new trail is the old one, and what was added behind it
+pub record OnlyAdds (old new : List Receipt) : Type 0 where
+  pub added : List Receipt
+  pub trail : new ≡ old ++ added
+
+-- nothing falls, and no receipt is lost or changes its place
 pub record Grows (old new : Seen) : Type 0 where
   pub config : new.config ≡ old.config
+  pub trail : OnlyAdds old.trail new.trail
   pub effort : old.effort ≤ new.effort
   pub full : old.full ≤ new.full
   pub tall : old.tall ≤ new.tall

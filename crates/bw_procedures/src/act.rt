@@ -1,6 +1,7 @@
 //! Calls as values.
 
 ghost use Rattle.std.specs.Prelude.{◌≡◌, IfOk, IfErr, OnErr};
+ghost use Rattle.bw_procedures.specs.Seen.{Grows};
 ghost use Rattle.bw_procedures.specs.Calls.{IsEarned, limit_of};
 ghost use Rattle.bw_step.specs.Tellings.{told_in};
 ghost use Rattle.bw_procedures.specs.Told.{AddsTold};
@@ -41,6 +42,7 @@ pub fn do_act<A: Allocator + Copy, S: Steps<A, Step<A>>>(
     act: Act,
 ) -> Result<Reply, Fault>
     ensures follows { S.follows steps.old steps.new }
+    ensures grows { Grows (S.seen steps.old) (S.seen steps.new) }
     ensures told { IfOk result (λ reply. AddsTold act reply (S.seen steps.old).trail (S.seen steps.new).trail) }
     ensures nothing { OnErr result (told_in (S.seen steps.new).trail ≡ told_in (S.seen steps.old).trail) }
     ensures fault { IfErr result (IsEarned (limit_of (S.seen steps.old)) (S.seen steps.old) (S.seen steps.new)) }

@@ -1,7 +1,7 @@
 //! What a worker of a tree does for a put, a set, a delete, a get, a cursor and the removal of a range, written
 //! once over the atomic steps that it takes and that others may come between (Levandoski et al., ICDE 2013,
 //! "structure modifications").
-#![tactic(auto)]
+#![tactic(auto, using(crate::proofs::Trails::adding))]
 
 mod account;
 mod act;

@@ -170,6 +170,7 @@ fn grow<A: Allocator + Copy, S: Steps<A, Step<A>>>(
 }
 
 /// Proposes the page's term.
+#[tactic(auto, using(crate::proofs::Rounds::round_ends, crate::proofs::Trails::adding))]
 fn post_under<A: Allocator + Copy, S: Steps<A, Step<A>>>(
     steps: &mut S,
     limit: u64,
@@ -234,6 +235,7 @@ fn merge<A: Allocator + Copy, S: Steps<A, Step<A>>>(
 }
 
 /// Proposes that the left neighbour takes the page in.
+#[tactic(auto, using(crate::proofs::Rounds::round_ends, crate::proofs::Trails::adding))]
 fn merge_under<A: Allocator + Copy, S: Steps<A, Step<A>>>(
     steps: &mut S,
     limit: u64,
@@ -286,6 +288,7 @@ fn drop_term<A: Allocator + Copy, S: Steps<A, Step<A>>>(
 }
 
 /// Proposes that the page's term is deleted.
+#[tactic(auto, using(crate::proofs::Rounds::round_ends, crate::proofs::Trails::adding))]
 fn drop_under<A: Allocator + Copy, S: Steps<A, Step<A>>>(
     steps: &mut S,
     limit: u64,

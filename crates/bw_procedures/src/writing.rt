@@ -243,7 +243,7 @@ fn write_at<A: Allocator + Copy, S: Steps<A, Step<A>>, W: Wish>(
 }
 
 /// Looks the key up at a page. None where the page isn't the key's leaf any more.
-#[tactic(auto, using(crate::proofs::Changing::found_by))]
+#[tactic(auto, using(crate::proofs::Changing::found_by, crate::proofs::Trails::adding))]
 #[inline(always)]
 fn look_at<A: Allocator + Copy, S: Steps<A, Step<A>>>(
     steps: &mut S,
