@@ -31,6 +31,7 @@ pub fn help<A: Allocator + Copy, S: Steps<A, Step<A>>>(
 }
 
 /// Does one round within the effort of a call.
+#[tactic(auto, using(crate::proofs::Rounds::idles, crate::proofs::Trails::adding))]
 pub(crate) fn help_within<A: Allocator + Copy, S: Steps<A, Step<A>>>(
     steps: &mut S,
     limit: u64,
