@@ -1,3 +1,4 @@
+pub mod Behind
 pub mod Changes
 pub mod Clearing
 pub mod Neighbours

@@ -1,10 +1,11 @@
--- A leaf that is held while a range is read.
-use Rattle.std.specs.Prelude.{ℕ, ◌+◌, ◌<◌, ◌≤◌, nat_lt, if◌then◌else◌, List, Option, Some, None}
+-- The leaves that are held while a range is read from both ends.
+use Rattle.std.specs.Prelude.{ℕ, ◌+◌, ◌<◌, ◌≤◌, nat_lt, nat_le, if◌then◌else◌, List, Option, Some, None}
 use Rattle.bw_keys.specs.Ranges.{key_count, end_of}
-use Rattle.bw_delta.specs.Entries.{from}
-use Rattle.bw_chain.specs.Passing.Heads.{BeginsWith}
+use Rattle.bw_delta.specs.Entries.{from, below}
+use Rattle.bw_chain.specs.Passing.Heads.{BeginsWith, EndsWith}
 use Rattle.bw_law.specs.Tables.{TableValue, Lawful}
 use Rattle.bw_table.specs.Orders.{LeafValue, ArePairsWithin}
+use Rattle.nifforan.specs.declared.back.Back.{Back}
 
 -- the leaf is one of the table's, and none of its keys is needed that lies before it
 pub record IsLeafFor (table : TableValue) (leaf : LeafValue) (next : ℕ) : Type 0 where
@@ -25,3 +26,26 @@ below_end end (Some pair) = if nat_lt pair.0 end then Some pair else None
 abbrev pub end_past : Option (ℕ × ℕ) → ℕ
 end_past None = key_count
 end_past (Some pair) = pair.0 + 1
+
+-- the leaf is one of the table's, and none of its keys is needed that lies behind it
+pub record IsLeafUnder (table : TableValue) (leaf : LeafValue) (end : ℕ) : Type 0 where
+  pub pairs : ArePairsWithin table leaf.low (end_of leaf.high) leaf.pairs
+  pub ends : end ≤ end_of leaf.high
+
+-- the pairs are the leaf's last ones below the end; before all keys they may be any
+abbrev pub AreLentUnder : LeafValue → ℕ → List (ℕ × ℕ) → Type 0
+AreLentUnder leaf end lent = 0 < end → EndsWith (below end leaf.pairs) lent
+
+-- a leaf is held from behind, for the keys below the end, and has lent its last pairs
+abbrev pub HoldsUnder : {A : Type 0} → TableValue → ℕ → Back A → Type 0
+HoldsUnder table end back = IsLeafUnder table back.leaf end × AreLentUnder back.leaf end back.lent.now
+
+-- the pair, if its key lies at the start or past it
+abbrev pub from_start : ℕ → Option (ℕ × ℕ) → Option (ℕ × ℕ)
+from_start start None = None
+from_start start (Some pair) = if nat_le start pair.0 then Some pair else None
+
+-- where the keys end before the pair; before all keys where there is none
+abbrev pub end_before : Option (ℕ × ℕ) → ℕ
+end_before None = 0
+end_before (Some pair) = pair.0

@@ -1,6 +1,7 @@
 //! An ordered map from u64 keys to u64 values, and all that its caller needs.
 #![tactic(auto)]
 
+mod back;
 mod map;
 mod range;
 mod worker;

@@ -138,6 +138,7 @@ impl<A: Allocator + Copy> Map<A> {
             lent: &[],
             next: Fence::Key(low),
             high,
+            back: None,
         }
     }
 

@@ -1,18 +1,20 @@
-//! The pairs of a map in a range of keys, one after the other.
+//! The pairs of a map in a range of keys, one after the other, from either end.
 
-ghost use Rattle.std.specs.Prelude.{◌≡◌, [], ◌∷◌, IfSome, IfNone};
+ghost use Rattle.std.specs.Prelude.{◌≡◌, ◌+◌, [], ◌∷◌, IfSome, IfNone};
 ghost use Rattle.bw_keys.specs.Ranges.{end_of, key_count};
 ghost use Rattle.bw_table.specs.Orders.{HasNoKeyWithin, IsNextAt};
-ghost use Rattle.nifforan.specs.Reading.{IsLeafFor, AreLent, below_end, end_past};
+ghost use Rattle.nifforan.specs.Reading.{IsLeafFor, AreLent, below_end, end_past, from_start, end_before};
 
+use crate::back::{Back, previous_from};
 use bw_keys::{Fence, Key};
 use bw_table::{LeafRef, Table};
 use std::alloc::Allocator;
 use std::marker::Model;
 
-/// The pairs of a map whose keys lie in a range, in the order of their keys. It takes no memory: it
-/// holds a leaf of the map, and walks along the leaf's own list. It searches only at the leaf's end,
-/// and for each key that a record of the leaf names.
+/// The pairs of a map whose keys lie in a range, in the order of their keys, from either end. It takes
+/// no memory: it holds a leaf of the map, and walks along the leaf's own list. It searches only at the
+/// leaf's end, and for each key that a record of the leaf names. From behind it holds another leaf,
+/// which it searches for when the first pair is taken there.
 #[derive(Drop)]
 pub struct Range<'m, A: Allocator + Copy> {
     pub(crate) table: &'m Table<A>,
@@ -23,13 +25,16 @@ pub struct Range<'m, A: Allocator + Copy> {
     pub(crate) next: Fence,
     /// Where they end.
     pub(crate) high: Fence,
+    /// The leaf in which they end, once a pair was taken from behind.
+    pub(crate) back: Option<Back<'m, A>>,
 }
 
 impl<'m, A: Allocator + Copy> Model for Range<'m, A> {
     ghost use Rattle.std.specs.Coded.{coded_list, coded×, coded_ℕ};
+    ghost use Rattle.std.specs.Prelude.{IfSome};
     ghost use Rattle.bw_keys.specs.Ranges.{end_of};
     ghost use Rattle.nifforan.specs.Maps.{Pairs, pairs_of, within};
-    ghost use Rattle.nifforan.specs.Reading.{IsLeafFor, AreLent};
+    ghost use Rattle.nifforan.specs.Reading.{IsLeafFor, AreLent, HoldsUnder};
 
     ghost Value = { Pairs };
 
@@ -37,7 +42,9 @@ impl<'m, A: Allocator + Copy> Model for Range<'m, A> {
 
     ghost view = { λ r. within (end_of r.next) (end_of r.high) (pairs_of r.table.now.slots) };
 
-    ghost invariant = { λ r. IsLeafFor r.table.now r.leaf (end_of r.next) × AreLent r.leaf (end_of r.next) r.lent.now };
+    ghost invariant = { λ r. IsLeafFor r.table.now r.leaf (end_of r.next)
+        × AreLent r.leaf (end_of r.next) r.lent.now
+        × IfSome r.back (HoldsUnder r.table.now (end_of r.high)) };
 }
 
 impl<'m, A: Allocator + Copy> Iterator for Range<'m, A> {
@@ -57,6 +64,22 @@ impl<'m, A: Allocator + Copy> Iterator for Range<'m, A> {
         let found = next_from(self.table, &mut self.leaf, &mut self.lent, from);
         let pair = below(self.high, found);
         self.next = past(pair);
+        pair
+    }
+}
+
+impl<'m, A: Allocator + Copy> DoubleEndedIterator for Range<'m, A> {
+    ghost use Rattle.std.specs.Iterator.{YieldsLast};
+
+    ghost next_back_gives = { YieldsLast (λ left. left) };
+
+    fn next_back(&mut self) -> Option<(Key, u64)> {
+        let Some(upto) = last_under(self.high) else {
+            return None;
+        };
+        let found = previous_from(self.table, &mut self.back, upto);
+        let pair = at_or_past(self.next, found);
+        self.high = before(pair);
         pair
     }
 }
@@ -83,6 +106,40 @@ fn past(pair: Option<(Key, u64)>) -> Fence
     match key.checked_add(1) {
         Some(next) => Fence::Key(next),
         None => Fence::Top,
+    }
+}
+
+/// The greatest key below the fence, if there is one.
+#[inline(always)]
+fn last_under(high: Fence) -> Option<Key>
+    ensures key { IfSome result (λ key. key + 1 ≡ end_of high) }
+    ensures none { IfNone result (end_of high ≡ 0) }
+{
+    match high {
+        Fence::Key(high) => high.checked_sub(1),
+        Fence::Top => Some(Key::MAX),
+    }
+}
+
+/// The pair, if its key doesn't lie below the fence.
+#[inline(always)]
+fn at_or_past(next: Fence, pair: Option<(Key, u64)>) -> Option<(Key, u64)>
+    ensures { result ≡ from_start (end_of next) pair }
+{
+    match pair {
+        Some(pair) if !next.is_above(pair.0) => Some(pair),
+        _ => None,
+    }
+}
+
+/// Where the keys end that come before the pair; before all keys where there is none.
+#[inline(always)]
+fn before(pair: Option<(Key, u64)>) -> Fence
+    ensures { end_of result ≡ end_before pair }
+{
+    match pair {
+        Some((key, _)) => Fence::Key(key),
+        None => Fence::Key(0),
     }
 }
 

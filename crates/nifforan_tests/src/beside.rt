@@ -201,6 +201,10 @@ impl Beside {
                 .eq(plain.range(..low).map(owned)),
             map.range(high, Fence::Key(low)).count() == 0,
             map.iter().eq(plain.iter().map(owned)),
+            map.range(low, Fence::Key(high))
+                .rev()
+                .eq(plain.range(low..high).rev().map(owned)),
+            map.iter().rev().eq(plain.iter().rev().map(owned)),
         ];
         !alike.contains(&false)
     }

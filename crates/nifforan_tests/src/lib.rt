@@ -5,6 +5,8 @@
 #[cfg(test)]
 mod beside;
 #[cfg(test)]
+mod both_ends;
+#[cfg(test)]
 mod shared;
 #[cfg(test)]
 mod walks;

@@ -1,0 +1,107 @@
+//! The end of a range, from which its pairs are taken one before the other.
+
+ghost use Rattle.std.specs.Prelude.{◌≡◌, ◌+◌, [], ◌∷◌, ◌++◌, IfSome, IfNone};
+ghost use Rattle.bw_table.specs.Orders.{HasNoKeyWithin, IsPreviousAt};
+ghost use Rattle.nifforan.specs.Reading.{IsLeafUnder, AreLentUnder, HoldsUnder, end_before};
+
+use bw_keys::Key;
+use bw_table::{LeafRef, Table};
+use std::alloc::Allocator;
+
+/// The leaf in which the keys of a range end that are left.
+#[derive(Drop)]
+pub(crate) struct Back<'m, A: Allocator + Copy> {
+    pub(crate) leaf: LeafRef<'m, A>,
+    /// The leaf's pairs that come last, as they lie side by side in it, or some of them.
+    pub(crate) lent: &'m [(Key, u64)],
+}
+
+/// The pair of the table with the greatest key at or below the key, if there is one. The leaf has it
+/// then, which is searched for where none is held yet.
+#[inline(always)]
+pub(crate) fn previous_from<'m, A: Allocator + Copy>(
+    table: &'m Table<A>,
+    back: &mut Option<Back<'m, A>>,
+    key: Key,
+) -> Option<(Key, u64)>
+    requires { IfSome back.old (HoldsUnder table.now (key + 1)) }
+    ensures previous { IfSome result (IsPreviousAt table.now key) }
+    ensures none { IfNone result (HasNoKeyWithin table.now 0 (key + 1)) }
+    ensures back { IfSome back.new (HoldsUnder table.now (end_before result)) }
+{
+    if let Some(held) = back {
+        return previous_in(table, &mut held.leaf, &mut held.lent, key);
+    }
+    let mut leaf = table.leaf_of(key);
+    let mut lent: &'m [(Key, u64)] = &[];
+    let pair = searched_upto(table, &mut leaf, &mut lent, key);
+    *back = Some(Back { leaf, lent });
+    pair
+}
+
+/// The same of the leaf that is held: the last pair of those that are lent, or the one that is searched
+/// for where none are left.
+#[inline(always)]
+fn previous_in<'m, A: Allocator + Copy>(
+    table: &'m Table<A>,
+    leaf: &mut LeafRef<'m, A>,
+    lent: &mut &'m [(Key, u64)],
+    key: Key,
+) -> Option<(Key, u64)>
+    requires leaf { IsLeafUnder table.now leaf.old (key + 1) }
+    requires lent { AreLentUnder leaf.old (key + 1) lent.old.now }
+    ensures previous { IfSome result (IsPreviousAt table.now key) }
+    ensures none { IfNone result (HasNoKeyWithin table.now 0 (key + 1)) }
+    ensures leaf { IsLeafUnder table.now leaf.new (end_before result) }
+    ensures lent { AreLentUnder leaf.new (end_before result) lent.new.now }
+{
+    if let Some(pair) = take_last(lent) {
+        return Some(pair);
+    }
+    searched_upto(table, leaf, lent, key)
+}
+
+/// Takes the last pair of those that are lent.
+#[inline(always)]
+fn take_last<'m>(lent: &mut &'m [(Key, u64)]) -> Option<(Key, u64)>
+    ensures last { IfSome result (λ pair. lent.old.now ≡ lent.new.now ++ pair ∷ []) }
+    ensures none { IfNone result (lent.new.now ≡ []) }
+{
+    let (last, rest) = lent.split_last()?;
+    let pair = *last;
+    *lent = rest;
+    Some(pair)
+}
+
+/// The pair of the table with the greatest key at or below the key, searched for from leaf to leaf, and
+/// the pairs that lie before it. The leaf that has it is held then.
+fn searched_upto<'m, A: Allocator + Copy>(
+    table: &'m Table<A>,
+    leaf: &mut LeafRef<'m, A>,
+    lent: &mut &'m [(Key, u64)],
+    key: Key,
+) -> Option<(Key, u64)>
+    requires { IsLeafUnder table.now leaf.old (key + 1) }
+    ensures previous { IfSome result (IsPreviousAt table.now key) }
+    ensures none { IfNone result (HasNoKeyWithin table.now 0 (key + 1)) }
+    ensures leaf { IsLeafUnder table.now leaf.new (end_before result) }
+    ensures lent { AreLentUnder leaf.new (end_before result) lent.new.now }
+{
+    let mut upto = key;
+    'leaves: loop {
+        *lent = leaf.pairs_upto(upto);
+        if let Some(pair) = take_last(lent) {
+            return Some(pair);
+        }
+        if let Some(pair) = leaf.previous_at(upto) {
+            return Some(pair);
+        }
+        match leaf.low().checked_sub(1) {
+            Some(before) => {
+                upto = upto.min(before);
+                *leaf = table.leaf_of(upto);
+            }
+            None => return None,
+        }
+    }
+}

@@ -1,0 +1,147 @@
+//! Ranges read from both ends, beside the kit's map, over leaves on which records stand.
+
+use bw_share::{Config, Job, Worker, share};
+use nifforan::{Fence, Map, Range};
+use rand_core::{Rng, SeedableRng};
+use rand_pcg::Pcg32;
+use std::alloc::{AllocError, Global};
+use std::collections::{BTreeMap, btree_map};
+use std::test::Fail;
+
+/// Fanout and chain, and how many calls a worker makes: records on few leaves, leaves of few pairs, and short chains.
+const TABLES: [(u32, u32, u32); 4] = [(64, 8, 2000), (4, 8, 700), (8, 32, 3), (64, 1, 0)];
+
+/// Keys near both ends of all keys, and among those that are drawn.
+const BOUNDS: [u64; 9] = [0, 1, 2, 60, 61, 200, u64::MAX - 2, u64::MAX - 1, u64::MAX];
+
+/// From which end a pair is taken, a bit a turn: all from the front, all from behind, in turn, and four from each.
+const TURNS: [u64; 4] = [0, u64::MAX, 0x5555_5555_5555_5555, 0x0f0f_0f0f_0f0f_0f0f];
+
+/// Drawn puts, sets and deletes.
+#[derive(Drop)]
+struct Calls {
+    seed: u64,
+    count: u32,
+}
+
+impl Calls {
+    /// The call of the number: its key, and its value if it is a set.
+    fn next(rng: &mut Pcg32) -> (u64, Option<u64>) {
+        let drawn = u64::from(rng.next_u32() % 256);
+        let key = if drawn < 8 {
+            u64::MAX - drawn
+        } else {
+            drawn - 8
+        };
+        let value = rng.next_u64();
+        (key, if value % 3 == 0 { None } else { Some(value) })
+    }
+
+    /// The same calls on the kit's map.
+    fn plain(&self, machine: Global) -> Result<BTreeMap<u64, u64>, AllocError> {
+        let mut plain = BTreeMap::new(machine);
+        let mut rng = Pcg32::seed_from_u64(self.seed);
+        for _ in 0..self.count {
+            match Calls::next(&mut rng) {
+                (key, Some(value)) => {
+                    plain.insert(key, value)?;
+                }
+                (key, None) => {
+                    plain.remove(&key);
+                }
+            }
+        }
+        Ok(plain)
+    }
+}
+
+impl Job for Calls {
+    type Output = bool;
+
+    fn work<W: Worker>(&self, _worker: u32, hand: &mut W) -> bool {
+        let mut rng = Pcg32::seed_from_u64(self.seed);
+        let mut is_done = true;
+        for _ in 0..self.count {
+            is_done &= match Calls::next(&mut rng) {
+                (key, Some(value)) => hand.set(key, value).is_ok(),
+                (key, None) => hand.delete(key).is_ok(),
+            };
+        }
+        is_done
+    }
+}
+
+fn owned(pair: (&u64, &u64)) -> (u64, u64) {
+    (*pair.0, *pair.1)
+}
+
+/// Whether both give the same, pair for pair, and then none, from the ends that the bits tell.
+fn are_alike(
+    mut left: Range<'_, Global>,
+    mut wanted: btree_map::Range<'_, u64, u64>,
+    mut turns: u64,
+    count: u64,
+) -> bool {
+    for _ in 0..=count {
+        let (pair, other) = if turns & 1 == 0 {
+            (left.next(), wanted.next())
+        } else {
+            (left.next_back(), wanted.next_back())
+        };
+        if pair != other.map(owned) {
+            return false;
+        }
+        turns = turns.rotate_right(1);
+    }
+    left.next().is_none() && left.next_back().is_none() && left.next().is_none()
+}
+
+/// The pairs of the kit's map in the range.
+fn between(plain: &BTreeMap<u64, u64>, low: u64, high: Fence) -> btree_map::Range<'_, u64, u64> {
+    match high {
+        Fence::Key(high) if low < high => plain.range(low..high),
+        Fence::Key(_) => plain.range(low..low),
+        Fence::Top => plain.range(low..),
+    }
+}
+
+/// Whether the range is read alike by each order of turns, and backwards at once.
+fn is_read(map: &Map<Global>, plain: &BTreeMap<u64, u64>, low: u64, high: Fence) -> bool {
+    let backwards = between(plain, low, high).rev().map(owned);
+    let mut is_alike = map.range(low, high).rev().eq(backwards);
+    for turns in TURNS {
+        let wanted = between(plain, low, high);
+        is_alike &= are_alike(map.range(low, high), wanted, turns, map.len());
+    }
+    is_alike
+}
+
+/// Whether each range between the bounds is read alike, and all pairs.
+fn are_read(map: &Map<Global>, plain: &BTreeMap<u64, u64>) -> bool {
+    let mut are_alike = map.iter().rev().eq(plain.iter().rev().map(owned));
+    for low in BOUNDS {
+        are_alike &= is_read(map, plain, low, Fence::Top);
+        for high in BOUNDS {
+            are_alike &= is_read(map, plain, low, Fence::Key(high));
+        }
+    }
+    are_alike
+}
+
+#[test]
+fn ranges_are_read_from_both_ends(rt: HostRuntime) -> Result<(), Fail> {
+    for (fanout, chain, count) in TABLES {
+        let config = Config {
+            fanout,
+            chain,
+            ..Config::default()
+        };
+        let calls = Calls { seed: 7, count };
+        let shared = share(rt, rt.alloc(), config, 1, &calls)?;
+        assert!(rt; shared.outputs.iter().all(|is_done| *is_done));
+        let map = Map::from_table(rt.alloc(), rt.alloc(), shared.table);
+        let plain = calls.plain(rt.alloc())?;
+        assert!(rt; are_read(&map, &plain), "fanout {fanout}, chain {chain}");
+    }
+    Ok(())
+}
