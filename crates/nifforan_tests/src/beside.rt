@@ -175,7 +175,8 @@ impl Beside {
             return Ok(false);
         };
         let is_alike = (count.status, count.pairs) == (OK, self.pairs.len() as u64)
-            && self.is_read(&map, low, high);
+            && self.is_read(&map, low, high)
+            && self.is_read_backwards(&map, low, high);
         let map = Map::from_table(machine, machine, Box::into_inner(map).into_table());
         drop(replace(handle, Handle::of(Box::new(machine, map)?)).into_map(machine));
         Ok(is_alike)
@@ -199,14 +200,19 @@ impl Beside {
             map.range(low, Fence::Top).eq(plain.range(low..).map(owned)),
             map.range(0, Fence::Key(low))
                 .eq(plain.range(..low).map(owned)),
-            map.range(high, Fence::Key(low)).count() == 0,
+            map.range(high, Fence::Key(low)).next().is_none(),
             map.iter().eq(plain.iter().map(owned)),
-            map.range(low, Fence::Key(high))
-                .rev()
-                .eq(plain.range(low..high).rev().map(owned)),
-            map.iter().rev().eq(plain.iter().rev().map(owned)),
         ];
         !alike.contains(&false)
+    }
+
+    /// Whether the map's pairs in a range, and all of them, come backwards as the kit's map has them.
+    fn is_read_backwards(&self, map: &Map<Global>, low: u64, high: u64) -> bool
+        requires { low ≤ high }
+    {
+        let within = self.pairs.range(low..high).rev().map(owned);
+        let all = self.pairs.iter().rev().map(owned);
+        map.range(low, Fence::Key(high)).rev().eq(within) && map.iter().rev().eq(all)
     }
 }
 
