@@ -91,10 +91,7 @@ fn deepest_leaf<A: Allocator + Copy>(alloc: A) -> Result<Chain<A>, BaseFault>
 }
 
 /// Takes all the memory that the heap still has.
-pub(crate) fn fill<'a>(
-    alloc: Global,
-    heap: &'a LocalHeap,
-) -> Result<Vec<Vec<u8, &'a LocalHeap>>, Fail> {
+fn fill<'a>(alloc: Global, heap: &'a LocalHeap) -> Result<Vec<Vec<u8, &'a LocalHeap>>, Fail> {
     let mut filling = Vec::new(alloc);
     for _ in 0..heap.free() {
         match Vec::with_capacity(heap, 16) {
