@@ -56,6 +56,7 @@ impl<'m, A: Allocator + Copy> Iterator for Range<'m, A> {
 
     ghost remaining = { item_count (λ left. left) };
 
+    #[inline(always)]
     fn next(&mut self) -> Option<(Key, u64)> {
         let from = match self.next {
             Fence::Key(from) => from,
@@ -73,6 +74,7 @@ impl<'m, A: Allocator + Copy> DoubleEndedIterator for Range<'m, A> {
 
     ghost next_back_gives = { YieldsLast (λ left. left) };
 
+    #[inline(always)]
     fn next_back(&mut self) -> Option<(Key, u64)> {
         let Some(upto) = last_under(self.high) else {
             return None;
