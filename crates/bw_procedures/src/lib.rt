@@ -5,6 +5,7 @@
 
 mod account;
 mod act;
+mod calls;
 mod clearing;
 mod consolidation;
 mod cursor;
@@ -26,6 +27,7 @@ mod writing;
 
 pub use account::Account;
 pub use act::{Act, do_act};
+pub use calls::Calls;
 pub use clearing::clear;
 pub use cursor::page_from;
 pub use deletion::delete;
