@@ -81,6 +81,8 @@ pub modification_sets : (page seen key value : ℕ) (receipt : Receipt) → IsRe
 modification_sets page seen key value (Modified number k old v) h = h
 modification_sets page seen key value receipt h = absurd h
 
+pub ruleset setting_made = (insertion_sets, modification_sets)
+
 -- no wish comes true by a change of the shape alone
 shape_is_no_change : (key : ℕ) (wished : Wished) (receipt : Receipt) → without_shapes (receipt ∷ []) ≡ [] → IsChangeFor key wished receipt → ⊥
 shape_is_no_change key (Put value) (Inserted n k v) none told = cc

@@ -28,7 +28,7 @@ RoseBy n old new = min (old + n) (2 ^ 64 - 1) ≤ new
 abbrev pub limit_of : Seen → ℕ
 limit_of seen = min (seen.effort + seen.config.tries) (2 ^ 64 - 1)
 
--- a call that gives up at this effort may answer this fault
+-- a call that gives up at this effort may return this fault
 abbrev pub IsEarned : ℕ → Seen → Seen → Fault → Type 0
 IsEarned limit old new Contended = limit ≤ new.effort
 IsEarned limit old new NoRoom = Unit {0}
@@ -36,7 +36,7 @@ IsEarned limit old new TableFull = RoseBy 1 old.full new.full
 IsEarned limit old new TooTall = RoseBy 1 old.tall new.tall
 IsEarned limit old new Worn = RoseBy 1 old.worn new.worn
 
--- a call that began with the old state may answer this fault
+-- a call that began with the old state may return this fault
 abbrev pub Earned : Seen → Seen → Fault → Type 0
 Earned old new fault = IsEarned (limit_of old) old new fault
 

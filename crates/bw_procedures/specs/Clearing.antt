@@ -5,7 +5,7 @@ use Rattle.bw_step.specs.Tellings.{Told, changed, looked, told_in}
 use Rattle.bw_procedures.specs.declared.fault.Fault.{Fault}
 use Rattle.bw_procedures.specs.Seen.{Seen}
 
--- what is told of a delete of the key, whatever it replied: the key was taken out, or had no value
+-- what the receipt of a delete reports, whatever it replied: the key was deleted, or had no value
 abbrev pub IsRemovalOf : ℕ → Told → Type 0
 IsRemovalOf key (changed k (Some value) None) = k ≡ key
 IsRemovalOf key (looked k None) = k ≡ key
@@ -16,17 +16,17 @@ abbrev pub AreRemovals : ℕ → ℕ → List Told → Type 0
 AreRemovals low high [] = Unit {0}
 AreRemovals low high (told ∷ rest) = (key : ℕ) × IsRemovalOf key told × (low ≤ key) × (key < high) × AreRemovals (key + 1) high rest
 
--- one where a key was taken out
+-- one where a key was deleted
 abbrev pub removal_in : Told → ℕ
 removal_in (changed key (Some value) None) = 1
 removal_in told = 0
 
--- how many of the deletes took a key out
+-- how many of the deletes had a key to delete
 abbrev pub removals_in : List Told → ℕ
 removals_in [] = 0
 removals_in (told ∷ rest) = removal_in told + removals_in rest
 
--- what was added tells of deletes in the range, so many of which took a key out
+-- what was added reports deletes in the range, `removed` of which had a key to delete
 pub record AddsRemovals (low high removed : ℕ) (old new : Seen) : Type 0 where
   pub added : List Told
   pub trail : told_in new.trail ≡ told_in old.trail ++ added
@@ -38,7 +38,7 @@ HasRemovalOf key [] = ⊥
 HasRemovalOf key (told ∷ rest) = IsRemovalOf key told ⊎ HasRemovalOf key rest
 
 -- Between the two states there was one in which these were all pairs of a range that holds the key, and the key wasn't among them, or its
--- removal is told of since.
+-- removal is reported since.
 pub record IsSwept {S : Type 0} (seen : S → Seen) (follows : S → S → Type 0) (shows : S → ℕ → ℕ → List (ℕ × ℕ) → Type 0) (key : ℕ) (old new : S) : Type 0 where
   pub between : S
   pub before : follows old between
@@ -53,7 +53,7 @@ pub record IsSwept {S : Type 0} (seen : S → Seen) (follows : S → S → Type 
   pub since : told_in (seen new).trail ≡ told_in (seen between).trail ++ added
   pub gone : (at key pairs ≡ None) ⊎ HasRemovalOf key added
 
--- of each of the pairs the removal of its key is told
+-- of each of the pairs the removal of its key is reported
 abbrev pub AreRemovalsOf : List (ℕ × ℕ) → List Told → Type 0
 AreRemovalsOf [] [] = Unit {0}
 AreRemovalsOf (pair ∷ pairs) (told ∷ rest) = IsRemovalOf pair.0 told × AreRemovalsOf pairs rest
@@ -69,7 +69,7 @@ abbrev pub StartFrom : ℕ → List (ℕ × ℕ) → Type 0
 StartFrom end [] = Unit {0}
 StartFrom end (pair ∷ pairs) = end ≤ pair.0
 
--- what was added are the removals of the first of the pairs, which lie below the end, so many of which took a key out
+-- what was added are the removals of the first of the pairs, which lie below the end; `removed` of them had a key to delete
 pub record RemovesFirst (end : ℕ) (pairs done left : List (ℕ × ℕ)) (removed : ℕ) (old new : Seen) : Type 0 where
   pub parts : pairs ≡ done ++ left
   pub below_end : LieBelow end done
@@ -78,12 +78,12 @@ pub record RemovesFirst (end : ℕ) (pairs done left : List (ℕ × ℕ)) (remov
   pub removals : AreRemovalsOf done added
   pub count : removals_in added ≡ removed
 
--- pairs were taken out from the first on: without a fault, all that lie below the end
+-- pairs were deleted from the first on: without a fault, all that lie below the end
 abbrev pub RemovesBelow : ℕ → List (ℕ × ℕ) → ℕ → Option Fault → Seen → Seen → Type 0
 RemovesBelow end pairs removed fault old new =
     (done left : List (ℕ × ℕ)) × RemovesFirst end pairs done left removed old new × (fault ≡ None → StartFrom end left)
 
--- the delete of one key was told of, and whether it took the key out
+-- the delete of one key was reported, and whether it had a key to delete
 pub record RemovesOne (key removed : ℕ) (old new : Seen) : Type 0 where
   pub told : Told
   pub trail : told_in new.trail ≡ told_in old.trail ++ told ∷ []

@@ -1,5 +1,4 @@
 pub mod Seen
-pub mod Accounts
 pub mod Facts
 pub mod Calls
 pub mod Slices
@@ -7,6 +6,7 @@ pub mod Rounds
 pub mod Tending
 pub mod Writing
 pub mod Writes
+pub mod Accounts
 pub mod Clearing
 pub mod Told
 pub mod Texts

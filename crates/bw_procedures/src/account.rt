@@ -1,9 +1,10 @@
 //! What a worker keeps of the atomic steps that it took.
 
-ghost use Rattle.std.specs.Prelude.{◌≡◌, ◌+◌, ◌<◌, ◌∷◌, ◌++◌, [], OnOk, length, vec_capacity};
-ghost use Rattle.bw_procedures.specs.Calls.{raised, receipts_of_shape, receipts_of_split};
-ghost use Rattle.bw_procedures.specs.Writing.{receipts_at_once, effort_at_once};
-ghost use Rattle.bw_procedures.specs.Seen.{ends_of, one_more, visit_effort, look_effort, trail_after_look, copy_effort, receipt_effort, full_after, tall_after, worn_after};
+ghost use Rattle.std.specs.Prelude.{◌≡◌, ◌+◌, ◌<◌, [], OnOk, length, vec_capacity};
+ghost use Rattle.bw_procedures.specs.Calls.{receipts_of_shape, receipts_of_split};
+ghost use Rattle.bw_procedures.specs.Seen.{ends_of, one_more};
+ghost use Rattle.bw_procedures.specs.Accounts.{after_at_once, after_shapes, after_visit};
+ghost use Rattle.bw_procedures.specs.Accounts.{after_look, after_copy, after_receipt, after_refusal};
 
 use crate::steps::{Ends, Keep};
 use bw_delta::NoMemory;
@@ -16,8 +17,8 @@ use std::mem;
 /// A worker's account: its configuration, the receipts on its trail, its effort, and how often a
 /// refusal ended a call. Effort and counts stay at 2^64 - 1 once there.
 ///
-/// A worker tells its account what each atomic step came to, by the step's method here. A receipt is
-/// added only where [`Account::reserve`] made room for it before the step.
+/// A worker reports each atomic step to its account, by the step's method here. A receipt is added
+/// only where [`Account::reserve`] made room for it before the step.
 #[derive(Drop)]
 pub struct Account {
     config: Config,
@@ -32,11 +33,21 @@ impl Model for Account {
 
     ghost Value = { AccountValue };
 
-    ghost view = { λ a. record { seen = record { config = a.config; trail = a.trail.items; effort = a.effort; full = a.ends.full; tall = a.ends.tall; worn = a.ends.worn }; room = vec_capacity a.trail } };
+    ghost view = { λ a. record {
+      seen = record {
+        config = a.config;
+        trail = a.trail.items;
+        effort = a.effort;
+        full = a.ends.full;
+        tall = a.ends.tall;
+        worn = a.ends.worn;
+      };
+      room = vec_capacity a.trail;
+    } };
 }
 
 impl Account {
-    /// The account of a worker that has taken no step. Its trail will lie in the machine's memory.
+    /// Makes the account of a worker that has taken no step, with its trail in the machine's memory.
     #[inline(always)]
     pub fn new(machine: Global, config: Config) -> Account
         ensures config { result.seen.config ≡ config }
@@ -52,7 +63,7 @@ impl Account {
         }
     }
 
-    /// The configuration that the table was made by.
+    /// Returns the configuration that the table was made by.
     #[inline(always)]
     pub fn config(&self) -> Config
         ensures { result ≡ self.now.seen.config }
@@ -60,7 +71,7 @@ impl Account {
         self.config
     }
 
-    /// How much effort the worker has spent.
+    /// Returns the effort that the worker has spent.
     #[inline(always)]
     pub fn effort(&self) -> u64
         ensures { result ≡ self.now.seen.effort }
@@ -68,7 +79,7 @@ impl Account {
         self.effort
     }
 
-    /// How often a refusal ended a call.
+    /// Returns how often a refusal ended a call.
     #[inline(always)]
     pub fn ends(&self) -> Ends
         ensures { result ≡ ends_of self.now.seen }
@@ -76,7 +87,7 @@ impl Account {
         self.ends
     }
 
-    /// The receipts of the steps that were taken, in their order.
+    /// Returns the receipts of the steps that were taken, in their order.
     #[inline(always)]
     pub fn trail(&self) -> &[Receipt]
         ensures { result.now ≡ self.now.seen.trail }
@@ -84,7 +95,7 @@ impl Account {
         &self.trail
     }
 
-    /// Gives the trail out.
+    /// Returns the trail.
     #[inline(always)]
     pub fn into_trail(self) -> Vec<Receipt>
         ensures trail { result.items ≡ self.seen.trail }
@@ -94,10 +105,10 @@ impl Account {
         trail
     }
 
-    /// Gives the receipts out that are on the trail, and goes on with an empty trail in the same
-    /// memory region. The trails given out, one behind the other and with that of
+    /// Returns the receipts since the last `take_trail`, and goes on with an empty trail in the same
+    /// memory region. The trails returned, one behind the other and with that of
     /// [`into_trail`](Account::into_trail) as the last, are the trail that `into_trail` alone would
-    /// have given.
+    /// have returned.
     pub fn take_trail(&mut self) -> Vec<Receipt>
         ensures trail { result.items ≡ self.old.seen.trail }
         ensures rest { self.new.seen ≡ record self.old.seen { trail = [] } }
@@ -106,8 +117,8 @@ impl Account {
         mem::replace(&mut self.trail, empty)
     }
 
-    /// Forgets the receipts, the effort and the counts, and goes on as a worker that has taken no step.
-    /// The trail keeps its memory.
+    /// Forgets the receipts, the effort and the counts, and goes on as a worker that has taken no
+    /// step. The trail keeps its memory.
     #[inline(always)]
     pub fn forget(&mut self)
         ensures config { self.new.seen.config ≡ self.old.seen.config }
@@ -127,7 +138,7 @@ impl Account {
         *ends = Ends::default();
     }
 
-    /// Makes room for one more receipt.
+    /// Makes room for one more receipt. Fails for want of memory, with the account as it was.
     #[inline(always)]
     pub fn reserve(&mut self) -> Result<(), NoMemory>
         ensures seen { self.new.seen ≡ self.old.seen }
@@ -137,7 +148,7 @@ impl Account {
         Ok(())
     }
 
-    /// Makes room for two more receipts.
+    /// Makes room for two more receipts, as [`reserve`](Account::reserve) for one.
     #[inline(always)]
     pub fn reserve_two(&mut self) -> Result<(), NoMemory>
         ensures seen { self.new.seen ≡ self.old.seen }
@@ -147,7 +158,7 @@ impl Account {
         Ok(())
     }
 
-    /// Makes room for four more receipts.
+    /// Makes room for four more receipts, as [`reserve`](Account::reserve) for one.
     pub fn reserve_four(&mut self) -> Result<(), NoMemory>
         ensures seen { self.new.seen ≡ self.old.seen }
         ensures room { OnOk result (length self.new.seen.trail + 3 < self.new.room) }
@@ -156,11 +167,11 @@ impl Account {
         Ok(())
     }
 
-    /// A key was looked at, or changed and its page consolidated, which costs effort.
+    /// Reports that a key was looked at, or changed and its page consolidated, which costs effort.
     #[inline(always)]
     pub fn done_at_once(&mut self, done: AtOnce)
         requires { length self.old.seen.trail + 1 < self.old.room }
-        ensures { self.new.seen ≡ record self.old.seen { trail = self.old.seen.trail ++ receipts_at_once done; effort = effort_at_once done.receipt self.old.seen.effort } }
+        ensures { self.new.seen ≡ after_at_once done self.old.seen }
     {
         self.trail.push_reserved(done.receipt);
         if let Receipt::Looked { .. } = done.receipt {
@@ -174,11 +185,11 @@ impl Account {
         self.effort = self.effort.saturating_add(1);
     }
 
-    /// A page was split and consolidated, and then the new page was named in the parent, which was
-    /// consolidated, or wasn't.
+    /// Reports that a page was split and consolidated, and then the new page named in the parent and
+    /// that consolidated, or wasn't (`posted`).
     pub fn split_at_once(&mut self, page: Pid, parent: Pid, new: Pid, posted: bool)
         requires { length self.old.seen.trail + 3 < self.old.room }
-        ensures { self.new.seen ≡ record self.old.seen { trail = self.old.seen.trail ++ receipts_of_split page parent new posted; effort = raised (length (receipts_of_split page parent new posted)) self.old.seen.effort } }
+        ensures { self.new.seen ≡ after_shapes (receipts_of_split page parent new posted) self.old.seen }
     {
         self.reshaped(Kind::Split, page, new);
         if posted {
@@ -186,10 +197,10 @@ impl Account {
         }
     }
 
-    /// A step that changed a page's shape was taken, and the page consolidated.
+    /// Reports a step that changed a page's shape, and the consolidation of the page.
     fn reshaped(&mut self, kind: Kind, page: Pid, other: Pid)
         requires { length self.old.seen.trail + 1 < self.old.room }
-        ensures seen { self.new.seen ≡ record self.old.seen { trail = self.old.seen.trail ++ receipts_of_shape kind page other; effort = raised 2 self.old.seen.effort } }
+        ensures seen { self.new.seen ≡ after_shapes (receipts_of_shape kind page other) self.old.seen }
         ensures room { self.new.room ≡ self.old.room }
     {
         self.trail.push_reserved(Receipt::Shaped {
@@ -205,7 +216,7 @@ impl Account {
         self.effort = self.effort.saturating_add(2);
     }
 
-    /// No step was taken, at the cost of one effort.
+    /// Reports that no step was taken, at the cost of one effort.
     #[inline(always)]
     pub fn idled(&mut self)
         ensures { self.new.seen ≡ record self.old.seen { effort = one_more self.old.seen.effort } }
@@ -213,10 +224,10 @@ impl Account {
         self.effort = self.effort.saturating_add(1);
     }
 
-    /// A place was visited, which costs effort where it was gone.
+    /// Reports a visit of a place, which costs effort where it was gone.
     #[inline(always)]
     pub fn visited(&mut self, go: Go)
-        ensures { self.new.seen ≡ record self.old.seen { effort = visit_effort go self.old.seen.effort } }
+        ensures { self.new.seen ≡ after_visit go self.old.seen }
     {
         match go {
             Go::Gone => self.idled(),
@@ -224,12 +235,12 @@ impl Account {
         }
     }
 
-    /// A page was asked for the key, which costs effort where it wasn't the key's leaf. `keep` says
-    /// when the look is added to the trail.
+    /// Reports a look for the key at a page, which costs effort where it wasn't the key's leaf. `keep`
+    /// says when the look is added to the trail.
     #[inline(always)]
     pub fn looked(&mut self, key: Key, keep: Keep, look: Option<Look>)
         requires { length self.old.seen.trail < self.old.room }
-        ensures { self.new.seen ≡ record self.old.seen { trail = trail_after_look keep key look self.old.seen.trail; effort = look_effort look self.old.seen.effort } }
+        ensures { self.new.seen ≡ after_look keep key look self.old.seen }
     {
         let Some(look) = look else {
             self.idled();
@@ -244,10 +255,11 @@ impl Account {
         }
     }
 
-    /// A page was copied, or made anew, which costs effort where it was absent or has changed.
+    /// Reports that a page was copied, or made anew, which costs effort where it was absent or has
+    /// changed.
     #[inline(always)]
     pub fn copied<T>(&mut self, copy: &Result<T, CopyFault>)
-        ensures { self.new.seen ≡ record self.old.seen { effort = copy_effort copy.now self.old.seen.effort } }
+        ensures { self.new.seen ≡ after_copy copy.now self.old.seen }
     {
         match copy {
             Ok(_) => {}
@@ -256,12 +268,12 @@ impl Account {
         }
     }
 
-    /// A step was accepted, which costs effort where it changes the tree's shape. Its receipt is
-    /// added to the trail.
+    /// Reports an accepted step, which costs effort where it changes the tree's shape, and adds its
+    /// receipt to the trail.
     #[inline(always)]
     pub fn accepted(&mut self, receipt: Receipt)
         requires { length self.old.seen.trail < self.old.room }
-        ensures { self.new.seen ≡ record self.old.seen { trail = self.old.seen.trail ++ receipt ∷ []; effort = receipt_effort receipt self.old.seen.effort } }
+        ensures { self.new.seen ≡ after_receipt receipt self.old.seen }
     {
         self.trail.push_reserved(receipt);
         if let Receipt::Shaped { .. } = receipt {
@@ -269,10 +281,10 @@ impl Account {
         }
     }
 
-    /// A step was refused, which costs effort. Some refusals are counted.
+    /// Reports a refused step, which costs effort. Some refusals are counted.
     #[inline(always)]
     pub fn refused(&mut self, reason: Refused)
-        ensures { self.new.seen ≡ record self.old.seen { effort = one_more self.old.seen.effort; full = full_after reason self.old.seen.full; tall = tall_after reason self.old.seen.tall; worn = worn_after reason self.old.seen.worn } }
+        ensures { self.new.seen ≡ after_refusal reason self.old.seen }
     {
         self.effort = self.effort.saturating_add(1);
         match reason {

@@ -14,18 +14,18 @@ use bw_keys::{Fence, Key};
 use bw_step::Step;
 use std::alloc::{Allocator, Global};
 
-/// What a worker may be asked to do.
+/// A call of one worker as a value.
 #[derive(Clone, Copy, Debug, PartialEq, Eq, Hash)]
 pub enum Act {
-    /// Give the key the value, if it has none.
+    /// Insert the pair, unless the key has a value.
     Put { key: Key, value: u64 },
-    /// Give the key the value, whether it has one or none.
+    /// Set the key to the value.
     Set { key: Key, value: u64 },
-    /// Say what the key has.
+    /// Return the key's value.
     Get { key: Key },
-    /// Take the key out.
+    /// Delete the key.
     Delete { key: Key },
-    /// Take out the keys from the low on and below the high.
+    /// Delete the keys from the low on and below the high.
     Clear { low: Key, high: Fence },
 }
 
@@ -43,8 +43,10 @@ pub fn do_act<A: Allocator + Copy, S: Steps<A, Step<A>>>(
 ) -> Result<Reply, Fault>
     ensures follows { S.follows steps.old steps.new }
     ensures grows { Grows (S.seen steps.old) (S.seen steps.new) }
-    ensures told { IfOk result (λ reply. AddsTold act reply (S.seen steps.old).trail (S.seen steps.new).trail) }
-    ensures nothing { OnErr result (told_in (S.seen steps.new).trail ≡ told_in (S.seen steps.old).trail) }
+    ensures told { IfOk result
+        (λ reply. AddsTold act reply (S.seen steps.old).trail (S.seen steps.new).trail) }
+    ensures nothing { OnErr result (told_in (S.seen steps.new).trail ≡ told_in
+        (S.seen steps.old).trail) }
     ensures fault { IfErr result (Earned (S.seen steps.old) (S.seen steps.new)) }
 {
     match act {

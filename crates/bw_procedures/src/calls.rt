@@ -23,8 +23,8 @@ use std::alloc::{Allocator, Global};
 /// [`Fault::Contended`] once it has spent the effort that the configuration allows it (`tries`), or
 /// where the worker's effort is at its end.
 ///
-/// The walks, the help that a writer gives and the tending of a page are those of Levandoski et al.,
-/// "The Bw-Tree", ICDE 2013, "Structure Modifications".
+/// How a writer helps and how a page is tended is from Levandoski et al., "The Bw-Tree", ICDE 2013,
+/// "Structure Modifications".
 pub trait Calls<A: Allocator + Copy>: Steps<A, Step<A>> {
     ghost use Rattle.std.specs.Prelude.{◌≡◌, ◌≤◌, ◌<◌, ℕ, None};
     ghost use Rattle.std.specs.Prelude.{IfOk, IfErr, IfSome, OnOk};
@@ -37,11 +37,11 @@ pub trait Calls<A: Allocator + Copy>: Steps<A, Step<A>> {
     ghost use Rattle.bw_procedures.specs.Writes.{Puts, Sets, Deletes};
     ghost use Rattle.bw_procedures.specs.Clearing.{AddsRemovals, IsSwept};
 
-    /// Inserts the pair, unless the key has a value, and returns which it was. The walk to the key's
-    /// leaf helps what it meets unfinished, and after the insertion the leaf is tended.
+    /// Inserts the pair, unless the key has a value, which it returns. The walk to the key's leaf helps
+    /// what it meets unfinished, and after the insertion the leaf is tended.
     ///
-    /// Adds one receipt beside those of the tree's shape: that of the insertion, or of the look that
-    /// found the key's value. A reply stands, whatever ended helping or tending.
+    /// Adds one receipt beside those of the tree's shape: of the insertion, or of the look that found
+    /// the key's value. A reply stands, whatever ended helping or tending.
     ///
     /// # Errors
     ///
@@ -59,8 +59,8 @@ pub trait Calls<A: Allocator + Copy>: Steps<A, Step<A>> {
     /// Sets the key to the value, and returns the value that it had, if it had one. The walk to the
     /// key's leaf helps what it meets unfinished, and after the change the leaf is tended.
     ///
-    /// Adds one receipt beside those of the tree's shape: that of the insertion, or of the
-    /// modification, which has the value before it. A reply stands, whatever ended helping or tending.
+    /// Adds one receipt beside those of the tree's shape: of the insertion, or of the modification,
+    /// which has the value before it. A reply stands, whatever ended helping or tending.
     ///
     /// # Errors
     ///
@@ -76,8 +76,8 @@ pub trait Calls<A: Allocator + Copy>: Steps<A, Step<A>> {
     /// Deletes the key, and returns its value, if it had one. The walk to the key's leaf helps what
     /// it meets unfinished, and after the deletion the leaf is tended.
     ///
-    /// Adds one receipt beside those of the tree's shape: that of the deletion, or of the look that
-    /// found no value. A reply stands, whatever ended helping or tending.
+    /// Adds one receipt beside those of the tree's shape: of the deletion, or of the look that found
+    /// no value. A reply stands, whatever ended helping or tending.
     ///
     /// # Errors
     ///
@@ -90,18 +90,19 @@ pub trait Calls<A: Allocator + Copy>: Steps<A, Step<A>> {
         write(self, Deletion { key })
     }
 
-    /// Deletes the keys from the low on and below the high, one after the other, and returns how many
-    /// it deleted. It isn't one step, and nothing is said of what others do in between. Copies of
-    /// leaves lie in the machine's memory.
+    /// Deletes the keys from the low on and below the high, one after the other, and returns how
+    /// many it deleted. It isn't one step, and nothing is said of what others do in between. Copies
+    /// of leaves lie in the machine's memory.
     ///
-    /// Adds, beside those of the tree's shape, the receipts of single deletes, of strictly rising keys
-    /// of the range. Without a fault, each key of the range was missing in a copy of its leaf, or was
-    /// deleted since. The first fault, of a read, of a delete or beside a delete's reply, ends the
+    /// Adds, beside those of the tree's shape, the receipts of single deletes, of strictly rising
+    /// keys of the range. Without a fault, each key of the range was missing in a copy of its leaf,
+    /// or was deleted since. The first fault, of a read, of a delete or beside a delete's reply, ends the
     /// call; what was deleted by then stays so.
     fn clear(&mut self, machine: Global, low: Key, high: Fence) -> Cleared
         ensures follows { Self.follows self.old self.new }
         ensures grows { Grows (Self.seen self.old) (Self.seen self.new) }
-        ensures receipts { AddsRemovals low (end_of high) result.removed (Self.seen self.old) (Self.seen self.new) }
+        ensures receipts { AddsRemovals low (end_of high) result.removed
+            (Self.seen self.old) (Self.seen self.new) }
         ensures swept { result.fault ≡ None → (key : ℕ) → low ≤ key → key < end_of high
             → IsSwept Self.seen Self.follows Self.shows key self.old self.new }
         ensures fault { IfSome result.fault (Earned (Self.seen self.old) (Self.seen self.new)) }
@@ -154,10 +155,12 @@ pub trait Calls<A: Allocator + Copy>: Steps<A, Step<A>> {
     fn get(&mut self, key: Key) -> Result<Option<u64>, Fault>
         ensures follows { Self.follows self.old self.new }
         ensures grows { Grows (Self.seen self.old) (Self.seen self.new) }
-        ensures receipt { AddsLook key result (Self.seen self.old).trail (Self.seen self.new).trail }
+        ensures receipt { AddsLook key result
+            (Self.seen self.old).trail (Self.seen self.new).trail }
         ensures fault { IfErr result (Earned (Self.seen self.old) (Self.seen self.new)) }
         ensures calm { Self.calm self.old quiet → IfErr result (λ fault. fault ≡ faults.NoMemory) }
-        ensures no_effort { Self.calm self.old quiet → (Self.seen self.new).effort ≡ (Self.seen self.old).effort }
+        ensures no_effort { Self.calm self.old quiet
+            → (Self.seen self.new).effort ≡ (Self.seen self.old).effort }
     {
         let limit = limit(self);
         'again: loop {
@@ -182,11 +185,13 @@ pub trait Calls<A: Allocator + Copy>: Steps<A, Step<A>> {
     fn page_from(&mut self, machine: Global, key: Key) -> Result<Slice, Fault>
         ensures follows { Self.follows self.old self.new }
         ensures seen { OnlySpends (Self.seen self.old) (Self.seen self.new) }
-        ensures shows { IfOk result (λ s. Self.shows self.new key (end_of_slice s.next) s.pairs.items) }
+        ensures shows { IfOk result
+            (λ s. Self.shows self.new key (end_of_slice s.next) s.pairs.items) }
         ensures slice { IfOk result (IsSliceFrom key) }
         ensures fault { IfErr result (Earned (Self.seen self.old) (Self.seen self.new)) }
         ensures calm { Self.calm self.old quiet → IfErr result (λ fault. fault ≡ faults.NoMemory) }
-        ensures no_effort { Self.calm self.old quiet → (Self.seen self.new).effort ≡ (Self.seen self.old).effort }
+        ensures no_effort { Self.calm self.old quiet
+            → (Self.seen self.new).effort ≡ (Self.seen self.old).effort }
     {
         let limit = limit(self);
         'again: loop {
@@ -199,8 +204,8 @@ pub trait Calls<A: Allocator + Copy>: Steps<A, Step<A>> {
         }
     }
 
-    /// Consolidates, splits or removes the page where its chain is long, its entries many or few, and
-    /// then tends the page above that this changed.
+    /// Consolidates, splits or removes the page where its chain is long, its entries many or few,
+    /// and then tends the page above that this changed.
     ///
     /// Adds only receipts of the tree's shape.
     ///
@@ -231,7 +236,8 @@ pub trait Calls<A: Allocator + Copy>: Steps<A, Step<A>> {
     fn help(&mut self, todo: Todo) -> Result<(), Fault>
         ensures follows { Self.follows self.old self.new }
         ensures reshapes { OnlyReshapes (Self.seen self.old) (Self.seen self.new) }
-        ensures cost { OnOk result (RoseBy 1 (Self.seen self.old).effort (Self.seen self.new).effort) }
+        ensures cost { OnOk result (RoseBy 1
+            (Self.seen self.old).effort (Self.seen self.new).effort) }
         ensures fault { IfErr result (Earned (Self.seen self.old) (Self.seen self.new)) }
     {
         let limit = limit(self);

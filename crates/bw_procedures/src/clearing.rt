@@ -78,7 +78,8 @@ pub(crate) fn remove_below<A: Allocator + Copy, S: Steps<A, Step<A>>>(
 fn remove<A: Allocator + Copy, S: Steps<A, Step<A>>>(steps: &mut S, key: Key) -> Cleared
     ensures follows { S.follows steps.old steps.new }
     ensures grows { Grows (S.seen steps.old) (S.seen steps.new) }
-    ensures removes { RemovesKey key result.removed result.fault (S.seen steps.old) (S.seen steps.new) }
+    ensures removes { RemovesKey key result.removed result.fault
+        (S.seen steps.old) (S.seen steps.new) }
     ensures fault { IfSome result.fault (Earned (S.seen steps.old) (S.seen steps.new)) }
 {
     match write(steps, Deletion { key }) {

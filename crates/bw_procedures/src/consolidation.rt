@@ -11,7 +11,7 @@ use bw_delta::NoMemory;
 use bw_step::{Consolidate, CopyFault, Step, View};
 use std::alloc::Allocator;
 
-/// The step that consolidates the page as it was seen. None where the page has changed since, or is
+/// Makes the step that consolidates the page as it was seen. None where the page has changed since, or is
 /// gone.
 pub(crate) fn consolidation<A: Allocator + Copy, S: Steps<A, Step<A>>>(
     steps: &mut S,
@@ -33,8 +33,8 @@ pub(crate) fn consolidation<A: Allocator + Copy, S: Steps<A, Step<A>>>(
     })))
 }
 
-/// Consolidates the page as it was seen, and tells whether that was accepted. Where it wasn't, the new
-/// page is given up.
+/// Consolidates the page as it was seen, and returns whether that was accepted. Where it wasn't, the
+/// new page is dropped.
 pub(crate) fn consolidate<A: Allocator + Copy, S: Steps<A, Step<A>>>(
     steps: &mut S,
     limit: u64,

@@ -17,8 +17,8 @@ use bw_keys::{Fence, Key};
 use bw_step::{CopyFault, Step};
 use std::alloc::{Allocator, Global};
 
-/// Walks to the key's leaf, and copies its pairs from the key on. None where the walk or the copy came
-/// to nothing.
+/// Walks to the key's leaf, and copies its pairs from the key on. None where the walk or the copy
+/// came to nothing.
 pub(crate) fn read_page<A: Allocator + Copy, S: Steps<A, Step<A>>>(
     steps: &mut S,
     machine: Global,
@@ -29,7 +29,8 @@ pub(crate) fn read_page<A: Allocator + Copy, S: Steps<A, Step<A>>>(
     ensures shows { ShowsRead (S.shows steps.new) key result }
     ensures slice { IsReadFrom key result }
     ensures calm { S.calm steps.old quiet → IsAnswered result }
-    ensures no_effort { S.calm steps.old quiet → (S.seen steps.new).effort ≡ (S.seen steps.old).effort }
+    ensures no_effort { S.calm steps.old quiet
+        → (S.seen steps.new).effort ≡ (S.seen steps.old).effort }
 {
     let Some(view) = leaf(steps, key) else {
         return Ok(None);
@@ -57,7 +58,8 @@ fn cut<A: Allocator + Copy, S: Steps<A, Step<A>>>(
     ensures shows { ShowsRead (S.shows steps.new) key result }
     ensures slice { IsReadFrom key result }
     ensures calm { IsLeafAround key chain.now → IsAnswered result }
-    ensures no_effort { IsLeafAround key chain.now → (S.seen steps.new).effort ≡ (S.seen steps.old).effort }
+    ensures no_effort { IsLeafAround key chain.now
+        → (S.seen steps.new).effort ≡ (S.seen steps.old).effort }
 {
     let Fences { low, high, .. } = fences(chain);
     if !is_leaf(chain) || key < low || !high.is_above(key) {

@@ -9,7 +9,7 @@ use bw_keys::Key;
 use bw_step::{Delete, Receipt, Step, View};
 use std::alloc::Allocator;
 
-/// That the key is taken out, if it is there.
+/// The key is to be deleted, if it has a value.
 #[derive(Clone, Copy)]
 pub(crate) struct Deletion {
     pub key: Key,

@@ -7,7 +7,7 @@ use crate::steps::Steps;
 use bw_step::Step;
 use std::alloc::Allocator;
 
-/// The effort at which a call that begins now gives up.
+/// Returns the effort at which a call that begins now gives up.
 #[inline(always)]
 pub(crate) fn limit<A: Allocator + Copy, S: Steps<A, Step<A>>>(steps: &S) -> u64
     ensures { result ≡ limit_of (S.seen steps.now) }
@@ -17,7 +17,7 @@ pub(crate) fn limit<A: Allocator + Copy, S: Steps<A, Step<A>>>(steps: &S) -> u64
         .saturating_add(u64::from(steps.config().tries))
 }
 
-/// Whether the worker has come to the limit.
+/// Returns whether the worker has come to the limit.
 #[inline(always)]
 pub(crate) fn is_spent<A: Allocator + Copy, S: Steps<A, Step<A>>>(steps: &S, limit: u64) -> bool
     ensures { IsTrue result ↔ (limit ≤ (S.seen steps.now).effort) }
@@ -25,7 +25,7 @@ pub(crate) fn is_spent<A: Allocator + Copy, S: Steps<A, Step<A>>>(steps: &S, lim
     steps.effort() >= limit
 }
 
-/// Whether the worker may spend so much before it comes to the limit.
+/// Returns whether the worker may spend `cost` before it comes to the limit.
 pub(crate) fn covers<A: Allocator + Copy, S: Steps<A, Step<A>>>(
     steps: &S,
     limit: u64,

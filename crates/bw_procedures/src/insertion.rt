@@ -9,7 +9,7 @@ use bw_keys::Key;
 use bw_step::{Insert, Receipt, Step, View};
 use std::alloc::Allocator;
 
-/// That the key gets the value, unless it is there.
+/// The pair is to be inserted, unless the key has a value.
 #[derive(Clone, Copy)]
 pub(crate) struct Insertion {
     pub key: Key,

@@ -1,6 +1,6 @@
-//! The calls of a tree's worker: put, set, delete, get, a cursor and the removal of a range, written
-//! once over the atomic steps that the worker takes and that others may come between (Levandoski et
-//! al., "The Bw-Tree", ICDE 2013, "Structure Modifications").
+//! The calls of a tree's worker: put, set, delete, get, a cursor and the removal of a range, each
+//! written once over the atomic steps that the worker takes and that others may come between
+//! (Levandoski et al., "The Bw-Tree", ICDE 2013, "Structure Modifications").
 #![tactic(auto)]
 
 mod account;

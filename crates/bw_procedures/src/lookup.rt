@@ -21,7 +21,8 @@ pub(crate) fn seek<A: Allocator + Copy, S: Steps<A, Step<A>>>(
     ensures follows { S.follows steps.old steps.new }
     ensures seen { Sought key result (S.seen steps.old) (S.seen steps.new) }
     ensures calm { S.calm steps.old quiet → IsLooked result }
-    ensures no_effort { S.calm steps.old quiet → (S.seen steps.new).effort ≡ (S.seen steps.old).effort }
+    ensures no_effort { S.calm steps.old quiet
+        → (S.seen steps.new).effort ≡ (S.seen steps.old).effort }
 {
     match leaf(steps, key) {
         Some(view) => steps.look(view.pid, key, Keep::Always),

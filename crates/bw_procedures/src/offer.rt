@@ -31,7 +31,8 @@ pub(crate) fn offer<A: Allocator + Copy, S: Steps<A, Step<A>>>(
     ensures change { (ChangesShape (proposal_of step) → ⊥)
         → Offered (proposal_of step) limit result (S.seen steps.old) (S.seen steps.new) }
     ensures within { OnOk result ((S.seen steps.old).effort < limit) }
-    ensures counts { IfOk result (λ answer. AnswerCounts answer (S.seen steps.old) (S.seen steps.new)) }
+    ensures counts { IfOk result
+        (λ answer. AnswerCounts answer (S.seen steps.old) (S.seen steps.new)) }
 {
     if is_spent(steps, limit) {
         return Err(Fault::Contended);

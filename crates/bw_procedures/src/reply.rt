@@ -26,9 +26,9 @@ pub enum Set {
 /// What a delete replies.
 #[derive(Clone, Copy, Debug, PartialEq, Eq, Hash)]
 pub enum Del {
-    /// The key was taken out, with this value.
+    /// The key was deleted, with this value.
     Removed(u64),
-    /// The key wasn't there.
+    /// The key had no value.
     NoKey,
 }
 
@@ -40,8 +40,8 @@ pub struct Done<T> {
 }
 
 impl<T: Copy> Done<T> {
-    /// The reply, unless a fault stands beside it, which is told then: for callers who want to know of
-    /// it by `?`. The reply stands all the same.
+    /// Returns the reply, or the fault that stands beside it, for callers who want to know of it by
+    /// `?`. The reply stands all the same.
     pub fn into_result(self) -> Result<T, Fault>
         ensures reply { IfOk result (λ reply. (reply ≡ self.reply) × (self.fault ≡ None)) }
         ensures fault { IfErr result (λ fault. self.fault ≡ Some fault) }
@@ -57,7 +57,7 @@ impl<T: Copy> Done<T> {
 #[must_use]
 #[derive(Clone, Copy, Debug, PartialEq, Eq, Hash)]
 pub struct Cleared {
-    /// How many keys were taken out.
+    /// How many keys were deleted.
     pub removed: u64,
     /// What ended the call before its range did, if a fault did.
     pub fault: Option<Fault>,
@@ -72,19 +72,19 @@ pub struct Slice {
     pub next: Option<Key>,
 }
 
-/// What a worker was told of an act.
+/// The reply to an act.
 #[derive(Clone, Copy, Debug, PartialEq, Eq, Hash)]
 pub enum Reply {
     Put(Done<Put>),
     Set(Done<Set>),
     Delete(Done<Del>),
-    /// What the key has, if it has a value.
+    /// The key's value, if it has one.
     Get(Option<u64>),
     Clear(Cleared),
 }
 
-/// The answer in a word, with its value; behind it, in brackets, what ended helping or tending, if a
-/// fault did.
+/// Writes the answer in a word, with its value; behind it, in brackets, what ended helping or
+/// tending, if a fault did.
 impl fmt::Display for Reply {
     ghost output = { λ reply. reply_text reply };
 

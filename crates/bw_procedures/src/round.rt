@@ -1,5 +1,5 @@
-//! One round of help: it proposes the step that brings an unfinished change on, or leads to the round
-//! that has to come first.
+//! One round of help: it proposes the step that brings an unfinished change on, or leads to the
+//! round that has to come first.
 
 ghost use Rattle.std.specs.Prelude.{◌≡◌, ◌+◌, ◌<◌, IsTrue, IfOk};
 ghost use Rattle.bw_procedures.specs.Calls.{ReshapesWithin};
@@ -15,8 +15,8 @@ use bw_keys::{Fence, Key, Pid};
 use bw_step::{Grow, Merge, Place, Refused, Stage, Step, TermAdd, TermDelete, Todo, View};
 use std::alloc::Allocator;
 
-/// The page that the last change of rounds led to. The next one leads up from it, or to a smaller key
-/// on its level.
+/// The page that the last change of rounds led to. The next one leads up from it, or to a smaller
+/// key on its level.
 #[derive(Clone, Copy)]
 pub(crate) struct Rung {
     pub level: u8,
@@ -41,14 +41,15 @@ pub(crate) enum Turn {
     Next(Task),
 }
 
-/// One round.
+/// Does one round.
 pub(crate) fn round<A: Allocator + Copy, S: Steps<A, Step<A>>>(
     steps: &mut S,
     limit: u64,
     task: Task,
 ) -> Result<Turn, Fault>
     ensures follows { S.follows steps.old steps.new }
-    ensures round { IsRound task.rung (kind_rank task.todo) limit result (S.seen steps.old) (S.seen steps.new) }
+    ensures round { IsRound task.rung (kind_rank task.todo) limit result
+        (S.seen steps.old) (S.seen steps.new) }
 {
     match task.todo {
         Todo::Post(page) => post(steps, limit, task.rung, page),
@@ -121,7 +122,8 @@ fn post<A: Allocator + Copy, S: Steps<A, Step<A>>>(
     page: Pid,
 ) -> Result<Turn, Fault>
     ensures follows { S.follows steps.old steps.new }
-    ensures round { IsRound rung (kind_rank (Todo.Post page)) limit result (S.seen steps.old) (S.seen steps.new) }
+    ensures round { IsRound rung (kind_rank (Todo.Post page)) limit result
+        (S.seen steps.old) (S.seen steps.new) }
 {
     let Some(view) = steps.peek(page) else {
         return Ok(Turn::Idle);

@@ -9,7 +9,7 @@ use bw_keys::Key;
 use bw_step::{Insert, Modify, Receipt, Step, View};
 use std::alloc::Allocator;
 
-/// That the key has the value.
+/// The key is to have the value.
 #[derive(Clone, Copy)]
 pub(crate) struct Setting {
     pub key: Key,
@@ -50,7 +50,7 @@ impl Wish for Setting {
         None
     }
 
-    #[tactic(auto, using(crate::proofs::Changing::insertion_sets, crate::proofs::Changing::modification_sets))]
+    #[tactic(auto, using(crate::proofs::Changing::setting_made))]
     #[inline(always)]
     fn step<A: Allocator + Copy>(self, view: View, found: Option<u64>, spare: Spare<A>) -> Step<A> {
         let (page, seen) = (view.pid, view.version);

@@ -23,7 +23,7 @@ pub enum Keep {
 }
 
 impl Keep {
-    /// Whether a look that found this is added.
+    /// Returns whether a look that found this is added.
     #[inline(always)]
     pub fn keeps(self, found: Option<u64>) -> bool
         ensures { result ≡ is_kept self found }
@@ -37,8 +37,8 @@ impl Keep {
     }
 }
 
-/// How often a worker's step was refused for a reason that ends a call. Each count stays at 2^64 - 1
-/// once there.
+/// How often a worker's step was refused for a reason that ends a call. Each count stays at
+/// 2^64 - 1 once there.
 #[derive(Clone, Copy, Debug, Default, PartialEq, Eq, Hash)]
 pub struct Ends {
     /// Because no slot was free.
@@ -50,7 +50,8 @@ pub struct Ends {
 }
 
 /// A worker's atomic steps on a table that others may change between any two of them, and what the
-/// worker keeps of them: the receipts on its trail, its effort, and how often a refusal ended a call.
+/// worker keeps of them: the receipts on its trail, its effort, and how often a refusal ended a
+/// call.
 ///
 /// `P` is the step over `A`.
 pub trait Steps<A: Allocator + Copy, P: Proposes> {
@@ -60,10 +61,13 @@ pub trait Steps<A: Allocator + Copy, P: Proposes> {
     ghost use Rattle.bw_delta.specs.Entries.{from};
     ghost use Rattle.bw_delta.specs.Sound.{IsSound};
     ghost use Rattle.bw_step.specs.Steps.{IsNext};
-    ghost use Rattle.bw_procedures.specs.Seen.{Seen, ends_of, Visited, Looked, Copied, Installed, Idled, IsRefused};
+    ghost use Rattle.bw_procedures.specs.Seen.{Seen, ends_of, Visited, Looked, Copied};
+    ghost use Rattle.bw_procedures.specs.Seen.{Installed, Idled, IsRefused};
     ghost use Rattle.bw_procedures.specs.Calls.{IsAtLevel, SplitAtOnce};
     ghost use Rattle.bw_procedures.specs.Writing.{ChangedAtOnce};
-    ghost use Rattle.bw_procedures.specs.Facts.{Fact, quiet, on_the_way, holds, fresh, CalmNext, CalmPeek, CalmLook, CalmCopy, CalmAnew, ShowsCopy};
+    ghost use Rattle.bw_procedures.specs.Facts.{Fact, quiet, on_the_way, holds, fresh};
+    ghost use Rattle.bw_procedures.specs.Facts.{CalmNext, CalmPeek, CalmLook, CalmCopy, CalmAnew};
+    ghost use Rattle.bw_procedures.specs.Facts.{ShowsCopy};
 
     // the worker's configuration, its trail, its effort and its counts
     ghost seen: { Self → Seen };
@@ -77,31 +81,33 @@ pub trait Steps<A: Allocator + Copy, P: Proposes> {
     // nobody else takes steps, and a place, or a page, is as it was seen
     ghost calm: { Self → Fact → Type 0 };
 
-    /// The configuration that the table was made by.
+    /// Returns the configuration that the table was made by.
     fn config(&self) -> Config
         ensures { result ≡ (seen self.now).config };
 
-    /// Where the worker's steps take memory.
+    /// Returns the allocator of the worker's steps.
     fn alloc(&self) -> A;
 
-    /// Where every search begins.
+    /// Returns the place where every search begins.
     fn root(&self) -> Place
         ensures from { result.from ≡ 0 }
-        ensures calm { calm self.now quiet → (key goal : ℕ) → goal ≤ result.level → calm self.now (on_the_way key goal result) };
+        ensures calm { calm self.now quiet → (key goal : ℕ) → goal ≤ result.level
+            → calm self.now (on_the_way key goal result) };
 
-    /// The leaf whose range holds the key, where the worker can tell it in one step and nothing on the
-    /// way to it is unfinished. A worker that can't says none, and then walks there by visits.
+    /// Returns the leaf whose range holds the key, where the worker can find it in one step and
+    /// nothing on the way to it is unfinished. Otherwise none, and the worker walks there by visits.
     fn leaf_at_once(&self, _key: Key) -> Option<View>
         ensures level { IsAtLevel 0 result }
-        ensures calm { calm self.now quiet → IfSome result (λ view. calm self.now (holds _key 0 view.pid) × calm self.now (fresh view.pid view.version)) }
+        ensures calm { calm self.now quiet → IfSome result (λ view.
+            calm self.now (holds _key 0 view.pid) × calm self.now (fresh view.pid view.version)) }
     {
         None
     }
 
-    /// Makes a wish come true for a key, where the worker can do that in one step: by a look that finds
-    /// it true, which is added to the trail, or by the change and the consolidation of its leaf behind
-    /// that, whose receipts are added and whose effort is spent. A worker that can't says none, and does
-    /// nothing.
+    /// Makes a wish come true for a key, where the worker can do that in one step: by a look that
+    /// finds it true, which is added to the trail, or by the change and the consolidation of its leaf
+    /// behind that, whose receipts are added and whose effort is spent. Otherwise does nothing, and
+    /// returns none.
     fn change_at_once(&mut self, _key: Key, _wished: Wished) -> Option<AtOnce>
         ensures follows { follows self.old self.new }
         ensures seen { ChangedAtOnce _key _wished result (seen self.old) (seen self.new) }
@@ -114,10 +120,10 @@ pub trait Steps<A: Allocator + Copy, P: Proposes> {
         false
     }
 
-    /// Splits a page, consolidates it, names the new page in the parent and consolidates that: by all
-    /// four steps, or the first two where the parent doesn't take the new page so. It answers the new
-    /// page. Their receipts are added to the trail, and each costs effort. None, and no step taken,
-    /// where the worker can't.
+    /// Splits a page, consolidates it, names the new page in the parent and consolidates that, by all
+    /// four steps, or by the first two where the parent doesn't take the new page so, and returns the
+    /// new page. Their receipts are added to the trail, and each costs effort. None, and no step
+    /// taken, where the worker can't.
     fn split_at_once(&mut self, _parent: Pid, _page: View) -> Option<Pid>
         ensures follows { follows self.old self.new }
         ensures seen { SplitAtOnce result (seen self.old) (seen self.new) }
@@ -125,41 +131,44 @@ pub trait Steps<A: Allocator + Copy, P: Proposes> {
         None
     }
 
-    /// Where a search for the key, down to the goal's level, goes from a place. A place that is gone
-    /// costs effort.
+    /// Returns where a search for the key, down to the goal's level, goes from a place. A place that
+    /// is gone costs effort.
     fn visit(&mut self, place: Place, key: Key, goal: u8) -> Next
         ensures follows { follows self.old self.new }
         ensures seen { Visited result.go (seen self.old) (seen self.new) }
         ensures next { IsNext place key goal result.go }
-        ensures calm { calm self.old (on_the_way key goal place) → CalmNext (calm self.new) key goal result.go };
+        ensures calm { calm self.old (on_the_way key goal place)
+            → CalmNext (calm self.new) key goal result.go };
 
-    /// The page with the id, if there is one.
+    /// Returns the page with the id, if there is one.
     fn peek(&mut self, pid: Pid) -> Option<View>
         ensures follows { follows self.old self.new }
         ensures seen { seen self.new ≡ seen self.old }
         ensures page { IfSome result (λ view. view.pid ≡ pid) }
         ensures calm { CalmPeek (calm self.new) pid result };
 
-    /// Refuses to split a leaf where no slot is free for a new page, as the step would be refused. So no
-    /// page is copied for such a step: the refusal costs its effort, and is counted. It tells whether it
-    /// did. A worker that can't tell before doesn't, and proposes the step.
+    /// Refuses to split a leaf where no slot is free for a new page, as the step would be refused, and
+    /// returns whether it did. So no page is copied for such a step: the refusal costs its effort, and
+    /// is counted. A worker that can't know before doesn't refuse, and proposes the step.
     fn refuses_split(&mut self, _leaf: Pid, _version: Version) -> bool
         ensures follows { follows self.old self.new }
-        ensures refused { result ≡ true → IsRefused reasons.TableFull (seen self.old) (seen self.new) }
+        ensures refused { result ≡ true
+            → IsRefused reasons.TableFull (seen self.old) (seen self.new) }
         ensures unchanged { result ≡ false → seen self.new ≡ seen self.old }
     {
         false
     }
 
-    /// What the map has at the key, if the page is a leaf in its row whose range holds the key; if it
-    /// isn't, that costs effort. `keep` says when the look is added to the trail.
+    /// Looks the key up at a page, if that is a leaf in its row whose range holds the key; if it isn't,
+    /// returns none, at the cost of effort. `keep` says when the look is added to the trail. Fails
+    /// where the trail has no room.
     fn look(&mut self, pid: Pid, key: Key, keep: Keep) -> Result<Option<Look>, NoMemory>
         ensures follows { follows self.old self.new }
         ensures seen { Looked keep key result (seen self.old) (seen self.new) }
         ensures calm { CalmLook (calm self.old) key pid result };
 
-    /// A copy of the page's chain, if the page is in a row and still has the version that was seen; if
-    /// it isn't or hasn't, that costs effort.
+    /// Copies the page's chain, if the page is in a row and still has the version that was seen; if it
+    /// isn't or hasn't, fails at the cost of effort.
     fn copy_page(&mut self, pid: Pid, version: Version) -> Result<Chain<A>, CopyFault>
         ensures follows { follows self.old self.new }
         ensures seen { Copied result (seen self.old) (seen self.new) }
@@ -167,8 +176,8 @@ pub trait Steps<A: Allocator + Copy, P: Proposes> {
         ensures shows { IfOk result (ShowsCopy (shows self.new)) }
         ensures calm { CalmCopy (calm self.old) pid version result };
 
-    /// The page that the chain of a page stands for, made anew, if the page is in a row and still has
-    /// the version that was seen; if it isn't or hasn't, that costs effort.
+    /// Makes the page anew that the chain of a page stands for, if the page is in a row and still has
+    /// the version that was seen; if it isn't or hasn't, fails at the cost of effort.
     #[tactic(auto, using(crate::proofs::Anew::page_shows, crate::proofs::Anew::page_around))]
     fn consolidated_page(&mut self, pid: Pid, version: Version) -> Result<Base<A>, CopyFault>
         ensures follows { follows self.old self.new }
@@ -185,7 +194,7 @@ pub trait Steps<A: Allocator + Copy, P: Proposes> {
         }
     }
 
-    /// Takes the step, or tells why not. The receipt of an accepted step is added to the trail. A
+    /// Takes the step, or returns why not. The receipt of an accepted step is added to the trail. A
     /// refusal costs effort, and so does an accepted step that changes the tree's shape.
     fn install(&mut self, step: P) -> Result<Receipt, Denied>
         ensures follows { follows self.old self.new }
@@ -196,15 +205,15 @@ pub trait Steps<A: Allocator + Copy, P: Proposes> {
         ensures follows { follows self.old self.new }
         ensures seen { Idled (seen self.old) (seen self.new) };
 
-    /// How much effort the worker has spent. It stays at 2^64 - 1 once there.
+    /// Returns the effort that the worker has spent. It stays at 2^64 - 1 once there.
     fn effort(&self) -> u64
         ensures { result ≡ (seen self.now).effort };
 
-    /// How often a refusal ended a call.
+    /// Returns how often a refusal ended a call.
     fn ends(&self) -> Ends
         ensures { result ≡ ends_of (seen self.now) };
 
-    /// The receipts of the steps that were taken, in their order.
+    /// Returns the receipts of the steps that were taken, in their order.
     fn trail(&self) -> &[Receipt]
         ensures { result.now ≡ (seen self.now).trail };
 
@@ -213,5 +222,6 @@ pub trait Steps<A: Allocator + Copy, P: Proposes> {
 
     ghost joins: { (a b c : Self) → follows a b → follows b c → follows a c };
 
-    ghost narrows: { (s : Self) (low key end : ℕ) (pairs : List (ℕ × ℕ)) → low ≤ key → shows s low end pairs → shows s key end (from key pairs) };
+    ghost narrows: { (s : Self) (low key end : ℕ) (pairs : List (ℕ × ℕ))
+        → low ≤ key → shows s low end pairs → shows s key end (from key pairs) };
 }

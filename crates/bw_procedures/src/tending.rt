@@ -171,8 +171,8 @@ fn split_page<A: Allocator + Copy, S: Steps<A, Step<A>>>(
     }
 }
 
-/// Splits the page at once, where the worker does that and the effort that is left covers the steps,
-/// and returns the new page.
+/// Splits the page at once, where the worker does that and the effort that is left covers the
+/// steps, and returns the new page.
 fn split_in_place<A: Allocator + Copy, S: Steps<A, Step<A>>>(
     steps: &mut S,
     limit: u64,

@@ -3,7 +3,8 @@
 
 ghost use Rattle.std.specs.Prelude.{◌≡◌, ◌≤◌, IfSome, IfOk, IfErr};
 ghost use Rattle.bw_procedures.specs.Facts.{quiet, on_the_way};
-ghost use Rattle.bw_procedures.specs.Calls.{OnlySpends, CostsIfNone, IsAtLevel, FindsFresh, IsEarned};
+ghost use Rattle.bw_procedures.specs.Calls.{OnlySpends, CostsIfNone, IsAtLevel};
+ghost use Rattle.bw_procedures.specs.Calls.{FindsFresh, IsEarned};
 
 use crate::effort::is_spent;
 use crate::fault::Fault;
@@ -12,8 +13,8 @@ use bw_keys::Key;
 use bw_step::{Go, Place, Step, View};
 use std::alloc::Allocator;
 
-/// Goes on from a place to the page on the goal's level whose range holds the key. None where a place
-/// was gone.
+/// Goes on from a place to the page on the goal's level whose range holds the key. None where a
+/// place was gone.
 #[tactic(auto, using(crate::proofs::Spending::spends_visited))]
 #[inline(always)]
 pub(crate) fn descend<A: Allocator + Copy, S: Steps<A, Step<A>>>(
@@ -26,7 +27,8 @@ pub(crate) fn descend<A: Allocator + Copy, S: Steps<A, Step<A>>>(
     ensures seen { OnlySpends (S.seen steps.old) (S.seen steps.new) }
     ensures gone { CostsIfNone result (S.seen steps.old) (S.seen steps.new) }
     ensures level { IsAtLevel goal result }
-    ensures calm { S.calm steps.old (on_the_way key goal start) → FindsFresh (S.calm steps.new) key goal result }
+    ensures calm { S.calm steps.old (on_the_way key goal start)
+        → FindsFresh (S.calm steps.new) key goal result }
     ensures no_effort { S.calm steps.old (on_the_way key goal start)
         → (S.seen steps.new).effort ≡ (S.seen steps.old).effort }
 {
@@ -41,8 +43,8 @@ pub(crate) fn descend<A: Allocator + Copy, S: Steps<A, Step<A>>>(
     }
 }
 
-/// The leaf whose range holds the key: at once, where the worker can tell it. None where a place on
-/// the way was gone.
+/// Finds the leaf whose range holds the key, at once where the worker can. None where a place on the
+/// way was gone.
 #[inline(always)]
 pub(crate) fn leaf<A: Allocator + Copy, S: Steps<A, Step<A>>>(
     steps: &mut S,
@@ -53,7 +55,8 @@ pub(crate) fn leaf<A: Allocator + Copy, S: Steps<A, Step<A>>>(
     ensures gone { CostsIfNone result (S.seen steps.old) (S.seen steps.new) }
     ensures level { IsAtLevel 0 result }
     ensures calm { S.calm steps.old quiet → FindsFresh (S.calm steps.new) key 0 result }
-    ensures no_effort { S.calm steps.old quiet → (S.seen steps.new).effort ≡ (S.seen steps.old).effort }
+    ensures no_effort { S.calm steps.old quiet
+        → (S.seen steps.new).effort ≡ (S.seen steps.old).effort }
 {
     match steps.leaf_at_once(key) {
         Some(view) => Some(view),
@@ -64,7 +67,7 @@ pub(crate) fn leaf<A: Allocator + Copy, S: Steps<A, Step<A>>>(
     }
 }
 
-/// The page on the goal's level whose range holds the key. None where the tree isn't so high.
+/// Finds the page on the goal's level whose range holds the key. None where the tree isn't so high.
 pub(crate) fn walk<A: Allocator + Copy, S: Steps<A, Step<A>>>(
     steps: &mut S,
     limit: u64,

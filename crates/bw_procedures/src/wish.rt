@@ -7,7 +7,8 @@ use bw_keys::Key;
 use bw_step::{Receipt, Step, View};
 use std::alloc::Allocator;
 
-/// What a call wishes of one key: which looks answer it, and which step is proposed where none does.
+/// What a call wishes of one key: which looks answer it, and which step is proposed where none
+/// does.
 pub(crate) trait Wish: Copy {
     ghost use Rattle.std.specs.Prelude.{◌≡◌, ℕ};
     ghost use Rattle.bw_step.specs.ProposalView.{proposal_of};
@@ -42,17 +43,19 @@ pub(crate) trait Wish: Copy {
     /// The same, for a worker that can do it at once.
     fn wished(self) -> Wished
         ensures keep { keep_for result ≡ keep_of self }
-        ensures made { (receipt : Receipt) → IsChangeFor (key_of self) result receipt → is_made self receipt };
+        ensures made { (receipt : Receipt) → IsChangeFor (key_of self) result receipt
+            → is_made self receipt };
 
-    /// The reply, where what the leaf has at the key answers the call. None where the step is to be
-    /// proposed.
+    /// Returns the reply, where what the leaf has at the key answers the call. None where the step is
+    /// to be proposed.
     fn answered(self, found: Option<u64>) -> Option<Self::Reply>
         ensures { AnswersBy (keep_of self) (key_of self) (is_receipt_of self) found result };
 
     /// The step, at the key's leaf, where this was found.
     fn step<A: Allocator + Copy>(self, view: View, found: Option<u64>, spare: Spare<A>) -> Step<A>
         ensures change { ChangesShape (proposal_of result) → ⊥ }
-        ensures made { (receipt : Receipt) → IsReceiptOf (proposal_of result) receipt → is_made self receipt };
+        ensures made { (receipt : Receipt) → IsReceiptOf (proposal_of result) receipt
+            → is_made self receipt };
 
     /// The reply that goes with the step's receipt.
     fn reply(self, receipt: Receipt) -> Self::Reply

@@ -1,5 +1,5 @@
-//! Writing a key, whatever is wished of it: the writer's walk, which helps what it meets unfinished,
-//! the look at the leaf, the step, and the end of a call.
+//! Writing a key, whatever is wished of it: the writer's walk, which helps what it meets
+//! unfinished, the look at the leaf, the step, and the end of a call.
 
 ghost use Rattle.std.specs.Prelude.{◌≡◌, true};
 ghost use Rattle.bw_procedures.specs.Calls.{OnlySpends, OnlyReshapes};
@@ -84,7 +84,8 @@ fn write_at_once<A: Allocator + Copy, S: Steps<A, Step<A>>, W: Wish>(
     wish: W,
 ) -> Option<Tried<W::Reply>>
     ensures follows { S.follows steps.old steps.new }
-    ensures attempts { AttemptsAtOnce (W.is_receipt_of wish) result (S.seen steps.old) (S.seen steps.new) }
+    ensures attempts { AttemptsAtOnce (W.is_receipt_of wish) result
+        (S.seen steps.old) (S.seen steps.new) }
 {
     if is_spent(steps, limit) {
         return None;
@@ -126,7 +127,7 @@ fn try_once<A: Allocator + Copy, S: Steps<A, Step<A>>, W: Wish>(
     }
 }
 
-/// Finds the key's leaf at once, where the worker can, and otherwise by the writer's walk from the root.
+/// Finds the key's leaf at once, where the worker can, and otherwise walks as a writer from the root.
 #[inline(always)]
 fn arrive<A: Allocator + Copy, S: Steps<A, Step<A>>>(
     steps: &mut S,
@@ -228,7 +229,8 @@ fn write_at<A: Allocator + Copy, S: Steps<A, Step<A>>, W: Wish>(
     wish: W,
 ) -> Result<Tried<W::Reply>, Fault>
     ensures follows { S.follows steps.old steps.new }
-    ensures attempts { Attempts (W.is_receipt_of wish) true limit result (S.seen steps.old) (S.seen steps.new) }
+    ensures attempts { Attempts (W.is_receipt_of wish) true limit result
+        (S.seen steps.old) (S.seen steps.new) }
 {
     let Some(look) = look_at(steps, view.pid, wish.key(), wish.keep())? else {
         return Ok(Tried::Again);
@@ -264,7 +266,8 @@ fn propose<A: Allocator + Copy, S: Steps<A, Step<A>>, W: Wish>(
     wish: W,
 ) -> Result<Tried<W::Reply>, Fault>
     ensures follows { S.follows steps.old steps.new }
-    ensures attempts { Attempts (W.is_receipt_of wish) true limit result (S.seen steps.old) (S.seen steps.new) }
+    ensures attempts { Attempts (W.is_receipt_of wish) true limit result
+        (S.seen steps.old) (S.seen steps.new) }
 {
     let spare = Spare::new(steps.alloc())?;
     match offer(steps, limit, wish.step(view, found, spare))? {
