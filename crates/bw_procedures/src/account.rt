@@ -4,7 +4,8 @@ ghost use Rattle.std.specs.Prelude.{◌≡◌, ◌+◌, ◌<◌, [], OnOk, lengt
 ghost use Rattle.bw_procedures.specs.Calls.{receipts_of_shape, receipts_of_split};
 ghost use Rattle.bw_procedures.specs.Seen.{ends_of, one_more};
 ghost use Rattle.bw_procedures.specs.Accounts.{after_at_once, after_shapes, after_visit};
-ghost use Rattle.bw_procedures.specs.Accounts.{after_look, after_copy, after_receipt, after_refusal};
+ghost use Rattle.bw_procedures.specs.Accounts.{after_look, after_copy};
+ghost use Rattle.bw_procedures.specs.Accounts.{after_receipt, after_refusal};
 
 use crate::steps::{Ends, Keep};
 use bw_delta::NoMemory;
@@ -47,7 +48,8 @@ impl Model for Account {
 }
 
 impl Account {
-    /// Makes the account of a worker that has taken no step, with its trail in the machine's memory.
+    /// Makes the account of a worker that has taken no step, with its trail in the machine's
+    /// memory.
     #[inline(always)]
     pub fn new(machine: Global, config: Config) -> Account
         ensures config { result.seen.config ≡ config }
@@ -105,8 +107,8 @@ impl Account {
         trail
     }
 
-    /// Returns the receipts since the last `take_trail`, and goes on with an empty trail in the same
-    /// memory region. The trails returned, one behind the other and with that of
+    /// Returns the receipts since the last `take_trail`, and goes on with an empty trail in the
+    /// same memory region. The trails returned, one behind the other and with that of
     /// [`into_trail`](Account::into_trail) as the last, are the trail that `into_trail` alone would
     /// have returned.
     pub fn take_trail(&mut self) -> Vec<Receipt>
@@ -185,11 +187,12 @@ impl Account {
         self.effort = self.effort.saturating_add(1);
     }
 
-    /// Reports that a page was split and consolidated, and then the new page named in the parent and
-    /// that consolidated, or wasn't (`posted`).
+    /// Reports that a page was split and consolidated, and then the new page named in the parent
+    /// and that consolidated, or wasn't (`posted`).
     pub fn split_at_once(&mut self, page: Pid, parent: Pid, new: Pid, posted: bool)
         requires { length self.old.seen.trail + 3 < self.old.room }
-        ensures { self.new.seen ≡ after_shapes (receipts_of_split page parent new posted) self.old.seen }
+        ensures { self.new.seen
+            ≡ after_shapes (receipts_of_split page parent new posted) self.old.seen }
     {
         self.reshaped(Kind::Split, page, new);
         if posted {
@@ -200,7 +203,8 @@ impl Account {
     /// Reports a step that changed a page's shape, and the consolidation of the page.
     fn reshaped(&mut self, kind: Kind, page: Pid, other: Pid)
         requires { length self.old.seen.trail + 1 < self.old.room }
-        ensures seen { self.new.seen ≡ after_shapes (receipts_of_shape kind page other) self.old.seen }
+        ensures seen { self.new.seen
+            ≡ after_shapes (receipts_of_shape kind page other) self.old.seen }
         ensures room { self.new.room ≡ self.old.room }
     {
         self.trail.push_reserved(Receipt::Shaped {
@@ -235,8 +239,8 @@ impl Account {
         }
     }
 
-    /// Reports a look for the key at a page, which costs effort where it wasn't the key's leaf. `keep`
-    /// says when the look is added to the trail.
+    /// Reports a look for the key at a page, which costs effort where it wasn't the key's leaf.
+    /// `keep` says when the look is added to the trail.
     #[inline(always)]
     pub fn looked(&mut self, key: Key, keep: Keep, look: Option<Look>)
         requires { length self.old.seen.trail < self.old.room }

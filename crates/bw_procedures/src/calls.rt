@@ -37,11 +37,11 @@ pub trait Calls<A: Allocator + Copy>: Steps<A, Step<A>> {
     ghost use Rattle.bw_procedures.specs.Writes.{Puts, Sets, Deletes};
     ghost use Rattle.bw_procedures.specs.Clearing.{AddsRemovals, IsSwept};
 
-    /// Inserts the pair, unless the key has a value, which it returns. The walk to the key's leaf helps
-    /// what it meets unfinished, and after the insertion the leaf is tended.
+    /// Inserts the pair, unless the key has a value, which it returns. The walk to the key's leaf
+    /// helps what it meets unfinished, and after the insertion the leaf is tended.
     ///
-    /// Adds one receipt beside those of the tree's shape: of the insertion, or of the look that found
-    /// the key's value. A reply stands, whatever ended helping or tending.
+    /// Adds one receipt beside those of the tree's shape: of the insertion, or of the look that
+    /// found the key's value. A reply stands, whatever ended helping or tending.
     ///
     /// # Errors
     ///
@@ -76,8 +76,8 @@ pub trait Calls<A: Allocator + Copy>: Steps<A, Step<A>> {
     /// Deletes the key, and returns its value, if it had one. The walk to the key's leaf helps what
     /// it meets unfinished, and after the deletion the leaf is tended.
     ///
-    /// Adds one receipt beside those of the tree's shape: of the deletion, or of the look that found
-    /// no value. A reply stands, whatever ended helping or tending.
+    /// Adds one receipt beside those of the tree's shape: of the deletion, or of the look that
+    /// found no value. A reply stands, whatever ended helping or tending.
     ///
     /// # Errors
     ///
@@ -96,8 +96,8 @@ pub trait Calls<A: Allocator + Copy>: Steps<A, Step<A>> {
     ///
     /// Adds, beside those of the tree's shape, the receipts of single deletes, of strictly rising
     /// keys of the range. Without a fault, each key of the range was missing in a copy of its leaf,
-    /// or was deleted since. The first fault, of a read, of a delete or beside a delete's reply, ends the
-    /// call; what was deleted by then stays so.
+    /// or was deleted since. The first fault, of a read, of a delete or beside a delete's reply,
+    /// ends the call; what was deleted by then stays so.
     fn clear(&mut self, machine: Global, low: Key, high: Fence) -> Cleared
         ensures follows { Self.follows self.old self.new }
         ensures grows { Grows (Self.seen self.old) (Self.seen self.new) }

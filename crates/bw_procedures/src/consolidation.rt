@@ -11,8 +11,8 @@ use bw_delta::NoMemory;
 use bw_step::{Consolidate, CopyFault, Step, View};
 use std::alloc::Allocator;
 
-/// Makes the step that consolidates the page as it was seen. None where the page has changed since, or is
-/// gone.
+/// Makes the step that consolidates the page as it was seen. None where the page has changed since,
+/// or is gone.
 pub(crate) fn consolidation<A: Allocator + Copy, S: Steps<A, Step<A>>>(
     steps: &mut S,
     view: View,
@@ -33,8 +33,8 @@ pub(crate) fn consolidation<A: Allocator + Copy, S: Steps<A, Step<A>>>(
     })))
 }
 
-/// Consolidates the page as it was seen, and returns whether that was accepted. Where it wasn't, the
-/// new page is dropped.
+/// Consolidates the page as it was seen, and returns whether that was accepted. Where it wasn't,
+/// the new page is dropped.
 pub(crate) fn consolidate<A: Allocator + Copy, S: Steps<A, Step<A>>>(
     steps: &mut S,
     limit: u64,

@@ -1,6 +1,5 @@
 //! Helping an unfinished change along.
 
-ghost use Rattle.std.specs.Prelude.{◌≤◌};
 ghost use Rattle.bw_procedures.specs.Calls.{ReshapesWithin};
 
 use crate::effort::is_spent;
@@ -12,7 +11,7 @@ use bw_step::{Step, Todo};
 use std::alloc::Allocator;
 
 /// Does one round within the effort of a call.
-#[tactic(auto, using(crate::proofs::Rounds::idles, crate::proofs::Trails::adding))]
+#[tactic(auto, using(crate::proofs::Rounds::idles))]
 pub(crate) fn help_within<A: Allocator + Copy, S: Steps<A, Step<A>>>(
     steps: &mut S,
     limit: u64,

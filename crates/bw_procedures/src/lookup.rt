@@ -1,6 +1,6 @@
 //! One look for a key.
 
-ghost use Rattle.std.specs.Prelude.{◌≡◌, ◌≤◌};
+ghost use Rattle.std.specs.Prelude.{◌≡◌};
 ghost use Rattle.bw_procedures.specs.Facts.{quiet, IsLooked};
 ghost use Rattle.bw_procedures.specs.Calls.{Sought};
 

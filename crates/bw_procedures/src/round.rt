@@ -172,7 +172,7 @@ fn grow<A: Allocator + Copy, S: Steps<A, Step<A>>>(
 }
 
 /// Proposes the page's term.
-#[tactic(auto, using(crate::proofs::Rounds::round_ends, crate::proofs::Trails::adding))]
+#[tactic(auto, using(crate::proofs::Rounds::round_ends))]
 fn post_under<A: Allocator + Copy, S: Steps<A, Step<A>>>(
     steps: &mut S,
     limit: u64,
@@ -239,7 +239,7 @@ fn merge<A: Allocator + Copy, S: Steps<A, Step<A>>>(
 }
 
 /// Proposes that the left neighbour takes the page in.
-#[tactic(auto, using(crate::proofs::Rounds::round_ends, crate::proofs::Trails::adding))]
+#[tactic(auto, using(crate::proofs::Rounds::round_ends))]
 fn merge_under<A: Allocator + Copy, S: Steps<A, Step<A>>>(
     steps: &mut S,
     limit: u64,
@@ -294,7 +294,7 @@ fn drop_term<A: Allocator + Copy, S: Steps<A, Step<A>>>(
 }
 
 /// Proposes that the page's term is deleted.
-#[tactic(auto, using(crate::proofs::Rounds::round_ends, crate::proofs::Trails::adding))]
+#[tactic(auto, using(crate::proofs::Rounds::round_ends))]
 fn drop_under<A: Allocator + Copy, S: Steps<A, Step<A>>>(
     steps: &mut S,
     limit: u64,

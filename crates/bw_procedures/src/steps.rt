@@ -95,7 +95,8 @@ pub trait Steps<A: Allocator + Copy, P: Proposes> {
             → calm self.now (on_the_way key goal result) };
 
     /// Returns the leaf whose range holds the key, where the worker can find it in one step and
-    /// nothing on the way to it is unfinished. Otherwise none, and the worker walks there by visits.
+    /// nothing on the way to it is unfinished. Otherwise none, and the worker walks there by
+    /// visits.
     fn leaf_at_once(&self, _key: Key) -> Option<View>
         ensures level { IsAtLevel 0 result }
         ensures calm { calm self.now quiet → IfSome result (λ view.
@@ -105,9 +106,9 @@ pub trait Steps<A: Allocator + Copy, P: Proposes> {
     }
 
     /// Makes a wish come true for a key, where the worker can do that in one step: by a look that
-    /// finds it true, which is added to the trail, or by the change and the consolidation of its leaf
-    /// behind that, whose receipts are added and whose effort is spent. Otherwise does nothing, and
-    /// returns none.
+    /// finds it true, which is added to the trail, or by the change and the consolidation of its
+    /// leaf behind that, whose receipts are added and whose effort is spent. Otherwise does
+    /// nothing, and returns none.
     fn change_at_once(&mut self, _key: Key, _wished: Wished) -> Option<AtOnce>
         ensures follows { follows self.old self.new }
         ensures seen { ChangedAtOnce _key _wished result (seen self.old) (seen self.new) }
@@ -120,10 +121,10 @@ pub trait Steps<A: Allocator + Copy, P: Proposes> {
         false
     }
 
-    /// Splits a page, consolidates it, names the new page in the parent and consolidates that, by all
-    /// four steps, or by the first two where the parent doesn't take the new page so, and returns the
-    /// new page. Their receipts are added to the trail, and each costs effort. None, and no step
-    /// taken, where the worker can't.
+    /// Splits a page, consolidates it, names the new page in the parent and consolidates that, by
+    /// all four steps, or by the first two where the parent doesn't take the new page so, and
+    /// returns the new page. Their receipts are added to the trail, and each costs effort. None,
+    /// and no step taken, where the worker can't.
     fn split_at_once(&mut self, _parent: Pid, _page: View) -> Option<Pid>
         ensures follows { follows self.old self.new }
         ensures seen { SplitAtOnce result (seen self.old) (seen self.new) }
@@ -131,8 +132,8 @@ pub trait Steps<A: Allocator + Copy, P: Proposes> {
         None
     }
 
-    /// Returns where a search for the key, down to the goal's level, goes from a place. A place that
-    /// is gone costs effort.
+    /// Returns where a search for the key, down to the goal's level, goes from a place. A place
+    /// that is gone costs effort.
     fn visit(&mut self, place: Place, key: Key, goal: u8) -> Next
         ensures follows { follows self.old self.new }
         ensures seen { Visited result.go (seen self.old) (seen self.new) }
@@ -147,9 +148,10 @@ pub trait Steps<A: Allocator + Copy, P: Proposes> {
         ensures page { IfSome result (λ view. view.pid ≡ pid) }
         ensures calm { CalmPeek (calm self.new) pid result };
 
-    /// Refuses to split a leaf where no slot is free for a new page, as the step would be refused, and
-    /// returns whether it did. So no page is copied for such a step: the refusal costs its effort, and
-    /// is counted. A worker that can't know before doesn't refuse, and proposes the step.
+    /// Refuses to split a leaf where no slot is free for a new page, as the step would be refused,
+    /// and returns whether it did. So no page is copied for such a step: the refusal costs its
+    /// effort, and is counted. A worker that can't know before doesn't refuse, and proposes the
+    /// step.
     fn refuses_split(&mut self, _leaf: Pid, _version: Version) -> bool
         ensures follows { follows self.old self.new }
         ensures refused { result ≡ true
@@ -159,16 +161,16 @@ pub trait Steps<A: Allocator + Copy, P: Proposes> {
         false
     }
 
-    /// Looks the key up at a page, if that is a leaf in its row whose range holds the key; if it isn't,
-    /// returns none, at the cost of effort. `keep` says when the look is added to the trail. Fails
-    /// where the trail has no room.
+    /// Looks the key up at a page, if that is a leaf in its row whose range holds the key; if it
+    /// isn't, returns none, at the cost of effort. `keep` says when the look is added to the trail.
+    /// Fails where the trail has no room.
     fn look(&mut self, pid: Pid, key: Key, keep: Keep) -> Result<Option<Look>, NoMemory>
         ensures follows { follows self.old self.new }
         ensures seen { Looked keep key result (seen self.old) (seen self.new) }
         ensures calm { CalmLook (calm self.old) key pid result };
 
-    /// Copies the page's chain, if the page is in a row and still has the version that was seen; if it
-    /// isn't or hasn't, fails at the cost of effort.
+    /// Copies the page's chain, if the page is in a row and still has the version that was seen; if
+    /// it isn't or hasn't, fails at the cost of effort.
     fn copy_page(&mut self, pid: Pid, version: Version) -> Result<Chain<A>, CopyFault>
         ensures follows { follows self.old self.new }
         ensures seen { Copied result (seen self.old) (seen self.new) }
@@ -176,8 +178,8 @@ pub trait Steps<A: Allocator + Copy, P: Proposes> {
         ensures shows { IfOk result (ShowsCopy (shows self.new)) }
         ensures calm { CalmCopy (calm self.old) pid version result };
 
-    /// Makes the page anew that the chain of a page stands for, if the page is in a row and still has
-    /// the version that was seen; if it isn't or hasn't, fails at the cost of effort.
+    /// Makes the page anew that the chain of a page stands for, if the page is in a row and still
+    /// has the version that was seen; if it isn't or hasn't, fails at the cost of effort.
     #[tactic(auto, using(crate::proofs::Anew::page_shows, crate::proofs::Anew::page_around))]
     fn consolidated_page(&mut self, pid: Pid, version: Version) -> Result<Base<A>, CopyFault>
         ensures follows { follows self.old self.new }

@@ -1,7 +1,7 @@
 //! Tending a page after a change: its chain is kept short, its entries few and not too few, and
 //! what that changes on the level above is tended in turn.
 
-ghost use Rattle.std.specs.Prelude.{◌≡◌, ◌<◌};
+ghost use Rattle.std.specs.Prelude.{◌≡◌};
 ghost use Rattle.bw_procedures.specs.Calls.{ReshapesWithin};
 ghost use Rattle.bw_procedures.specs.Tending.{IsTended};
 

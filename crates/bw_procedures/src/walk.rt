@@ -43,8 +43,8 @@ pub(crate) fn descend<A: Allocator + Copy, S: Steps<A, Step<A>>>(
     }
 }
 
-/// Finds the leaf whose range holds the key, at once where the worker can. None where a place on the
-/// way was gone.
+/// Finds the leaf whose range holds the key, at once where the worker can. None where a place on
+/// the way was gone.
 #[inline(always)]
 pub(crate) fn leaf<A: Allocator + Copy, S: Steps<A, Step<A>>>(
     steps: &mut S,

@@ -46,8 +46,8 @@ pub(crate) trait Wish: Copy {
         ensures made { (receipt : Receipt) → IsChangeFor (key_of self) result receipt
             → is_made self receipt };
 
-    /// Returns the reply, where what the leaf has at the key answers the call. None where the step is
-    /// to be proposed.
+    /// Returns the reply, where what the leaf has at the key answers the call. None where the step
+    /// is to be proposed.
     fn answered(self, found: Option<u64>) -> Option<Self::Reply>
         ensures { AnswersBy (keep_of self) (key_of self) (is_receipt_of self) found result };
 

@@ -127,7 +127,8 @@ fn try_once<A: Allocator + Copy, S: Steps<A, Step<A>>, W: Wish>(
     }
 }
 
-/// Finds the key's leaf at once, where the worker can, and otherwise walks as a writer from the root.
+/// Finds the key's leaf at once, where the worker can, and otherwise walks as a writer from the
+/// root.
 #[inline(always)]
 fn arrive<A: Allocator + Copy, S: Steps<A, Step<A>>>(
     steps: &mut S,
