@@ -1,7 +1,5 @@
 -- What one more receipt tells.
 use Rattle.std.proofs.Common.{◌≡◌, ℕ, zero, suc, ◌<◌, List, [], ◌∷◌, ◌++◌, length, get_or, Option, Ok, refl, ap, sym, ◌∙◌, append_assoc, append-nil, arith}
-use Rattle.bw_keys.specs.Ranges.{end_of}
-use Rattle.bw_keys.specs.declared.range.Fence.{Fence}
 use Rattle.bw_step.specs.declared.receipt.Receipt.{Receipt}
 use Rattle.bw_step.specs.declared.receipt.Receipt.TheVariants.{Inserted, Deleted, Modified, Looked}
 use Rattle.bw_step.specs.Tellings.{Told, looked, told_in, without_shapes}
@@ -19,9 +17,7 @@ use Rattle.bw_procedures.specs.declared.reply.Reply.{Reply}
 use Rattle.bw_procedures.specs.declared.act.Act.{Act}
 use Rattle.bw_procedures.specs.declared.act.Act.TheVariants as acts
 use Rattle.bw_procedures.specs.declared.reply.Reply.TheVariants as replies
-use Rattle.bw_procedures.specs.declared.reply.Cleared.{Cleared}
 use Rattle.bw_procedures.specs.declared.reply.Done.{Done}
-use Rattle.bw_procedures.specs.Clearing.{AddsRemovals}
 use Rattle.bw_procedures.specs.Told.{GoesWith, AddsTold, GoWith, told_of_put, told_of_set, told_of_delete}
 
 pub none_told : (old new : List Receipt) → without_shapes new ≡ without_shapes old → told_in new ≡ told_in old
@@ -73,9 +69,6 @@ delete_tells key done old new more = record {
 
 pub get_tells : (key : ℕ) (value : Option ℕ) (old new : List Receipt) → AddsLook key (Ok value) old new → AddsTold (acts.Get key) (replies.Get value) old new
 get_tells key value old new more = record { added = looked key value ∷ []; trail = ap told_in more.1 ∙ told_in-append old (Looked more.0 key value ∷ []); answers = refl }
-
-pub clear_tells : (low : ℕ) (high : Fence) (cleared : Cleared) (old new : Seen) → AddsRemovals low (end_of high) cleared.removed old new → AddsTold (acts.Clear low high) (replies.Clear cleared) old.trail new.trail
-clear_tells low high cleared old new more = record { added = more.added; trail = more.trail; answers = (more.removals, more.count) }
 
 -- nothing is told of acts that have no reply
 pub go_none : (acts : List Act) → GoWith acts [] []

@@ -23,7 +23,7 @@ pub spent_grows : (a b : Seen) → OnlySpends a b → Grows a b
 spent_grows a b p = record { config = p.same.config; trail = adds_nothing a.trail b.trail p.same.trail; effort = p.effort; full = omega (arith, p.same.full); tall = omega (arith, p.same.tall); worn = omega (arith, p.same.worn) }
 
 -- removals in a range are removals in a wider one
-pub removals_lower : (low at high : ℕ) (xs : List Told) → low ≤ at → AreRemovals at high xs → AreRemovals low high xs
+removals_lower : (low at high : ℕ) (xs : List Told) → low ≤ at → AreRemovals at high xs → AreRemovals low high xs
 removals_lower low at high [] le are = tt
 removals_lower low at high (x ∷ xs) le are = (are.0, are.1, omega (arith, le, are.2), are.3, are.4)
 
@@ -44,13 +44,10 @@ removals_in_append (x ∷ xs) ys = omega (arith, removals_in_append xs ys)
 added_then : (a b c : Seen) (xs ys : List Told) → told_in b.trail ≡ told_in a.trail ++ xs → told_in c.trail ≡ told_in b.trail ++ ys → told_in c.trail ≡ told_in a.trail ++ (xs ++ ys)
 added_then a b c xs ys first then = then ∙ (ap (λ (l : List Told). l ++ ys) first ∙ append_assoc (told_in a.trail) xs ys)
 
-pub adds_none : (low high : ℕ) (a b : Seen) → told_in b.trail ≡ told_in a.trail → AddsRemovals low high 0 a b
-adds_none low high a b same = record { added = []; trail = same ∙ sym (append-nil (told_in a.trail)); removals = tt; count = refl }
-
-pub adds_within : (low high end n : ℕ) (a b : Seen) → high ≤ end → AddsRemovals low high n a b → AddsRemovals low end n a b
+adds_within : (low high end n : ℕ) (a b : Seen) → high ≤ end → AddsRemovals low high n a b → AddsRemovals low end n a b
 adds_within low high end n a b le more = record { added = more.added; trail = more.trail; removals = removals_upper low high end more.added le more.removals; count = more.count }
 
-pub adds_both : (low middle at high n m : ℕ) (a b c : Seen) → low ≤ at → middle ≤ at → middle ≤ high → AddsRemovals low middle n a b → AddsRemovals at high m b c → AddsRemovals low high (n + m) a c
+adds_both : (low middle at high n m : ℕ) (a b c : Seen) → low ≤ at → middle ≤ at → middle ≤ high → AddsRemovals low middle n a b → AddsRemovals at high m b c → AddsRemovals low high (n + m) a c
 adds_both low middle at high n m a b c le before within first then = record {
   added = first.added ++ then.added;
   trail = added_then a b c first.added then.added first.trail then.trail;
@@ -69,7 +66,7 @@ no_fault None ended = refl
 no_fault (Some fault) ended = cc
 
 -- the part of the range that lies in one more leaf
-pub adds_leaf : (low at next high n m : ℕ) (a b c : Seen) → low ≤ at → at ≤ next → AddsRemovals low (min at high) n a b → AddsRemovals at (min next high) m b c → AddsRemovals low (min next high) (n + m) a c
+adds_leaf : (low at next high n m : ℕ) (a b c : Seen) → low ≤ at → at ≤ next → AddsRemovals low (min at high) n a b → AddsRemovals at (min next high) m b c → AddsRemovals low (min next high) (n + m) a c
 adds_leaf low at next high n m a b c le rise first then = adds_both low (min at high) at (min next high) n m a b c le (omega arith) (omega (arith, rise)) first then
 
 -- a read that failed adds nothing more
@@ -192,7 +189,7 @@ removals_rise low end high (p ∷ done) left (x ∷ xs) rise lie are =
     let rest : rises (p.0 + 1) end (done ++ left) ≡ true = grind (arith, nat_tests, rise) in
     (p.0, are.0, from_low, omega (arith, below_end, lie.0), removals_rise (p.0 + 1) end high done left xs rest lie.1 are.1)
 
-pub removes_adds : (low end high : ℕ) (pairs done left : List (ℕ × ℕ)) (n : ℕ) (a b : Seen) → rises low end pairs ≡ true → RemovesFirst high pairs done left n a b → AddsRemovals low (min end high) n a b
+removes_adds : (low end high : ℕ) (pairs done left : List (ℕ × ℕ)) (n : ℕ) (a b : Seen) → rises low end pairs ≡ true → RemovesFirst high pairs done left n a b → AddsRemovals low (min end high) n a b
 removes_adds low end high pairs done left n a b rise first =
     record {
       added = first.added;
@@ -202,7 +199,7 @@ removes_adds low end high pairs done left n a b rise first =
     }
 
 -- a leaf was read, and its pairs were taken out
-pub leaf_adds : (at end high n : ℕ) (pairs : List (ℕ × ℕ)) (fault : Option Fault) (a b c : Seen) → OnlySpends a b → rises at end pairs ≡ true → RemovesBelow high pairs n fault b c → AddsRemovals at (min end high) n a c
+leaf_adds : (at end high n : ℕ) (pairs : List (ℕ × ℕ)) (fault : Option Fault) (a b c : Seen) → OnlySpends a b → rises at end pairs ≡ true → RemovesBelow high pairs n fault b c → AddsRemovals at (min end high) n a c
 leaf_adds at end high n pairs fault a b c spends rise removes = adds_after at (min end high) n a b c (ap told_in spends.same.trail) (removes_adds at end high pairs removes.0 removes.1 n b c rise removes.2)
 
 -- one more leaf was read, and its pairs were taken out
@@ -252,7 +249,7 @@ gone_more key pairs xs ys (inr has) = inr (has_more key xs ys has)
 
 module _ (S : Type 0) (seen : S → Seen) (follows : S → S → Type 0) (shows : S → ℕ → ℕ → List (ℕ × ℕ) → Type 0) (joins : (a b c : S) → follows a b → follows b c → follows a c) where
   -- what was swept stays so
-  pub swept_later : (low high n key : ℕ) (a b c : S) → IsSwept seen follows shows key a b → follows b c → AddsRemovals low high n (seen b) (seen c) → IsSwept seen follows shows key a c
+  swept_later : (low high n key : ℕ) (a b c : S) → IsSwept seen follows shows key a b → follows b c → AddsRemovals low high n (seen b) (seen c) → IsSwept seen follows shows key a c
   swept_later low high n key a b c swept then more = record {
     between = swept.between;
     before = swept.before;
@@ -268,7 +265,7 @@ module _ (S : Type 0) (seen : S → Seen) (follows : S → S → Type 0) (shows 
     gone = gone_more key swept.pairs swept.added more.added swept.gone;
   }
 
-  pub swept_before : (key : ℕ) (a b c : S) → follows a b → IsSwept seen follows shows key b c → IsSwept seen follows shows key a c
+  swept_before : (key : ℕ) (a b c : S) → follows a b → IsSwept seen follows shows key b c → IsSwept seen follows shows key a c
   swept_before key a b c first swept = record {
     between = swept.between;
     before = joins a b swept.between first swept.before;
@@ -285,7 +282,7 @@ module _ (S : Type 0) (seen : S → Seen) (follows : S → S → Type 0) (shows 
   }
 
   -- a leaf whose pairs below the high were taken out is swept as far as that
-  pub leaf_swept : (low end high key : ℕ) (pairs done left : List (ℕ × ℕ)) (n : ℕ) (a b c : S) → follows a b → follows b c → shows b low end pairs → rises low end pairs ≡ true
+  leaf_swept : (low end high key : ℕ) (pairs done left : List (ℕ × ℕ)) (n : ℕ) (a b c : S) → follows a b → follows b c → shows b low end pairs → rises low end pairs ≡ true
       → RemovesFirst high pairs done left n (seen b) (seen c) → StartFrom high left → low ≤ key → key < end → key < high → IsSwept seen follows shows key a c
   leaf_swept low end high key pairs done left n a b c first then shown rise removes starts above below less = record {
     between = b;
@@ -303,13 +300,13 @@ module _ (S : Type 0) (seen : S → Seen) (follows : S → S → Type 0) (shows 
         (gone_below low end high key done left removes.added (subst (λ (es : List (ℕ × ℕ)). rises low end es ≡ true) removes.parts rise) removes.removals starts less);
   }
 
-  pub leaf_sweeps : (at end high key n : ℕ) (pairs : List (ℕ × ℕ)) (fault : Option Fault) (a b c : S) → follows a b → follows b c → shows b at end pairs → rises at end pairs ≡ true
+  leaf_sweeps : (at end high key n : ℕ) (pairs : List (ℕ × ℕ)) (fault : Option Fault) (a b c : S) → follows a b → follows b c → shows b at end pairs → rises at end pairs ≡ true
       → RemovesBelow high pairs n fault (seen b) (seen c) → fault ≡ None → at ≤ key → key < end → key < high → IsSwept seen follows shows key a c
   leaf_sweeps at end high key n pairs fault a b c first then shown rise removes ended above below less =
       leaf_swept at end high key pairs removes.0 removes.1 n a b c first then shown rise removes.2 (removes.3 ended) above below less
 
   -- what was swept as far as a key, and one more leaf from there on
-  pub swept_next : (low at next high n key : ℕ) (a b c : S) → follows a b → follows b c → AddsRemovals at (min next high) n (seen b) (seen c)
+  swept_next : (low at next high n key : ℕ) (a b c : S) → follows a b → follows b c → AddsRemovals at (min next high) n (seen b) (seen c)
       → ((q : ℕ) → low ≤ q → q < at → q < high → IsSwept seen follows shows q a b) → ((q : ℕ) → at ≤ q → q < next → q < high → IsSwept seen follows shows q b c)
       → low ≤ key → key < next → key < high → IsSwept seen follows shows key a c
   swept_next low at next high n key a b c first then more before here above below less = by_test (nat_lt key at) refl
