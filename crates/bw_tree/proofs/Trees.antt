@@ -1,5 +1,5 @@
--- The law of a table gives what is told of a tree.
-use Rattle.std.proofs.Common.{◌≡◌, ℕ, zero, suc, ◌<◌, ◌^◌, Some, None, refl, sym, subst, ◌∙◌, ap, arith}
+-- What the law of a table says of a tree.
+use Rattle.std.proofs.Common.{◌≡◌, ℕ, zero, suc, ◌<◌, ◌^◌, List, Some, None, refl, sym, subst, ◌∙◌, ap, arith}
 use Rattle.bw_keys.specs.declared.config.Config.{Config}
 use Rattle.bw_keys.specs.Limits.{first_bad_field}
 use Rattle.bw_step.specs.declared.receipt.Receipt.{Receipt}
@@ -16,8 +16,8 @@ use Rattle.bw_law.proofs.MapAndTerms.{map_law}
 use Rattle.bw_law.proofs.NewTable.{new_law}
 use Rattle.bw_law.proofs.RowList.{row_law}
 use Rattle.bw_law.proofs.Walk.{walk_law}
-use Rattle.bw_tree.specs.Shares.{ShareValue, share_of, shared_in, share_with, counted}
-use Rattle.bw_tree.specs.Trees.{IsTree, CountsPairs, IsBookOf, MayBeMade}
+use Rattle.bw_tree.specs.Shares.{ShareValue, shared_in, share_with, counted, no_changes, sum_of}
+use Rattle.bw_tree.specs.Trees.{IsTree, IsClosed, CountsPairs, IsBookOf, MayBeMade}
 
 pub is_tree : (table : TableValue) → Lawful table → Booked table → IsTree table
 is_tree table law booked =
@@ -36,10 +36,11 @@ some_workers config zero made = let bad = made.1 in absurd (cc (bad))
 some_workers config (suc n) made = omega arith
 
 -- the new table, with nothing in its book
-pub new_book : (config : Config) (table : TableValue) → table ≡ new_table config → first_bad_field config ≡ None → config.first_version < 2 ^ 64 → IsBookOf table 0 0
-new_book config table is fine fits =
+pub new_book : (config : Config) (table : TableValue) (totals : ShareValue) → table ≡ new_table config → first_bad_field config ≡ None
+    → config.first_version < 2 ^ 64 → totals ≡ no_changes → IsBookOf table totals
+new_book config table totals is fine fits none =
     let empty = new_law config fine fits in
-    rw is (record { lawful = empty.lawful; booked = empty.booked; totals = refl })
+    rw (is, none) (record { lawful = empty.lawful; booked = empty.booked; book = refl })
 
 -- what is counted in a book is counted so in what the shares hold of it
 shares_count : (book : Book) (told : Telling) → shared_in (book_with book told) ≡ share_with (shared_in book) told
@@ -51,28 +52,29 @@ shares_count book (look at key found) = refl
 shares_count book shape = refl
 
 -- the table after an accepted step, whose receipt was counted
-pub book_kept : (old new : TableValue) (step : Proposal) (receipt : Receipt) (inserted removed more_inserted more_removed : ℕ)
-    → IsBookOf old inserted removed → refusal old step ≡ None → TakesStep old step receipt new
-    → share_of more_inserted more_removed ≡ counted (share_of inserted removed) receipt → IsBookOf new more_inserted more_removed
-book_kept old new step receipt inserted removed more_inserted more_removed kept none taken is =
+pub book_kept : (old new : TableValue) (step : Proposal) (receipt : Receipt) (totals more : ShareValue)
+    → IsBookOf old totals → refusal old step ≡ None → TakesStep old step receipt new → more ≡ counted totals receipt → IsBookOf new more
+book_kept old new step receipt totals more kept none taken is =
     let law = step_law old step kept.lawful kept.booked none in
-    let same : shared_in (after old step).book ≡ share_of more_inserted more_removed =
-    shares_count old.book (telling_of (receipt_of old step)) ∙ ap (counted (shared_in old.book)) (sym taken.told) ∙ ap (λ share. counted share receipt) kept.totals ∙ sym is in
-    rw taken.leads (record { lawful = law.lawful; booked = law.booked; totals = same })
+    let same : shared_in (after old step).book ≡ more =
+    shares_count old.book (telling_of (receipt_of old step)) ∙ ap (counted (shared_in old.book)) (sym taken.told) ∙ ap (λ share. counted share receipt) kept.book ∙ sym is in
+    rw taken.leads (record { lawful = law.lawful; booked = law.booked; book = same })
 
 -- what an accepted step makes of the map
-pub map_after : (table : TableValue) (step : Proposal) (inserted removed : ℕ) → IsBookOf table inserted removed → refusal table step ≡ None → MapAfter table step
-map_after table step inserted removed kept none = (step_law table step kept.lawful kept.booked none).map
+pub map_after : (table : TableValue) (step : Proposal) (totals : ShareValue) → IsBookOf table totals → refusal table step ≡ None → MapAfter table step
+map_after table step totals kept none = (step_law table step kept.lawful kept.booked none).map
 
--- the table of a tree whose totals are those of the shares
-pub tree_of : (table : TableValue) (inserted removed : ℕ) → IsBookOf table inserted removed → IsTree table
-tree_of table inserted removed kept = is_tree table kept.lawful kept.booked
+-- the table of a tree
+pub tree_of : (table : TableValue) (totals : ShareValue) → IsBookOf table totals → IsTree table
+tree_of table totals kept = is_tree table kept.lawful kept.booked
 
-pub book_is : (table : TableValue) (inserted removed : ℕ) (sum : ShareValue) → IsBookOf table inserted removed → inserted ≡ sum.inserted → removed ≡ sum.removed → shared_in table.book ≡ sum
-book_is table inserted removed sum kept more less = kept.totals ∙ ap (λ (n : ℕ). share_of n removed) more ∙ ap (share_of sum.inserted) less
-
-pub pairs_are : (table : TableValue) (inserted removed : ℕ) (sum : ShareValue) → IsBookOf table inserted removed → inserted ≡ sum.inserted → removed ≡ sum.removed → CountsPairs table sum
-pairs_are table inserted removed sum kept more less = subst (CountsPairs table) (book_is table inserted removed sum kept more less) (tree_of table inserted removed kept).pairs
+-- the table of a tree whose totals are the sum of all shares
+pub closed : (table : TableValue) (config : Config) (totals : ShareValue) (shares : List ShareValue)
+    → IsBookOf table totals → table.config ≡ config → totals ≡ sum_of shares → IsClosed config shares table
+closed table config totals shares kept made sum =
+    let tree = tree_of table totals kept in
+    let book : shared_in table.book ≡ sum_of shares = kept.book ∙ sum in
+    record { config = made; tree = tree; book = book; pairs = subst (CountsPairs table) book tree.pairs }
 
 -- no step changes the configuration
 pub config_kept : (old new : TableValue) (step : Proposal) (receipt : Receipt) → TakesStep old step receipt new → new.config ≡ old.config

@@ -1,14 +1,19 @@
 -- What is true of a shared table whenever its lock is free.
 use Rattle.std.specs.Prelude.{◌≡◌, ℕ, ◌+◌, ◌<◌, Bool, true, false, List, length, Some, None}
+use Rattle.std.specs.declared.sync.ledger.Ledger.{Ghosts as Ledger}
 use Rattle.bw_keys.specs.declared.config.Config.{Config}
 use Rattle.bw_keys.specs.Limits.{first_bad_field, is_out_of}
 use Rattle.bw_keys.specs.Ranges.{key_count}
+use Rattle.bw_step.specs.Proposals.{Proposal}
+use Rattle.bw_step.specs.declared.receipt.Receipt.{Receipt}
+use Rattle.bw_law.specs.Effects.{TakesStep}
 use Rattle.bw_law.specs.Laws.{HasOneRow, HasOneWalk, IsTheMap}
 use Rattle.bw_law.specs.Tables.{TableValue, Lawful, Booked, outlines, joined_pairs}
 use Rattle.bw_law.specs.Walks.{IsRowOf}
-use Rattle.bw_tree.specs.Shares.{ShareValue, share_of, shared_in}
+use Rattle.bw_tree.specs.Shares.{ShareValue, shared_in, sum_of, Opens}
 use Rattle.bw_tree.specs.declared.fault.NewFault.{NewFault}
 use Rattle.bw_tree.specs.declared.fault.NewFault.TheVariants.{BadConfig, BadWorkers, NoMemory}
+use Rattle.bw_tree.specs.declared.share.Blanks.{Blanks}
 
 -- the leaf row's pairs are as many as the insertions less the removals
 abbrev pub CountsPairs : TableValue → ShareValue → Type 0
@@ -26,16 +31,27 @@ pub record IsTree (table : TableValue) : Type 0 where
   pub pairs : CountsPairs table (shared_in table.book)
 
 -- the table is lawful, and its book has these insertions and removals
-pub record IsBookOf (table : TableValue) (inserted removed : ℕ) : Type 0 where
+pub record IsBookOf (table : TableValue) (totals : ShareValue) : Type 0 where
   pub lawful : Lawful table
   pub booked : Booked table
-  pub totals : shared_in table.book ≡ share_of inserted removed
+  pub book : shared_in table.book ≡ totals
+
+-- a closed tree's table: its book is the sum of all shares
+pub record IsClosed (made : Config) (shares : List ShareValue) (table : TableValue) : Type 0 where
+  pub config : table.config ≡ made
+  pub tree : IsTree table
+  pub book : shared_in table.book ≡ sum_of shares
+  pub pairs : CountsPairs table (sum_of shares)
+
+-- the receipt of the step that leads from the old table to the new one
+abbrev pub IsReceiptFrom : TableValue → Proposal → TableValue → Receipt → Type 0
+IsReceiptFrom old step new receipt = TakesStep old step receipt new
 
 -- there are no workers, or too many
 abbrev pub is_bad_number : ℕ → Bool
 is_bad_number workers = is_out_of 1 64 workers
 
--- a tree may be made by the configuration, for so many workers
+-- a tree may be made by the configuration, for this number of workers
 abbrev pub MayBeMade : Config → ℕ → Type 0
 MayBeMade config workers = (first_bad_field config ≡ None) × (is_bad_number workers ≡ false)
 
@@ -44,3 +60,9 @@ abbrev pub IsNewFault : Config → ℕ → NewFault → Type 0
 IsNewFault config workers (BadConfig bad) = first_bad_field config ≡ Some bad.0
 IsNewFault config workers BadWorkers = (first_bad_field config ≡ None) × (is_bad_number workers ≡ true)
 IsNewFault config workers NoMemory = MayBeMade config workers
+
+-- two types may stand for the blank ledgers of a tree, and the first of them names the configuration that it is made by
+pub record OpensFor {I D : Type 0} (insertions : Ledger I) (named : Config) (removals : Ledger D) (config : Config) (blanks : Blanks) : Type 0 where
+  pub inserted : Opens insertions.name insertions.parts blanks.insertions
+  pub removed : Opens removals.name removals.parts blanks.removals
+  pub made : named ≡ config

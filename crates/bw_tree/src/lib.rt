@@ -4,6 +4,7 @@
 
 mod booked;
 mod fault;
+mod ledgers;
 mod made_by;
 mod share;
 mod shared;

@@ -10,10 +10,10 @@ use std::sync::ledger::Ledger;
 ///
 /// `P` is the step over `A`.
 pub trait Shared<A: Allocator + Copy, P: Proposes> {
-    ghost use Rattle.std.specs.Prelude.{◌≡◌, IfOk, IfSome, MatchResult};
+    ghost use Rattle.std.specs.Prelude.{◌≡◌, IfOk, IfSome};
     ghost use Rattle.bw_keys.specs.declared.config.Config.{Config};
     ghost use Rattle.bw_delta.specs.Sound.{IsSound};
-    ghost use Rattle.bw_tree.specs.Shares.{counted};
+    ghost use Rattle.bw_tree.specs.Shares.{CountsIn};
     ghost use Rattle.bw_step.specs.Steps.{IsNext, IsReceiptOf};
 
     /// The ledger of the tree's insertions.
@@ -25,35 +25,38 @@ pub trait Shared<A: Allocator + Copy, P: Proposes> {
     // the configuration that the tree was made by
     ghost made_by: { Self → Config };
 
-    /// The configuration that the tree was made by.
+    /// Returns the configuration that the tree was made by.
     fn config(&self) -> Config
         ensures { result ≡ made_by self.now };
 
-    /// Where every search begins.
+    /// Returns the place where every search begins.
     fn root(&self) -> Place
         ensures { result.from ≡ 0 };
 
-    /// Where a search for the key, down to the goal's level, goes from a place.
+    /// Returns where a search for the key, down to the goal's level, goes from a place.
     fn visit(&self, place: Place, key: Key, goal: u8) -> Next
         ensures { IsNext place key goal result.go };
 
-    /// The page with the id, if there is one.
+    /// Returns the page with the id, if there is one.
     fn peek(&self, pid: Pid) -> Option<View>
         ensures { IfSome result (λ view. view.pid ≡ pid) };
 
-    /// What the map has at the key, if the page is a leaf in its row whose range holds the key.
+    /// Returns what the map has at the key, if the page is a leaf in its row whose range holds the
+    /// key.
     fn look(&self, pid: Pid, key: Key) -> Option<Look>;
 
-    /// A copy of the page's chain, if the page is in a row and still has the version that was seen.
+    /// Returns a copy of the page's chain, if the page is in a row and still has the version that was
+    /// seen.
     fn copy_page(&self, alloc: A, pid: Pid, seen: Version) -> Result<Chain<A>, CopyFault>
         ensures { IfOk result IsSound };
 
-    /// Takes the step, or tells why not. An insertion or a removal is counted in the share.
+    /// Takes the step, and counts an insertion or a removal in the share. Returns the step's receipt,
+    /// or why it was denied.
     fn install(
         &self,
         share: &mut Share<Self::Insertions, Self::Removals>,
         step: P,
     ) -> Result<Receipt, Denied>
-        ensures share { MatchResult result (λ receipt. share.new ≡ counted share.old receipt) (λ _. share.new ≡ share.old) }
+        ensures share { CountsIn share.old share.new result }
         ensures receipt { IfOk result (IsReceiptOf (P.proposal step)) };
 }

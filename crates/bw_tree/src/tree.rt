@@ -1,10 +1,10 @@
 //! The mutex round a booked table.
 
-ghost use Rattle.std.specs.Prelude.{◌≡◌, ◌<◌, ◌↔◌, IsOk, IfOk, IfErr, OnErr, MatchResult, All, length};
+ghost use Rattle.std.specs.Prelude.{◌≡◌, ◌<◌, ◌↔◌, IsOk, IfOk, IfErr, OnErr, All, length};
 ghost use Rattle.bw_step.specs.ProposalView.{proposal_of};
-ghost use Rattle.bw_tree.specs.Shares.{no_changes, counted, shared_in, sum_of, Opens};
+ghost use Rattle.bw_tree.specs.Shares.{no_changes, CountsIn};
 ghost use Rattle.bw_step.specs.Steps.{IsReceiptOf, IsRefusal};
-ghost use Rattle.bw_tree.specs.Trees.{IsTree, CountsPairs, IsNewFault, MayBeMade};
+ghost use Rattle.bw_tree.specs.Trees.{IsTree, IsClosed, OpensFor, IsNewFault, MayBeMade};
 
 use crate::booked::Booked;
 use crate::fault::{MissingShare, NewFault};
@@ -19,9 +19,9 @@ use std::alloc::{Allocator, Global};
 use std::sync::ledger::Ledger;
 use std::sync::{Mutex, Wait};
 
-/// A booked table under its lock. Whoever takes the lock finds the table lawful and its book the sum
-/// of the shares, whatever steps others proposed. The runtime value is kept with the lock, so that
-/// code over any shared tree needs none.
+/// A booked table under its lock. Whoever takes the lock finds the table lawful and its book the
+/// sum of the shares, whatever steps others proposed. The runtime value is kept with the lock, so
+/// that code over any shared tree needs none.
 #[derive(Drop)]
 pub struct Tree<R: Wait + Drop, A: Allocator + Copy, I: MadeBy, D: Ledger> {
     rt: R,
@@ -30,7 +30,7 @@ pub struct Tree<R: Wait + Drop, A: Allocator + Copy, I: MadeBy, D: Ledger> {
 }
 
 impl<R: Wait + Drop, A: Allocator + Copy, I: MadeBy, D: Ledger> Tree<R, A, I, D> {
-    /// A tree without pairs, and the workers' shares, as `Booked::new` makes them.
+    /// Returns a tree without pairs, and the workers' shares, as `Booked::new` makes them.
     pub fn new(
         rt: R,
         machine: Global,
@@ -38,9 +38,7 @@ impl<R: Wait + Drop, A: Allocator + Copy, I: MadeBy, D: Ledger> Tree<R, A, I, D>
         config: Config,
         blanks: Blanks,
     ) -> Result<(Tree<R, A, I, D>, Vec<Share<I, D>>), NewFault>
-        requires insertions { Opens I.name I.parts blanks.insertions }
-        requires removals { Opens D.name D.parts blanks.removals }
-        requires config { I.config ≡ config }
+        requires ledgers { OpensFor I.Ledger I.config D.Ledger config blanks }
         ensures config { IfOk result (λ made. made.0.config ≡ config) }
         ensures count { IfOk result (λ made. length made.1.items ≡ blanks.workers) }
         ensures shares { IfOk result (λ made. All (λ share. share ≡ no_changes) made.1.items) }
@@ -56,7 +54,7 @@ impl<R: Wait + Drop, A: Allocator + Copy, I: MadeBy, D: Ledger> Tree<R, A, I, D>
         Ok((tree, shares))
     }
 
-    /// Gives the table out, and asks for no share, as `Booked::into_table` does.
+    /// Returns the table, and asks for no share, as `Booked::into_table` does.
     pub fn into_table(self) -> Table<A>
         ensures config { result.config ≡ I.config }
         ensures tree { IsTree result }
@@ -65,15 +63,11 @@ impl<R: Wait + Drop, A: Allocator + Copy, I: MadeBy, D: Ledger> Tree<R, A, I, D>
         booked.into_inner().into_table()
     }
 
-    /// Gives the table out, as `Booked::close` does. It wants all shares: where a worker dropped
-    /// its own, as by an early `?`, the answer is [`MissingShare`], and all pairs are lost. So have
-    /// each worker hand its share back beside its error, or take the table by
-    /// [`into_table`](Tree::into_table).
+    /// Returns the table, as `Booked::close` does. Where a worker dropped its share, as by an early
+    /// `?`, it fails with [`MissingShare`], and all pairs are lost. So have each worker hand its
+    /// share back beside its error, or take the table by [`into_table`](Tree::into_table).
     pub fn close(self, shares: Vec<Share<I, D>>) -> Result<Table<A>, MissingShare>
-        ensures config { IfOk result (λ table. table.config ≡ I.config) }
-        ensures tree { IfOk result IsTree }
-        ensures book { IfOk result (λ table. shared_in table.book ≡ sum_of shares.items) }
-        ensures pairs { IfOk result (λ table. CountsPairs table (sum_of shares.items)) }
+        ensures closed { IfOk result (IsClosed I.config shares.items) }
         ensures all { IsOk result ↔ (length shares.items ≡ I.parts) }
         ensures missing { OnErr result (length shares.items < I.parts) }
     {
@@ -126,7 +120,7 @@ impl<R: Wait + Drop, A: Allocator + Copy, I: MadeBy, D: Ledger> Shared<A, Step<A
     /// Takes the step by `Booked::install`. It takes no memory.
     #[inline(always)]
     fn install(&self, share: &mut Share<I, D>, step: Step<A>) -> Result<Receipt, Denied>
-        ensures share { MatchResult result (λ receipt. share.new ≡ counted share.old receipt) (λ _. share.new ≡ share.old) }
+        ensures share { CountsIn share.old share.new result }
         ensures receipt { IfOk result (IsReceiptOf (proposal_of step)) }
         ensures no_want { IfErr result IsRefusal }
     {

@@ -1,4 +1,5 @@
 use Rattle.std.proofs.Common.{refl, sym, ◌∙◌}
+use Rattle.bw_tree.proofs.Answers.{is_told}
 use Rattle.bw_tree.proofs.Trees.{book_kept, map_after, config_kept}
 use Rattle.bw_tree.proofs.booked.Booked.install.Goals as goal
 
@@ -6,7 +7,10 @@ pub invariant_of-self-2 : goal.invariant_of-self-2
 invariant_of-self-2 g c =
     let told = c.in_ok-receipt.ensures in
     let kept = c.self.invariant in
-    (book_kept _ _ _ _ _ _ _ _ kept.0 (told.accepted.0 refl) told.taken c.count.ensures.totals, config_kept _ _ _ _ told.taken ∙ kept.1, kept.2, kept.3, kept.4)
+    (book_kept _ _ _ _ _ _ kept.0 (told.accepted.0 refl) told.taken c.count.ensures.totals, config_kept _ _ _ _ told.taken ∙ kept.1)
 
 pub returns-clause-map : goal.returns-clause-map
-returns-clause-map g c = rw (sym c.self.view_is) (map_after _ _ _ _ c.self.invariant.0 (c.in_ok-receipt.ensures.accepted.0 refl))
+returns-clause-map g c = rw (sym c.self.view_is) (map_after _ _ _ c.self.invariant.0 (c.in_ok-receipt.ensures.accepted.0 refl))
+
+pub returns-clause-told : goal.returns-clause-told
+returns-clause-told g c = is_told _ _ _ _ c.in_ok-receipt.ensures.taken

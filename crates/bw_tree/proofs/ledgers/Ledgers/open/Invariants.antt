@@ -1,7 +1,7 @@
 use Rattle.std.proofs.Common.{◌≡◌, ◌+◌, ◌≤◌, replicate}
 use Rattle.std.specs.Vec.{vec_len, vec_capacity}
 use Rattle.bw_tree.specs.Shares.{no_changes}
-use Rattle.bw_tree.proofs.booked.Booked.open.Given as goal
+use Rattle.bw_tree.proofs.ledgers.Ledgers.open.Given as goal
 
 abbrev pub invariant-loop-worker : goal.invariant-loop-worker
 invariant-loop-worker g l = record {

@@ -1,7 +1,7 @@
 use Rattle.std.proofs.Common.{◌≡◌, All, refl, sym, subst}
 use Rattle.std.proofs.lemmas.List.Elements.{All-replicate}
 use Rattle.bw_tree.specs.Shares.{ShareValue, no_changes}
-use Rattle.bw_tree.proofs.booked.Booked.open.Goals as goal
+use Rattle.bw_tree.proofs.ledgers.Ledgers.open.Goals as goal
 
 pub returns-clause-shares : goal.returns-clause-shares
 returns-clause-shares g c =

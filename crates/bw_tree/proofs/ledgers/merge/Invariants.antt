@@ -1,6 +1,6 @@
 use Rattle.std.proofs.Common.{◌≡◌, ◌+◌, length}
 use Rattle.bw_tree.specs.Shares.{sum_of}
-use Rattle.bw_tree.proofs.share.gather.Given as goal
+use Rattle.bw_tree.proofs.ledgers.merge.Given as goal
 
 abbrev pub invariant-shares : goal.invariant-shares
 invariant-shares g l = record {

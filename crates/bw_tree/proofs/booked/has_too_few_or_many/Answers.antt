@@ -1,5 +1,0 @@
-use Rattle.std.proofs.Common.{rules}
-use Rattle.bw_tree.proofs.booked.has_too_few_or_many.Goals as goal
-
-pub returns : goal.returns
-returns c = search rules
