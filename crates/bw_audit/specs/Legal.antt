@@ -1,5 +1,5 @@
 -- What makes a history legal: one order of its changes explains every reply.
-use Rattle.std.specs.Prelude.{ℕ, ◌+◌, ◌-◌, ◌==◌, ◌≡◌, ◌≤◌, ◌<◌, not, Bool, true, cond, List, [], ◌∷◌, length, Option, Some, None, nat_lt}
+use Rattle.std.specs.Prelude.{ℕ, ◌+◌, ◌-◌, ◌==◌, ◌≡◌, ◌≤◌, ◌<◌, not, Bool, true, cond, List, [], ◌∷◌, length, nat_lt}
 use Rattle.std.specs.List.{AllByRecursion}
 use Rattle.bw_delta.specs.Entries.{at}
 use Rattle.bw_step.specs.declared.receipt.Receipt.{Receipt}
