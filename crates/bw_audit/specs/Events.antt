@@ -32,7 +32,7 @@ world_left replayed = world_of replayed.table (lists_of replayed.trails.items)
 abbrev pub Replays : World → List Event → Replayed → Type 0
 Replays world events replayed = IsInterleaving world (map turn_of events) (world_left replayed)
 
--- a bad configuration is named by its first bad field, and memory is asked for only with a good one
+-- a bad configuration is named by its first bad field, and memory runs out only under a good one
 abbrev pub IsReplayFault : Config → ReplayFault → Type 0
 IsReplayFault config (BadConfig bad) = first_bad_field config ≡ Some bad.0
 IsReplayFault config NoMemory = first_bad_field config ≡ None
