@@ -1,5 +1,5 @@
 -- What one more receipt of a worker makes of the changes.
-use Rattle.std.proofs.Common.{◌≡◌, ◌+◌, ◌-◌, ◌<◌, ◌≤◌, ◌==◌, ◌++◌, ℕ, zero, suc, true, false, cond, List, [], ◌∷◌, length, Option, Some, None, refl, arith, sym, ◌∙◌, ap, subst, append_assoc, append-nil, length-append}
+use Rattle.std.proofs.Common.{◌≡◌, ◌+◌, ◌<◌, ◌≤◌, ◌==◌, ◌++◌, ℕ, zero, suc, true, false, cond, List, [], ◌∷◌, length, Option, Some, None, refl, arith, sym, ◌∙◌, ap, subst, append_assoc, append-nil}
 use Rattle.std.proofs.Common.{get_or, map}
 use Rattle.std.specs.Prelude.{slice_set, replicate}
 use Rattle.std.proofs.lemmas.Bool.Decides.{nat_tests}
@@ -7,7 +7,7 @@ use Rattle.std.specs.List.{AllByRecursion}
 use Rattle.bw_step.specs.declared.receipt.Receipt.{Receipt}
 use Rattle.bw_audit.specs.declared.change.Change.{Change}
 use Rattle.bw_audit.specs.Changes.{add_change, all_changes, bearer, change_of, changed_by, changes_of, value_at}
-use Rattle.bw_audit.specs.Legal.{AllRise, IsTrueReply, position_after, rises_from, times_borne}
+use Rattle.bw_audit.specs.Legal.{times_borne}
 use Rattle.bw_audit.specs.Replays.{add_receipts}
 
 module _ {X : Type 0} where

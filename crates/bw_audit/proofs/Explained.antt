@@ -1,29 +1,25 @@
 -- The trails of every interleaving explain its table: that holds of the new one, and each turn keeps it.
-use Rattle.std.proofs.Common.{◌≡◌, ◌≢◌, ◌↔◌, ◌⊎◌, inl, inr, ◌+◌, ◌-◌, ◌<◌, ◌≤◌, ◌==◌, ◌++◌, ◌^◌, ℕ, zero, suc, true, false, cond, List, [], ◌∷◌, length, Option, Some, None, refl, arith, sym, ◌∙◌, ap, subst}
+use Rattle.std.proofs.Common.{◌≡◌, ◌≢◌, ◌↔◌, ◌-◌, ◌<◌, ◌≤◌, ◌==◌, ◌++◌, ℕ, suc, true, false, cond, List, [], ◌∷◌, length, Option, Some, None, refl, arith, sym, ◌∙◌, ap, subst}
 use Rattle.std.specs.Prelude.{nat_lt, unwrap_or}
 use Rattle.std.proofs.lemmas.Bool.Decides.{nat_tests}
 use Rattle.std.specs.List.{AllByRecursion}
-use Rattle.bw_keys.specs.declared.config.Config.{Config}
-use Rattle.bw_keys.specs.Limits.{first_bad_field}
 use Rattle.bw_delta.specs.Entries.{at}
 use Rattle.bw_step.specs.declared.receipt.Receipt.{Receipt}
 use Rattle.bw_step.specs.declared.receipt.Receipt.TheVariants.{Looked}
 use Rattle.bw_step.specs.Proposals.{Proposal, insert, delete, modify}
 use Rattle.bw_step.specs.Tellings.{Telling, change, look, shape, telling_of}
-use Rattle.bw_law.specs.Slots.{SlotValue, pairs_in}
+use Rattle.bw_law.specs.Slots.{pairs_in}
 use Rattle.bw_law.specs.Tables.{TableValue, slot_at, number_of, book_with, Lawful, Booked, Maps, SameMap, ChangesKey, TellsMap}
 use Rattle.bw_law.specs.Laws.{KeptBy}
 use Rattle.bw_law.specs.Refusals.{refusal}
 use Rattle.bw_law.specs.Effects.{after, slots_after, receipt_of}
-use Rattle.bw_law.specs.Runs.{next_table}
 use Rattle.bw_law.proofs.AllSteps.{step_law}
-use Rattle.bw_law.proofs.NewTable.{new_law}
 use Rattle.bw_audit.specs.declared.change.Change.{Change}
-use Rattle.bw_audit.specs.Changes.{add_change, all_changes, bearer, change_of, change_told, changed_by, changes_of, value_at}
+use Rattle.bw_audit.specs.Changes.{all_changes, bearer, change_of, change_told, changed_by, value_at}
 use Rattle.bw_audit.specs.Legal.{AllRise, IsTrueOf, position_after, rises_from, times_borne}
 use Rattle.bw_audit.specs.Explained.{IsWithin, IsFine, IsFineTrail, Explains}
-use Rattle.bw_audit.specs.Replays.{World, Deed, proposes, looks, Turn, IsLookAt, step_receipts, Does, add_receipts, LeadsTo, IsInterleaving, first_world, IsTurnOf, InterleavingLaw}
-use Rattle.bw_audit.proofs.Adding.{all-map, all-snoc, all_added, added_length, none_added, silent_changes, unborne, IsOneMore, one_more, value_before}
+use Rattle.bw_audit.specs.Replays.{IsLookAt, add_receipts}
+use Rattle.bw_audit.proofs.Adding.{all-map, all-snoc, all_added, silent_changes, unborne, one_more, value_before}
 
 pub same_options : (o p : Option ℕ) → ((v : ℕ) → (o ≡ Some v) ↔ (p ≡ Some v)) → o ≡ p
 same_options None None h = refl

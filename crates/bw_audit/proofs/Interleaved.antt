@@ -1,13 +1,13 @@
 -- Every interleaving explains its table, so its trails and its map are a legal history.
-use Rattle.std.proofs.Common.{◌≡◌, ◌+◌, ◌<◌, ◌≤◌, ◌^◌, ◌++◌, ℕ, zero, suc, true, false, List, [], ◌∷◌, length, Option, Some, None, refl, arith, sym, ◌∙◌, ap, subst}
-use Rattle.std.specs.Prelude.{is_none, if◌then◌else◌, replicate}
+use Rattle.std.proofs.Common.{◌≡◌, ◌<◌, ◌^◌, ℕ, zero, suc, true, List, [], ◌∷◌, length, Some, None, refl, arith, sym, ◌∙◌, ap, subst}
+use Rattle.std.specs.Prelude.{replicate}
 use Rattle.std.specs.List.{AllByRecursion}
 use Rattle.bw_keys.specs.declared.config.Config.{Config}
 use Rattle.bw_keys.specs.Limits.{first_bad_field}
 use Rattle.bw_delta.specs.Entries.{at}
 use Rattle.bw_step.specs.declared.receipt.Receipt.{Receipt}
 use Rattle.bw_step.specs.Proposals.{Proposal}
-use Rattle.bw_law.specs.Tables.{TableValue, Lawful, new_table}
+use Rattle.bw_law.specs.Tables.{TableValue, Lawful}
 use Rattle.bw_law.specs.Laws.{IsTheMap}
 use Rattle.bw_law.specs.Refusals.{refusal}
 use Rattle.bw_law.specs.Effects.{after, receipt_of, TakesStep}
@@ -26,7 +26,7 @@ use Rattle.bw_table.specs.Views.{look_at}
 use Rattle.bw_audit.specs.Replays.{IsLookAt}
 use Rattle.bw_audit.specs.Changes.{all_changes}
 use Rattle.bw_audit.specs.Legal.{AllRise, IsLegal, IsTrueReply}
-use Rattle.bw_audit.specs.Replays.{World, Deed, proposes, looks, Turn, step_receipts, Does, add_receipts, LeadsTo, IsInterleaving, first_world, IsTurnOf, InterleavingLaw}
+use Rattle.bw_audit.specs.Replays.{World, DeedValue, proposes, looks, Turn, Does, add_receipts, LeadsTo, IsInterleaving, first_world, IsTurnOf, InterleavingLaw}
 use Rattle.bw_audit.proofs.Adding.{all-map, added_length, none_added}
 use Rattle.bw_audit.specs.Explained.{Explains, IsFine, IsFineTrail}
 use Rattle.bw_audit.proofs.Explained.{same_options, step_keeps, look_keeps}
@@ -96,7 +96,7 @@ module _ (table : TableValue) (trails : List (List Receipt)) (is : Explains tabl
   pub look_turn_keeps : (key : ℕ) (next : TableValue) (receipts : List Receipt) → Does table (looks key) next receipts → Explains next (add_receipts trails worker receipts)
   look_turn_keeps key next receipts does = rw (does.0, does.1.1) (look_keeps table trails is worker inside key does.1.0 does.1.2)
 
-  pub turn_keeps : (deed : Deed) (next : TableValue) (receipts : List Receipt) → Does table deed next receipts → Explains next (add_receipts trails worker receipts)
+  pub turn_keeps : (deed : DeedValue) (next : TableValue) (receipts : List Receipt) → Does table deed next receipts → Explains next (add_receipts trails worker receipts)
   turn_keeps (proposes step) next receipts does = step_turn_keeps step next receipts does
   turn_keeps (looks key) next receipts does = look_turn_keeps key next receipts does
 

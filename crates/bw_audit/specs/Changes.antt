@@ -4,7 +4,7 @@ use Rattle.bw_step.specs.declared.receipt.Receipt.{Receipt}
 use Rattle.bw_step.specs.Tellings.{Telling, change, telling_of}
 use Rattle.bw_audit.specs.declared.change.Change.{Change}
 
--- the change that is told of, if a change is
+-- the change of a telling, if it is of one
 abbrev pub change_told : Telling → Option Change
 change_told (change number key before after) = Some (record { number = number; key = key; before = before; after = after })
 change_told told = None

@@ -8,7 +8,7 @@ use Rattle.bw_audit.specs.declared.change.Change.{Change}
 use Rattle.bw_audit.specs.Changes.{all_changes, bearer, value_at}
 use Rattle.bw_audit.specs.Legal.{AllRise, IsTrueReply, times_borne}
 
--- the position of what is told isn't above the count of changes
+-- the position of a telling isn't above the count of changes
 abbrev pub IsWithin : ℕ → Telling → Type 0
 IsWithin n (change number key before after) = number ≤ n
 IsWithin n (look seen key found) = seen ≤ n

@@ -1,6 +1,7 @@
--- What an index of changes keeps: where each number is first borne, and what each key has by each number.
+-- What an index of changes keeps: the first place of each number, and the value of each key after each number.
 use Rattle.std.specs.Prelude.{ℕ, ◌≡◌, ◌==◌, cond, suc, List, [], ◌∷◌, Option, Some, None, option_map}
 use Rattle.std.specs.Ordering.{nat_cmp, ordering_then}
+use Rattle.std.specs.BTreeMap.{BTreeMap, get}
 use Rattle.std.specs.declared.cmp.Ordering.{Ordering}
 use Rattle.bw_audit.specs.declared.change.Change.{Change}
 use Rattle.bw_audit.specs.Changes.{bearer}
@@ -22,3 +23,7 @@ pair_cmp a b = ordering_then (nat_cmp a.0 b.0) (nat_cmp a.1 b.1)
 pub record IsIndexOf (changes : List Change) (places : ℕ → Option ℕ) (values : ℕ × ℕ → Option (Option ℕ)) : Type 0 where
   pub placed : (number : ℕ) → places number ≡ first_place changes number
   pub valued : (number key : ℕ) → values (key, number) ≡ value_there (bearer changes number) key
+
+-- the maps are an index of the changes
+abbrev pub Indexes : BTreeMap ℕ ℕ → BTreeMap (ℕ × ℕ) (Option ℕ) → List Change → Type 0
+Indexes places values changes = IsIndexOf changes (get nat_cmp places) (get pair_cmp values)

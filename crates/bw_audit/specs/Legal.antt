@@ -1,5 +1,5 @@
 -- What makes a history legal: one order of its changes explains every reply.
-use Rattle.std.specs.Prelude.{ℕ, ◌+◌, ◌-◌, ◌==◌, ◌≡◌, ◌≤◌, ◌<◌, not, Bool, true, cond, List, [], ◌∷◌, length, Option, Some, None, nat_lt}
+use Rattle.std.specs.Prelude.{ℕ, ◌+◌, ◌-◌, ◌==◌, ◌≡◌, ◌≤◌, ◌<◌, not, Bool, true, cond, List, [], ◌∷◌, length, nat_lt}
 use Rattle.std.specs.List.{AllByRecursion}
 use Rattle.bw_delta.specs.Entries.{at}
 use Rattle.bw_step.specs.declared.receipt.Receipt.{Receipt}
@@ -24,7 +24,7 @@ abbrev pub AllRise : ℕ → List Receipt → Type 0
 AllRise last [] = Unit {0}
 AllRise last (r ∷ rs) = (rises_from last (telling_of r) ≡ true) × AllRise (position_after last (telling_of r)) rs
 
--- what is told of the map is so: what a key had before a change, or what a look found
+-- a telling is true of the map: what a key had before a change, or what a look found
 abbrev pub IsTrueOf : List Change → Telling → Type 0
 IsTrueOf cs (change number key before after) = value_at cs (number - 1) key ≡ before
 IsTrueOf cs (look seen key found) = (seen ≤ length cs) × (value_at cs seen key ≡ found)

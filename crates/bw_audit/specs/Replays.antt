@@ -1,5 +1,5 @@
 -- Interleavings: what events do to a table and to the trails of its workers, one after the other.
-use Rattle.std.specs.Prelude.{◌≡◌, ◌≢◌, ◌↔◌, ℕ, zero, suc, ◌<◌, ◌^◌, List, [], ◌∷◌, ◌++◌, Option, Some, None, is_none, if◌then◌else◌, replicate}
+use Rattle.std.specs.Prelude.{◌≡◌, ℕ, zero, suc, ◌<◌, ◌^◌, List, [], ◌∷◌, ◌++◌, Option, None, is_none, if◌then◌else◌, replicate}
 use Rattle.std.specs.List.{AllByRecursion}
 use Rattle.bw_keys.specs.declared.config.Config.{Config}
 use Rattle.bw_keys.specs.Limits.{first_bad_field}
@@ -19,13 +19,13 @@ pub record World : Type 0 where
   pub trails : List (List Receipt)
 
 -- what a worker does: it proposes a step, or looks at a key
-pub data Deed : Type 0 where
-  proposes : Proposal → Deed
-  looks : ℕ → Deed
+pub data DeedValue : Type 0 where
+  proposes : Proposal → DeedValue
+  looks : ℕ → DeedValue
 
 pub record Turn : Type 0 where
   pub worker : ℕ
-  pub deed : Deed
+  pub deed : DeedValue
 
 -- the look's receipt: the book's number, and what the map has
 pub record IsLookAt (table : TableValue) (key : ℕ) (receipt : Receipt) : Type 0 where
@@ -38,7 +38,7 @@ abbrev pub step_receipts : TableValue → Proposal → List Receipt
 step_receipts table step = if is_none (refusal table step) then receipt_of table step ∷ [] else []
 
 -- what a deed makes of the table, and the receipts that it adds
-abbrev pub Does : TableValue → Deed → TableValue → List Receipt → Type 0
+abbrev pub Does : TableValue → DeedValue → TableValue → List Receipt → Type 0
 Does table (proposes step) next receipts = (next ≡ next_table table step) × (receipts ≡ step_receipts table step)
 Does table (looks key) next receipts = (next ≡ table) × ((receipt : Receipt) × (receipts ≡ receipt ∷ []) × IsLookAt table key receipt)
 
@@ -59,16 +59,23 @@ abbrev pub IsInterleaving : World → List Turn → World → Type 0
 IsInterleaving world [] last = last ≡ world
 IsInterleaving world (turn ∷ turns) last = (next : World) × LeadsTo world turn next × IsInterleaving next turns last
 
--- a new table, and an empty trail for each worker
+-- a table, and an empty trail for each worker
+abbrev pub world_on : TableValue → ℕ → World
+world_on table workers = record { table = table; trails = replicate workers [] }
+
 abbrev pub first_world : Config → ℕ → World
-first_world config workers = record { table = new_table config; trails = replicate workers [] }
+first_world config workers = world_on (new_table config) workers
 
 abbrev pub IsTurnOf : ℕ → Turn → Type 0
 IsTurnOf workers turn = turn.worker < workers
 
--- whatever the workers propose, and in whatever order, the trails and the map are a legal history
+-- the trails and the pairs of the map are a legal history
+abbrev pub HasLegalHistory : World → Type 0
+HasLegalHistory world = (pairs : List (ℕ × ℕ)) → IsTheMap world.table pairs → IsLegal world.trails pairs
+
+-- whatever the workers propose, and in whatever order, their history is legal
 abbrev pub InterleavingLaw : Type 0
 InterleavingLaw =
-    (config : Config) (workers : ℕ) (turns : List Turn) (last : World) → first_bad_field config ≡ None → config.first_version < 2 ^ 64
-    → AllByRecursion (IsTurnOf workers) turns → IsInterleaving (first_world config workers) turns last
-    → (pairs : List (ℕ × ℕ)) → IsTheMap last.table pairs → IsLegal last.trails pairs
+    (config : Config) (workers : ℕ) (turns : List Turn) (last : World) → first_bad_field config ≡ None
+    → config.first_version < 2 ^ 64 → AllByRecursion (IsTurnOf workers) turns
+    → IsInterleaving (first_world config workers) turns last → HasLegalHistory last

@@ -21,14 +21,14 @@ is_bad_change cs before c = is_misnumbered cs before c.number || not (option_eq 
 abbrev pub is_bad_look : List Change → ℕ → ℕ → Option ℕ → Bool
 is_bad_look cs seen key found = nat_lt (length cs) seen || not (option_eq nat_eq (value_at cs seen key) found)
 
--- what is told, with so many changes before it, and with this position before it in its trail, is bad
+-- a telling is bad, with this number of changes before it, and this position before it in its trail
 abbrev pub is_bad : List Change → ℕ → ℕ → Telling → Bool
 is_bad cs before last (change number key had has) =
     not (rises_from last (change number key had has)) || is_bad_change cs before (record { number = number; key = key; before = had; after = has })
 is_bad cs before last (look seen key found) = not (rises_from last (look seen key found)) || is_bad_look cs seen key found
 is_bad cs before last shape = false
 
--- the place of the first bad receipt of a trail, of which so many are passed
+-- the place of the first bad receipt of a trail, where the first stands at this place
 abbrev pub first_bad : List Change → ℕ → ℕ → ℕ → List Receipt → Option ℕ
 first_bad cs before last place [] = None
 first_bad cs before last place (r ∷ rs) =

@@ -15,17 +15,23 @@ use bw_keys::Key;
 use bw_step::Receipt;
 use std::alloc::Global;
 
-/// Whether the receipts of all workers have one order that explains every reply and leaves these
-/// pairs, or else the first bad receipt. Each trail has one worker's receipts in the order in which
-/// they came; receipts of changed shape are passed over. A receipt is bad when
+/// Audits a history: returns whether one order of the changes explains every reply and leaves the
+/// pairs, or else the first bad receipt.
 ///
-/// - it is a change that isn't numbered above what stands before it in its trail, or a look that saw
+/// Each trail has one worker's receipts, in their order. Receipts of changed shape are skipped. A
+/// receipt is bad if
+///
+/// - it is a change whose number isn't above what stands before it in its trail, or a look that saw
 ///   fewer changes;
-/// - it is a change whose number is 0 or above the count of all changes, or is borne by an earlier
-///   receipt, or it is a look that saw more changes than there are;
-/// - its reply isn't what the map has after the changes with the smaller numbers.
+/// - it is a change whose number is 0, above the count of all changes, or that of an earlier
+///   receipt, or a look that saw more changes than there are;
+/// - its reply isn't what the map has after the changes with smaller numbers.
 ///
-/// The time is that of n searches in an index of n changes, where n receipts and pairs are given.
+/// Takes O(n log n) time for n receipts and pairs.
+///
+/// # Errors
+///
+/// Fails only if memory runs out.
 #[tactic(auto, using(crate::proofs::Converse::yes_exactly))]
 pub fn audit(
     machine: Global,
@@ -33,7 +39,8 @@ pub fn audit(
     pairs: &[(Key, u64)],
 ) -> Result<Verdict, AuditFault>
     requires ascending { IsAscending pairs.now }
-    ensures legal { IfOk result (λ verdict. (verdict ≡ Verdict.Yes) ↔ IsLegal (lists_of trails.now) pairs.now) }
+    ensures legal { IfOk result (λ verdict.
+        (verdict ≡ Verdict.Yes) ↔ IsLegal (lists_of trails.now) pairs.now) }
     ensures first { IfOk result (λ verdict. verdict ≡ verdict_of (lists_of trails.now) pairs.now) }
 {
     let changes = gather(machine, trails)?;
@@ -41,7 +48,7 @@ pub fn audit(
     Ok(judge(&index, trails, pairs))
 }
 
-/// Whether the keys of the pairs rise strictly, as those of an audit do.
+/// Returns whether the keys of the pairs rise strictly, as [`audit`] requires.
 pub fn is_ascending(pairs: &[(Key, u64)]) -> bool
     ensures { result ≡ rises 0 key_count pairs.now }
 {
@@ -58,7 +65,7 @@ pub fn is_ascending(pairs: &[(Key, u64)]) -> bool
     true
 }
 
-/// The first bad receipt, or else whether the changes leave the pairs.
+/// Returns the first bad receipt, or else whether the changes leave the pairs.
 fn judge(index: &Index, trails: &[Vec<Receipt>], pairs: &[(Key, u64)]) -> Verdict
     requires ascending { IsAscending pairs.now }
     requires indexed { index.now ≡ all_changes (lists_of trails.now) }
@@ -74,7 +81,7 @@ fn judge(index: &Index, trails: &[Vec<Receipt>], pairs: &[(Key, u64)]) -> Verdic
     }
 }
 
-/// Whether the map after all changes has each of the pairs.
+/// Returns whether the map after all changes has each of the pairs.
 fn do_pairs_hold(index: &Index, pairs: &[(Key, u64)]) -> bool
     ensures { result ≡ pairs_hold index.now pairs.now }
 {
@@ -86,7 +93,7 @@ fn do_pairs_hold(index: &Index, pairs: &[(Key, u64)]) -> bool
     true
 }
 
-/// Whether the pairs have, at each key that was changed, what the map has after all changes.
+/// Returns whether the pairs have, at each changed key, what the map has after all changes.
 fn do_changes_hold(index: &Index, pairs: &[(Key, u64)]) -> bool
     requires ascending { IsAscending pairs.now }
     ensures { result ≡ changes_hold index.now pairs.now index.now }
@@ -99,7 +106,7 @@ fn do_changes_hold(index: &Index, pairs: &[(Key, u64)]) -> bool
     true
 }
 
-/// What the pairs have at the key.
+/// Returns the value of the key among the pairs.
 #[tactic(auto, using(bw_chain::proofs::Firsts::stands_at))]
 fn value_among(pairs: &[(Key, u64)], key: Key) -> Option<u64>
     requires ascending { IsAscending pairs.now }
@@ -111,7 +118,7 @@ fn value_among(pairs: &[(Key, u64)], key: Key) -> Option<u64>
     }
 }
 
-/// The pairs from the key on, by halving.
+/// Returns the pairs from the key on, by binary search.
 fn from_key(pairs: &[(Key, u64)], key: Key) -> &[(Key, u64)]
     requires ascending { IsAscending pairs.now }
     ensures { result.now ≡ from key pairs.now }

@@ -7,8 +7,8 @@ use bw_keys::Key;
 use bw_step::Receipt;
 use std::alloc::Global;
 
-/// One change of the map: what the key had before it, and what it has after it. Each kind of
-/// receipt that changes the map tells of one, so the rules are the same for all of them.
+/// A change of the map, with the value of the key before and after it. Each kind of receipt of a
+/// change is one, so that the rules are the same for all.
 #[derive(Clone, Copy, Debug, PartialEq, Eq)]
 pub struct Change {
     pub number: u64,
@@ -18,7 +18,7 @@ pub struct Change {
 }
 
 impl Change {
-    /// The change that a receipt tells of, if it tells of one.
+    /// Returns the change of a receipt, if it is of one.
     pub fn of(receipt: &Receipt) -> Option<Change>
         ensures { result ≡ change_of receipt.now }
     {
@@ -51,7 +51,7 @@ impl Change {
     }
 }
 
-/// Adds the changes of a trail to the list.
+/// Appends the changes of a trail to the list.
 fn gather_trail(changes: &mut Vec<Change>, trail: &[Receipt]) -> Result<(), AuditFault>
     ensures { OnOk result (changes.new.items ≡ changes.old.items ++ changes_of trail.now) }
 {
@@ -63,7 +63,7 @@ fn gather_trail(changes: &mut Vec<Change>, trail: &[Receipt]) -> Result<(), Audi
     Ok(())
 }
 
-/// The changes of all trails, worker by worker.
+/// Returns the changes of all trails, worker by worker.
 pub fn gather(machine: Global, trails: &[Vec<Receipt>]) -> Result<Vec<Change>, AuditFault>
     ensures { IfOk result (λ changes. changes.items ≡ all_changes (lists_of trails.now)) }
 {

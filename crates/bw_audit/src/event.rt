@@ -4,7 +4,7 @@ use std::alloc::Global;
 
 /// What a worker does: it proposes a step, or looks at a key.
 #[derive(Drop)]
-pub enum Act {
+pub enum Deed {
     Step(Step<Global>),
     Look(Key),
 }
@@ -14,5 +14,5 @@ pub enum Act {
 pub struct Event {
     /// The worker, counted from 0.
     pub worker: u32,
-    pub act: Act,
+    pub act: Deed,
 }

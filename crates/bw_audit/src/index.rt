@@ -1,8 +1,6 @@
 ghost use Rattle.std.specs.Prelude.{◌≡◌, ◌+◌, ◌<◌, IfOk, OnOk, length, take, is_some};
-ghost use Rattle.std.specs.Ordering.{nat_cmp};
-ghost use Rattle.std.specs.BTreeMap.{get};
 ghost use Rattle.bw_audit.specs.Changes.{bearer, value_at};
-ghost use Rattle.bw_audit.specs.Indexed.{IsIndexOf, pair_cmp};
+ghost use Rattle.bw_audit.specs.Indexed.{Indexes};
 
 use crate::change::Change;
 use crate::verdict::AuditFault;
@@ -11,32 +9,30 @@ use std::alloc::Global;
 use std::collections::BTreeMap;
 use std::marker::Model;
 
-/// The changes of a history, found by number and by key. Contracts see the list of changes.
+/// The changes of a history, by number and by key. Contracts see the list of changes.
 #[derive(Drop)]
 pub struct Index {
     changes: Vec<Change>,
-    /// Where a number is first borne.
+    /// The first place of each number.
     places: BTreeMap<u64, usize>,
-    /// What a key has after the change with a number, if that is a change of the key.
+    /// The value of a key after the change with a number, if that is a change of the key.
     values: BTreeMap<(Key, u64), Option<u64>>,
 }
 
 impl Model for Index {
     ghost use Rattle.std.specs.Prelude.{List};
-    ghost use Rattle.std.specs.Ordering.{nat_cmp};
-    ghost use Rattle.std.specs.BTreeMap.{get};
     ghost use Rattle.bw_audit.specs.declared.change.Change.{Change};
-    ghost use Rattle.bw_audit.specs.Indexed.{IsIndexOf, pair_cmp};
+    ghost use Rattle.bw_audit.specs.Indexed.{Indexes};
 
     ghost Value = { List Change };
 
     ghost view = { λ s. s.changes.items };
 
-    ghost invariant = { λ s. IsIndexOf s.changes.items (get nat_cmp s.places) (get pair_cmp s.values) };
+    ghost invariant = { λ s. Indexes s.places s.values s.changes.items };
 }
 
 impl Index {
-    /// The index of the changes, each entered once, in their order.
+    /// Returns the index of the changes.
     pub fn new(machine: Global, changes: Vec<Change>) -> Result<Index, AuditFault>
         ensures { IfOk result (λ index. index ≡ changes.items) }
     {
@@ -52,21 +48,21 @@ impl Index {
         })
     }
 
-    /// The changes, in the order of their receipts.
+    /// Returns the changes, in the order of their receipts.
     pub fn changes(&self) -> &[Change]
         ensures { result.now ≡ self.now }
     {
         self.changes.as_slice()
     }
 
-    /// How many changes there are.
+    /// Returns the number of changes.
     pub fn count(&self) -> u64
         ensures { result ≡ length self.now }
     {
         self.changes.len() as u64
     }
 
-    /// Whether one of the first `before` changes bears the number.
+    /// Returns whether one of the first `before` changes has the number.
     #[tactic(auto, using(crate::proofs::Indexing::borne_before))]
     pub fn is_borne_before(&self, before: usize, number: u64) -> bool
         ensures { result ≡ is_some (bearer (take before self.now) number) }
@@ -77,7 +73,7 @@ impl Index {
         }
     }
 
-    /// What the key has after the changes numbered 1 to `number`.
+    /// Returns the value of the key after the changes 1 to `number`.
     pub fn value_after(&self, number: u64, key: Key) -> Option<u64>
         ensures { result ≡ value_at self.now number key }
     {
@@ -91,7 +87,7 @@ impl Index {
     }
 }
 
-/// Enters the change at a place, unless an earlier one bears its number.
+/// Enters the change at a place, unless an earlier one has its number.
 fn enter(
     places: &mut BTreeMap<u64, usize>,
     values: &mut BTreeMap<(Key, u64), Option<u64>>,
@@ -99,8 +95,8 @@ fn enter(
     place: usize,
 ) -> Result<(), AuditFault>
     requires inside { place < length changes.now }
-    requires index { IsIndexOf (take place changes.now) (get nat_cmp places.old) (get pair_cmp values.old) }
-    ensures { OnOk result (IsIndexOf (take (place + 1) changes.now) (get nat_cmp places.new) (get pair_cmp values.new)) }
+    requires index { Indexes places.old values.old (take place changes.now) }
+    ensures { OnOk result (Indexes places.new values.new (take (place + 1) changes.now)) }
 {
     let change = &changes[place];
     if places.contains_key(&change.number) {

@@ -1,5 +1,5 @@
-//! Whether the receipts of several workers have one order that explains each of them, and the
-//! replay of a run, event by event, on a new table.
+//! The audit of a history: whether one order of its changes explains each receipt. And the replay
+//! of a run, event by event, on a new table.
 #![tactic(auto)]
 
 mod auditor;
@@ -12,7 +12,7 @@ mod rules;
 mod verdict;
 
 pub use auditor::{audit, is_ascending};
-pub use event::{Act, Event};
+pub use event::{Deed, Event};
 pub use law::every_interleaving_is_legal;
 pub use replayer::{ReplayFault, Replayed, replay};
 pub use verdict::{AuditFault, Verdict};

@@ -1,15 +1,13 @@
-ghost use Rattle.std.specs.Prelude.{◌≡◌, ◌<◌, ◌^◌, ℕ, List, None, IsOk, IfOk, IfErr, OnOk, map, length, replicate, ◌∷◌, []};
+ghost use Rattle.std.specs.Prelude.{◌≡◌, ◌<◌, None, IsOk, IfOk, IfErr, OnOk, length, replicate, ◌∷◌, []};
 ghost use Rattle.std.specs.List.{AllByRecursion};
 ghost use Rattle.bw_keys.specs.Limits.{first_bad_field};
 ghost use Rattle.bw_step.specs.Trails.{lists_of};
 ghost use Rattle.bw_law.specs.Tables.{Lawful};
-ghost use Rattle.bw_law.specs.Laws.{IsTheMap};
-ghost use Rattle.bw_audit.specs.Events.{turn_of, world_of, IsReplayFault};
+ghost use Rattle.bw_audit.specs.Events.{turn_of, world_left, world_of, IsReplayFault, Replays};
 ghost use Rattle.bw_audit.specs.Explained.{Explains};
-ghost use Rattle.bw_audit.specs.Legal.{IsLegal};
-ghost use Rattle.bw_audit.specs.Replays.{add_receipts, first_world, IsInterleaving, IsLookAt, LeadsTo};
+ghost use Rattle.bw_audit.specs.Replays.{add_receipts, first_world, world_on, HasLegalHistory, IsLookAt, LeadsTo};
 
-use crate::event::{Act, Event};
+use crate::event::{Deed, Event};
 use bw_delta::NoMemory;
 use bw_keys::{BadConfig, Config, Key};
 use bw_step::Receipt;
@@ -25,7 +23,7 @@ pub struct Replayed {
     pub trails: Vec<Vec<Receipt>>,
 }
 
-/// Why a run wasn't replayed.
+/// Why events aren't replayed.
 #[derive(Clone, Copy, Debug, PartialEq, Eq, Error)]
 pub enum ReplayFault {
     /// A field of the configuration is out of its range.
@@ -35,8 +33,13 @@ pub enum ReplayFault {
     NoMemory,
 }
 
-/// Does the events in turn on a new table. An accepted step puts its receipt at the end of its
-/// worker's trail, and a refused one changes nothing; a look puts what it saw there.
+/// Replays the events in turn on a new table. An accepted step adds its receipt to the trail of its
+/// worker, a refused one changes nothing, and a look adds what it saw.
+///
+/// # Errors
+///
+/// Fails with [`ReplayFault::BadConfig`] if a field of `config` is out of its range, and with
+/// [`ReplayFault::NoMemory`] if memory runs out.
 pub fn replay(
     machine: Global,
     config: Config,
@@ -44,12 +47,12 @@ pub fn replay(
     events: Vec<Event>,
 ) -> Result<Replayed, ReplayFault>
     requires workers { AllByRecursion (λ event. event.worker < workers) events.items }
-    ensures interleaved { IfOk result (λ replayed. IsInterleaving (first_world config workers) (map turn_of events.items) (world_of replayed.table (lists_of replayed.trails.items))) }
-    ensures legal { IfOk result (λ replayed. (pairs : List (ℕ × ℕ)) → IsTheMap replayed.table pairs → IsLegal (lists_of replayed.trails.items) pairs) }
+    ensures interleaved { IfOk result (Replays (first_world config workers) events.items) }
+    ensures legal { IfOk result (λ replayed. HasLegalHistory (world_left replayed)) }
     ensures fine { IsOk result → first_bad_field config ≡ None }
     ensures fault { IfErr result (IsReplayFault config) }
 {
-    // That the first version fits its type is known where it is read.
+    // Reading the first version tells the prover that it fits its type.
     let _version = config.first_version;
     match Table::new(machine, machine, config) {
         Ok(table) => match take_turns(machine, table, workers, events) {
@@ -61,7 +64,7 @@ pub fn replay(
     }
 }
 
-/// Does the events in turn on a table that is new.
+/// Replays the events in turn on a new table.
 fn take_turns(
     machine: Global,
     mut table: Table<Global>,
@@ -70,8 +73,8 @@ fn take_turns(
 ) -> Result<Replayed, NoMemory>
     requires explained { Explains table (replicate workers []) }
     requires workers { AllByRecursion (λ event. event.worker < workers) events.items }
-    ensures interleaved { IfOk result (λ replayed. IsInterleaving (world_of table (replicate workers [])) (map turn_of events.items) (world_of replayed.table (lists_of replayed.trails.items))) }
-    ensures explained { IfOk result (λ replayed. Explains replayed.table (lists_of replayed.trails.items)) }
+    ensures interleaved { IfOk result (Replays (world_on table workers) events.items) }
+    ensures explained { IfOk result (λ left. Explains left.table (lists_of left.trails.items)) }
 {
     let mut trails = empty_trails(machine, workers)?;
     for event in events {
@@ -80,7 +83,7 @@ fn take_turns(
     Ok(Replayed { table, trails })
 }
 
-/// A trail for each worker, without receipts.
+/// Returns an empty trail for each worker.
 fn empty_trails(machine: Global, workers: u32) -> Result<Vec<Vec<Receipt>>, NoMemory>
     ensures { IfOk result (λ trails. lists_of trails.items ≡ replicate workers []) }
 {
@@ -91,7 +94,7 @@ fn empty_trails(machine: Global, workers: u32) -> Result<Vec<Vec<Receipt>>, NoMe
     Ok(trails)
 }
 
-/// Does one event: what it adds is put at the end of its worker's trail.
+/// Replays one event, and adds its receipt to the trail of its worker.
 fn take_turn(
     table: &mut Table<Global>,
     trails: &mut Vec<Vec<Receipt>>,
@@ -99,21 +102,22 @@ fn take_turn(
 ) -> Result<(), NoMemory>
     requires lawful { Lawful table.old }
     requires worker { event.worker < length trails.old.items }
-    ensures { OnOk result (LeadsTo (world_of table.old (lists_of trails.old.items)) (turn_of event) (world_of table.new (lists_of trails.new.items))) }
+    ensures { OnOk result (LeadsTo (world_of table.old (lists_of trails.old.items))
+        (turn_of event) (world_of table.new (lists_of trails.new.items))) }
 {
     let Event { worker, act } = event;
     match act {
-        Act::Step(step) => {
+        Deed::Step(step) => {
             if let Ok(receipt) = table.install(step) {
                 add_receipt(trails, worker, receipt)?;
             }
         }
-        Act::Look(key) => add_receipt(trails, worker, look(table, key))?,
+        Deed::Look(key) => add_receipt(trails, worker, look(table, key))?,
     }
     Ok(())
 }
 
-/// What a look at the key sees.
+/// Looks at the key, and returns the receipt.
 fn look(table: &Table<Global>, key: Key) -> Receipt
     requires lawful { Lawful table.now }
     ensures { IsLookAt table.now key result }
@@ -128,14 +132,15 @@ fn look(table: &Table<Global>, key: Key) -> Receipt
     }
 }
 
-/// Puts the receipt at the end of the worker's trail.
+/// Adds the receipt to the worker's trail.
 fn add_receipt(
     trails: &mut Vec<Vec<Receipt>>,
     worker: u32,
     receipt: Receipt,
 ) -> Result<(), NoMemory>
     requires { worker < length trails.old.items }
-    ensures { OnOk result (lists_of trails.new.items ≡ add_receipts (lists_of trails.old.items) worker (receipt ∷ [])) }
+    ensures { OnOk result (lists_of trails.new.items
+        ≡ add_receipts (lists_of trails.old.items) worker (receipt ∷ [])) }
 {
     trails[worker as usize].push(receipt)?;
     Ok(())

@@ -12,7 +12,7 @@ use crate::index::Index;
 use bw_keys::Key;
 use bw_step::Receipt;
 
-/// Whether a receipt may stand behind the position: a change above it, a look not below it.
+/// Returns whether a receipt may follow the position: a change above it, a look not below it.
 fn does_rise(last: u64, receipt: &Receipt) -> bool
     ensures { result ≡ rises_from last (telling_of receipt.now) }
 {
@@ -25,7 +25,7 @@ fn does_rise(last: u64, receipt: &Receipt) -> bool
     }
 }
 
-/// The position of what stands behind the receipt.
+/// Returns the position after the receipt.
 fn moved_on(last: u64, receipt: &Receipt) -> u64
     ensures { result ≡ position_after last (telling_of receipt.now) }
 {
@@ -38,7 +38,7 @@ fn moved_on(last: u64, receipt: &Receipt) -> u64
     }
 }
 
-/// Whether the number is none of 1 to the count, or one of the first changes bears it.
+/// Returns whether the number is none of 1 to the count, or is that of an earlier change.
 fn is_misnumbered(index: &Index, before: usize, number: u64) -> bool
     ensures { result ≡ is_misnumbered index.now before number }
 {
@@ -75,13 +75,14 @@ fn is_bad(index: &Index, before: usize, last: u64, receipt: &Receipt) -> bool
     }
 }
 
-/// The place of the first bad receipt of a trail. With none, `before` counts the trail's changes too.
+/// Returns the place of the first bad receipt of a trail. If there is none, adds the number of the
+/// trail's changes to `before`.
 fn first_bad(index: &Index, before: &mut usize, trail: &[Receipt]) -> Option<usize>
     requires { before.old + length (changes_of trail.now) ≤ length index.now }
     ensures place { result ≡ first_bad index.now before.old 0 0 trail.now }
     ensures passed { IfNone result (before.new ≡ before.old + length (changes_of trail.now)) }
 {
-    // That so many changes can be counted is known where they are.
+    // The call tells the prover that the number of changes fits its type.
     let _ = index.count();
     let mut last = 0;
     for (place, receipt) in trail.iter().enumerate() {
@@ -96,7 +97,7 @@ fn first_bad(index: &Index, before: &mut usize, trail: &[Receipt]) -> Option<usi
     None
 }
 
-/// The worker and the place of the first bad receipt.
+/// Returns the worker and the place of the first bad receipt.
 pub fn first_fault(index: &Index, trails: &[Vec<Receipt>]) -> Option<(usize, usize)>
     requires { length (all_changes (lists_of trails.now)) ≤ length index.now }
     ensures { result ≡ first_fault index.now 0 0 (lists_of trails.now) }

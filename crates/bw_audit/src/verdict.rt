@@ -5,7 +5,7 @@ use std::alloc::{AllocError, AllocFailed};
 use std::fmt;
 use thiserror::Error;
 
-/// What an auditor says of a history.
+/// The verdict of an audit.
 #[derive(Clone, Copy, Debug, PartialEq, Eq, Hash)]
 pub enum Verdict {
     /// One order of the changes explains every reply, and leaves the pairs.
@@ -27,7 +27,7 @@ impl fmt::Display for Verdict {
     }
 }
 
-/// Why a history wasn't audited.
+/// Why a history isn't audited.
 #[derive(Clone, Copy, Debug, PartialEq, Eq, Error)]
 pub enum AuditFault {
     #[error("out of memory")]

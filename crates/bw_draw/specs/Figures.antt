@@ -11,7 +11,7 @@ use Rattle.bw_law.specs.Tables.{TableValue, slot_at, pair_count}
 use Rattle.bw_draw.specs.declared.page.Page.{Page}
 use Rattle.bw_draw.specs.declared.stats.Stats.{Stats}
 use Rattle.bw_draw.specs.declared.stats.spread.Spread.{Spread}
-use Rattle.bw_draw.specs.Pictures.{pages_below}
+use Rattle.bw_draw.specs.Pictures.{pages_of}
 
 -- a number, or the greatest one of 64 bits where it is greater
 abbrev pub capped : ℕ → ℕ
@@ -36,6 +36,10 @@ is_on level page = is_in_a_row page && page.view.level == level
 abbrev pub pages_on : List Page → ℕ → ℕ
 pages_on pages level = count_by (is_on level) pages
 
+-- the sizes of the rows, from the leaves up to the root's level
+abbrev pub levels_of : List Page → ℕ → List ℕ
+levels_of pages root = map (pages_on pages) (range_with_len 0 (root + 1))
+
 abbrev pub is_same_stage : Stage → Stage → Bool
 is_same_stage Free stage = is_free stage
 is_same_stage Unposted stage = is_unposted stage
@@ -51,6 +55,14 @@ count_of page = page.view.count
 
 abbrev pub depth_of : Page → ℕ
 depth_of page = page.view.depth
+
+-- the numbers of entries of the leaves in their row, or of the inner pages in theirs
+abbrev pub counts_of : Bool → List Page → List ℕ
+counts_of leaves pages = map count_of (filter (is_of_kind leaves) pages)
+
+-- the numbers of records of the pages in rows
+abbrev pub depths_of : List Page → List ℕ
+depths_of pages = map depth_of (filter is_in_a_row pages)
 
 -- how many entries the bases of a chain list
 abbrev pub entries_stored : Records → ℕ
@@ -86,15 +98,15 @@ pub record IsSpreadOf (numbers : List ℕ) (spread : Spread) : Type 0 where
 
 -- the numbers are those of the table's pages and slots
 pub record IsStatsOf (table : TableValue) (stats : Stats) : Type 0 where
-  pub levels : stats.levels.items ≡ map (pages_on (pages_below table table.config.pages)) (range_with_len 0 ((slot_at table table.root).level + 1))
+  pub levels : stats.levels.items ≡ levels_of (pages_of table) (slot_at table table.root).level
   pub pairs : stats.pairs ≡ pair_count table.slots
   pub slots : stats.slots ≡ table.config.pages
   pub free : stats.free ≡ free_below table table.config.pages
-  pub unposted : stats.unposted ≡ count_by (is_at Unposted) (pages_below table table.config.pages)
-  pub marked : stats.marked ≡ count_by (is_at Marked) (pages_below table table.config.pages)
-  pub merged : stats.merged ≡ count_by (is_at Merged) (pages_below table table.config.pages)
-  pub leaves : IsSpreadOf (map count_of (filter (is_of_kind true) (pages_below table table.config.pages))) stats.leaves
-  pub inner : IsSpreadOf (map count_of (filter (is_of_kind false) (pages_below table table.config.pages))) stats.inner
-  pub records : IsSpreadOf (map depth_of (filter is_in_a_row (pages_below table table.config.pages))) stats.records
-  pub stored : stats.stored ≡ capped (sum_by entries_of (pages_below table table.config.pages))
-  pub links : stats.links ≡ capped (sum_by links_of (pages_below table table.config.pages))
+  pub unposted : stats.unposted ≡ count_by (is_at Unposted) (pages_of table)
+  pub marked : stats.marked ≡ count_by (is_at Marked) (pages_of table)
+  pub merged : stats.merged ≡ count_by (is_at Merged) (pages_of table)
+  pub leaves : IsSpreadOf (counts_of true (pages_of table)) stats.leaves
+  pub inner : IsSpreadOf (counts_of false (pages_of table)) stats.inner
+  pub records : IsSpreadOf (depths_of (pages_of table)) stats.records
+  pub stored : stats.stored ≡ capped (sum_by entries_of (pages_of table))
+  pub links : stats.links ≡ capped (sum_by links_of (pages_of table))

@@ -23,8 +23,12 @@ page_at table page = let slot = slot_at table page in if is_free slot.stage then
 abbrev pub pages_below : TableValue → ℕ → List Page
 pages_below table end = filter_map (page_at table) (range_with_len 0 end)
 
+-- all pages of the table
+abbrev pub pages_of : TableValue → List Page
+pages_of table = pages_below table table.config.pages
+
 -- the picture has the root, the slots and each page of the table, and no other page
 pub record IsPictureOf (table : TableValue) (picture : Picture) : Type 0 where
   pub root : picture.root ≡ root_place table
   pub slots : picture.slots ≡ table.config.pages
-  pub pages : picture.pages.items ≡ pages_below table table.config.pages
+  pub pages : picture.pages.items ≡ pages_of table

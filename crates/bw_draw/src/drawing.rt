@@ -1,4 +1,4 @@
-//! A table as a drawing: its mapping table, and its pages level by level with their chains.
+//! Drawings of a table: its mapping table, and its pages level by level with their chains.
 
 mod block;
 mod card;
@@ -41,19 +41,20 @@ const LEGEND_GAP: Length = Length(30);
 /// The least width of a drawing.
 const LEAST_WIDTH: Length = Length(580);
 
-/// Up to so many pages, each page of a picture is drawn.
+/// The most pages of a picture that is drawn whole.
 const FEW: usize = 40;
 
-/// How many leaves are drawn, where a picture has more pages.
+/// The number of leaves that are drawn of a larger picture.
 const SOME: usize = 10;
 
-/// A drawing. Its text is an SVG image, which looks right on a light and on a dark ground.
+/// A drawing, whose text is an SVG image for light and dark grounds.
 ///
-/// Up to 40 pages each page is drawn. Otherwise ten leaves in a row are, and the pages above them; among
-/// them is the first page of which a split or a merge is half done, if there is one. A page has its id,
-/// its range, its number of entries, its stage while something of it is half done, the newest records of
-/// its chain, and below them the base pages with their first entries and the last one. A number of more
-/// than nine digits is without its middle. The mapping table has the version of each page.
+/// Of a picture with at most 40 pages, each page is drawn, and of a larger one ten leaves in a row
+/// and the pages above them, with the first page whose split or merge is half done, if any. A page
+/// has its id, its range, its number of entries, its stage while it is half done, the newest
+/// records of its chain, and below them the base pages with their first entries and the last one. A
+/// number of more than nine digits is without its middle. The mapping table has the version of each
+/// page.
 #[derive(Drop)]
 pub struct Drawing {
     /// From the leaves up.
@@ -65,7 +66,7 @@ pub struct Drawing {
 }
 
 impl Drawing {
-    /// The drawing of a picture.
+    /// Draws a picture.
     pub fn of(alloc: Global, picture: &Picture) -> Result<Drawing, NoMemory> {
         let mut rows = rows_of(alloc, picture)?;
         let width = place_across(alloc, &mut rows)?;
@@ -84,7 +85,7 @@ impl Drawing {
     }
 }
 
-/// The rows from the leaves up.
+/// Returns the rows, from the leaves up.
 fn rows_of(alloc: Global, picture: &Picture) -> Result<Vec<Row>, NoMemory> {
     let mut window = if picture.pages.len() <= FEW {
         Window::Whole
@@ -102,7 +103,7 @@ fn rows_of(alloc: Global, picture: &Picture) -> Result<Vec<Row>, NoMemory> {
     Ok(rows)
 }
 
-/// The least key of the first page of which something is half done, or else the least key.
+/// Returns the least key of the first page that is half done, or else the least key.
 fn first_undone(picture: &Picture) -> Key {
     let mut pages = picture.pages.iter();
     match pages.find(|page| undone(page.view.stage).is_some()) {
@@ -111,7 +112,7 @@ fn first_undone(picture: &Picture) -> Key {
     }
 }
 
-/// Places each row over the one below it, and answers how wide the drawing is.
+/// Places each row over the one below it, and returns the width of the drawing.
 fn place_across(alloc: Global, rows: &mut [Row]) -> Result<Length, NoMemory> {
     let mut width = LEAST_WIDTH;
     let mut below = Vec::new(alloc);
@@ -123,7 +124,7 @@ fn place_across(alloc: Global, rows: &mut [Row]) -> Result<Length, NoMemory> {
     Ok(width)
 }
 
-/// Places the rows from the root's down, and answers where the last one ends.
+/// Places the rows from the root's down, and returns where the last one ends.
 fn place_down(rows: &mut [Row], top: Length) -> Length {
     let mut next = top;
     for row in rows.iter_mut().rev() {

@@ -1,4 +1,4 @@
-//! What a mapping table tells of itself: each page with its chain, numbers, and a drawing of both.
+//! Pictures of a table: its pages with their chains, its numbers, and a drawing.
 #![tactic(auto)]
 
 mod drawing;

@@ -9,7 +9,7 @@ use bw_step::{CopyFault, View};
 use bw_table::Table;
 use std::alloc::Global;
 
-/// A page as the table had it, and a copy of its chain.
+/// A page of a table, with a copy of its chain.
 #[derive(Drop)]
 pub struct Page {
     pub view: View,
@@ -18,7 +18,7 @@ pub struct Page {
 }
 
 impl Page {
-    /// The page with the id, if its slot isn't free.
+    /// Returns the page with the id, if its slot isn't free.
     pub fn of(alloc: Global, table: &Table<Global>, pid: Pid) -> Result<Option<Page>, NoMemory>
         ensures { IfOk result (λ page. page ≡ page_at table.now pid.0) }
     {

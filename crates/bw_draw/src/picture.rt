@@ -1,4 +1,4 @@
-//! The whole of a table, as its public calls tell it.
+//! The whole of a table, by its public calls.
 
 ghost use Rattle.std.specs.Prelude.{◌≡◌, ◌++◌, IfOk, OnOk, option_to_list};
 ghost use Rattle.bw_draw.specs.Pictures.{IsPictureOf, pages_below};
@@ -13,16 +13,16 @@ use std::alloc::Global;
 /// All pages of a table, with copies of their chains.
 #[derive(Drop)]
 pub struct Picture {
-    /// Where every search begins.
+    /// The root, where every search begins.
     pub root: Place,
-    /// How many slots the mapping table has.
+    /// The number of slots in the mapping table.
     pub slots: u32,
     /// The page of each slot that isn't free, in the order of their ids.
     pub pages: Vec<Page>,
 }
 
 impl Picture {
-    /// A picture of the table as it is.
+    /// Takes a picture of the table.
     pub fn of(alloc: Global, table: &Table<Global>) -> Result<Picture, NoMemory>
         ensures { IfOk result (IsPictureOf table.now) }
     {
@@ -35,7 +35,7 @@ impl Picture {
     }
 }
 
-/// The pages whose ids are below the end, in the order of their ids.
+/// Returns the pages whose ids are below the end, in the order of their ids.
 fn pages_below(alloc: Global, table: &Table<Global>, end: u32) -> Result<Vec<Page>, NoMemory>
     ensures { IfOk result (λ pages. pages.items ≡ pages_below table.now end) }
 {
@@ -46,7 +46,7 @@ fn pages_below(alloc: Global, table: &Table<Global>, end: u32) -> Result<Vec<Pag
     Ok(pages)
 }
 
-/// Puts the page behind the others, if there is one.
+/// Appends the page, if there is one.
 fn add(pages: &mut Vec<Page>, page: Option<Page>) -> Result<(), NoMemory>
     ensures { OnOk result (pages.new.items ≡ pages.old.items ++ option_to_list page) }
 {

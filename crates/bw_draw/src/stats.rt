@@ -23,34 +23,34 @@ use std::fmt;
 /// A table in numbers.
 #[derive(Debug, Drop)]
 pub struct Stats {
-    /// How many pages the row of each level has, from the leaves up.
+    /// The number of pages in the row of each level, from the leaves up.
     pub levels: Vec<usize>,
-    /// How many pairs the map has.
+    /// The number of pairs in the map.
     pub pairs: u64,
-    /// How many slots the mapping table has.
+    /// The number of slots in the mapping table.
     pub slots: u32,
-    /// How many of them have no page.
+    /// The number of slots without a page.
     pub free: u32,
-    /// How many pages wait for their term.
+    /// The number of pages that wait for their term.
     pub unposted: usize,
-    /// How many pages wait for their merge.
+    /// The number of pages that wait for their merge.
     pub marked: usize,
-    /// How many pages that were taken in wait for the end of their term.
+    /// The number of merged pages that wait for the end of their term.
     pub merged: usize,
-    /// How many pairs the leaves have.
+    /// The numbers of pairs of the leaves.
     pub leaves: Spread,
-    /// How many routes the inner pages have.
+    /// The numbers of routes of the inner pages.
     pub inner: Spread,
-    /// How many records the pages in rows have over a base, along the deepest path.
+    /// The numbers of records of the pages in rows, along the deepest path.
     pub records: Spread,
-    /// How many entries the base pages list, those too that records have changed.
+    /// The number of entries that the base pages list, with those that records have changed.
     pub stored: u64,
-    /// How many links of chains lie in boxes: one below each record, and two below a merge.
+    /// The number of links of chains in boxes: one below each record, and two below a merge.
     pub links: u64,
 }
 
 impl Stats {
-    /// The numbers of the table as it is.
+    /// Returns the numbers of the table.
     pub fn of(alloc: Global, table: &Table<Global>) -> Result<Stats, NoMemory>
         ensures { IfOk result (IsStatsOf table.now) }
     {
@@ -73,7 +73,7 @@ impl Stats {
     }
 }
 
-/// How many pairs the map has, by the book.
+/// Returns the number of pairs in the map, by the book.
 fn pairs_of(table: &Table<Global>) -> u64
     ensures { result ≡ pair_count table.now.slots }
 {
@@ -81,7 +81,7 @@ fn pairs_of(table: &Table<Global>) -> u64
     book.inserted - book.removed
 }
 
-/// How many of the slots below the end have no page.
+/// Returns the number of slots below the end without a page.
 #[tactic(auto, using(crate::proofs::Ids::counted_more))]
 fn free_slots(table: &Table<Global>, end: u32) -> u32
     ensures { result ≡ free_below table.now end }
@@ -99,7 +99,8 @@ fn is_free(table: &Table<Global>, pid: Pid) -> bool
     table.peek(pid).is_none()
 }
 
-/// A line for each number, or for several that belong together. No line feed ends the last one.
+/// Writes a line for each number, or for several that belong together. The last line has no line
+/// feed.
 impl fmt::Display for Stats {
     fn fmt<W: fmt::Write>(&self, f: &mut fmt::Formatter<W>) -> fmt::Result {
         writeln!(f, "levels {}", self.levels.len())?;

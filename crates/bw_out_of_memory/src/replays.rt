@@ -3,7 +3,7 @@
 ghost use Rattle.std.specs.Prelude.{◌≡◌};
 
 use crate::ending::{Ending, Stop, hold};
-use bw_audit::{Act, Event, ReplayFault, Replayed, Verdict, audit, is_ascending, replay};
+use bw_audit::{Deed, Event, ReplayFault, Replayed, Verdict, audit, is_ascending, replay};
 use bw_delta::Spare;
 use bw_keys::{Key, Pid, Version};
 use bw_step::{Insert, Receipt, Step};
@@ -22,7 +22,7 @@ fn insert(worker: u32, key: Key, spare: Spare<Global>) -> Event
     };
     Event {
         worker,
-        act: Act::Step(Step::Insert(step)),
+        act: Deed::Step(Step::Insert(step)),
     }
 }
 
@@ -31,7 +31,7 @@ fn look(worker: u32, key: Key) -> Event
 {
     Event {
         worker,
-        act: Act::Look(key),
+        act: Deed::Look(key),
     }
 }
 

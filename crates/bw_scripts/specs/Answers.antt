@@ -1,4 +1,4 @@
--- What the answer to a line says of the table before it and behind it.
+-- What the answer to a line says of the table before and after it.
 use Rattle.std.specs.Prelude.{◌≡◌, ℕ, Option, Some, None}
 use Rattle.bw_keys.specs.declared.config.Config.{Config}
 use Rattle.bw_keys.specs.declared.page.Pid.{Pid}
@@ -14,8 +14,8 @@ use Rattle.bw_table.specs.Visits.{visit_at}
 use Rattle.bw_scripts.specs.declared.answer.Answer.{Answer}
 use Rattle.bw_scripts.specs.declared.answer.Answer.TheVariants as answers
 
--- the answer to a step or a question: a step is taken or refused by the law, and what is told of the
--- table is so; that `check` foretells another answer than `install` gives is never told
+-- the answer to a step or a question: a step is taken or refused by the law, and what is said of the
+-- table is so; `check` never foretells another answer than `install` gives
 abbrev pub IsTold : TableValue → Answer → TableValue → Type 0
 IsTold old answers.Made new = ⊥
 IsTold old (answers.BadConfig bad) new = ⊥
@@ -39,7 +39,7 @@ IsToldOf (Some old) answer (Some new) = IsTold old answer new
 IsToldOf (Some old) answer None = ⊥
 IsToldOf None answer new = ⊥
 
--- the answer to a line: a new table, none by a configuration that is bad, or what is told of the table
+-- the answer to a line: a new table, none by a bad configuration, or what is said of the table
 abbrev pub IsAnswer : Option TableValue → Answer → Option TableValue → Type 0
 IsAnswer old answers.Made new = (config : Config) × (first_bad_field config ≡ None) × (new ≡ Some (new_table config))
 IsAnswer old (answers.BadConfig bad) new = (new ≡ old) × ((config : Config) × (first_bad_field config ≡ Some bad.0))

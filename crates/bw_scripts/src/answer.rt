@@ -1,4 +1,4 @@
-//! What is answered to a line, and how it is printed.
+//! The answers to lines, and how they are printed.
 
 use bw_keys::{BadConfig, Key, Pid};
 use bw_step::{Go, Look, Next, Place, Receipt, Refused, Survey, Todo, View};
@@ -12,11 +12,11 @@ pub enum Answer {
     BadEntries,
     Accepted(Receipt),
     Refused(Refused),
-    /// The step was taken, and `check` had foretold that it is refused.
+    /// The step was accepted, though `check` had foretold a refusal.
     RefusalForetold(Refused, Receipt),
-    /// `check` had foretold something else than the refusal that came.
+    /// The step was refused, though `check` had foretold another answer.
     OtherForetold(Refused),
-    /// The step was refused, and the table isn't as it was.
+    /// The step was refused, though the table has changed.
     Changed(Refused),
     Page(Option<View>),
     Look(Option<Look>),
@@ -60,7 +60,7 @@ impl fmt::Display for Answer {
     }
 }
 
-/// A page's id, `-` where there is none.
+/// A page's id, or `-` if there is none.
 #[derive(Clone, Copy)]
 struct OrDash(Option<Pid>);
 
@@ -90,7 +90,7 @@ fn write_receipt<W: fmt::Write>(f: &mut fmt::Formatter<W>, receipt: Receipt) -> 
     }
 }
 
-/// The number of a refusal in their order, from 1 on.
+/// Returns the number of a refusal in their order, counted from 1.
 fn number_of(reason: Refused) -> u8 {
     match reason {
         Refused::Absent => 1,

@@ -1,4 +1,4 @@
-//! Base pages as a script writes them: `leaf LOW HIGH RIGHT KEY:VALUE ..` and
+//! Base pages in a script: `leaf LOW HIGH RIGHT KEY:VALUE ..` and
 //! `inner LOW HIGH RIGHT KEY:PAGE ..`.
 
 use crate::line::Unread;
@@ -25,7 +25,7 @@ fn routes(alloc: Global, words: &[&str]) -> Result<Vec<(Key, Pid)>, Unread> {
     Ok(routes)
 }
 
-/// The base page that the words say.
+/// Reads a base page.
 pub(crate) fn base(alloc: Global, words: &[&str]) -> Result<Base<Global>, Unread> {
     let [kind, low, end, link, entries @ ..] = words else {
         return Err(Unread::Words);

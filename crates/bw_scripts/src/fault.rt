@@ -11,14 +11,14 @@ use thiserror::Error;
 /// Why a script isn't played to its end, or has none.
 #[derive(Clone, Copy, Debug, PartialEq, Eq, Error)]
 pub enum ScriptFault {
-    /// The line that can't be read, counted from 1. A step or a question where there is no table yet
-    /// can't.
+    /// The first line that can't be read, counted from 1. A step or a question before there is a
+    /// table can't be.
     #[error("line {0}: the line can't be read")]
     Line(u64),
     /// No line has made a table.
     #[error("no table")]
     NoTable,
-    /// There are more lines than may be.
+    /// There are more than [`MOST_LINES`](crate::MOST_LINES) lines.
     #[error("lines")]
     Lines,
     /// The reader failed.
@@ -29,7 +29,7 @@ pub enum ScriptFault {
 }
 
 impl ScriptFault {
-    /// What it means to a script that the line of this number can't be had from its reader.
+    /// Returns the fault of a script whose reader failed at the line with this number.
     pub(crate) fn of_reader(number: u64, error: &io::Error) -> ScriptFault
         ensures memory { (result ≡ ScriptFault.Memory) ↔ (error_kind error.now ≡ ErrorKind.OutOfMemory) }
         ensures no_text { (result ≡ ScriptFault.Line number) ↔ (error_kind error.now ≡ ErrorKind.InvalidData) }

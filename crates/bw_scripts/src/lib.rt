@@ -1,5 +1,4 @@
-//! Scripts of steps that are built by hand, of one line a step or question: they are read, and played
-//! on a table line by line.
+//! Scripts of steps, with one line for each step or question, read and played on a table.
 #![tactic(auto)]
 
 mod answer;

@@ -10,7 +10,7 @@ use bw_keys::{Config, Key, Pid};
 use bw_step::{Place, Step};
 use std::alloc::{AllocError, AllocFailed, Global};
 
-/// Whether the line is empty, or begins with `#`.
+/// Returns whether the line is empty or begins with `#`.
 pub(crate) fn asks_for_nothing(line: &str) -> bool
     ensures { result ≡ asks_for_nothing line.now }
 {
@@ -25,7 +25,7 @@ pub(crate) enum Line {
     Question(Question),
 }
 
-/// What is asked of the table as it is.
+/// A question about the table.
 #[derive(Clone, Copy)]
 pub(crate) enum Question {
     Peek(Pid),
@@ -98,7 +98,7 @@ fn visit(words: &[&str]) -> Result<Question, Unread> {
     Ok(Question::Visit(place, number(key)?, level(goal)?))
 }
 
-/// The question that the words ask, if they ask one.
+/// Reads a question, or returns None if the words are none.
 fn asked(words: &[&str]) -> Result<Option<Question>, Unread> {
     Ok(Some(match words {
         ["peek", pid] => Question::Peek(page(pid)?),

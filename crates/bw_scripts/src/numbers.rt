@@ -1,9 +1,9 @@
-//! Numbers as a script writes them.
+//! Numbers in a script.
 
 use crate::line::Unread;
 use bw_keys::{Fence, Pid, Version};
 
-/// A decimal number without a sign, at most 2^64 - 1.
+/// Reads a decimal number without a sign, at most 2^64 - 1.
 pub(crate) fn number(word: &str) -> Result<u64, Unread> {
     if !word.bytes().all(|byte| byte.is_ascii_digit()) {
         return Err(Unread::Words);
@@ -27,7 +27,7 @@ pub(crate) fn version(word: &str) -> Result<Version, Unread> {
     Ok(Version(number(word)?))
 }
 
-/// The page to the right, `-` where there is none.
+/// Reads the page to the right, or `-` if there is none.
 pub(crate) fn right(word: &str) -> Result<Option<Pid>, Unread> {
     match word {
         "-" => Ok(None),
@@ -35,7 +35,7 @@ pub(crate) fn right(word: &str) -> Result<Option<Pid>, Unread> {
     }
 }
 
-/// Where a range ends: a key, or `top`.
+/// Reads where a range ends: a key, or `top`.
 pub(crate) fn high(word: &str) -> Result<Fence, Unread> {
     match word {
         "top" => Ok(Fence::Top),

@@ -1,4 +1,4 @@
-//! A table that is played with, line by line.
+//! Playing of scripts, line by line.
 
 ghost use Rattle.std.specs.Prelude.{◌≡◌, ◌↔◌, ℕ, IsTrue, None, Some, Ok, IfOk, IfErr, OnErr, option_copied};
 ghost use Rattle.bw_step.specs.ProposalView.{proposal_of};
@@ -17,7 +17,7 @@ use bw_step::{Refused, Step, Survey, View};
 use bw_table::{NewFault, Table};
 use std::alloc::Global;
 
-/// All that a table tells of itself.
+/// All that the public calls of a table show.
 #[derive(Drop)]
 struct Picture {
     survey: Survey,
@@ -47,7 +47,7 @@ impl Picture {
     }
 }
 
-/// Proposes a step that `check` foretells to be refused, and sees that the table stays as it was.
+/// Proposes a step that `check` refuses, and compares the table before and after.
 fn refuse(
     alloc: Global,
     table: &mut Table<Global>,
@@ -67,7 +67,7 @@ fn refuse(
     }
 }
 
-/// Proposes a step; `check` is asked before.
+/// Checks a step, and proposes it.
 #[tactic(auto, using(crate::proofs::Foretelling::is_fine, crate::proofs::Foretelling::is_foretold))]
 fn propose(alloc: Global, table: &mut Table<Global>, step: Step<Global>) -> Result<Answer, NoMemory>
     ensures told { IfOk result (λ answer. IsTold table.old answer table.new) }
@@ -96,10 +96,10 @@ fn ask(alloc: Global, table: &Table<Global>, question: Question) -> Result<Answe
     })
 }
 
-/// Who plays a script: the table, once there is one, and how many lines were played.
+/// A player of a script: its table, once there is one, and the number of lines played.
 ///
-/// A line's words stand between single blanks. Lines that are empty, or begin with `#`, ask for nothing.
-/// A line that isn't played leaves the table as it is, and the next one may be played.
+/// The words of a line stand between single blanks. A line that is empty or begins with `#` asks
+/// for nothing. A line that isn't played leaves the table unchanged, and the next may be played.
 #[derive(Drop)]
 pub struct Player {
     alloc: Global,
@@ -108,7 +108,7 @@ pub struct Player {
 }
 
 impl Player {
-    /// Who has played no line yet, and has no table.
+    /// Creates a player without a table.
     pub fn new(alloc: Global) -> Player
         ensures table { result.table ≡ None }
         ensures lines { result.lines ≡ 0 }
@@ -120,28 +120,32 @@ impl Player {
         }
     }
 
-    /// How many lines were played, those too that ask for nothing or can't be read.
+    /// Returns the number of lines played, with those that ask for nothing or can't be read.
     pub fn lines(&self) -> u64
         ensures { result ≡ self.now.lines }
     {
         self.lines
     }
 
-    /// The table as the lines have left it, if one of them has made it.
+    /// Returns the table, if a line has made one.
     pub fn table(&self) -> Option<&Table<Global>>
         ensures { option_copied result ≡ self.now.table }
     {
         self.table.as_ref()
     }
 
-    /// The table as the lines have left it, if one of them has made it.
+    /// Returns the table, if a line has made one.
     pub fn into_table(self) -> Option<Table<Global>>
         ensures { result ≡ self.table }
     {
         self.table
     }
 
-    /// Plays the next line of a script, and answers what it asks for, if it asks for something.
+    /// Plays the next line, and returns its answer, or None if it asks for nothing.
+    ///
+    /// # Errors
+    ///
+    /// Fails with the line if it can't be read, or if memory runs out. The table is then unchanged.
     pub fn play(&mut self, line: &str) -> Result<Option<Answer>, ScriptFault>
         ensures counted { self.new.lines ≡ one_more self.old.lines }
         ensures answered { IfOk result (λ answer. IsAnswered self.old.table answer self.new.table) }
@@ -161,7 +165,7 @@ impl Player {
         }
     }
 
-    /// Does what the line asks for. A step or a question before there is a table can't be read.
+    /// Carries out a line. A step or a question before there is a table can't be read.
     fn answer(&mut self, line: &str) -> Result<Answer, Unread>
         ensures counted { self.new.lines ≡ self.old.lines }
         ensures answered { IfOk result (λ answer. IsAnswer self.old.table answer self.new.table) }

@@ -1,4 +1,4 @@
-//! A script that is read and played to its end.
+//! Playing of whole scripts.
 
 ghost use Rattle.std.specs.Prelude.{◌≡◌, ◌≤◌, IfOk, IfErr, IfSome, OnOk};
 ghost use Rattle.bw_scripts.specs.declared.script.TheConstants.{MOST_LINES};
@@ -12,11 +12,16 @@ use std::alloc::Global;
 use std::io;
 use std::io::{BufRead, BufReader, Read};
 
-/// How many lines a script may have that is read from a reader.
+/// The most lines of a script that is read from a reader.
 pub const MOST_LINES: u64 = 1_000_000;
 
-/// Plays the script that is read, and hands its table out. What its lines are answered isn't kept: a
-/// step that is refused leaves the table as it is, and the next line is played.
+/// Plays the script of a reader, and returns its table. The answers are dropped: a refused step
+/// leaves the table unchanged, and the next line is played.
+///
+/// # Errors
+///
+/// Fails with the first line that can't be read, with more than [`MOST_LINES`] lines, if no line
+/// made a table, or if the reader or memory fails.
 pub fn play<R: Read + Drop>(alloc: Global, input: R) -> Result<Table<Global>, ScriptFault>
     ensures played { IfOk result IsPlayed }
     ensures fault { IfErr result NamesALine }
@@ -31,7 +36,7 @@ pub fn play<R: Read + Drop>(alloc: Global, input: R) -> Result<Table<Global>, Sc
     player.into_table().ok_or(ScriptFault::NoTable)
 }
 
-/// Plays the line, if it could be had and isn't one too many.
+/// Plays the line, if it was read and isn't one too many.
 #[tactic(auto, using(crate::proofs::Playing::stays_played))]
 fn take(player: &mut Player, line: io::Result<String>) -> Result<(), ScriptFault>
     requires { IfSome player.old.table IsPlayed }

@@ -1,5 +1,5 @@
-//! The steps as a script writes them, one function a kind: the pages with the versions seen, in the
-//! order of the step's fields, and at the end a base page where the step has one.
+//! Steps in a script, one function for each kind: the pages with the versions seen, in the order of
+//! the step's fields, and at the end the base page if the step has one.
 
 use crate::entries::base;
 use crate::line::Unread;
@@ -135,7 +135,7 @@ fn term_delete(alloc: Global, words: &[&str]) -> Result<Step<Global>, Unread> {
     }))
 }
 
-/// The step that the words say.
+/// Reads a step.
 pub(crate) fn step(alloc: Global, words: &[&str]) -> Result<Step<Global>, Unread> {
     let Some((kind, rest)) = words.split_first() else {
         return Err(Unread::Words);

@@ -2,16 +2,15 @@
 use Rattle.std.proofs.Common.{◌≡◌, ◌+◌, ◌-◌, ◌<◌, ◌≤◌, ◌++◌, ℕ, suc, List, [], ◌∷◌, arith, ap, sym, ◌∙◌, append_assoc}
 use Rattle.std.proofs.lemmas.List.{append-nil}
 use Rattle.rand_pcg.specs.Lcg.{Lcg}
-use Rattle.rand_pcg.specs.Pcg.{pcg32}
 use Rattle.bw_texts.specs.declared.trace.row.Row.{Row}
-use Rattle.bw_texts.specs.Made.{row_drawn, rows_drawn}
+use Rattle.bw_texts.specs.Made.{row_drawn, rows_drawn, two_words_on}
 
 first_of_more : (workers span : ℕ) (random : Lcg) (number more less : ℕ) → more ≡ suc less
-    → rows_drawn workers span random number more ≡ row_drawn workers span number (pcg32 random).0 (pcg32 (pcg32 random).1).0 ∷ rows_drawn workers span (pcg32 (pcg32 random).1).1 (number + 1) less
+    → rows_drawn workers span random number more ≡ row_drawn workers span number random ∷ rows_drawn workers span (two_words_on random) (number + 1) less
 first_of_more workers span random number more less e = ap (λ k. rows_drawn workers span random number k) e
 
 pub drawn_more : (workers span : ℕ) (random next : Lcg) (number rows : ℕ) (made all whole : List Row) (row : Row) → number < rows
-    → row ≡ row_drawn workers span number (pcg32 random).0 (pcg32 (pcg32 random).1).0 → next ≡ (pcg32 (pcg32 random).1).1 → all ≡ made ++ row ∷ []
+    → row ≡ row_drawn workers span number random → next ≡ two_words_on random → all ≡ made ++ row ∷ []
     → made ++ rows_drawn workers span random number (rows - number) ≡ whole → all ++ rows_drawn workers span next (number + 1) (rows - (number + 1)) ≡ whole
 drawn_more workers span random next number rows made all whole row h is_row is_next is_all before =
     let e : rows - number ≡ suc (rows - (number + 1)) = omega arith in

@@ -7,7 +7,7 @@ use Rattle.bw_texts.specs.declared.part.Part.{Part}
 use Rattle.bw_texts.specs.declared.fault.TextFault.{TextFault}
 use Rattle.bw_texts.specs.declared.fault.TextFault.TheVariants as faults
 use Rattle.csv.specs.declared.reader.Reader.{Reader}
-use Rattle.bw_texts.specs.Reading.{AreAllRecords, Fields, HasRead, HasReadAs, IsReadAs, IsFirstFault, GoesPast, ReadAs, IsExcused, ExplainsFault}
+use Rattle.bw_texts.specs.Reading.{Fields, HasReadAll, HasReadAs, IsReadAs, IsFirstFault, GoesPast, ReadAs, IsExcused, ExplainsFault, ReadsMore}
 
 pub as_many : {T : Type 0} (read : List T → Fields → Result T Part) (before : List T) (records : List Fields) (rows : List T)
     → ReadAs read before records rows → length records ≡ length rows
@@ -33,17 +33,13 @@ excused read most bytes faults.Rows h = absurd h
 excused read most bytes faults.Read h = tt
 excused read most bytes faults.Memory h = tt
 
--- a reader that read one more record of a text
-abbrev pub ReadsMore : {R : Type 0} → (R → Option (List ℕ)) → Reader R → Reader R → Fields → Type 0
-ReadsMore remaining old new fields = (bytes : List ℕ) (records : List Fields) → HasRead remaining old bytes records → HasRead remaining new bytes (records ++ fields ∷ [])
-
 pub row_read : {R T : Type 0} (remaining : R → Option (List ℕ)) (old new : Reader R) (read : List T → Fields → Result T Part) (bytes : List ℕ) (rows : List T) (fields : Fields) (row : T)
     → HasReadAs remaining old read bytes rows → ReadsMore remaining old new fields → Ok row ≡ read rows fields → HasReadAs remaining new read bytes (rows ++ row ∷ [])
 row_read remaining old new read bytes rows fields row h more e =
     (h.0 ++ fields ∷ [], more bytes h.0 h.1, one_more read [] h.0 rows fields row h.2 e)
 
 pub all_read : {R T : Type 0} (remaining : R → Option (List ℕ)) (old : Reader R) (read : List T → Fields → Result T Part) (bytes : List ℕ) (rows : List T)
-    → HasReadAs remaining old read bytes rows → ((bytes : List ℕ) (records : List Fields) → HasRead remaining old bytes records → AreAllRecords bytes records) → IsReadAs read bytes rows
+    → HasReadAs remaining old read bytes rows → HasReadAll remaining old → IsReadAs read bytes rows
 all_read remaining old read bytes rows h end = (h.0, end bytes h.0 h.1, h.2)
 
 pub row_faulty : {R T : Type 0} (remaining : R → Option (List ℕ)) (old new : Reader R) (read : List T → Fields → Result T Part) (bytes : List ℕ) (rows : List T) (fields : Fields) (most number : ℕ) (part : Part)

@@ -3,7 +3,9 @@ use Rattle.std.specs.Prelude.{ℕ, ◌+◌, ◌==◌, ◌≡◌, ⊤, true, cond
 use Rattle.bw_keys.specs.Ranges.{key_count}
 use Rattle.bw_delta.specs.Entries.{rises}
 use Rattle.bw_step.specs.declared.receipt.Receipt.{Receipt}
+use Rattle.bw_step.specs.Trails.{lists_of}
 use Rattle.bw_texts.specs.declared.history.line.Line.{Line}
+use Rattle.bw_texts.specs.declared.history.read.History.{History}
 use Rattle.bw_texts.specs.declared.history.line.Line.TheVariants.{Reply, Pair}
 use Rattle.bw_texts.specs.Lines.{history_line, is_above, pairs_of, trail_of, workers_named}
 use Rattle.bw_texts.specs.Reading.{IsReadAs}
@@ -17,6 +19,10 @@ pub record AreTrailsOf (trails : List (List Receipt)) (lines : List Line) : Type
 abbrev pub IsHistory : List ℕ → List (List Receipt) → List (ℕ × ℕ) → Type 0
 IsHistory bytes trails pairs = (lines : List Line) × IsReadAs history_line bytes lines × AreTrailsOf trails lines × (pairs ≡ pairs_of lines)
 
+-- the bytes are a text of the history
+abbrev pub IsTextOf : History → List ℕ → Type 0
+IsTextOf history bytes = IsHistory bytes (lists_of history.trails.items) history.pairs.items
+
 -- the keys of the pairs rise strictly
 abbrev pub HaveRisingKeys : List (ℕ × ℕ) → Type 0
 HaveRisingKeys pairs = rises 0 key_count pairs ≡ true
@@ -24,6 +30,14 @@ HaveRisingKeys pairs = rises 0 key_count pairs ≡ true
 -- how many rows have these receipts and these pairs, one each
 abbrev pub row_count : List (List Receipt) → List (ℕ × ℕ) → ℕ
 row_count trails pairs = sum_by length trails + length pairs
+
+-- how many rows a history has
+abbrev pub rows_in : History → ℕ
+rows_in history = row_count (lists_of history.trails.items) history.pairs.items
+
+-- each worker has the receipts that it had
+abbrev pub KeepsAll : List (List Receipt) → List (List Receipt) → Type 0
+KeepsAll old new = (worker : ℕ) → slice_index_or new worker [] ≡ slice_index_or old worker []
 
 -- what a row of one worker adds to the trail of another
 abbrev pub added : ℕ → Receipt → ℕ → List Receipt

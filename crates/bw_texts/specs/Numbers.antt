@@ -28,6 +28,6 @@ abbrev pub number_below : ℕ → Option ℕ → Option ℕ
 number_below bound None = None
 number_below bound (Some n) = cond (nat_lt n bound) (Some n) None
 
--- the number of one of so many workers
+-- a worker's number, below the number of workers
 abbrev pub worker_of : ℕ → List ℕ → Option ℕ
 worker_of workers text = number_below workers (number_of text)

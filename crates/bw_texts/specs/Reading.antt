@@ -25,9 +25,20 @@ HasRead remaining reader bytes records =
     (left : List ℕ) × (source_of remaining reader ≡ Some left)
     × Reached default_config st.StartRecord (strip_bom bytes) records (reader_state reader) left
 
+-- a reader has read one more record, whatever it has read before
+abbrev pub ReadsMore : {R : Type 0} → (R → Option (List ℕ)) → Reader R → Reader R → Fields → Type 0
+ReadsMore remaining old new fields =
+    (bytes : List ℕ) (records : List Fields) → HasRead remaining old bytes records
+    → HasRead remaining new bytes (records ++ fields ∷ [])
+
 -- these are all records of a text
 abbrev pub AreAllRecords : List ℕ → List Fields → Type 0
 AreAllRecords bytes records = AreRecords default_config st.StartRecord (strip_bom bytes) records
+
+-- what a reader has read is all that there is
+abbrev pub HasReadAll : {R : Type 0} → (R → Option (List ℕ)) → Reader R → Type 0
+HasReadAll remaining reader =
+    (bytes : List ℕ) (records : List Fields) → HasRead remaining reader bytes records → AreAllRecords bytes records
 
 -- these are the rows of these records, each read after the rows before it
 abbrev pub ReadAs : {T : Type 0} → (List T → Fields → Result T Part) → List T → List Fields → List T → Type 0
@@ -55,7 +66,7 @@ IsFirstFault {T} read bytes number part =
     × BeginsWith bytes (records ++ fields ∷ []) × ReadAs read [] records rows
     × (read rows fields ≡ Err part) × (number ≡ length records + 1)
 
--- so many rows of the text can be read, and one more follows
+-- the first `most` rows of the text can be read, and one more follows
 abbrev pub GoesPast : {T : Type 0} → (List T → Fields → Result T Part) → List ℕ → ℕ → Type 0
 GoesPast {T} read bytes most =
     (records : List Fields) × (fields : Fields) × (rows : List T)
@@ -68,7 +79,7 @@ IsExcused faults.Rows = ⊥
 IsExcused faults.Read = ⊤
 IsExcused faults.Memory = ⊤
 
--- why a text of at most so many rows isn't read: a row after these isn't looked at
+-- why a text of at most `most` rows isn't read: a row after these isn't looked at
 abbrev pub ExplainsFault : {T : Type 0} → (List T → Fields → Result T Part) → ℕ → List ℕ → TextFault → Type 0
 ExplainsFault read most bytes (faults.Row number part) = IsFirstFault read bytes number part × (number ≤ most)
 ExplainsFault read most bytes faults.Rows = GoesPast read bytes most

@@ -34,7 +34,7 @@ impl<T: Drop> From<AllocFailed<T>> for TextFault {
     }
 }
 
-/// Why a trace or a history isn't written. How much of it went out isn't said.
+/// Why a trace or a history isn't written. Part of it may have been.
 #[derive(Clone, Copy, Debug, PartialEq, Eq, Hash, Error)]
 pub enum OutFault {
     /// The writer failed.

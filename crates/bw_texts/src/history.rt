@@ -1,4 +1,4 @@
-//! Histories: what workers were answered, row by row, and what was in the map in the end.
+//! Histories: the receipts of workers, row by row, and the pairs of the final map.
 
 mod line;
 mod read;

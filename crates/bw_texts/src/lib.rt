@@ -1,5 +1,5 @@
-//! The texts of the map: traces, which say what workers are to do, and histories, which say what
-//! they were answered. Both are read and written row by row.
+//! Traces of what workers are to do, and histories of what they were answered, read and written
+//! row by row.
 #![tactic(auto)]
 
 mod fault;

@@ -6,10 +6,10 @@ ghost use Rattle.bw_texts.specs.Numbers.{number_of, worker_of};
 
 use csv::ByteRecord;
 
-/// The most digits that a number may have, leading zeros among them.
+/// The most digits of a number, with its leading zeros.
 const MOST_DIGITS: usize = 20;
 
-/// The number that one to twenty decimal digits write, if it is below 2^64.
+/// Returns the number that one to twenty decimal digits write, if it is below 2^64.
 pub(crate) fn number(text: &[u8]) -> Option<u64>
     ensures { result ≡ number_of text.now }
 {
@@ -28,7 +28,7 @@ pub(crate) fn number(text: &[u8]) -> Option<u64>
     Some(value)
 }
 
-/// The number of one of so many workers.
+/// Returns the worker's number, if it is below `workers`.
 pub(crate) fn worker(text: &[u8], workers: u32) -> Option<u32>
     ensures reading { result ≡ worker_of workers text.now }
     ensures below { IfSome result (λ worker. worker < workers) }
@@ -39,7 +39,7 @@ pub(crate) fn worker(text: &[u8], workers: u32) -> Option<u32>
     }
 }
 
-/// The field at a place, or nothing where the record ends before it.
+/// Returns the field at a place, or an empty one past the end.
 #[tactic(auto, using(crate::proofs::Fields::field_there, crate::proofs::Fields::field_away))]
 pub(crate) fn field(fields: &ByteRecord, place: usize) -> &[u8]
     ensures { result.now ≡ slice_index_or (fields_of fields.now) place [] }

@@ -1,15 +1,15 @@
-//! Records written by the rules of CSV.
+//! Writing of CSV records.
 
-ghost use Rattle.std.specs.Prelude.{◌≡◌, IfOk, OnOk, map};
-ghost use Rattle.std.specs.Io.KnownBytes.{Appends, Keeps};
-ghost use Rattle.csv.specs.Writing.{row_text, text_written, writer_setup};
-ghost use Rattle.bw_texts.specs.Written.{IsBetween, flexible_writer};
+ghost use Rattle.std.specs.Prelude.{IfOk, map};
+ghost use Rattle.std.specs.Io.KnownBytes.{Keeps};
+ghost use Rattle.csv.specs.Writing.{text_written};
+ghost use Rattle.bw_texts.specs.Written.{IsBetween, Puts};
 
 use crate::fault::OutFault;
 use csv::{Error, ErrorKind, Writer, WriterBuilder};
 use std::io::Write;
 
-/// A writer of records of any length.
+/// Returns a writer of records of any length.
 pub(crate) fn start<W: Write + Drop>(output: W) -> Writer<W>
     ensures between { IsBetween result }
     ensures text { Keeps (W.contents output) (text_written W.contents result) }
@@ -23,8 +23,7 @@ pub(crate) fn put_record<W: Write + Drop>(
     fields: &[&[u8]],
 ) -> Result<(), OutFault>
     requires { IsBetween writer.old }
-    ensures between { OnOk result (IsBetween writer.new) }
-    ensures text { OnOk result (Appends (text_written W.contents writer.old) (text_written W.contents writer.new) (row_text flexible_writer (map (λ field. field.now) fields.now))) }
+    ensures { Puts W.contents writer.old writer.new result (map (λ field. field.now) fields.now) }
 {
     match writer.write_fields(fields) {
         Ok(()) => Ok(()),
@@ -32,7 +31,7 @@ pub(crate) fn put_record<W: Write + Drop>(
     }
 }
 
-/// Writes out what is pending, and gives the writer underneath back.
+/// Flushes the writer, and returns the one underneath.
 pub(crate) fn finish<W: Write + Drop>(writer: Writer<W>) -> Result<W, OutFault>
     ensures { IfOk result (λ output. Keeps (text_written W.contents writer) (W.contents output)) }
 {

@@ -5,8 +5,7 @@ ghost use Rattle.bw_texts.specs.Rows.{part_text};
 
 use std::fmt;
 
-/// The parts of a row, in the order in which they are read. The first that can't be read names the
-/// fault.
+/// A part of a row. The parts are read in this order, and the first that can't be is the fault.
 #[derive(Clone, Copy, Debug, PartialEq, Eq, Hash)]
 pub enum Part {
     /// The number of fields.

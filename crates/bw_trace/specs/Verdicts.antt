@@ -13,6 +13,6 @@ IsVerdictOn bytes verdict =
     (trails : List (List Receipt)) × (pairs : List (ℕ × ℕ)) × IsHistory bytes trails pairs
     × ((verdict ≡ Yes) ↔ IsLegal trails pairs) × (verdict ≡ verdict_of trails pairs)
 
--- the line that tells a verdict
+-- the line of a verdict
 abbrev pub verdict_line : Verdict → List ℕ
 verdict_line verdict = (codes "audit " ++ verdict_text verdict) ++ codes "\n"

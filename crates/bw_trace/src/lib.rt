@@ -1,5 +1,4 @@
-//! What the program does, over a reader and two writers. It hands on the names of the texts, and
-//! those of runs.
+//! The program, over a reader and two writers. Exports the names of texts and of runs.
 #![tactic(auto)]
 
 mod program;

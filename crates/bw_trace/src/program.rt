@@ -1,6 +1,7 @@
 //! What the program does, over a reader and two writers.
 
-ghost use Rattle.std.specs.Prelude.{◌≡◌, ◌≤◌, IfOk, List, OnOk, Some, ℕ};
+ghost use Rattle.std.specs.Prelude.{◌≡◌, ◌≤◌, IfOk, OnOk};
+ghost use Rattle.std.specs.Option.{ForSome};
 ghost use Rattle.std.specs.Io.KnownBytes.{Appends};
 ghost use Rattle.bw_trace.specs.Statuses.{run_status, status_of, verdict_status};
 ghost use Rattle.bw_trace.specs.Verdicts.{IsVerdictOn, verdict_line};
@@ -36,9 +37,9 @@ use std::thread::Threads;
 /// The words that no words stand for.
 static USUAL: [&str; 1] = ["run"];
 
-/// Does what the words say, without the program's own name, and answers the exit status; no words
-/// stand for `run` alone. Results and help go to the output, fault lines and the usage text to
-/// `faults`.
+/// Carries out the words, which leave out the program's own name, and returns the exit status. No
+/// words stand for `run` alone. Writes results and help to `output`, and fault lines and the usage
+/// text to `faults`.
 ///
 /// | Status | Case |
 /// |---|---|
@@ -92,7 +93,7 @@ fn parse<'a>(alloc: Global, words: &'a [&'a str]) -> Result<ArgMatches<'a>, clap
     }
 }
 
-/// Runs the trace that is read, and prints nothing of it before it came to its end.
+/// Runs the trace, and prints nothing before the run has ended.
 fn do_run<T: Threads + Wait + Sync + Send + Copy, R: Read + Drop, W: Write>(
     rt: T,
     alloc: Global,
@@ -117,7 +118,7 @@ fn do_run<T: Threads + Wait + Sync + Send + Copy, R: Read + Drop, W: Write>(
     }
 }
 
-/// Prints the history of a run alone, where it is asked for, and otherwise what the run left.
+/// Prints the history of a run if the options ask for it, and otherwise its report.
 fn print_run<W: Write>(
     alloc: Global,
     options: RunOptions,
@@ -150,7 +151,7 @@ fn do_draw<T: Threads + Wait + Sync + Send + Copy, R: Read + Drop, W: Write>(
     Ok(DONE)
 }
 
-/// Tells the numbers of the table that the trace or the script leaves.
+/// Prints the numbers of the table that the trace or the script leaves.
 fn do_stats<T: Threads + Wait + Sync + Send + Copy, R: Read + Drop, W: Write>(
     rt: T,
     alloc: Global,
@@ -202,19 +203,21 @@ fn print_verdict<W: Write>(output: &mut W, verdict: Verdict) -> Result<u8, Fault
 }
 
 fn check<R: Read + Drop>(alloc: Global, input: R) -> Result<Verdict, Fault>
-    ensures { IfOk result (λ verdict. (bytes : List ℕ) → R.remaining input ≡ Some bytes → IsVerdictOn bytes verdict) }
+    ensures { IfOk result (λ verdict.
+        ForSome (R.remaining input) (λ bytes. IsVerdictOn bytes verdict)) }
 {
     let history = read_history(alloc, input)?;
     Ok(audit(alloc, &history.trails, &history.pairs)?)
 }
 
 fn write_verdict<W: Write>(output: &mut W, verdict: Verdict) -> io::Result<()>
-    ensures { OnOk result (Appends (W.contents output.old) (W.contents output.new) (verdict_line verdict)) }
+    ensures { OnOk result
+        (Appends (W.contents output.old) (W.contents output.new) (verdict_line verdict)) }
 {
     writeln!(output, "audit {verdict}")
 }
 
-/// Where the words ask for help it is the result, and otherwise the usage is the fault.
+/// Prints the help if the words ask for it, and otherwise the usage as a fault.
 fn tell_usage<W: Write, E: Write>(output: &mut W, faults: &mut E, error: &clap::Error) -> u8
     ensures { result ≤ 4 }
 {
@@ -233,7 +236,7 @@ fn write_help<W: Write>(output: &mut W, help: &clap::Error) -> io::Result<()> {
     output.flush()
 }
 
-/// Tells why a run has no end to show, in the words of the program, and answers its exit status.
+/// Reports the fault of a run as the program does, and returns its exit status.
 pub fn tell_run_fault<E: Write>(faults: &mut E, fault: RunFault) -> u8
     ensures { result ≡ run_status fault }
 {

@@ -10,8 +10,7 @@ use std::sync::Wait;
 use std::test::Fail;
 use std::thread::Threads;
 
-/// An end of the program that gives or takes one byte a call. The call behind so many fails; all others are
-/// done, those behind it too.
+/// An end of the program that moves one byte a call. One call fails, after `left` others.
 #[derive(Drop)]
 struct End {
     text: &'static [u8],
@@ -107,7 +106,7 @@ enum Failing {
 }
 
 impl Failing {
-    /// How many calls of this end are done, where the end that fails does so many.
+    /// Returns the number of calls of this end before one fails, if `failing` fails after `calls`.
     fn left(self, failing: Failing, calls: u64) -> u64 {
         if self == failing { calls } else { u64::MAX }
     }
@@ -124,7 +123,7 @@ struct Ended {
 }
 
 impl Ended {
-    /// How a case ends where an end fails behind so many calls.
+    /// Runs a case of which an end fails after `calls` calls.
     fn of<R: AllocGlobal + Threads + Wait + Sync + Send + Copy>(
         rt: R,
         (words, text): Case,
@@ -148,9 +147,9 @@ impl Ended {
         self.status == other.status && self.output == other.output && self.faults == other.faults
     }
 
-    /// Whether a run ends so whose other end is this, where a call of that end fails: a failed read is told, and
-    /// nothing is printed; a failed write is told, and no byte before it is missing; what can't be told leaves
-    /// status and output as they are.
+    /// Returns whether this is how `whole` ends if a call fails: a failed read is reported, and
+    /// nothing is printed; a failed write is reported, and no byte before it is missing; a failed
+    /// report leaves status and output as they are.
     fn is_cut(&self, whole: &Ended, failing: Failing) -> bool {
         let (output, faults) = (self.output.as_slice(), self.faults.as_slice());
         match failing {

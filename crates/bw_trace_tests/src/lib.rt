@@ -1,5 +1,5 @@
-//! Tests of the texts and of the command, of what no file of cases can say: texts that are written and read
-//! again, long ones, ends that fail, and runs of several workers. The cases stand in `bw_cases`.
+//! Tests of the texts and of the command that no file of cases can hold: texts that are written and
+//! read again, long ones, ends that fail, and runs of several workers. The cases are in `bw_cases`.
 #![tactic(auto)]
 
 #[cfg(test)]

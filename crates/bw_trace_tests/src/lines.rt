@@ -1,11 +1,11 @@
-//! Long texts, of a row that is given so many times.
+//! Long texts of one repeated row.
 
 use bw_trace::command;
 use std::io;
 use std::io::Read;
 use std::test::Fail;
 
-/// A line that is given so many times, line by line.
+/// A line that is repeated a number of times.
 #[derive(Drop)]
 struct Lines {
     line: &'static [u8],

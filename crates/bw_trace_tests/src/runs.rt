@@ -21,7 +21,7 @@ fn printed<R: Abort + AllocGlobal + Threads + Wait + Sync + Send + Copy>(
     Ok(String::from_utf8(written)?)
 }
 
-/// The trace of so many puts of rising keys, and a row more.
+/// Returns a trace of puts of rising keys, and a row more.
 fn rising(alloc: Global, keys: u32, more: &str) -> Result<String, Fail> {
     let mut trace = String::new(alloc);
     for key in 1..=keys {
@@ -31,13 +31,13 @@ fn rising(alloc: Global, keys: u32, more: &str) -> Result<String, Fail> {
     Ok(trace)
 }
 
-/// How many keys are put, a row behind them, words, and how the output goes on from there and ends.
+/// The number of keys put, a row after them, the words, and how the output goes on and ends.
 type Long = (u32, &'static str, &'static str, &'static str, &'static str);
 
-// With rising keys each split leaves two entries below and three above, so that N > 4 entries of a level
-// stand in (N - 1) / 2 pages, rounded down. 4,109 keys want
-// 2054 + 1026 + 512 + 255 + 127 + 63 + 31 + 15 + 7 + 3 + 1 = 4094 pages, and 4,111 want four more. A table has
-// 4096 pages where no number is asked for.
+// With rising keys each split leaves two entries below and three above, so that N > 4 entries of a
+// level stand in (N - 1) / 2 pages, rounded down. 4,109 keys take
+// 2054 + 1026 + 512 + 255 + 127 + 63 + 31 + 15 + 7 + 3 + 1 = 4094 pages, and 4,111 take four more.
+// A table has 4096 pages by default.
 static LONG: [Long; 3] = [
     (
         4110,

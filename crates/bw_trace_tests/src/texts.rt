@@ -1,4 +1,4 @@
-//! What is read and written, and what is told of a run that has no end.
+//! Texts that are read and written, and the faults of runs.
 
 use bw_keys::Pid;
 use bw_step::{Kind, Receipt};

@@ -2,7 +2,7 @@
 
 ghost use Rattle.std.specs.Prelude.{◌≡◌};
 
-use bw_audit::{Act, Event, Replayed, Verdict, audit, is_ascending, replay};
+use bw_audit::{Deed, Event, Replayed, Verdict, audit, is_ascending, replay};
 use bw_delta::{NoMemory, Spare};
 use bw_keys::{Key, Pid, Version};
 use bw_step::{Insert, Receipt, Step};
@@ -64,7 +64,7 @@ fn put(worker: u32, key: Key, value: u64, spare: Spare<Global>) -> Event
 {
     Event {
         worker,
-        act: Act::Step(Step::Insert(Insert {
+        act: Deed::Step(Step::Insert(Insert {
             page: Pid(0),
             seen: Version(0),
             key,
@@ -79,7 +79,7 @@ fn look(worker: u32, key: Key) -> Event
 {
     Event {
         worker,
-        act: Act::Look(key),
+        act: Deed::Look(key),
     }
 }
 

@@ -32,12 +32,12 @@ pub(crate) struct Block {
     pub(crate) kind: Kind,
     /// The first column that it stands in, counted from 0.
     pub(crate) column: usize,
-    /// How many columns it stands in.
+    /// The number of columns that it stands in.
     pub(crate) columns: usize,
     /// From the top of the boxes.
     pub(crate) top: Length,
     pub(crate) lines: Vec<String>,
-    /// How many of the lines tell of what the page has. The others tell of what a split took away.
+    /// The number of lines of what the page has. The others are of what a split took away.
     pub(crate) kept: usize,
 }
 
@@ -46,7 +46,7 @@ impl Block {
         LINE * self.lines.len() + INSET
     }
 
-    /// How many characters each of its columns has.
+    /// Returns the number of characters in a column.
     pub(crate) fn width(&self) -> usize {
         let mut longest = 0;
         for line in self.lines.iter() {
@@ -56,7 +56,7 @@ impl Block {
     }
 }
 
-/// The lines that are one line.
+/// Returns a list of one line.
 pub(crate) fn one_line(alloc: Global, line: String) -> Result<Vec<String>, NoMemory> {
     let mut lines = Vec::new(alloc);
     lines.push(line)?;

@@ -1,4 +1,4 @@
-//! A page as it is drawn: a head that tells its id, version, range and stage, and its chain.
+//! A page as it is drawn: a head with its id, range and stage, and its chain.
 
 use crate::drawing::block::{INSET, LINE};
 use crate::drawing::length::Length;
@@ -29,7 +29,7 @@ pub(crate) struct Card {
     pub(crate) is_root: bool,
     pub(crate) title: String,
     pub(crate) range: String,
-    /// How many entries it has, if it is in a row.
+    /// The number of entries, if the page is in a row.
     pub(crate) count: Option<String>,
     pub(crate) tower: Tower,
     /// The width of a column.
@@ -58,7 +58,7 @@ impl Card {
         })
     }
 
-    /// How many characters each of its columns has.
+    /// Returns the number of characters in a column.
     pub(crate) fn characters(&self) -> usize {
         let mut head = self.title.len().max(self.range.chars().count());
         if let Some(count) = &self.count {
@@ -72,7 +72,7 @@ impl Card {
         longest
     }
 
-    /// Makes its columns as wide as so many characters are.
+    /// Makes the columns as wide as this number of characters.
     pub(crate) fn widen(&mut self, characters: usize) {
         self.column = CHARACTER * characters + SIDES;
     }
@@ -89,7 +89,7 @@ impl Card {
         self.left + self.width().half()
     }
 
-    /// The height of the head.
+    /// Returns the height of the head.
     pub(crate) fn head(&self) -> Length {
         let count = usize::from(self.count.is_some());
         let stage = usize::from(undone(self.view.stage).is_some());
@@ -107,7 +107,7 @@ impl Card {
         self.top + self.height()
     }
 
-    /// How much lower than its row it stands.
+    /// Returns how much lower than its row the card stands.
     pub(crate) fn sink(&self) -> Length {
         if self.view.stage == Stage::Merged {
             SINK
@@ -116,13 +116,13 @@ impl Card {
         }
     }
 
-    /// Whether the page is in a row, and its range holds the key.
+    /// Returns whether the page is in a row and its range holds the key.
     pub(crate) fn holds(&self, key: Key) -> bool {
         self.view.stage.is_in_row() && self.view.low <= key && self.view.high.is_above(key)
     }
 }
 
-/// How many entries the page has, if it is in a row.
+/// Writes the number of entries, if the page is in a row.
 fn count_of(alloc: Global, view: View) -> Result<Option<String>, NoMemory> {
     if view.stage == Stage::Merged {
         return Ok(None);

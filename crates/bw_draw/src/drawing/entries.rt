@@ -5,7 +5,7 @@ use bw_delta::{Base, Entries, NoMemory};
 use bw_keys::{Fence, Key, Pid};
 use std::alloc::{Allocator, Global};
 
-/// How many of a page's entries are drawn at most, and how many of those that a split took away.
+/// The most entries of a page that are drawn, and the most of those that a split took away.
 const MOST: usize = 6;
 
 const MOST_GONE: usize = 3;
@@ -14,12 +14,12 @@ const MOST_GONE: usize = 3;
 #[derive(Drop)]
 pub(crate) struct Listed {
     pub(crate) lines: Vec<String>,
-    /// How many of them tell of entries below the end.
+    /// The number of lines of entries below the end.
     pub(crate) kept: usize,
 }
 
-/// The entries, first those below the end, and then the others. Where there are many of a kind, all but
-/// the first ones and the last are counted and not drawn.
+/// Returns the lines of the entries: first those below the end, and then the others. Of many of a
+/// kind, all but the first ones and the last are only counted.
 pub(crate) fn lines_of<A: Allocator + Copy>(
     alloc: Global,
     base: &Base<A>,
@@ -62,7 +62,7 @@ fn list<A: Allocator + Copy>(
     Ok(())
 }
 
-/// How many entries have keys below the end.
+/// Returns the number of entries with keys below the end.
 fn entries_below<A: Allocator + Copy>(entries: &Entries<A>, end: Fence) -> usize {
     match entries {
         Entries::Pairs(pairs) => pairs.iter().filter(|pair| end.is_above(pair.0)).count(),

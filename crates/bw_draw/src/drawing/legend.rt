@@ -1,4 +1,4 @@
-//! What the marks of a drawing mean: a line of text for each mark that is in it.
+//! The meanings of the marks of a drawing: a line of text for each mark in it.
 
 use crate::drawing::block::{Block, Kind};
 use crate::drawing::card::{CHARACTER, Card};
@@ -67,7 +67,7 @@ struct Marks {
 }
 
 impl Legend {
-    /// The legend of the rows, in lines of this width.
+    /// Returns the legend of the rows, in lines of this width.
     pub(crate) fn of(alloc: Global, rows: &[Row], width: Length) -> Result<Legend, NoMemory> {
         let marks = Marks::of(rows);
         let mut legend = Legend {
@@ -101,7 +101,7 @@ impl Legend {
         self.add(marks.merged, going, "term to go")
     }
 
-    /// Puts an item behind the others, on a new line where there is no room, if it is wanted.
+    /// Appends an item if it is wanted, on a new line if there is no room.
     fn add(&mut self, is_wanted: bool, mark: Mark, text: &'static str) -> Result<(), NoMemory> {
         if !is_wanted {
             return Ok(());
@@ -127,7 +127,7 @@ impl Legend {
 }
 
 impl Mark {
-    /// Its width, with what lies between it and its text.
+    /// Returns its width, with what lies between it and its text.
     pub(crate) fn width(self) -> Length {
         match self {
             Mark::Box(_) | Mark::Line(_) => MARK,
@@ -163,7 +163,7 @@ impl Marks {
         marks
     }
 
-    /// Sees the marks of a row, and of the terms of its pages if there is a row above it.
+    /// Notes the marks of a row, and of the terms of its pages if there is a row above it.
     fn see_row(&mut self, row: &Row, is_lower: bool) {
         self.side = self.side || row.in_row > 1;
         let mut cards = row.cards.iter();
@@ -174,7 +174,7 @@ impl Marks {
         }
     }
 
-    /// Sees whether a page of the row has terms of pages below it that aren't drawn.
+    /// Notes whether a page of the row has terms of pages below it that aren't drawn.
     fn see_stubs(&mut self, row: &Row, below: &Row) {
         let mut cards = row.cards.iter();
         let has_stubs = cards.any(|card| below.lacks_terms_of(card));

@@ -1,7 +1,7 @@
 use std::fmt;
 use std::ops::{Add, Mul, Sub};
 
-/// A length or a place of a drawing, in pixels. It never wraps: at its ends it stays.
+/// A length or a place of a drawing, in pixels. Its arithmetic saturates.
 #[derive(Clone, Copy, PartialEq, Eq, PartialOrd, Ord)]
 pub(crate) struct Length(pub(crate) usize);
 
@@ -10,7 +10,7 @@ impl Length {
         Length(self.0 / 2)
     }
 
-    /// One of the places that divide the length into so many parts and one.
+    /// Returns one of the places that divide the length into this number of parts and one.
     pub(crate) fn port(self, place: usize, places: usize) -> Length {
         (self * place.saturating_add(1)).part_of(places.saturating_add(1))
     }
@@ -19,7 +19,7 @@ impl Length {
         Length(self.0.checked_div(parts).unwrap_or(0))
     }
 
-    /// How many lengths of this kind fit, at least one.
+    /// Returns how many of this length fit into the other, at least one.
     pub(crate) fn fits(self, other: Length) -> usize {
         other.0.checked_div(self.0).unwrap_or(1).max(1)
     }

@@ -20,13 +20,13 @@ pub(crate) struct Row {
     pub(crate) level: u8,
     /// The pages that are drawn, from the least key on.
     pub(crate) cards: Vec<Card>,
-    /// How many pages have smaller keys and aren't drawn.
+    /// The number of pages with smaller keys that aren't drawn.
     pub(crate) hidden_before: usize,
-    /// How many pages have greater keys and aren't drawn.
+    /// The number of pages with greater keys that aren't drawn.
     pub(crate) hidden_after: usize,
-    /// How many pages are in the row of the level.
+    /// The number of pages in the row of the level.
     pub(crate) in_row: usize,
-    /// How many pages were taken in, and wait for the end of their term.
+    /// The number of merged pages that wait for the end of their term.
     pub(crate) merged: usize,
     pub(crate) top: Length,
 }
@@ -36,7 +36,7 @@ pub(crate) struct Row {
 pub(crate) enum Window {
     /// All of them.
     Whole,
-    /// So many of them, among them the one in whose range the key lies.
+    /// This number of them, with the one in whose range the key lies.
     Around(Key, usize),
     /// Those whose ranges have keys from the first one up to the last one.
     Over(Key, Key),
@@ -79,7 +79,7 @@ impl Row {
         Ok(row)
     }
 
-    /// The pages one level above that have terms of those that are drawn.
+    /// Returns the pages one level above that have terms of those that are drawn.
     pub(crate) fn window_above(&self) -> Window {
         match (self.cards.first(), self.cards.last()) {
             (Some(first), Some(last)) => Window::Over(first.view.low, last.view.low),
@@ -114,7 +114,7 @@ impl Row {
         }
     }
 
-    /// Where the cards stand.
+    /// Returns where the cards stand.
     pub(crate) fn spans(&self, alloc: Global) -> Result<Vec<Span>, NoMemory> {
         let mut spans = Vec::new(alloc);
         for card in self.cards.iter() {
@@ -127,7 +127,7 @@ impl Row {
         Ok(spans)
     }
 
-    /// Where the first page begins that is drawn, be it merged or not.
+    /// Returns where the first drawn page begins, merged or not.
     pub(crate) fn left(&self) -> Length {
         match self.cards.first() {
             Some(card) => card.left,
@@ -135,7 +135,7 @@ impl Row {
         }
     }
 
-    /// Where the last of what is drawn ends.
+    /// Returns where the last of what is drawn ends.
     pub(crate) fn right(&self) -> Length {
         match self.cards.last() {
             Some(card) if self.hidden_after > 0 => card.right() + BETWEEN + HIDDEN_WIDTH,
@@ -152,7 +152,7 @@ impl Row {
         }
     }
 
-    /// Where the lowest card ends.
+    /// Returns where the lowest card ends.
     pub(crate) fn bottom(&self) -> Length {
         let mut bottom = self.top;
         for card in self.cards.iter() {
@@ -161,12 +161,12 @@ impl Row {
         bottom
     }
 
-    /// Whether the card of the row above has terms of pages that aren't drawn here.
+    /// Returns whether the card of the row above has terms of pages that aren't drawn here.
     pub(crate) fn lacks_terms_of(&self, card: &Card) -> bool {
         self.begins_after(card) || self.ends_before(card)
     }
 
-    /// Whether the card has keys before those of all pages that are drawn. A merged page has none.
+    /// Returns whether the card has keys before those of all drawn pages. A merged page has none.
     pub(crate) fn begins_after(&self, card: &Card) -> bool {
         match self.cards.first() {
             Some(first) if card.view.stage.is_in_row() => {
@@ -176,7 +176,7 @@ impl Row {
         }
     }
 
-    /// Whether the card has keys behind those of all pages that are drawn. A merged page has none.
+    /// Returns whether the card has keys after those of all drawn pages. A merged page has none.
     pub(crate) fn ends_before(&self, card: &Card) -> bool {
         match self
             .cards
@@ -194,7 +194,7 @@ impl Row {
 }
 
 impl Window {
-    /// The first place of the pages, and the place behind the last one.
+    /// Returns the first place of the pages, and the place after the last one.
     fn places(self, order: &[(Key, usize)]) -> (usize, usize) {
         match self {
             Window::Whole => (0, order.len()),
@@ -212,7 +212,7 @@ impl Window {
     }
 }
 
-/// The place of the page that begins at the key, or else of the last one that begins before it.
+/// Returns the place of the page that begins at the key, or else of the last that begins before it.
 fn place_of(order: &[(Key, usize)], key: Key) -> usize {
     let before = order.iter().filter(|(low, _)| *low < key).count();
     match order.get(before) {
@@ -221,7 +221,7 @@ fn place_of(order: &[(Key, usize)], key: Key) -> usize {
     }
 }
 
-/// The places of the level's pages, by their least keys.
+/// Returns the places of the level's pages, by their least keys.
 fn order_of(alloc: Global, picture: &Picture, level: u8) -> Result<Vec<(Key, usize)>, NoMemory> {
     let mut order = Vec::new(alloc);
     for (place, page) in picture.pages.iter().enumerate() {
@@ -240,7 +240,7 @@ fn merged_of(picture: &Picture, level: u8) -> usize {
         .count()
 }
 
-/// The middle of the pages whose keys begin in the card's range.
+/// Returns the middle of the pages whose keys begin in the card's range.
 fn middle_of(card: &Card, below: &[Span]) -> Option<Length> {
     let mut ends: Option<(Length, Length)> = None;
     for span in below {

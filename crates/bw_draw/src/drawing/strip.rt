@@ -1,4 +1,4 @@
-//! The mapping table: a cell for each slot, up to the last one that has a page, and one more that is free.
+//! The mapping table: a cell for each slot up to the last one with a page, and one free one more.
 
 use crate::drawing::card::CHARACTER;
 use crate::drawing::length::Length;
@@ -19,7 +19,7 @@ pub(crate) const CELL_HEIGHT: Length = Length(34);
 /// What lies between two cells.
 pub(crate) const CELL_GAP: Length = Length(4);
 
-/// How many cells are drawn at most.
+/// The most cells that are drawn.
 const MOST: usize = 64;
 
 /// A slot as it is drawn.
@@ -35,17 +35,17 @@ pub(crate) struct Cell {
 pub(crate) struct Strip {
     pub(crate) slots: usize,
     pub(crate) pages: usize,
-    /// Of how many pages a split or a merge isn't done.
+    /// The number of pages whose split or merge is half done.
     pub(crate) undone: usize,
     /// The slots that are drawn, from slot 0 on.
     pub(crate) cells: Vec<Cell>,
-    /// How many pages have a slot that isn't drawn.
+    /// The number of pages whose slot isn't drawn.
     pub(crate) hidden: usize,
     /// The width of a cell.
     pub(crate) cell: Length,
     pub(crate) left: Length,
     pub(crate) top: Length,
-    /// How many cells stand in a line.
+    /// The number of cells in a line.
     pub(crate) in_line: usize,
 }
 
@@ -81,7 +81,7 @@ impl Strip {
         Ok(strip)
     }
 
-    /// Puts the cell of a page behind the others, and those of the free slots before it.
+    /// Appends the cell of a page, after those of the free slots before it.
     fn add(&mut self, alloc: Global, view: View) -> Result<(), NoMemory> {
         let Pid(id) = view.pid;
         for _ in self.cells.len()..(id as usize).min(MOST) {
@@ -98,7 +98,7 @@ impl Strip {
         Ok(())
     }
 
-    /// Makes the cells as wide as the longest text wants them.
+    /// Makes the cells as wide as the longest text.
     fn widen(&mut self) {
         let mut characters = 0;
         for cell in self.cells.iter() {
@@ -107,19 +107,19 @@ impl Strip {
         self.cell = LEAST_CELL.max(CHARACTER * characters + CELL_SIDES);
     }
 
-    /// How many slots have no page.
+    /// Returns the number of slots without a page.
     pub(crate) fn free(&self) -> usize {
         self.slots.saturating_sub(self.pages)
     }
 
-    /// Puts it between the two sides, in as many lines as it wants.
+    /// Places the cells between the two sides, in as many lines as they take.
     pub(crate) fn place(&mut self, left: Length, top: Length, width: Length) {
         self.left = left;
         self.top = top;
         self.in_line = (self.cell + CELL_GAP).fits(width + CELL_GAP);
     }
 
-    /// Where its last line ends.
+    /// Returns where the last line ends.
     pub(crate) fn bottom(&self) -> Length {
         let lines = self.cells.len().div_ceil(self.in_line.max(1));
         self.top + (CELL_HEIGHT + CELL_GAP) * lines

@@ -13,10 +13,10 @@ use crate::drawing::{Drawing, MARGIN};
 use bw_step::Stage;
 use std::fmt;
 
-/// From the top of a line to its letters' feet.
+/// The distance from the top of a line to its baseline.
 const FEET: Length = Length(12);
 
-/// The text of an SVG image. No line feed ends its last line.
+/// Writes an SVG image. Its last line has no line feed.
 impl fmt::Display for Drawing {
     fn fmt<W: fmt::Write>(&self, f: &mut fmt::Formatter<W>) -> fmt::Result {
         let (width, height) = (self.width, self.height);
@@ -150,7 +150,7 @@ fn write_row<W: fmt::Write>(f: &mut fmt::Formatter<W>, row: &Row) -> fmt::Result
     write_hidden(f, row, last.right() + BETWEEN, row.hidden_after)
 }
 
-/// Writes the level, and how many pages it has.
+/// Writes the level and its number of pages.
 fn write_label<W: fmt::Write>(f: &mut fmt::Formatter<W>, row: &Row) -> fmt::Result {
     let top = row.top + FEET + INSET.half();
     writeln!(
@@ -176,7 +176,7 @@ fn write_label<W: fmt::Write>(f: &mut fmt::Formatter<W>, row: &Row) -> fmt::Resu
     )
 }
 
-/// Writes how many pages aren't drawn here, if there are any.
+/// Writes the number of pages that aren't drawn here, if there are any.
 fn write_hidden<W: fmt::Write>(
     f: &mut fmt::Formatter<W>,
     row: &Row,
@@ -262,7 +262,7 @@ fn write_block<W: fmt::Write>(
     Ok(())
 }
 
-/// Writes what the marks mean.
+/// Writes the meanings of the marks.
 fn write_legend<W: fmt::Write>(
     f: &mut fmt::Formatter<W>,
     legend: &Legend,

@@ -1,14 +1,14 @@
-//! What is written in the boxes of a drawing.
+//! The texts in the boxes of a drawing.
 
 use bw_delta::{Delta, Merging};
 use bw_step::Stage;
 use std::fmt;
 
-/// A number of more digits than this one is without its middle.
+/// The greatest number that is written whole.
 const LONGEST: u64 = 999_999_999;
 
-/// A number. A long one has its first three digits and its last three, and between them how many are
-/// left out, as 184‹14›615.
+/// A number. A long one is written as its first and last three digits, with the number of digits
+/// left out between them, as 184‹14›615.
 #[derive(Clone, Copy)]
 pub(crate) struct Short(pub(crate) u64);
 
@@ -30,7 +30,7 @@ impl fmt::Display for Short {
     }
 }
 
-/// Whether the text has a number without its middle.
+/// Returns whether the text has a number without its middle.
 pub(crate) fn is_cut(text: &str) -> bool {
     text.contains('‹')
 }
@@ -63,12 +63,12 @@ impl fmt::Display for Joined {
     }
 }
 
-/// What ends the name of things that are so many.
+/// Returns the ending of a plural, or none for 1.
 pub(crate) fn plural(number: usize) -> &'static str {
     if number == 1 { "" } else { "s" }
 }
 
-/// What is still to be done to a page at this stage.
+/// Returns the name of a stage at which a page is half done.
 pub(crate) fn undone(stage: Stage) -> Option<&'static str> {
     match stage {
         Stage::Unposted => Some("unposted"),

@@ -8,7 +8,7 @@ use bw_delta::{Base, Chain, Delta, NoMemory, Node};
 use bw_keys::{Fence, Key};
 use std::alloc::{Allocator, Global};
 
-/// How many records between two merges are drawn at most.
+/// The most records between two merges that are drawn.
 const MOST: usize = 8;
 
 /// The height of a box of one line, and of the gap below it.
@@ -27,9 +27,9 @@ pub(crate) struct Tower {
 struct Spot {
     column: usize,
     top: Length,
-    /// How many records may still be drawn.
+    /// The number of records that may still be drawn.
     room: usize,
-    /// How many records just above weren't.
+    /// The number of records just above that weren't.
     hidden: usize,
     /// Where the range of the page that this is a part of ends at the most.
     end: Fence,
@@ -140,7 +140,7 @@ impl Tower {
         self.one_line(alloc, kind, line, spot, columns)
     }
 
-    /// Says how many records aren't drawn, and answers the spot below.
+    /// Draws the number of hidden records, and returns the spot below.
     fn tell_hidden(&mut self, alloc: Global, spot: Spot) -> Result<Spot, NoMemory> {
         if spot.hidden == 0 {
             return Ok(spot);
@@ -171,7 +171,7 @@ impl Tower {
 }
 
 impl Spot {
-    /// The spot in a range that ends at the key, or before it.
+    /// Returns the spot in a range that ends at the key, or before it.
     fn ending_at(self, key: Key) -> Spot {
         let end = if self.end.is_above(key) {
             Fence::Key(key)
@@ -181,7 +181,7 @@ impl Spot {
         Spot { end, ..self }
     }
 
-    /// The spot below the record.
+    /// Returns the spot below the record.
     fn ending_by(self, delta: Delta) -> Spot {
         match delta {
             Delta::Split(separator, _) => self.ending_at(separator),
@@ -189,7 +189,7 @@ impl Spot {
         }
     }
 
-    /// The spot below a box of one line.
+    /// Returns the spot below a box of one line.
     fn below(self) -> Spot {
         Spot {
             column: self.column,

@@ -1,4 +1,4 @@
-//! What the pages take of memory, counted in entries and links.
+//! The memory of pages, in entries and links.
 
 ghost use Rattle.std.specs.Prelude.{◌≡◌, sum_by};
 ghost use Rattle.bw_draw.specs.Figures.{capped, entries_stored, links_below, entries_of, links_of};
@@ -9,7 +9,7 @@ use bw_keys::Key;
 use bw_step::Summary;
 use std::alloc::{Allocator, Global};
 
-/// The bytes of a slot: its version, its stage, its summary and the newest link of its chain.
+/// Returns the size of a slot: version, stage, summary and the newest link of its chain.
 pub(crate) fn slot_bytes() -> u64 {
     let own = 16;
     let summary = size_of::<Summary>() as u64;
@@ -17,17 +17,17 @@ pub(crate) fn slot_bytes() -> u64 {
     summary.saturating_add(chain).saturating_add(own)
 }
 
-/// The bytes of an entry of a base page.
+/// Returns the size of an entry of a base page.
 pub(crate) fn entry_bytes() -> u64 {
     size_of::<(Key, u64)>() as u64
 }
 
-/// The bytes of a link that lies in a box.
+/// Returns the size of a link that lies in a box.
 pub(crate) fn link_bytes() -> u64 {
     size_of::<Chain<Global>>() as u64
 }
 
-/// How many entries the base pages list, or 2^64 - 1 where there are more.
+/// Returns the number of entries that the base pages list, at most 2^64 - 1.
 pub(crate) fn stored_entries(pages: &[Page]) -> u64
     ensures { result ≡ capped (sum_by entries_of pages.now) }
 {
@@ -38,7 +38,7 @@ pub(crate) fn stored_entries(pages: &[Page]) -> u64
     stored
 }
 
-/// How many links lie in boxes, or 2^64 - 1 where there are more.
+/// Returns the number of links in boxes, at most 2^64 - 1.
 pub(crate) fn stored_links(pages: &[Page]) -> u64
     ensures { result ≡ capped (sum_by links_of pages.now) }
 {
@@ -69,7 +69,7 @@ impl Page {
     }
 }
 
-/// How many entries the bases of the chain list.
+/// Returns the number of entries that the bases of the chain list.
 fn entries_below<A: Allocator + Copy>(chain: &Chain<A>) -> u64
     ensures { result ≡ capped (entries_stored chain.now) }
 {
@@ -80,7 +80,7 @@ fn entries_below<A: Allocator + Copy>(chain: &Chain<A>) -> u64
     }
 }
 
-/// How many links stand below the newest one.
+/// Returns the number of links below the newest one.
 fn links_below<A: Allocator + Copy>(chain: &Chain<A>) -> u64
     ensures { result ≡ capped (links_below chain.now) }
 {

@@ -3,21 +3,21 @@ ghost use Rattle.bw_draw.specs.Figures.{IsSpreadOf, capped, least, greatest};
 
 use std::fmt;
 
-/// What is told of some numbers.
+/// A summary of some numbers.
 #[derive(Clone, Copy, Debug, PartialEq, Eq)]
 pub struct Spread {
-    /// How many there are.
+    /// The number of numbers.
     pub count: usize,
-    /// The least one, 0 where there is none.
+    /// The least, or 0 if there is none.
     pub least: u64,
-    /// The greatest one, 0 where there is none.
+    /// The greatest, or 0 if there is none.
     pub greatest: u64,
-    /// Their sum, or 2^64 - 1 where it is greater.
+    /// The sum, at most 2^64 - 1.
     pub sum: u64,
 }
 
 impl Spread {
-    /// What is told of these numbers.
+    /// Returns the summary of the numbers.
     pub fn of(numbers: &[u64]) -> Spread
         ensures { IsSpreadOf numbers.now result }
     {
@@ -29,7 +29,7 @@ impl Spread {
         }
     }
 
-    /// The whole part of the mean, and its hundredths. None where there are no numbers.
+    /// Returns the whole part of the mean and its hundredths, or None if there are no numbers.
     fn mean(self) -> Option<(u64, u64)> {
         let count = self.count as u64;
         let whole = self.sum.checked_div(count)?;

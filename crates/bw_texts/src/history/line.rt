@@ -15,14 +15,17 @@ use csv::ByteRecord;
 /// A row of a history.
 #[derive(Clone, Copy)]
 pub(crate) enum Line {
-    /// What a worker was answered.
+    /// A receipt of a worker.
     Reply { worker: u32, receipt: Receipt },
     /// A pair of the final map.
     Pair { key: Key, value: u64 },
 }
 
-/// The row that a record writes, where `last` is the key of the last `end` row before
-/// it, or its first faulty part.
+/// Reads the row of a record, where `last` is the key of the last `end` row before it.
+///
+/// # Errors
+///
+/// Fails with the first faulty part.
 pub(crate) fn read_line(fields: &ByteRecord, last: Option<Key>) -> Result<Line, Part>
     ensures line { result ≡ line_of last (fields_of fields.now) }
     ensures above { IfOk result (λ line. IsAfter last line) }
@@ -41,7 +44,7 @@ pub(crate) fn read_line(fields: &ByteRecord, last: Option<Key>) -> Result<Line, 
     )
 }
 
-/// How many fields a row has: one of a modification has a field more than the others.
+/// Returns how many fields a row has: six for a modification, and five for others.
 fn field_count(op: &[u8]) -> usize
     ensures { result ≡ field_count op.now }
 {
@@ -69,7 +72,7 @@ fn read_fields(
     }
 }
 
-/// No worker's row stands after an `end` row.
+/// Reads a worker's row, of which none stands after an `end` row.
 fn read_reply(
     last: Option<Key>,
     first: &[u8],
@@ -93,7 +96,7 @@ fn read_reply(
     Ok(Line::Reply { worker, receipt })
 }
 
-/// The keys of `end` rows rise.
+/// Reads an `end` row, whose key is above that of the one before it.
 fn read_pair(
     last: Option<Key>,
     op: &[u8],
@@ -183,7 +186,7 @@ fn read_missing(at: u64, key: Key, value: &[u8]) -> Option<Receipt>
     })
 }
 
-/// A modification tells the value that the key has, and then the one that it had.
+/// Reads a modification: the value that the key has, and then the one that it had.
 fn read_modified(at: u64, key: Key, value: &[u8], old: &[u8]) -> Result<Receipt, Part>
     ensures { result ≡ modified_read at key value.now old.now }
 {

@@ -1,8 +1,9 @@
 //! Reading of histories.
 
-ghost use Rattle.std.specs.Prelude.{◌≡◌, ◌≤◌, [], IfErr, IfOk, List, OnOk, Some, length, max, slice_index_or, ℕ};
+ghost use Rattle.std.specs.Prelude.{◌≡◌, ◌≤◌, IfErr, IfOk, OnOk, length, max};
+ghost use Rattle.std.specs.Option.{ForSome};
 ghost use Rattle.bw_step.specs.Trails.{lists_of};
-ghost use Rattle.bw_texts.specs.Histories.{AddsLine, AddsReceipt, HaveRisingKeys, IsAfter, IsHistory, row_count};
+ghost use Rattle.bw_texts.specs.Histories.{AddsLine, AddsReceipt, HaveRisingKeys, IsAfter, IsTextOf, KeepsAll, rows_in};
 ghost use Rattle.bw_texts.specs.Lines.{history_line, last_key};
 ghost use Rattle.bw_texts.specs.Reading.{ExplainsFault, IsExcused};
 
@@ -18,26 +19,33 @@ use std::io::Read;
 /// The most rows that a history may have.
 pub const MOST_HISTORY_ROWS: u64 = 2_000_000;
 
-/// What workers were answered, and what was in the map in the end.
+/// The receipts of all workers, and the pairs of the final map.
 #[derive(Debug, PartialEq, Eq, Drop)]
 pub struct History {
-    /// The receipts of each worker, in their order, for each number from 0 to the greatest worker's.
+    /// The receipts of each worker, in their order, from worker 0 to the greatest one named.
     pub trails: Vec<Vec<Receipt>>,
     /// The pairs of the final map, with strictly rising keys.
     pub pairs: Vec<(Key, u64)>,
 }
 
-/// Reads a history. A row has five fields: a worker below 64; `ins`, `del`, `hit` or `none`; the
-/// number of the change, or how many changes a look saw; the key; and the value, empty for `none`. A
-/// row with `mod` has six: the number of the change, the key, its value, and the value that it had.
-/// After them come the pairs of the final map, with rising keys: `end`, `pair`, 0, the key and the
-/// value. A number is one to twenty decimal digits, and below 2^64. After a fault nothing of the
-/// history is handed out.
+/// Reads a history.
+///
+/// A row has five fields: a worker below 64; `ins`, `del`, `hit` or `none`; the number of the
+/// change, or how many changes a look saw; the key; and the value, empty for `none`. A row with
+/// `mod` has six: the number of the change, the key, its value, and the value that it had. After
+/// them come the pairs of the final map, with rising keys: `end`, `pair`, 0, the key and the value.
+/// A number is one to twenty decimal digits, and below 2^64.
+///
+/// # Errors
+///
+/// Fails with the first row that can't be read, with more than [`MOST_HISTORY_ROWS`] rows, or if
+/// the reader or memory fails.
 pub fn read_history<R: Read + Drop>(alloc: Global, input: R) -> Result<History, TextFault>
-    ensures rows { IfOk result (λ history. (bytes : List ℕ) → R.remaining input ≡ Some bytes → IsHistory bytes (lists_of history.trails.items) history.pairs.items) }
+    ensures rows { IfOk result (λ history. ForSome (R.remaining input) (IsTextOf history)) }
     ensures ascending { IfOk result (λ history. HaveRisingKeys history.pairs.items) }
-    ensures few { IfOk result (λ history. row_count (lists_of history.trails.items) history.pairs.items ≤ MOST_HISTORY_ROWS) }
-    ensures fault { IfErr result (λ fault. (bytes : List ℕ) → R.remaining input ≡ Some bytes → ExplainsFault history_line MOST_HISTORY_ROWS bytes fault) }
+    ensures few { IfOk result (λ history. rows_in history ≤ MOST_HISTORY_ROWS) }
+    ensures fault { IfErr result (λ fault. ForSome (R.remaining input)
+        (λ bytes. ExplainsFault history_line MOST_HISTORY_ROWS bytes fault)) }
 {
     let mut reader = open(alloc, input);
     let mut record = ByteRecord::new(alloc);
@@ -73,7 +81,8 @@ fn add_line(
 ) -> Result<(), TextFault>
     requires ascending { HaveRisingKeys pairs.old.items }
     requires above { IsAfter (last_key pairs.old.items) line }
-    ensures added { OnOk result (AddsLine (lists_of trails.old.items) (lists_of trails.new.items) pairs.old.items pairs.new.items line) }
+    ensures added { OnOk result (AddsLine (lists_of trails.old.items) (lists_of trails.new.items)
+        pairs.old.items pairs.new.items line) }
     ensures ascending { OnOk result (HaveRisingKeys pairs.new.items) }
     ensures excused { IfErr result (λ fault. IsExcused fault) }
 {
@@ -92,7 +101,8 @@ fn add_receipt(
     worker: u32,
     receipt: Receipt,
 ) -> Result<(), TextFault>
-    ensures added { OnOk result (AddsReceipt (lists_of trails.old.items) (lists_of trails.new.items) worker receipt) }
+    ensures added { OnOk result
+        (AddsReceipt (lists_of trails.old.items) (lists_of trails.new.items) worker receipt) }
     ensures excused { IfErr result (λ fault. IsExcused fault) }
 {
     let place = worker as usize;
@@ -101,10 +111,10 @@ fn add_receipt(
     Ok(())
 }
 
-/// Adds empty trails until there are so many.
+/// Adds empty trails until there are `count`.
 fn fill_up(alloc: Global, trails: &mut Vec<Vec<Receipt>>, count: usize) -> Result<(), TextFault>
     ensures count { OnOk result (length trails.new.items ≡ max (length trails.old.items) count) }
-    ensures same { OnOk result ((worker : ℕ) → slice_index_or (lists_of trails.new.items) worker [] ≡ slice_index_or (lists_of trails.old.items) worker []) }
+    ensures same { OnOk result (KeepsAll (lists_of trails.old.items) (lists_of trails.new.items)) }
     ensures excused { IfErr result (λ fault. IsExcused fault) }
 {
     for _ in trails.len()..count {

@@ -1,10 +1,9 @@
 //! Writing of histories.
 
-ghost use Rattle.std.specs.Prelude.{◌∷◌, [], IfOk, OnOk, codes, decimal, flat_map};
+ghost use Rattle.std.specs.Prelude.{◌∷◌, [], IfOk, codes, decimal, flat_map};
 ghost use Rattle.std.specs.Io.KnownBytes.{Appends};
 ghost use Rattle.bw_step.specs.Trails.{lists_of};
-ghost use Rattle.csv.specs.Writing.{row_text, text_written};
-ghost use Rattle.bw_texts.specs.Written.{IsBetween, flexible_writer};
+ghost use Rattle.bw_texts.specs.Written.{IsBetween, Puts, Writes};
 ghost use Rattle.bw_texts.specs.WrittenHistories.{history_text, pair_text, receipt_text, trail_text, trails_text};
 
 use crate::fault::OutFault;
@@ -15,14 +14,15 @@ use csv::Writer;
 use itoa::Buffer;
 use std::io::Write;
 
-/// Writes a history, as [`read_history`](crate::read_history) reads it, and gives the writer back:
-/// the trails worker by worker, without the receipts of changed shapes, and then the pairs.
+/// Writes a history, as [`read_history`](crate::read_history) reads it, and returns the writer: the
+/// trails worker by worker, without the receipts of changed shapes, and then the pairs.
 pub fn write_history<W: Write + Drop>(
     output: W,
     trails: &[Vec<Receipt>],
     pairs: &[(Key, u64)],
 ) -> Result<W, OutFault>
-    ensures { IfOk result (λ written. Appends (W.contents output) (W.contents written) (history_text (lists_of trails.now) pairs.now)) }
+    ensures { IfOk result (λ written. Appends (W.contents output) (W.contents written)
+        (history_text (lists_of trails.now) pairs.now)) }
 {
     let mut writer = start(output);
     write_trails(&mut writer, trails)?;
@@ -35,8 +35,7 @@ fn write_trails<W: Write + Drop>(
     trails: &[Vec<Receipt>],
 ) -> Result<(), OutFault>
     requires { IsBetween writer.old }
-    ensures between { OnOk result (IsBetween writer.new) }
-    ensures text { OnOk result (Appends (text_written W.contents writer.old) (text_written W.contents writer.new) (trails_text 0 (lists_of trails.now))) }
+    ensures { Writes W.contents writer.old writer.new result (trails_text 0 (lists_of trails.now)) }
 {
     for worker in 0..trails.len() {
         write_trail(writer, worker, &trails[worker])?;
@@ -50,8 +49,7 @@ fn write_trail<W: Write + Drop>(
     trail: &[Receipt],
 ) -> Result<(), OutFault>
     requires { IsBetween writer.old }
-    ensures between { OnOk result (IsBetween writer.new) }
-    ensures text { OnOk result (Appends (text_written W.contents writer.old) (text_written W.contents writer.new) (trail_text worker trail.now)) }
+    ensures { Writes W.contents writer.old writer.new result (trail_text worker trail.now) }
 {
     for receipt in trail {
         write_receipt(writer, worker, receipt)?;
@@ -65,8 +63,7 @@ fn write_receipt<W: Write + Drop>(
     receipt: &Receipt,
 ) -> Result<(), OutFault>
     requires { IsBetween writer.old }
-    ensures between { OnOk result (IsBetween writer.new) }
-    ensures text { OnOk result (Appends (text_written W.contents writer.old) (text_written W.contents writer.new) (receipt_text worker receipt.now)) }
+    ensures { Writes W.contents writer.old writer.new result (receipt_text worker receipt.now) }
 {
     let mut digits = Buffer::new();
     let worker = digits.format(worker).as_bytes();
@@ -106,8 +103,8 @@ fn put_reply<W: Write + Drop>(
     value: u64,
 ) -> Result<(), OutFault>
     requires { IsBetween writer.old }
-    ensures between { OnOk result (IsBetween writer.new) }
-    ensures text { OnOk result (Appends (text_written W.contents writer.old) (text_written W.contents writer.new) (row_text flexible_writer (first.now ∷ op.now ∷ decimal at ∷ decimal key ∷ decimal value ∷ []))) }
+    ensures { Puts W.contents writer.old writer.new result
+        (first.now ∷ op.now ∷ decimal at ∷ decimal key ∷ decimal value ∷ []) }
 {
     let mut at_digits = Buffer::new();
     let mut key_digits = Buffer::new();
@@ -118,7 +115,7 @@ fn put_reply<W: Write + Drop>(
     put_record(writer, &[first, op, at, key, value])
 }
 
-/// A modification has the value that the key had in a field more.
+/// Writes a modification, with the old value in a sixth field.
 fn put_modified<W: Write + Drop>(
     writer: &mut Writer<W>,
     worker: &[u8],
@@ -127,8 +124,9 @@ fn put_modified<W: Write + Drop>(
     values: (u64, u64),
 ) -> Result<(), OutFault>
     requires { IsBetween writer.old }
-    ensures between { OnOk result (IsBetween writer.new) }
-    ensures text { OnOk result (Appends (text_written W.contents writer.old) (text_written W.contents writer.new) (row_text flexible_writer (worker.now ∷ codes "mod" ∷ decimal number ∷ decimal key ∷ decimal values.1 ∷ decimal values.0 ∷ []))) }
+    ensures { Puts W.contents writer.old writer.new result
+        (worker.now ∷ codes "mod" ∷ decimal number ∷ decimal key
+        ∷ decimal values.1 ∷ decimal values.0 ∷ []) }
 {
     let (old, value) = values;
     let mut number_digits = Buffer::new();
@@ -149,8 +147,8 @@ fn put_missing<W: Write + Drop>(
     key: Key,
 ) -> Result<(), OutFault>
     requires { IsBetween writer.old }
-    ensures between { OnOk result (IsBetween writer.new) }
-    ensures text { OnOk result (Appends (text_written W.contents writer.old) (text_written W.contents writer.new) (row_text flexible_writer (worker.now ∷ codes "none" ∷ decimal at ∷ decimal key ∷ [] ∷ []))) }
+    ensures { Puts W.contents writer.old writer.new result
+        (worker.now ∷ codes "none" ∷ decimal at ∷ decimal key ∷ [] ∷ []) }
 {
     let mut at_digits = Buffer::new();
     let mut key_digits = Buffer::new();
@@ -164,8 +162,7 @@ fn write_pairs<W: Write + Drop>(
     pairs: &[(Key, u64)],
 ) -> Result<(), OutFault>
     requires { IsBetween writer.old }
-    ensures between { OnOk result (IsBetween writer.new) }
-    ensures text { OnOk result (Appends (text_written W.contents writer.old) (text_written W.contents writer.new) (flat_map pair_text pairs.now)) }
+    ensures { Writes W.contents writer.old writer.new result (flat_map pair_text pairs.now) }
 {
     for pair in pairs {
         write_pair(writer, pair)?;
@@ -175,8 +172,7 @@ fn write_pairs<W: Write + Drop>(
 
 fn write_pair<W: Write + Drop>(writer: &mut Writer<W>, pair: &(Key, u64)) -> Result<(), OutFault>
     requires { IsBetween writer.old }
-    ensures between { OnOk result (IsBetween writer.new) }
-    ensures text { OnOk result (Appends (text_written W.contents writer.old) (text_written W.contents writer.new) (pair_text pair.now)) }
+    ensures { Writes W.contents writer.old writer.new result (pair_text pair.now) }
 {
     put_reply(writer, b"end", b"pair", 0, pair.0, pair.1)
 }

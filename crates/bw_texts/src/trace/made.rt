@@ -1,9 +1,7 @@
-//! Traces that are drawn by a seeded generator.
+//! Traces drawn by a seeded generator.
 
 ghost use Rattle.std.specs.Prelude.{◌≡◌, ◌<◌, IfOk};
-ghost use Rattle.rand_core.specs.Pcg32Seed.{pcg32_seed};
-ghost use Rattle.rand_pcg.specs.Pcg.{pcg32, pcg32_of_seed};
-ghost use Rattle.bw_texts.specs.Made.{row_drawn, rows_drawn};
+ghost use Rattle.bw_texts.specs.Made.{row_drawn, trace_drawn, two_words_on};
 
 use crate::trace::row::Row;
 use bw_delta::NoMemory;
@@ -13,9 +11,11 @@ use rand_core::utils::NextWord;
 use rand_pcg::Pcg32;
 use std::alloc::Global;
 
-/// Draws so many rows by the generator `Pcg32` of that seed. The workers take turns; of two words a
-/// row the first, modulo 4, says what it does (put for 0 and 1, delete for 2, get for 3), and the
-/// second, modulo `span`, is its key. A put's value is the number of its row, counted from 0.
+/// Draws `rows` rows by the generator `Pcg32` of the seed.
+///
+/// The workers take turns. Each row takes two words: the first, modulo 4, says what it does (put
+/// for 0 and 1, delete for 2, get for 3), and the second, modulo `span`, is its key. The value of a
+/// put is the number of its row, counted from 0.
 pub fn make(
     alloc: Global,
     seed: u64,
@@ -25,7 +25,7 @@ pub fn make(
 ) -> Result<Vec<Row>, NoMemory>
     requires workers { 0 < workers }
     requires span { 0 < span }
-    ensures { IfOk result (λ made. made.items ≡ rows_drawn workers span (pcg32_of_seed (pcg32_seed 16 seed)) 0 rows) }
+    ensures { IfOk result (λ made. made.items ≡ trace_drawn seed rows workers span) }
 {
     let mut random = Pcg32::seed_from_u64(seed);
     let mut made = Vec::new(alloc);
@@ -38,8 +38,8 @@ pub fn make(
 fn draw_row(random: &mut Pcg32, number: u64, workers: u32, span: u64) -> Row
     requires workers { 0 < workers }
     requires span { 0 < span }
-    ensures row { result ≡ row_drawn workers span number (pcg32 random.old).0 (pcg32 (pcg32 random.old).1).0 }
-    ensures random { random.new ≡ (pcg32 (pcg32 random.old).1).1 }
+    ensures row { result ≡ row_drawn workers span number random.old }
+    ensures random { random.new ≡ two_words_on random.old }
 {
     let draw = random.next_word() % 4;
     let key = u64::from(random.next_word()) % span;

@@ -1,9 +1,10 @@
 //! Reading of traces.
 
-ghost use Rattle.std.specs.Prelude.{◌≡◌, ◌<◌, ◌≤◌, IfErr, IfOk, List, Some, length, ℕ};
+ghost use Rattle.std.specs.Prelude.{◌<◌, ◌≤◌, IfErr, IfOk, length};
 ghost use Rattle.std.specs.List.{AllByRecursion};
-ghost use Rattle.bw_texts.specs.Reading.{ExplainsFault, IsReadAs};
-ghost use Rattle.bw_texts.specs.Traces.{trace_row};
+ghost use Rattle.std.specs.Option.{ForSome};
+ghost use Rattle.bw_texts.specs.Reading.{ExplainsFault};
+ghost use Rattle.bw_texts.specs.Traces.{IsTrace, trace_row};
 
 use crate::fault::TextFault;
 use crate::text::{next_record, open};
@@ -15,19 +16,27 @@ use std::io::Read;
 /// The most rows that a trace may have.
 pub const MOST_TRACE_ROWS: u64 = 1_000_000;
 
-/// Reads a trace for so many workers. A row has four fields: the worker, counted from 0; `put`, `set`,
-/// `get`, `del` or `clr`; the key; and the value of a put or a set, empty for a get or a delete. A `clr`
-/// has the low of its range for a key and the high for a value, empty for a range up to the top. A number
-/// is one to twenty decimal digits, and below 2^64. After a fault nothing of the trace is handed out.
+/// Reads a trace for `workers` workers.
+///
+/// A row has four fields: the worker, counted from 0; `put`, `set`, `get`, `del` or `clr`; the key;
+/// and the value of a put or a set, empty for a get or a delete. A `clr` has the low of its range
+/// for a key and the high for a value, empty for a range up to the top. A number is one to twenty
+/// decimal digits, and below 2^64.
+///
+/// # Errors
+///
+/// Fails with the first row that can't be read, with more than [`MOST_TRACE_ROWS`] rows, or if the
+/// reader or memory fails.
 pub fn read_trace<R: Read + Drop>(
     alloc: Global,
     input: R,
     workers: u32,
 ) -> Result<Vec<Row>, TextFault>
-    ensures rows { IfOk result (λ rows. (bytes : List ℕ) → R.remaining input ≡ Some bytes → IsReadAs (trace_row workers) bytes rows.items) }
-    ensures workers { IfOk result (λ rows. AllByRecursion (λ row. row.worker < workers) rows.items) }
+    ensures rows { IfOk result (λ rows. ForSome (R.remaining input) (IsTrace workers rows.items)) }
+    ensures workers { IfOk result (λ all. AllByRecursion (λ row. row.worker < workers) all.items) }
     ensures few { IfOk result (λ rows. length rows.items ≤ MOST_TRACE_ROWS) }
-    ensures fault { IfErr result (λ fault. (bytes : List ℕ) → R.remaining input ≡ Some bytes → ExplainsFault (trace_row workers) MOST_TRACE_ROWS bytes fault) }
+    ensures fault { IfErr result (λ fault. ForSome (R.remaining input)
+        (λ bytes. ExplainsFault (trace_row workers) MOST_TRACE_ROWS bytes fault)) }
 {
     let mut reader = open(alloc, input);
     let mut record = ByteRecord::new(alloc);

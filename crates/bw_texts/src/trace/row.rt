@@ -19,7 +19,7 @@ pub struct Row {
     pub act: Act,
 }
 
-/// Whether every row's worker is below the number of workers, as a run asks of its trace.
+/// Returns whether each row's worker is below `workers`, as a run requires of its trace.
 pub fn is_trace_for(rows: &[Row], workers: u32) -> bool
     ensures { (result ≡ true) ↔ AllByRecursion (λ row. row.worker < workers) rows.now }
 {
@@ -31,7 +31,7 @@ pub fn is_trace_for(rows: &[Row], workers: u32) -> bool
     true
 }
 
-/// The row that a record of four fields writes, or its first faulty part.
+/// Reads the row of a record, or returns its first faulty part.
 pub(crate) fn read_row(fields: &ByteRecord, workers: u32) -> Result<Row, Part>
     ensures reading { result ≡ row_of workers (fields_of fields.now) }
     ensures worker { IfOk result (λ row. row.worker < workers) }
@@ -102,7 +102,7 @@ fn read_act(op: Op, key: Key, value: &[u8]) -> Option<Act>
     }
 }
 
-/// Where a range ends: before the key of a number, or at the top where there is none.
+/// Reads where a range ends: before a key, or at the top if the text is empty.
 fn read_fence(text: &[u8]) -> Option<Fence>
     ensures { result ≡ fence_of text.now }
 {

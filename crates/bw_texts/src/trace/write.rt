@@ -1,9 +1,8 @@
 //! Writing of traces.
 
-ghost use Rattle.std.specs.Prelude.{[], ◌∷◌, IfOk, OnOk, decimal};
+ghost use Rattle.std.specs.Prelude.{[], ◌∷◌, IfOk, decimal};
 ghost use Rattle.std.specs.Io.KnownBytes.{Appends};
-ghost use Rattle.csv.specs.Writing.{row_text, text_written};
-ghost use Rattle.bw_texts.specs.Written.{IsBetween, fields_of_row, flexible_writer, trace_text};
+ghost use Rattle.bw_texts.specs.Written.{IsBetween, Puts, fields_of_row, trace_text};
 
 use crate::fault::OutFault;
 use crate::output::{finish, put_record, start};
@@ -14,9 +13,10 @@ use csv::Writer;
 use itoa::Buffer;
 use std::io::Write;
 
-/// Writes a trace, as [`read_trace`](crate::read_trace) reads it, and gives the writer back.
+/// Writes a trace, as [`read_trace`](crate::read_trace) reads it, and returns the writer.
 pub fn write_trace<W: Write + Drop>(output: W, rows: &[Row]) -> Result<W, OutFault>
-    ensures { IfOk result (λ written. Appends (W.contents output) (W.contents written) (trace_text rows.now)) }
+    ensures { IfOk result (λ written. Appends (W.contents output) (W.contents written)
+        (trace_text rows.now)) }
 {
     let mut writer = start(output);
     for row in rows {
@@ -27,8 +27,7 @@ pub fn write_trace<W: Write + Drop>(output: W, rows: &[Row]) -> Result<W, OutFau
 
 fn write_row<W: Write + Drop>(writer: &mut Writer<W>, row: &Row) -> Result<(), OutFault>
     requires { IsBetween writer.old }
-    ensures between { OnOk result (IsBetween writer.new) }
-    ensures text { OnOk result (Appends (text_written W.contents writer.old) (text_written W.contents writer.new) (row_text flexible_writer (fields_of_row row.now))) }
+    ensures { Puts W.contents writer.old writer.new result (fields_of_row row.now) }
 {
     let worker = row.worker;
     match row.act {
@@ -47,7 +46,7 @@ fn write_row<W: Write + Drop>(writer: &mut Writer<W>, row: &Row) -> Result<(), O
     }
 }
 
-/// A row with a number in its last field.
+/// Writes a row with a number in its last field.
 fn put_valued<W: Write + Drop>(
     writer: &mut Writer<W>,
     worker: u32,
@@ -56,8 +55,8 @@ fn put_valued<W: Write + Drop>(
     value: u64,
 ) -> Result<(), OutFault>
     requires { IsBetween writer.old }
-    ensures between { OnOk result (IsBetween writer.new) }
-    ensures text { OnOk result (Appends (text_written W.contents writer.old) (text_written W.contents writer.new) (row_text flexible_writer (decimal worker ∷ op.now ∷ decimal key ∷ decimal value ∷ []))) }
+    ensures { Puts W.contents writer.old writer.new result
+        (decimal worker ∷ op.now ∷ decimal key ∷ decimal value ∷ []) }
 {
     let mut worker_digits = Buffer::new();
     let mut key_digits = Buffer::new();
@@ -68,7 +67,7 @@ fn put_valued<W: Write + Drop>(
     put_record(writer, &[worker, op, key, value])
 }
 
-/// A row with nothing in its last field.
+/// Writes a row with an empty last field.
 fn put_bare<W: Write + Drop>(
     writer: &mut Writer<W>,
     worker: u32,
@@ -76,8 +75,8 @@ fn put_bare<W: Write + Drop>(
     key: Key,
 ) -> Result<(), OutFault>
     requires { IsBetween writer.old }
-    ensures between { OnOk result (IsBetween writer.new) }
-    ensures text { OnOk result (Appends (text_written W.contents writer.old) (text_written W.contents writer.new) (row_text flexible_writer (decimal worker ∷ op.now ∷ decimal key ∷ [] ∷ []))) }
+    ensures { Puts W.contents writer.old writer.new result
+        (decimal worker ∷ op.now ∷ decimal key ∷ [] ∷ []) }
 {
     let mut worker_digits = Buffer::new();
     let mut key_digits = Buffer::new();

@@ -1,4 +1,4 @@
-//! What stands behind the options in the help of the program and of its commands.
+//! The help of the program and of its commands, after their options.
 
 /// The program's version.
 pub(crate) const VERSION: &str = "0.2.0";

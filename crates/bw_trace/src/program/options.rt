@@ -1,4 +1,4 @@
-//! The words that the program takes.
+//! The commands of the program.
 
 ghost use Rattle.std.specs.Prelude.{◌≤◌, IfOk};
 ghost use Rattle.clap.specs.Words.{found_of};
@@ -32,7 +32,7 @@ pub(crate) enum Field {
     Span,
 }
 
-/// The program's commands, with their options and defaults.
+/// Returns the program's commands, with their options and defaults.
 pub(crate) fn commands<'a>(alloc: Global) -> Result<Command<'a>, AllocError> {
     Command::new(alloc, "bwtree")
         .about("A Bw-tree in memory: traces, and histories of workers")
@@ -69,7 +69,7 @@ fn check_command<'a>(alloc: Global) -> Command<'a> {
         .after_help(OF_CHECK)
 }
 
-/// An option whose value is a number.
+/// Returns an option whose value is a number.
 pub(crate) fn option<'a>(alloc: Global, name: &'a str, default: &'a str, help: &'a str) -> Arg<'a> {
     Arg::new(alloc, name)
         .long(name)
@@ -78,7 +78,7 @@ pub(crate) fn option<'a>(alloc: Global, name: &'a str, default: &'a str, help: &
         .default_value(default)
 }
 
-/// The value of an option that has a range, or its name where it lies outside.
+/// Returns the value of an option. Fails with its name if it is out of its range.
 pub(crate) fn ranged(
     matches: &ArgMatches,
     name: &str,

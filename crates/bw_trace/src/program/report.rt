@@ -1,4 +1,4 @@
-//! What the program prints of a run that came to its end.
+//! The report of a run.
 
 use bw_run::{Finished, Reply};
 use bw_texts::OutFault;
@@ -6,8 +6,8 @@ use std::alloc::Global;
 use std::io;
 use std::io::{BufWriter, Write};
 
-/// Writes the leaves in the order of their keys, and how many pairs were inserted, were removed and
-/// are there, after the replies, where they are asked for.
+/// Writes the replies, if they are asked for, then the leaves in the order of their keys, and the
+/// numbers of pairs inserted, removed and there.
 pub(crate) fn write_report<W: Write>(
     alloc: Global,
     output: &mut W,

@@ -1,4 +1,4 @@
-//! The words of `run`, and what they ask for.
+//! The options of `run`.
 
 ghost use Rattle.std.specs.Prelude.{IfOk};
 ghost use Rattle.clap.specs.Words.{found_of};
@@ -10,7 +10,7 @@ use crate::program::setting::{Setting, flag, with_setting};
 use clap::{ArgMatches, Command};
 use std::alloc::{AllocError, Global};
 
-/// How a trace is to be run, and what is to be printed of it.
+/// How a trace is run, and what is printed of it.
 #[derive(Clone, Copy)]
 pub(crate) struct RunOptions {
     pub setting: Setting,
@@ -21,7 +21,7 @@ pub(crate) struct RunOptions {
 }
 
 impl RunOptions {
-    /// What the words of `run` ask for, or the first option that is out of its range.
+    /// Reads the options. Fails with the first that is out of its range.
     pub(crate) fn of(matches: &ArgMatches) -> Result<RunOptions, Field>
         ensures asked { IfOk result (IsAskedFor (found_of matches.now)) }
         ensures fit { IfOk result (λ options. IsFit options.setting) }
@@ -34,7 +34,7 @@ impl RunOptions {
     }
 }
 
-/// The command `run` with its options and defaults.
+/// Returns the command `run` with its options and defaults.
 pub(crate) fn run_command<'a>(alloc: Global) -> Result<Command<'a>, AllocError> {
     let run = Command::new(alloc, "run")
         .about("Runs the trace on standard input")

@@ -1,4 +1,4 @@
-//! The options of the commands that run a trace, and what they ask for.
+//! The options of the commands that run a trace.
 
 ghost use Rattle.std.specs.Prelude.{IfOk};
 ghost use Rattle.clap.specs.Words.{found_of};
@@ -10,18 +10,18 @@ use bw_snap::MAX_READERS;
 use clap::{Arg, ArgAction, ArgMatches, Command};
 use std::alloc::{AllocError, Global};
 
-/// How a trace is to be run.
+/// How a trace is run.
 #[derive(Clone, Copy)]
 pub(crate) struct Setting {
     pub config: Config,
-    /// How many workers do the rows, 1 to 64.
+    /// The number of workers, 1 to 64.
     pub workers: u32,
-    /// How many of the workers have a reader, 0 to all of them and at most 16.
+    /// The number of workers with a reader, at most 16.
     pub readers: u32,
 }
 
 impl Setting {
-    /// What the words of a command ask for, or the first option that is out of its range.
+    /// Reads the options. Fails with the first that is out of its range.
     pub(crate) fn of(matches: &ArgMatches) -> Result<Setting, Field>
         ensures asked { IfOk result (IsSettingFor (found_of matches.now)) }
         ensures fit { IfOk result IsFit }
@@ -48,7 +48,7 @@ impl Setting {
     }
 }
 
-/// The options that are numbers, each with its default and what it is.
+/// The options that are numbers, each with its default and its meaning.
 pub(crate) const NUMBERS: [(&str, &str, &str); 6] = [
     ("fanout", "16", "Entries of a page at most, 4 to 64"),
     ("chain", "8", "Consolidate at this depth, 1 to 32"),
@@ -62,7 +62,7 @@ pub(crate) const NUMBERS: [(&str, &str, &str); 6] = [
     ),
 ];
 
-/// The command with these options.
+/// Returns the command with these options.
 pub(crate) fn with_setting<'a>(
     alloc: Global,
     command: Command<'a>,
@@ -74,7 +74,7 @@ pub(crate) fn with_setting<'a>(
     Ok(command)
 }
 
-/// An option that is there or isn't.
+/// Returns an option without a value.
 pub(crate) fn flag<'a>(alloc: Global, name: &'a str, help: &'a str) -> Arg<'a> {
     Arg::new(alloc, name)
         .long(name)

@@ -1,4 +1,4 @@
-//! What the program shows of a table.
+//! Drawings and numbers of a table.
 
 ghost use Rattle.std.specs.Prelude.{◌≡◌, IfOk, false, true};
 ghost use Rattle.bw_scripts.specs.Played.{IsPlayed};
@@ -18,7 +18,7 @@ use std::io::{BufWriter, Read, Write};
 use std::sync::Wait;
 use std::thread::Threads;
 
-/// The table that the trace or the script leaves.
+/// Returns the table that the trace or the script leaves.
 pub(crate) fn table_of<T: Threads + Wait + Sync + Send + Copy, R: Read + Drop>(
     rt: T,
     alloc: Global,
@@ -26,7 +26,8 @@ pub(crate) fn table_of<T: Threads + Wait + Sync + Send + Copy, R: Read + Drop>(
     input: R,
 ) -> Result<Table<Global>, Fault>
     ensures played { options.steps ≡ true → IfOk result IsPlayed }
-    ensures done { options.steps ≡ false → IfOk result (λ table. table.config ≡ options.setting.config) }
+    ensures done {
+        options.steps ≡ false → IfOk result (λ table. table.config ≡ options.setting.config) }
 {
     if options.steps {
         return Ok(play(alloc, input)?);
@@ -59,7 +60,7 @@ pub(crate) fn tell_stats<W: Write>(
     write_shown(alloc, output, &Stats::of(alloc, table)?)
 }
 
-/// Writes what is shown, and a line feed behind it.
+/// Writes the text and a line feed.
 fn write_shown<W: Write, S: fmt::Display>(
     alloc: Global,
     output: &mut W,

@@ -1,4 +1,4 @@
-//! The words of the commands that show a table, and what they ask for.
+//! The options of the commands that show a table.
 
 ghost use Rattle.std.specs.Prelude.{IfOk};
 ghost use Rattle.clap.specs.Words.{found_of};
@@ -10,16 +10,16 @@ use crate::program::setting::{NUMBERS, Setting, flag, with_setting};
 use clap::{Arg, ArgMatches, Command};
 use std::alloc::{AllocError, Global};
 
-/// How the table comes about that is to be shown.
+/// What makes the table that is shown.
 #[derive(Clone, Copy)]
 pub(crate) struct ShowOptions {
     pub setting: Setting,
-    /// Whether a script of steps is read in place of a trace. It has the table's configuration itself.
+    /// Whether a script of steps is read in place of a trace. A script has its own configuration.
     pub steps: bool,
 }
 
 impl ShowOptions {
-    /// What the words ask for, or the first option that is out of its range.
+    /// Reads the options. Fails with the first that is out of its range.
     pub(crate) fn of(matches: &ArgMatches) -> Result<ShowOptions, Field>
         ensures asked { IfOk result (IsShownBy (found_of matches.now)) }
         ensures fit { IfOk result (λ options. IsFit options.setting) }
@@ -31,7 +31,7 @@ impl ShowOptions {
     }
 }
 
-/// The command `draw` with its options and defaults.
+/// Returns the command `draw` with its options and defaults.
 pub(crate) fn draw_command<'a>(alloc: Global) -> Result<Command<'a>, AllocError> {
     let draw = Command::new(alloc, "draw")
         .about("Draws the table that a trace leaves, as SVG")
@@ -39,7 +39,7 @@ pub(crate) fn draw_command<'a>(alloc: Global) -> Result<Command<'a>, AllocError>
     with_setting(alloc, draw)?.arg(steps_flag(alloc)?)
 }
 
-/// The command `stats` with its options and defaults.
+/// Returns the command `stats` with its options and defaults.
 pub(crate) fn stats_command<'a>(alloc: Global) -> Result<Command<'a>, AllocError> {
     let stats = Command::new(alloc, "stats")
         .about("Prints the numbers of the table that a trace leaves")
@@ -47,7 +47,7 @@ pub(crate) fn stats_command<'a>(alloc: Global) -> Result<Command<'a>, AllocError
     with_setting(alloc, stats)?.arg(steps_flag(alloc)?)
 }
 
-/// The option that tells a script from a trace. No other one goes with it.
+/// Returns the option for scripts of steps. It conflicts with all others.
 fn steps_flag<'a>(alloc: Global) -> Result<Arg<'a>, AllocError> {
     let mut steps = flag(alloc, "steps", "Reads a script of steps, not a trace");
     for (name, _, _) in NUMBERS {

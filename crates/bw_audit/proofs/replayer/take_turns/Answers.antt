@@ -1,9 +1,7 @@
-use Rattle.std.proofs.Common.{rules, ◌≡◌, ◌∷◌, [], ◌<◌, ◌∙◌, ap, sym, refl, subst, length, replicate, arith}
-use Rattle.std.specs.List.{AllByRecursion}
+use Rattle.std.proofs.Common.{rules, ◌≡◌, ◌∷◌, [], ◌<◌, ◌∙◌, ap, sym, length, replicate, arith}
 use Rattle.std.proofs.lemmas.List.{length-map, length-replicate}
 use Rattle.bw_step.specs.Trails.{lists_of}
 use Rattle.bw_audit.specs.Events.{turn_of, world_of}
-use Rattle.bw_audit.specs.Replays.{IsInterleaving}
 use Rattle.bw_audit.proofs.Interleaved.{leads_keeps, leads_length}
 use Rattle.bw_audit.proofs.replayer.take_turns.Goals as goal
 

@@ -1,4 +1,5 @@
-use Rattle.std.proofs.Common.{◌≡◌, ◌∙◌, ◌+◌, ◌++◌, ◌∷◌, [], ap, sym, refl, rules, arith, ℕ, List, Some, Ok, Err, Vec, Global, length-append}
+use Rattle.std.proofs.Common.{◌∙◌, ◌+◌, ◌++◌, ◌∷◌, [], ap, sym, refl, rules, arith, List, Ok, Err, Vec, Global, length-append}
+use Rattle.std.specs.Option.{ForSome}
 use Rattle.bw_step.specs.Trails.{lists_of}
 use Rattle.csv.specs.Records.{fields_of}
 use Rattle.bw_step.specs.declared.receipt.Receipt.{Receipt}
@@ -67,5 +68,5 @@ pub returns-in_err-add_line-in-Ok-clause-fault : goal.returns-in_err-add_line-in
 returns-in_err-add_line-in-Ok-clause-fault g c =
     let fault = c.in_err-add_line-in-Ok.field-0.0 in
     passed_on c.from_residual-in_err-add_line-in-Ok.result fault
-    (λ fault. (bytes : List ℕ) → g.R.Read.remaining c.args.input ≡ Some bytes → ExplainsFault history_line 2000000 bytes fault)
+    (λ fault. ForSome (g.R.Read.remaining c.args.input) (λ bytes. ExplainsFault history_line 2000000 bytes fault))
     c.from_residual-in_err-add_line-in-Ok.ensures.1 (λ bytes known. excused history_line 2000000 bytes fault c.in_err-add_line-in-Ok.ensures.excused)
