@@ -1,6 +1,9 @@
 //! Times calls of the library beside `BTreeMap`'s, in one process: nanoseconds of processor time a call, the
 //! median of so many rounds (the first argument, or five) in which each map has its turn. Processor time leaves out
 //! when other programs run.
+//!
+//! `speed MAP WORK KEYS CALLS` only makes the calls, for a profile: MAP is btree or library, and WORK is put, rising,
+//! set, get, scan or delete.
 
 use nifforan::{Map, Settings};
 use std::collections::BTreeMap;
@@ -149,6 +152,40 @@ fn times<M: Ordered>(new: impl Fn() -> M, keys: u64) -> [f64; WORKS.len()] {
     [put, rising, set, get, scan, delete]
 }
 
+/// Makes calls of one work on a map that has so many keys already. None where there is no such work.
+fn make_calls<M: Ordered>(mut map: M, work: &str, keys: u64, calls: u64) -> Option<()> {
+    let anywhere = |n: u64| mixed(mixed(n) % keys);
+    let order = |n: u64| if work == "rising" { n } else { mixed(n) };
+    for n in 0..keys {
+        map.put(order(n), n);
+    }
+    let mut call: Box<dyn FnMut(u64) -> bool> = match work {
+        "put" | "rising" => Box::new(|n| map.put(order(keys + n), n).is_none()),
+        "set" => Box::new(|n| map.set(anywhere(n), n).is_some()),
+        "get" => Box::new(|n| map.get(anywhere(n)).is_some()),
+        "scan" => Box::new(|n| map.scan(anywhere(n)) > 0),
+        "delete" => Box::new(|n| map.delete(order(n)).is_some()),
+        _ => return None,
+    };
+    for n in 0..calls {
+        assert!(call(black_box(n)));
+    }
+    Some(())
+}
+
+/// Makes the calls that four words tell of.
+fn make_told(words: &[String]) -> Option<()> {
+    let [map, work, keys, calls] = words else {
+        return None;
+    };
+    let (keys, calls) = (keys.parse().ok()?, calls.parse().ok()?);
+    match map.as_str() {
+        "btree" => make_calls(BTreeMap::new(), work, keys, calls),
+        "library" => make_calls(library(keys + calls, CHAINS[0]), work, keys, calls),
+        _ => None,
+    }
+}
+
 fn library(keys: u64, chain: u32) -> Map {
     // room for the keys, also where pages are a quarter full
     let settings = Settings {
@@ -193,8 +230,12 @@ fn rows(keys: u64, rounds: usize) {
 }
 
 fn main() {
-    let rounds = std::env::args()
-        .nth(1)
+    let words: Vec<String> = std::env::args().skip(1).collect();
+    if words.len() > 1 {
+        return make_told(&words).expect("MAP WORK KEYS CALLS");
+    }
+    let rounds = words
+        .first()
         .map_or(5, |word| word.parse().expect("rounds, a number from 1 on"));
     print!("| work | keys | BTreeMap, ns |");
     for chain in CHAINS {
