@@ -14,10 +14,13 @@ use Rattle.bw_procedures.specs.Told.{told_of_delete}
 use Rattle.bw_procedures.specs.Writing.{AddsReceipt, IsReceiptOfDelete}
 use Rattle.bw_procedures.specs.Clearing.{IsRemovalOf, AreRemovals, removal_in, removals_in, AddsRemovals, HasRemovalOf, IsSwept, AreRemovalsOf, LieBelow, StartFrom, RemovesFirst, RemovesBelow, RemovesOne, RemovesKey}
 use Rattle.bw_procedures.proofs.Receipts.{adds, delete_told, none_told}
-use Rattle.bw_procedures.proofs.Trails.{adds_then}
+use Rattle.bw_procedures.proofs.Trails.{adds_nothing, adds_then}
 
 pub grow_then : (a b c : Seen) → Grows a b → Grows b c → Grows a c
 grow_then a b c p q = record { config = q.config ∙ p.config; trail = adds_then a.trail b.trail c.trail p.trail q.trail; effort = omega (arith, p.effort, q.effort); full = omega (arith, p.full, q.full); tall = omega (arith, p.tall, q.tall); worn = omega (arith, p.worn, q.worn) }
+
+pub spent_grows : (a b : Seen) → OnlySpends a b → Grows a b
+spent_grows a b p = record { config = p.same.config; trail = adds_nothing a.trail b.trail p.same.trail; effort = p.effort; full = omega (arith, p.same.full); tall = omega (arith, p.same.tall); worn = omega (arith, p.same.worn) }
 
 -- removals in a range are removals in a wider one
 pub removals_lower : (low at high : ℕ) (xs : List Told) → low ≤ at → AreRemovals at high xs → AreRemovals low high xs
@@ -69,8 +72,14 @@ no_fault (Some fault) ended = cc
 pub adds_leaf : (low at next high n m : ℕ) (a b c : Seen) → low ≤ at → at ≤ next → AddsRemovals low (min at high) n a b → AddsRemovals at (min next high) m b c → AddsRemovals low (min next high) (n + m) a c
 adds_leaf low at next high n m a b c le rise first then = adds_both low (min at high) at (min next high) n m a b c le (omega arith) (omega (arith, rise)) first then
 
-pub adds_leaf_of : (low at next high n m : ℕ) (a b c : Seen) → low ≤ at → at ≤ next → AddsRemovals low (min at high) n a b → AddsRemovals at (min next high) m b c → AddsRemovals low high (n + m) a c
-adds_leaf_of low at next high n m a b c le rise first then = adds_within low (min next high) high (n + m) a c (omega arith) (adds_leaf low at next high n m a b c le rise first then)
+-- a read that failed adds nothing more
+pub adds_spent : (low at high n : ℕ) (a b c : Seen) → AddsRemovals low (min at high) n a b → OnlySpends b c → AddsRemovals low high n a c
+adds_spent low at high n a b c more spends = record {
+  added = more.added;
+  trail = ap told_in spends.same.trail ∙ more.trail;
+  removals = removals_upper low (min at high) high more.added (omega arith) more.removals;
+  count = more.count;
+}
 
 -- the trail has no fewer receipts than keys were taken out
 one_upto : (x : Told) → removal_in x ≤ 1
@@ -196,6 +205,17 @@ removes_adds low end high pairs done left n a b rise first =
 pub leaf_adds : (at end high n : ℕ) (pairs : List (ℕ × ℕ)) (fault : Option Fault) (a b c : Seen) → OnlySpends a b → rises at end pairs ≡ true → RemovesBelow high pairs n fault b c → AddsRemovals at (min end high) n a c
 leaf_adds at end high n pairs fault a b c spends rise removes = adds_after at (min end high) n a b c (ap told_in spends.same.trail) (removes_adds at end high pairs removes.0 removes.1 n b c rise removes.2)
 
+-- one more leaf was read, and its pairs were taken out
+pub adds_read : (low at next high n m : ℕ) (pairs : List (ℕ × ℕ)) (fault : Option Fault) (a b c d : Seen) → low ≤ at → at < next → AddsRemovals low (min at high) n a b → OnlySpends b c → rises at next pairs ≡ true
+    → RemovesBelow high pairs m fault c d → AddsRemovals low (min next high) (n + m) a d
+adds_read low at next high n m pairs fault a b c d le less first spends rise removes =
+    adds_leaf low at next high n m a b d le (omega (arith, less)) first (leaf_adds at next high m pairs fault b c d spends rise removes)
+
+pub adds_read_of : (low at next high n m : ℕ) (pairs : List (ℕ × ℕ)) (fault : Option Fault) (a b c d : Seen) → low ≤ at → at < next → AddsRemovals low (min at high) n a b → OnlySpends b c → rises at next pairs ≡ true
+    → RemovesBelow high pairs m fault c d → AddsRemovals low high (n + m) a d
+adds_read_of low at next high n m pairs fault a b c d le less first spends rise removes =
+    adds_within low (min next high) high (n + m) a d (omega arith) (adds_read low at next high n m pairs fault a b c d le less first spends rise removes)
+
 -- a key below those of rising pairs isn't among them
 not_below : (low end key : ℕ) (es : List (ℕ × ℕ)) → rises low end es ≡ true → key < low → at key es ≡ None
 not_below low end key [] rise less = refl
@@ -297,3 +317,11 @@ module _ (S : Type 0) (seen : S → Seen) (follows : S → S → Type 0) (shows 
       by_test : (test : Bool) → nat_lt key at ≡ test → IsSwept seen follows shows key a c
       by_test true early = swept_later at (min next high) n key a b c (before key above (grind (arith, nat_tests, early)) less) then more
       by_test false late = swept_before key a b c first (here key (grind (arith, nat_tests, late)) below less)
+
+  -- what was swept as far as a key, and one more leaf that was read there, and whose pairs were taken out
+  pub swept_read : (low at next high key n : ℕ) (pairs : List (ℕ × ℕ)) (fault : Option Fault) (a b c d : S) → follows a b → follows b c → follows c d → OnlySpends (seen b) (seen c) → shows c at next pairs
+      → rises at next pairs ≡ true → RemovesBelow high pairs n fault (seen c) (seen d) → fault ≡ None → ((q : ℕ) → low ≤ q → q < at → q < high → IsSwept seen follows shows q a b)
+      → low ≤ key → key < next → key < high → IsSwept seen follows shows key a d
+  swept_read low at next high key n pairs fault a b c d first read then spends shown rise removes ended before above below less =
+      swept_next low at next high n key a b d first (joins b c d read then) (leaf_adds at next high n pairs fault (seen b) (seen c) (seen d) spends rise removes) before
+      (λ q from_at under q_less. leaf_sweeps at next high q n pairs fault b c d read then shown rise removes ended from_at under q_less) above below less

@@ -41,6 +41,9 @@ pub within_earned : {T : Type 0} → (cost limit : ℕ) (result : Result T Fault
 within_earned cost limit (Ok it) a b is = tt
 within_earned cost limit (Err fault) a b is = is.1
 
+-- what a call that only reshapes leaves
+pub ruleset within = (within_reshapes, within_cost, within_earned)
+
 raised_up : (times n : ℕ) → n ≤ raised times n
 raised_up zero n = omega arith
 raised_up (suc times) n = let up = raised_up times n in omega (arith, up)

@@ -11,7 +11,7 @@ use Rattle.bw_procedures.specs.Calls.{OnlyReshapes, ReshapesWithin, IsEarned, Ro
 use Rattle.bw_procedures.specs.Rounds.{IsRound}
 use Rattle.bw_procedures.proofs.Trails.{adds_nothing, adds_then}
 
-reshapes_then : (a b c : Seen) → OnlyReshapes a b → OnlyReshapes b c → OnlyReshapes a c
+pub reshapes_then : (a b c : Seen) → OnlyReshapes a b → OnlyReshapes b c → OnlyReshapes a c
 reshapes_then a b c p q =
     let x = p.grows in
     let y = q.grows in

@@ -20,7 +20,7 @@ use Rattle.bw_procedures.specs.declared.offer.Answer.TheVariants as answers
 use Rattle.bw_procedures.specs.Seen.{Seen, one_more, SameButEffort, SameCounts, Grows}
 use Rattle.bw_procedures.specs.Facts.{Fact, holds, fresh}
 
--- a count rose by so much, or is at its end
+-- a count rose by n, or is at its end
 abbrev pub RoseBy : ℕ → ℕ → ℕ → Type 0
 RoseBy n old new = min (old + n) (2 ^ 64 - 1) ≤ new
 
@@ -36,10 +36,14 @@ IsEarned limit old new TableFull = RoseBy 1 old.full new.full
 IsEarned limit old new TooTall = RoseBy 1 old.tall new.tall
 IsEarned limit old new Worn = RoseBy 1 old.worn new.worn
 
--- a count that was made one higher so often
+-- a call that began with the old state may answer this fault
+abbrev pub Earned : Seen → Seen → Fault → Type 0
+Earned old new fault = IsEarned (limit_of old) old new fault
+
+-- a count that was made one higher n times
 abbrev pub raised : ℕ → ℕ → ℕ
-raised zero n = n
-raised (suc times) n = one_more (raised times n)
+raised zero count = count
+raised (suc n) count = one_more (raised n count)
 
 -- the receipts of a step that changes a page's shape, and of the page's consolidation
 abbrev pub receipts_of_shape : Kind → Pid → Pid → List Receipt
@@ -72,7 +76,7 @@ pub record OnlyReshapes (old new : Seen) : Type 0 where
   pub without_shapes : without_shapes new.trail ≡ without_shapes old.trail
   pub grows : Grows old new
 
--- a part of a call that changes nothing but the tree's shape: answered, it cost so much, and otherwise the fault is earned
+-- a part of a call that changes nothing but the tree's shape: answered, it cost this much, and otherwise the fault is earned
 abbrev pub ReshapesWithin : {T : Type 0} → ℕ → ℕ → Result T Fault → Seen → Seen → Type 0
 ReshapesWithin cost limit (Ok it) old new = OnlyReshapes old new × RoseBy cost old.effort new.effort
 ReshapesWithin cost limit (Err fault) old new = OnlyReshapes old new × IsEarned limit old new fault

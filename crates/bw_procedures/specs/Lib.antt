@@ -6,6 +6,7 @@ pub mod Slices
 pub mod Rounds
 pub mod Tending
 pub mod Writing
+pub mod Writes
 pub mod Clearing
 pub mod Told
 pub mod Texts

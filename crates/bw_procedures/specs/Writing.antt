@@ -72,6 +72,11 @@ abbrev pub IsReceiptFor : ℕ → Wished → Receipt → Type 0
 IsReceiptFor key wished (receipts.Looked at k found) = (k ≡ key) × (is_kept (keep_for wished) found ≡ true)
 IsReceiptFor key wished receipt = IsChangeFor key wished receipt
 
+-- without a reply the look isn't kept; with one it is, and its receipt is the reply's
+abbrev pub AnswersBy : {T : Type 0} → Keep → ℕ → (T → Receipt → Type 0) → Option ℕ → Option T → Type 0
+AnswersBy keep key is_of found None = is_kept keep found ≡ false
+AnswersBy keep key is_of found (Some reply) = (is_kept keep found ≡ true) × ((at : ℕ) → is_of reply (receipts.Looked at key found))
+
 -- what is added behind the receipt of what was done at once: nothing to a look, and the consolidation of the page to a change
 abbrev pub shapes_behind : Pid → Receipt → List Receipt
 shapes_behind page (receipts.Looked at key found) = []

@@ -2,17 +2,13 @@
 
 ghost use Rattle.std.specs.Prelude.{◌≡◌, IfOk, IfErr, OnErr};
 ghost use Rattle.bw_procedures.specs.Seen.{Grows};
-ghost use Rattle.bw_procedures.specs.Calls.{IsEarned, limit_of};
+ghost use Rattle.bw_procedures.specs.Calls.{Earned};
 ghost use Rattle.bw_step.specs.Tellings.{told_in};
 ghost use Rattle.bw_procedures.specs.Told.{AddsTold};
 
-use crate::clearing::clear;
-use crate::deletion::delete;
+use crate::calls::Calls;
 use crate::fault::Fault;
-use crate::insertion::put;
-use crate::lookup::get;
 use crate::reply::Reply;
-use crate::setting::set;
 use crate::steps::Steps;
 use bw_keys::{Fence, Key};
 use bw_step::Step;
@@ -33,8 +29,12 @@ pub enum Act {
     Clear { low: Key, high: Fence },
 }
 
-/// Does the act by the worker's steps, and answers what the worker was told. A removal of a range is
-/// answered with its fault, and so is never given up; its copies of leaves lie in the machine's memory.
+/// Does the act by the worker's calls, and returns its reply. The reply to a removal of a range has
+/// its fault, so that act never fails; its copies of leaves lie in the machine's memory.
+///
+/// # Errors
+///
+/// Those of the act's call.
 #[tactic(auto, using(crate::proofs::Receipts::none_told))]
 pub fn do_act<A: Allocator + Copy, S: Steps<A, Step<A>>>(
     steps: &mut S,
@@ -45,25 +45,25 @@ pub fn do_act<A: Allocator + Copy, S: Steps<A, Step<A>>>(
     ensures grows { Grows (S.seen steps.old) (S.seen steps.new) }
     ensures told { IfOk result (λ reply. AddsTold act reply (S.seen steps.old).trail (S.seen steps.new).trail) }
     ensures nothing { OnErr result (told_in (S.seen steps.new).trail ≡ told_in (S.seen steps.old).trail) }
-    ensures fault { IfErr result (IsEarned (limit_of (S.seen steps.old)) (S.seen steps.old) (S.seen steps.new)) }
+    ensures fault { IfErr result (Earned (S.seen steps.old) (S.seen steps.new)) }
 {
     match act {
-        Act::Put { key, value } => match put(steps, key, value) {
+        Act::Put { key, value } => match steps.put(key, value) {
             Ok(done) => Ok(Reply::Put(done)),
             Err(fault) => Err(fault),
         },
-        Act::Set { key, value } => match set(steps, key, value) {
+        Act::Set { key, value } => match steps.set(key, value) {
             Ok(done) => Ok(Reply::Set(done)),
             Err(fault) => Err(fault),
         },
-        Act::Delete { key } => match delete(steps, key) {
+        Act::Delete { key } => match steps.delete(key) {
             Ok(done) => Ok(Reply::Delete(done)),
             Err(fault) => Err(fault),
         },
-        Act::Get { key } => match get(steps, key) {
+        Act::Get { key } => match steps.get(key) {
             Ok(found) => Ok(Reply::Get(found)),
             Err(fault) => Err(fault),
         },
-        Act::Clear { low, high } => Ok(Reply::Clear(clear(steps, machine, low, high))),
+        Act::Clear { low, high } => Ok(Reply::Clear(steps.clear(machine, low, high))),
     }
 }

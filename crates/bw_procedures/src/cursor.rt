@@ -1,16 +1,13 @@
 //! The pairs of one leaf, from a key on.
 
-ghost use Rattle.std.specs.Prelude.{◌≡◌, IfOk, IfErr, OnOk};
+ghost use Rattle.std.specs.Prelude.{◌≡◌, IfOk};
 ghost use Rattle.bw_delta.specs.Entries.{from};
 ghost use Rattle.bw_delta.specs.Pairs.{pairs};
 ghost use Rattle.bw_delta.specs.Sound.{IsSound};
-ghost use Rattle.bw_procedures.specs.declared.fault.Fault.TheVariants as faults;
 ghost use Rattle.bw_procedures.specs.Facts.{quiet, ShowsCopy, IsLeafAround};
-ghost use Rattle.bw_procedures.specs.Calls.{limit_of, OnlySpends, IsEarned, Reads, IsAnswered};
-ghost use Rattle.bw_procedures.specs.Slices.{end_of_slice, IsSliceFrom, ShowsRead, IsReadFrom};
+ghost use Rattle.bw_procedures.specs.Calls.{Reads, IsAnswered};
+ghost use Rattle.bw_procedures.specs.Slices.{ShowsRead, IsReadFrom};
 
-use crate::effort::{is_spent, limit};
-use crate::fault::Fault;
 use crate::reply::Slice;
 use crate::steps::Steps;
 use crate::walk::leaf;
@@ -20,37 +17,9 @@ use bw_keys::{Fence, Key};
 use bw_step::{CopyFault, Step};
 use std::alloc::{Allocator, Global};
 
-/// The pairs of the leaf whose range holds the key, from the key on. The slice lies in the machine's
-/// memory, and no receipt is added. What a walk meets unfinished is left as it is.
-///
-/// It ends with `Contended` where the call's effort is spent before a leaf is copied, and with
-/// `NoMemory`.
-pub fn page_from<A: Allocator + Copy, S: Steps<A, Step<A>>>(
-    steps: &mut S,
-    machine: Global,
-    key: Key,
-) -> Result<Slice, Fault>
-    ensures follows { S.follows steps.old steps.new }
-    ensures seen { OnlySpends (S.seen steps.old) (S.seen steps.new) }
-    ensures shows { IfOk result (λ slice. S.shows steps.new key (end_of_slice slice.next) slice.pairs.items) }
-    ensures slice { IfOk result (IsSliceFrom key) }
-    ensures fault { IfErr result (IsEarned (limit_of (S.seen steps.old)) (S.seen steps.old) (S.seen steps.new)) }
-    ensures calm { S.calm steps.old quiet → IfErr result (λ fault. fault ≡ faults.NoMemory) }
-    ensures no_effort { S.calm steps.old quiet → (S.seen steps.new).effort ≡ (S.seen steps.old).effort }
-{
-    let limit = limit(steps);
-    'again: loop {
-        if let Some(slice) = read_page(steps, machine, key)? {
-            return Ok(slice);
-        }
-        if is_spent(steps, limit) {
-            return Err(Fault::Contended);
-        }
-    }
-}
-
-/// One walk to the leaf, and a copy of it. None where one of them came to nothing.
-fn read_page<A: Allocator + Copy, S: Steps<A, Step<A>>>(
+/// Walks to the key's leaf, and copies its pairs from the key on. None where the walk or the copy came
+/// to nothing.
+pub(crate) fn read_page<A: Allocator + Copy, S: Steps<A, Step<A>>>(
     steps: &mut S,
     machine: Global,
     key: Key,

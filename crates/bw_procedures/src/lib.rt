@@ -1,7 +1,7 @@
-//! What a worker of a tree does for a put, a set, a delete, a get, a cursor and the removal of a range, written
-//! once over the atomic steps that it takes and that others may come between (Levandoski et al., ICDE 2013,
-//! "structure modifications").
-#![tactic(auto, using(crate::proofs::Trails::adding))]
+//! The calls of a tree's worker: put, set, delete, get, a cursor and the removal of a range, written
+//! once over the atomic steps that the worker takes and that others may come between (Levandoski et
+//! al., "The Bw-Tree", ICDE 2013, "Structure Modifications").
+#![tactic(auto)]
 
 mod account;
 mod act;
@@ -28,14 +28,6 @@ mod writing;
 pub use account::Account;
 pub use act::{Act, do_act};
 pub use calls::Calls;
-pub use clearing::clear;
-pub use cursor::page_from;
-pub use deletion::delete;
 pub use fault::Fault;
-pub use helping::help;
-pub use insertion::put;
-pub use lookup::get;
 pub use reply::{Cleared, Del, Done, Put, Reply, Set, Slice};
-pub use setting::set;
 pub use steps::{Ends, Keep, Steps};
-pub use tending::tend;

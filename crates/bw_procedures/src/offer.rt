@@ -2,7 +2,8 @@
 
 ghost use Rattle.std.specs.Prelude.{◌≡◌, ◌<◌, IfOk, OnOk};
 ghost use Rattle.bw_step.specs.ProposalView.{proposal_of};
-ghost use Rattle.bw_procedures.specs.Calls.{ReshapesWithin, AnswerCounts, fault_in, ChangesShape, Offered};
+ghost use Rattle.bw_procedures.specs.Calls.{ReshapesWithin, AnswerCounts, fault_in};
+ghost use Rattle.bw_procedures.specs.Calls.{ChangesShape, Offered};
 
 use crate::effort::is_spent;
 use crate::fault::Fault;
@@ -17,16 +18,18 @@ pub(crate) enum Answer {
     Refused(Refused),
 }
 
-/// Proposes a step that changes the tree's shape. No refusal is a fault.
+/// Proposes a step. No refusal is a fault.
 #[inline(always)]
 pub(crate) fn offer<A: Allocator + Copy, S: Steps<A, Step<A>>>(
     steps: &mut S,
     limit: u64,
     step: Step<A>,
 ) -> Result<Answer, Fault>
-    requires { ChangesShape (proposal_of step) }
     ensures follows { S.follows steps.old steps.new }
-    ensures reshapes { ReshapesWithin 1 limit result (S.seen steps.old) (S.seen steps.new) }
+    ensures shape { ChangesShape (proposal_of step)
+        → ReshapesWithin 1 limit result (S.seen steps.old) (S.seen steps.new) }
+    ensures change { (ChangesShape (proposal_of step) → ⊥)
+        → Offered (proposal_of step) limit result (S.seen steps.old) (S.seen steps.new) }
     ensures within { OnOk result ((S.seen steps.old).effort < limit) }
     ensures counts { IfOk result (λ answer. AnswerCounts answer (S.seen steps.old) (S.seen steps.new)) }
 {
@@ -40,7 +43,7 @@ pub(crate) fn offer<A: Allocator + Copy, S: Steps<A, Step<A>>>(
     }
 }
 
-/// The fault that a refusal is, if it is one.
+/// Returns the fault that a refusal is, if it is one.
 fn fault_of(reason: Refused) -> Option<Fault>
     ensures { result ≡ fault_in reason }
 {
@@ -70,26 +73,5 @@ pub(crate) fn reshape<A: Allocator + Copy, S: Steps<A, Step<A>>>(
             Some(fault) => Err(fault),
             None => Ok(answer),
         },
-    }
-}
-
-/// Proposes a step that changes the map. No refusal is a fault.
-#[inline(always)]
-pub(crate) fn change<A: Allocator + Copy, S: Steps<A, Step<A>>>(
-    steps: &mut S,
-    limit: u64,
-    step: Step<A>,
-) -> Result<Answer, Fault>
-    requires { ChangesShape (proposal_of step) → ⊥ }
-    ensures follows { S.follows steps.old steps.new }
-    ensures offered { Offered (proposal_of step) limit result (S.seen steps.old) (S.seen steps.new) }
-{
-    if is_spent(steps, limit) {
-        return Err(Fault::Contended);
-    }
-    match steps.install(step) {
-        Ok(receipt) => Ok(Answer::Accepted(receipt)),
-        Err(Denied::Refused(reason)) => Ok(Answer::Refused(reason)),
-        Err(Denied::NoMemory) => Err(Fault::NoMemory),
     }
 }

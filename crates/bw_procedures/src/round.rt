@@ -179,7 +179,8 @@ fn post_under<A: Allocator + Copy, S: Steps<A, Step<A>>>(
     parent: View,
 ) -> Result<Turn, Fault>
     ensures follows { S.follows steps.old steps.new }
-    ensures round { IsRound rung (kind_rank (Todo.Post view.pid)) limit result (S.seen steps.old) (S.seen steps.new) }
+    ensures round { IsRound rung (kind_rank (Todo.Post view.pid)) limit result
+        (S.seen steps.old) (S.seen steps.new) }
 {
     if parent.stage == Stage::Marked {
         return Ok(merge_first(rung, parent));
@@ -210,7 +211,8 @@ fn merge<A: Allocator + Copy, S: Steps<A, Step<A>>>(
     page: Pid,
 ) -> Result<Turn, Fault>
     ensures follows { S.follows steps.old steps.new }
-    ensures round { IsRound rung (kind_rank (Todo.Merge page)) limit result (S.seen steps.old) (S.seen steps.new) }
+    ensures round { IsRound rung (kind_rank (Todo.Merge page)) limit result
+        (S.seen steps.old) (S.seen steps.new) }
 {
     let Some(view) = steps.peek(page) else {
         return Ok(Turn::Idle);
@@ -244,7 +246,8 @@ fn merge_under<A: Allocator + Copy, S: Steps<A, Step<A>>>(
     left: View,
 ) -> Result<Turn, Fault>
     ensures follows { S.follows steps.old steps.new }
-    ensures round { IsRound rung (kind_rank (Todo.Merge view.pid)) limit result (S.seen steps.old) (S.seen steps.new) }
+    ensures round { IsRound rung (kind_rank (Todo.Merge view.pid)) limit result
+        (S.seen steps.old) (S.seen steps.new) }
 {
     if left.stage == Stage::Marked {
         return Ok(merge_first(rung, left));
@@ -273,7 +276,8 @@ fn drop_term<A: Allocator + Copy, S: Steps<A, Step<A>>>(
     page: Pid,
 ) -> Result<Turn, Fault>
     ensures follows { S.follows steps.old steps.new }
-    ensures round { IsRound rung (kind_rank (Todo.DropTerm page)) limit result (S.seen steps.old) (S.seen steps.new) }
+    ensures round { IsRound rung (kind_rank (Todo.DropTerm page)) limit result
+        (S.seen steps.old) (S.seen steps.new) }
 {
     let Some(view) = steps.peek(page) else {
         return Ok(Turn::Idle);
@@ -297,7 +301,8 @@ fn drop_under<A: Allocator + Copy, S: Steps<A, Step<A>>>(
     parent: View,
 ) -> Result<Turn, Fault>
     ensures follows { S.follows steps.old steps.new }
-    ensures round { IsRound rung (kind_rank (Todo.DropTerm view.pid)) limit result (S.seen steps.old) (S.seen steps.new) }
+    ensures round { IsRound rung (kind_rank (Todo.DropTerm view.pid)) limit result
+        (S.seen steps.old) (S.seen steps.new) }
 {
     if parent.stage == Stage::Marked {
         return Ok(merge_first(rung, parent));

@@ -1,12 +1,12 @@
-//! Tending a page after a change: its chain is kept short, its entries few and not too few, and what
-//! that changes on the level above is tended in turn.
+//! Tending a page after a change: its chain is kept short, its entries few and not too few, and
+//! what that changes on the level above is tended in turn.
 
-ghost use Rattle.std.specs.Prelude.{◌≡◌, ◌<◌, IfErr};
-ghost use Rattle.bw_procedures.specs.Calls.{ReshapesWithin, OnlyReshapes, IsEarned, limit_of};
+ghost use Rattle.std.specs.Prelude.{◌≡◌, ◌<◌};
+ghost use Rattle.bw_procedures.specs.Calls.{ReshapesWithin};
 ghost use Rattle.bw_procedures.specs.Tending.{IsTended};
 
 use crate::consolidation::consolidate;
-use crate::effort::{covers, is_spent, limit};
+use crate::effort::{covers, is_spent};
 use crate::fault::Fault;
 use crate::helping::help_within;
 use crate::offer::{Answer, reshape};
@@ -21,24 +21,6 @@ use std::alloc::Allocator;
 
 /// What a split, the term of its page and the two consolidations behind them cost.
 const SPLIT_COST: u64 = 4;
-
-/// Consolidates, splits or removes the page where its chain is long, its entries many or few, and then
-/// tends the page above that this changed. Only receipts of the tree's shape are added.
-///
-/// It ends with `Contended` where the call's effort is spent, with `TableFull`, `TooTall` or `Worn`
-/// where a step was refused so, and with `NoMemory`. What was done by then stands.
-#[tactic(auto, using(crate::proofs::Reshaping::within_reshapes, crate::proofs::Reshaping::within_earned))]
-pub fn tend<A: Allocator + Copy, S: Steps<A, Step<A>>>(
-    steps: &mut S,
-    page: Pid,
-) -> Result<(), Fault>
-    ensures follows { S.follows steps.old steps.new }
-    ensures reshapes { OnlyReshapes (S.seen steps.old) (S.seen steps.new) }
-    ensures fault { IfErr result (IsEarned (limit_of (S.seen steps.old)) (S.seen steps.old) (S.seen steps.new)) }
-{
-    let limit = limit(steps);
-    tend_within(steps, limit, page)
-}
 
 /// Tends a page within the effort of a call.
 pub(crate) fn tend_within<A: Allocator + Copy, S: Steps<A, Step<A>>>(
@@ -58,7 +40,7 @@ pub(crate) fn tend_within<A: Allocator + Copy, S: Steps<A, Step<A>>>(
     }
 }
 
-/// Tends one page, and answers the page to tend next.
+/// Tends one page, and returns the page to tend next.
 fn tend_once<A: Allocator + Copy, S: Steps<A, Step<A>>>(
     steps: &mut S,
     limit: u64,
@@ -81,19 +63,19 @@ fn tend_once<A: Allocator + Copy, S: Steps<A, Step<A>>>(
     Ok(None)
 }
 
-/// Whether a page with so many entries is to be split.
+/// Whether a page with `count` entries is to be split.
 #[inline(always)]
 fn is_many(fanout: u32, count: u64) -> bool {
     count > u64::from(fanout)
 }
 
-/// Whether a page with so many entries is to be merged, if it may be.
+/// Whether a page with `count` entries is to be merged, if it may be.
 #[inline(always)]
 fn is_few(fanout: u32, count: u64) -> bool {
     count < u64::from(fanout) / 4
 }
 
-/// Whether a page with so many entries, and no records, is tended as it is.
+/// Whether a page with `count` entries, and no records, is tended as it is.
 #[inline(always)]
 pub(crate) fn is_fair(fanout: u32, count: u64) -> bool {
     !is_many(fanout, count) && !is_few(fanout, count)
@@ -126,8 +108,8 @@ fn present<A: Allocator + Copy, S: Steps<A, Step<A>>>(steps: &mut S, page: Pid) 
     }
 }
 
-/// Consolidates the page where its chain is long, and answers the page as it is then. None where there
-/// is nothing more to tend.
+/// Consolidates the page where its chain is long, and returns the page as it is then. None where
+/// there is nothing more to tend.
 fn shorten<A: Allocator + Copy, S: Steps<A, Step<A>>>(
     steps: &mut S,
     limit: u64,
@@ -189,8 +171,8 @@ fn split_page<A: Allocator + Copy, S: Steps<A, Step<A>>>(
     }
 }
 
-/// Splits it at once, where the worker does that and the effort that is left covers the steps. It
-/// answers the new page.
+/// Splits the page at once, where the worker does that and the effort that is left covers the steps,
+/// and returns the new page.
 fn split_in_place<A: Allocator + Copy, S: Steps<A, Step<A>>>(
     steps: &mut S,
     limit: u64,

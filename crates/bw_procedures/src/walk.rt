@@ -27,7 +27,8 @@ pub(crate) fn descend<A: Allocator + Copy, S: Steps<A, Step<A>>>(
     ensures gone { CostsIfNone result (S.seen steps.old) (S.seen steps.new) }
     ensures level { IsAtLevel goal result }
     ensures calm { S.calm steps.old (on_the_way key goal start) → FindsFresh (S.calm steps.new) key goal result }
-    ensures no_effort { S.calm steps.old (on_the_way key goal start) → (S.seen steps.new).effort ≡ (S.seen steps.old).effort }
+    ensures no_effort { S.calm steps.old (on_the_way key goal start)
+        → (S.seen steps.new).effort ≡ (S.seen steps.old).effort }
 {
     let mut place = start;
     'down: loop {

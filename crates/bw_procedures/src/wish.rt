@@ -9,15 +9,13 @@ use std::alloc::Allocator;
 
 /// What a call wishes of one key: which looks answer it, and which step is proposed where none does.
 pub(crate) trait Wish: Copy {
-    ghost use Rattle.std.specs.Prelude.{◌≡◌, ℕ, true, false, MatchOption};
+    ghost use Rattle.std.specs.Prelude.{◌≡◌, ℕ};
     ghost use Rattle.bw_step.specs.ProposalView.{proposal_of};
     ghost use Rattle.bw_step.specs.Steps.{IsReceiptOf};
     ghost use Rattle.bw_step.specs.declared.receipt.Receipt.{Receipt};
-    ghost use Rattle.bw_step.specs.declared.receipt.Receipt.TheVariants.{Looked};
     ghost use Rattle.bw_procedures.specs.declared.steps.Keep.{Keep};
-    ghost use Rattle.bw_procedures.specs.Seen.{is_kept};
     ghost use Rattle.bw_procedures.specs.Calls.{ChangesShape};
-    ghost use Rattle.bw_procedures.specs.Writing.{keep_for, IsChangeFor};
+    ghost use Rattle.bw_procedures.specs.Writing.{keep_for, IsChangeFor, AnswersBy};
 
     /// What the call replies.
     type Reply: Drop;
@@ -49,7 +47,7 @@ pub(crate) trait Wish: Copy {
     /// The reply, where what the leaf has at the key answers the call. None where the step is to be
     /// proposed.
     fn answered(self, found: Option<u64>) -> Option<Self::Reply>
-        ensures { MatchOption result (is_kept (keep_of self) found ≡ false) (λ reply. (is_kept (keep_of self) found ≡ true) × ((at : ℕ) → is_receipt_of self reply (Looked at (key_of self) found))) };
+        ensures { AnswersBy (keep_of self) (key_of self) (is_receipt_of self) found result };
 
     /// The step, at the key's leaf, where this was found.
     fn step<A: Allocator + Copy>(self, view: View, found: Option<u64>, spare: Spare<A>) -> Step<A>

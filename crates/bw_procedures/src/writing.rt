@@ -1,17 +1,17 @@
-//! Writing a key, whatever is wished of it: the writer's walk, which helps what it meets unfinished, the
-//! look at the leaf, the step, and the end of a call.
+//! Writing a key, whatever is wished of it: the writer's walk, which helps what it meets unfinished,
+//! the look at the leaf, the step, and the end of a call.
 
-ghost use Rattle.std.specs.Prelude.{◌≡◌, true, IfOk, IfErr, IfSome, OnErr};
-ghost use Rattle.bw_procedures.specs.Seen.{Grows};
-ghost use Rattle.bw_step.specs.Tellings.{without_shapes};
-ghost use Rattle.bw_procedures.specs.Calls.{OnlySpends, OnlyReshapes, limit_of, IsEarned};
-ghost use Rattle.bw_procedures.specs.Writing.{AddsReceipt, ArrivalCosts, Attempts, AttemptsAtOnce, Helped, EndsEarned, FoundBy};
+ghost use Rattle.std.specs.Prelude.{◌≡◌, true};
+ghost use Rattle.bw_procedures.specs.Calls.{OnlySpends, OnlyReshapes};
+ghost use Rattle.bw_procedures.specs.Writes.{Writes};
+ghost use Rattle.bw_procedures.specs.Writing.{ArrivalCosts, Attempts, AttemptsAtOnce};
+ghost use Rattle.bw_procedures.specs.Writing.{Helped, EndsEarned, FoundBy};
 
 use crate::consolidation::consolidate;
 use crate::effort::{is_spent, limit};
 use crate::fault::Fault;
 use crate::helping::help_within;
-use crate::offer::{Answer, change};
+use crate::offer::{Answer, offer};
 use crate::reply::Done;
 use crate::steps::{Keep, Steps};
 use crate::tending::{is_fair, tend_within};
@@ -45,18 +45,14 @@ enum Tried<T> {
     Kept(Fault),
 }
 
-/// Brings about what is wished for, as `put`, `set` and `delete` tell.
+/// Carries out a wish, as a put, a set or a delete.
 #[inline(always)]
 pub(crate) fn write<A: Allocator + Copy, S: Steps<A, Step<A>>, W: Wish>(
     steps: &mut S,
     wish: W,
 ) -> Result<Done<W::Reply>, Fault>
     ensures follows { S.follows steps.old steps.new }
-    ensures grows { Grows (S.seen steps.old) (S.seen steps.new) }
-    ensures receipt { IfOk result (λ done. AddsReceipt (W.is_receipt_of wish) done.reply (S.seen steps.old) (S.seen steps.new)) }
-    ensures no_receipt { OnErr result (without_shapes (S.seen steps.new).trail ≡ without_shapes (S.seen steps.old).trail) }
-    ensures fault { IfErr result (IsEarned (limit_of (S.seen steps.old)) (S.seen steps.old) (S.seen steps.new)) }
-    ensures kept { IfOk result (λ done. IfSome done.fault (IsEarned (limit_of (S.seen steps.old)) (S.seen steps.old) (S.seen steps.new))) }
+    ensures write { Writes (W.is_receipt_of wish) result (S.seen steps.old) (S.seen steps.new) }
 {
     let limit = limit(steps);
     match write_at_once(steps, limit, wish) {
@@ -79,8 +75,8 @@ pub(crate) fn write<A: Allocator + Copy, S: Steps<A, Step<A>>, W: Wish>(
     }
 }
 
-/// What is wished for, in one step of a worker that can do that, where the effort that is left covers
-/// the consolidation behind the change. A leaf whose count stays fair needs no tending.
+/// Carries out a wish in one step of a worker that can, where the effort that is left covers the
+/// consolidation behind the change. A leaf whose count stays fair needs no tending.
 #[inline(always)]
 fn write_at_once<A: Allocator + Copy, S: Steps<A, Step<A>>, W: Wish>(
     steps: &mut S,
@@ -110,7 +106,7 @@ fn write_at_once<A: Allocator + Copy, S: Steps<A, Step<A>>, W: Wish>(
     }
 }
 
-/// One walk to the leaf, and what is wished for there.
+/// Walks to the key's leaf, and carries out the wish there.
 #[tactic(auto, using(crate::proofs::Changing::attempts_any))]
 #[inline(always)]
 fn try_once<A: Allocator + Copy, S: Steps<A, Step<A>>, W: Wish>(
@@ -120,7 +116,8 @@ fn try_once<A: Allocator + Copy, S: Steps<A, Step<A>>, W: Wish>(
     wish: W,
 ) -> Result<Tried<W::Reply>, Fault>
     ensures follows { S.follows steps.old steps.new }
-    ensures attempts { Attempts (W.is_receipt_of wish) passes_posts limit result (S.seen steps.old) (S.seen steps.new) }
+    ensures attempts { Attempts (W.is_receipt_of wish) passes_posts limit result
+        (S.seen steps.old) (S.seen steps.new) }
 {
     match arrive(steps, wish.key(), passes_posts) {
         Arrival::Gone => Ok(Tried::Again),
@@ -129,7 +126,7 @@ fn try_once<A: Allocator + Copy, S: Steps<A, Step<A>>, W: Wish>(
     }
 }
 
-/// The key's leaf at once, where the worker can tell it; otherwise the writer's walk from the root.
+/// Finds the key's leaf at once, where the worker can, and otherwise by the writer's walk from the root.
 #[inline(always)]
 fn arrive<A: Allocator + Copy, S: Steps<A, Step<A>>>(
     steps: &mut S,
@@ -149,7 +146,7 @@ fn arrive<A: Allocator + Copy, S: Steps<A, Step<A>>>(
     }
 }
 
-/// The writer's walk from a place to the leaf, or to the first thing that is unfinished.
+/// Walks as a writer from a place to the leaf, or to the first thing that is unfinished.
 #[inline(always)]
 fn approach<A: Allocator + Copy, S: Steps<A, Step<A>>>(
     steps: &mut S,
@@ -221,7 +218,7 @@ fn is_want_of_pages(fault: Fault) -> bool {
     }
 }
 
-/// What is wished for, at a page.
+/// Carries out a wish at a page.
 #[tactic(auto, using(crate::proofs::Changing::replied, crate::proofs::Changing::wanted))]
 #[inline(always)]
 fn write_at<A: Allocator + Copy, S: Steps<A, Step<A>>, W: Wish>(
@@ -257,7 +254,7 @@ fn look_at<A: Allocator + Copy, S: Steps<A, Step<A>>>(
     Ok(steps.look(page, key, keep)?)
 }
 
-/// Proposes the step that is wished for. A page that is too deep for it is consolidated.
+/// Proposes the wish's step. A page that is too deep for it is consolidated.
 #[inline(always)]
 fn propose<A: Allocator + Copy, S: Steps<A, Step<A>>, W: Wish>(
     steps: &mut S,
@@ -270,7 +267,7 @@ fn propose<A: Allocator + Copy, S: Steps<A, Step<A>>, W: Wish>(
     ensures attempts { Attempts (W.is_receipt_of wish) true limit result (S.seen steps.old) (S.seen steps.new) }
 {
     let spare = Spare::new(steps.alloc())?;
-    match change(steps, limit, wish.step(view, found, spare))? {
+    match offer(steps, limit, wish.step(view, found, spare))? {
         Answer::Accepted(receipt) => Ok(Tried::Tend(wish.reply(receipt), view.pid)),
         Answer::Refused(Refused::Deep) => {
             consolidate(steps, limit, view)?;
@@ -281,7 +278,7 @@ fn propose<A: Allocator + Copy, S: Steps<A, Step<A>>, W: Wish>(
     }
 }
 
-/// Tends the page of an accepted change, and gives the reply out.
+/// Tends the page of an accepted change, and returns the reply.
 fn finish<A: Allocator + Copy, S: Steps<A, Step<A>>, T>(
     steps: &mut S,
     limit: u64,

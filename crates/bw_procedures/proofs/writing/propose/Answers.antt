@@ -1,0 +1,19 @@
+use Rattle.std.proofs.Common.{arith}
+use Rattle.bw_procedures.proofs.Rounds.{reshapes_then}
+use Rattle.bw_procedures.proofs.writing.propose.Goals as goal
+
+pub returns-in-Accepted-clause-attempts : goal.returns-in-Accepted-clause-attempts
+returns-in-Accepted-clause-attempts g c =
+    let offered = rw c.in-Accepted.is at (c.in_ok-receipt.ensures.change c.step.ensures.change) in
+    ((c.in-Accepted.receipt, offered.1, c.reply.ensures), offered.2)
+
+pub returns-in_ok-consolidate-in-Refused-Deep-clause-attempts : goal.returns-in_ok-consolidate-in-Refused-Deep-clause-attempts
+returns-in_ok-consolidate-in-Refused-Deep-clause-attempts g c =
+    let offered = rw c.in-Refused-Deep.is at (c.in_ok-receipt.ensures.change c.step.ensures.change) in
+    let anew = c.in_ok-consolidate-in-Refused-Deep.ensures.reshapes in
+    (reshapes_then _ _ _ offered.0 anew.0, omega (arith, offered.1, anew.0.grows.effort))
+
+pub returns-in-Refused : goal.returns-in-Refused
+returns-in-Refused g c =
+    let offered = rw c.in-Refused.is at (c.in_ok-receipt.ensures.change c.step.ensures.change) in
+    record { follows = c.in_ok-receipt.ensures.follows; attempts = (offered.0, offered.1) }
