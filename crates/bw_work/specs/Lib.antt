@@ -1,5 +1,1 @@
 pub mod Hands
-pub mod Calm
-pub mod Leading
-pub mod Showing
-pub mod Clearing

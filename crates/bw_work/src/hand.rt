@@ -20,7 +20,7 @@ use std::alloc::{Allocator, Global};
 /// Its trail keeps a receipt, of some 40 bytes, for each accepted step and each look. So a worker
 /// that lives long calls [`take_trail`](Hand::take_trail) from time to time. The trails that it
 /// gets, one behind the other and with that of [`finish`](Hand::finish) as the last, are the trail
-/// that `finish` alone would have given. An auditor wants all of them.
+/// that `finish` alone would have returned. An auditor wants all of them.
 ///
 /// The tree's `close` wants the share of each worker. A worker that returns early, as by a `?`
 /// between two calls, drops its hand with the share in it. So have a function do the work with a
@@ -33,7 +33,7 @@ use std::alloc::{Allocator, Global};
 /// (share, trail, done)
 /// ```
 ///
-/// Where a share is lost all the same, the tree's `into_table` gives the table out.
+/// Where a share is lost all the same, the tree's `into_table` returns the table.
 #[derive(Drop)]
 pub struct Hand<'t, A: Allocator + Copy, S: Shared<A, Step<A>>, G: Gate> {
     tree: &'t S,
@@ -45,8 +45,8 @@ pub struct Hand<'t, A: Allocator + Copy, S: Shared<A, Step<A>>, G: Gate> {
 }
 
 impl<'t, A: Allocator + Copy, S: Shared<A, Step<A>>, G: Gate> Hand<'t, A, S, G> {
-    /// A worker that has taken no step yet. Its chains will lie in `alloc`, and its trail in the
-    /// machine's memory.
+    /// A worker without receipts. Its chains will lie in `alloc`, and its trail in the machine's
+    /// memory.
     pub fn new(
         machine: Global,
         alloc: A,
@@ -72,8 +72,8 @@ impl<'t, A: Allocator + Copy, S: Shared<A, Step<A>>, G: Gate> Hand<'t, A, S, G> 
         }
     }
 
-    /// Puts a look that the worker had elsewhere behind the trail, as a receipt. For want of memory
-    /// the worker is as before.
+    /// Adds a look that the worker had elsewhere to its trail, as a receipt. Without memory for it the
+    /// worker stays as it was.
     pub fn note(&mut self, key: Key, look: Look) -> Result<(), NoMemory>
         ensures share { Sums self.old.account.seen.trail self.old.share self.new.account.seen.trail self.new.share }
         ensures seen { OnOk result (Looked keeps.Always key (Ok (Some look)) self.old.account.seen self.new.account.seen) }
@@ -84,8 +84,8 @@ impl<'t, A: Allocator + Copy, S: Shared<A, Step<A>>, G: Gate> Hand<'t, A, S, G> 
         Ok(())
     }
 
-    /// Gives the receipts of its steps since the last call of this out, in their order, and goes on
-    /// with an empty trail. See [`Hand`] for when to call it.
+    /// Returns the receipts since the last `take_trail`, in their order, and goes on with an empty
+    /// trail. See [`Hand`] for when to call it.
     pub fn take_trail(&mut self) -> Vec<Receipt>
         ensures trail { result.items ≡ self.old.account.seen.trail }
         ensures rest { self.new.account.seen ≡ record self.old.account.seen { trail = [] } }
@@ -95,8 +95,8 @@ impl<'t, A: Allocator + Copy, S: Shared<A, Step<A>>, G: Gate> Hand<'t, A, S, G> 
         self.account.take_trail()
     }
 
-    /// Gives the share out, and the receipts of its steps, in their order: all of them, or those
-    /// since the last [`take_trail`](Hand::take_trail).
+    /// Returns the share and the receipts, in their order: all of them, or those since the last
+    /// [`take_trail`](Hand::take_trail).
     pub fn finish(self) -> (Share<S::Insertions, S::Removals>, Vec<Receipt>)
         ensures share { result.0 ≡ self.entry.share }
         ensures trail { result.1.items ≡ self.entry.account.seen.trail }

@@ -11,7 +11,7 @@ use Rattle.bw_procedures.specs.declared.reply.Put.{Put}
 use Rattle.bw_procedures.specs.declared.reply.Put.TheVariants.{Inserted, Present}
 use Rattle.bw_procedures.specs.declared.reply.Set.{Set}
 use Rattle.bw_table.proofs.Orders.{same_option}
-use Rattle.bw_work.specs.Clearing.{IsMapWithout}
+use Rattle.bw_alone.specs.Clearing.{IsMapWithout}
 use Rattle.nifforan.specs.Clearing.{Loses}
 use Rattle.nifforan.specs.Maps.{pairs_of, outside, before_put, value_after_put, after_put, before_set, before_delete}
 use Rattle.nifforan.proofs.Pairs.{pairs_are, cleared_pairs, same_outside, same_pairs, had_value, put_pairs, without_pairs, kept_pairs}

@@ -10,7 +10,7 @@ use Rattle.bw_step.proofs.Tellings.{told_in-append}
 use Rattle.bw_law.specs.Tables.{TableValue, Maps, IsValueAt, SameMap, ChangesKey, TellsMap, book_with, Lawful, Booked}
 use Rattle.bw_procedures.specs.Clearing.{IsRemovalOf, AreRemovals, AddsRemovals, removal_in, removals_in}
 use Rattle.bw_procedures.specs.Seen.{Seen}
-use Rattle.bw_work.specs.Leading.{Replays, Leads}
+use Rattle.bw_alone.specs.Leading.{Replays, Leads}
 use Rattle.bw_table.proofs.Orders.{book_counts}
 use Rattle.nifforan.specs.Clearing.{Loses}
 use Rattle.nifforan.specs.Maps.{pairs_of}

@@ -18,7 +18,7 @@ use Rattle.bw_law.proofs.MapAndTerms.{leaf_pairs_rise}
 use Rattle.bw_law.proofs.NewTable.{new_law}
 use Rattle.bw_law.proofs.Shares.{pair_is_spanned}
 use Rattle.bw_table.proofs.Orders.{one_map, same_option}
-use Rattle.bw_work.specs.Clearing.{IsMapWithout}
+use Rattle.bw_alone.specs.Clearing.{IsMapWithout}
 use Rattle.nifforan.specs.Maps.{Pairs, put_all, pairs_of, outside}
 
 -- Lists.

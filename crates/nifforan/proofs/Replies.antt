@@ -16,7 +16,7 @@ use Rattle.bw_procedures.specs.declared.reply.Set.{Set}
 use Rattle.bw_procedures.specs.declared.reply.Set.TheVariants as sets
 use Rattle.bw_procedures.specs.Seen.{Seen}
 use Rattle.bw_procedures.specs.Writing.{AddsReceipt, IsReceiptOfPut, IsReceiptOfSet, IsReceiptOfDelete}
-use Rattle.bw_work.specs.Leading.{Replays, Leads}
+use Rattle.bw_alone.specs.Leading.{Replays, Leads}
 use Rattle.nifforan.specs.Maps.{before_put, value_after_put, before_set, before_delete}
 
 same_then : (a b c : List SlotValue) → SameMap a b → SameMap b c → SameMap a c

@@ -3,7 +3,7 @@
 ghost use Rattle.std.specs.Prelude.{◌≡◌, [], Some, None, IfOk, OnErr};
 ghost use Rattle.bw_keys.specs.Ranges.{end_of};
 ghost use Rattle.bw_law.specs.Tables.{Lawful, Booked, ChangesKey, SameMap};
-ghost use Rattle.bw_work.specs.Clearing.{IsMapWithout};
+ghost use Rattle.bw_alone.specs.Clearing.{IsMapWithout};
 ghost use Rattle.nifforan.specs.Clearing.{Loses};
 ghost use Rattle.nifforan.specs.Maps.{before_put, value_after_put, before_set, before_delete};
 
@@ -125,9 +125,9 @@ impl<A: Allocator + Copy> Steps<A, Step<A>> for Worker<A> {
     ghost use Rattle.std.proofs.Common.{◌∙◌};
     ghost use Rattle.bw_step.specs.ProposalView.{proposal_of};
     ghost use Rattle.bw_procedures.specs.Seen.{Installed};
-    ghost use Rattle.bw_work.specs.Calm.{IsTrueOf};
-    ghost use Rattle.bw_work.specs.Leading.{Leads, leads_stay, leads_join};
-    ghost use Rattle.bw_work.specs.Showing.{Shows, shows_narrow};
+    ghost use Rattle.bw_alone.specs.Calm.{IsTrueOf};
+    ghost use Rattle.bw_alone.specs.Leading.{Leads, leads_stay, leads_join};
+    ghost use Rattle.bw_alone.specs.Showing.{Shows, shows_narrow};
 
     ghost seen = { λ s. s.account.seen };
 

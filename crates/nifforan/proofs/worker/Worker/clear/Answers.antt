@@ -1,4 +1,4 @@
-use Rattle.bw_work.proofs.Removals.{cleared_map, swept_gone}
+use Rattle.bw_alone.proofs.Removals.{cleared_map, swept_gone}
 use Rattle.nifforan.proofs.Clearing.{receipts_lose}
 use Rattle.nifforan.proofs.worker.Worker.clear.Goals as goal
 

@@ -1,5 +1,5 @@
 use Rattle.std.proofs.Common.{refl}
-use Rattle.bw_work.proofs.InPlaces.{at_once_leads, at_once_is_told, at_once_keeps_config}
+use Rattle.bw_alone.proofs.InPlaces.{at_once_leads, at_once_is_told, at_once_keeps_config}
 use Rattle.nifforan.proofs.worker.WorkerStepsStep.change_at_once.Goals as goal
 
 pub returns-clause-follows : goal.returns-clause-follows

@@ -1,6 +1,6 @@
 use Rattle.std.proofs.Common.{refl}
-use Rattle.bw_work.proofs.Copies.{copies_show, copy_is_calm}
-use Rattle.bw_work.specs.Leading.{leads_stay}
+use Rattle.bw_alone.proofs.Copies.{copies_show, copy_is_calm}
+use Rattle.bw_alone.specs.Leading.{leads_stay}
 use Rattle.nifforan.proofs.worker.WorkerStepsStep.copy_page.Goals as goal
 
 pub returns-clause-follows : goal.returns-clause-follows

@@ -2,7 +2,7 @@ use Rattle.std.proofs.Common.{rules, refl}
 use Rattle.bw_step.specs.ProposalView.{proposal_of}
 use Rattle.bw_tree.proofs.Answers.{is_told}
 use Rattle.bw_tree.proofs.Trees.{config_kept}
-use Rattle.bw_work.proofs.Following.{step_leads}
+use Rattle.bw_alone.proofs.Following.{step_leads}
 use Rattle.nifforan.proofs.worker.WorkerStepsStep.install.Goals as goal
 
 pub returns-in-Ok-clause-follows : goal.returns-in-Ok-clause-follows

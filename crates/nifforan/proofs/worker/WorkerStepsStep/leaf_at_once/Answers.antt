@@ -1,4 +1,4 @@
-use Rattle.bw_work.proofs.Calming.{rest_is_calm, rest_is_at_level}
+use Rattle.bw_alone.proofs.Calming.{rest_is_calm, rest_is_at_level}
 use Rattle.nifforan.proofs.worker.WorkerStepsStep.leaf_at_once.Goals as goal
 
 pub returns-clause-level : goal.returns-clause-level

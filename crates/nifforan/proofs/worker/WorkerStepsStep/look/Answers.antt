@@ -1,6 +1,6 @@
 use Rattle.std.proofs.Common.{refl, sym}
-use Rattle.bw_work.proofs.Calming.{look_is_calm}
-use Rattle.bw_work.proofs.Following.{looks_lead}
+use Rattle.bw_alone.proofs.Calming.{look_is_calm}
+use Rattle.bw_alone.proofs.Following.{looks_lead}
 use Rattle.nifforan.proofs.worker.WorkerStepsStep.look.Goals as goal
 
 pub returns-clause-follows : goal.returns-clause-follows

@@ -1,4 +1,4 @@
-use Rattle.bw_work.proofs.InPlaces.{split_leads, split_keeps_config, split_is_seen}
+use Rattle.bw_alone.proofs.InPlaces.{split_leads, split_keeps_config, split_is_seen}
 use Rattle.nifforan.proofs.worker.WorkerStepsStep.split_at_once.Goals as goal
 
 pub returns-clause-follows : goal.returns-clause-follows

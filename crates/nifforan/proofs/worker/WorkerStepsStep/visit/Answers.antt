@@ -1,6 +1,6 @@
 use Rattle.std.proofs.Common.{rules, refl}
-use Rattle.bw_work.proofs.Calming.{next_is_calm}
-use Rattle.bw_work.specs.Leading.{leads_stay}
+use Rattle.bw_alone.proofs.Calming.{next_is_calm}
+use Rattle.bw_alone.specs.Leading.{leads_stay}
 use Rattle.nifforan.proofs.worker.WorkerStepsStep.visit.Goals as goal
 
 pub returns-clause-follows : goal.returns-clause-follows

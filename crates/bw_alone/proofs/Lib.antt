@@ -1,0 +1,5 @@
+pub mod Calming
+pub mod Copies
+pub mod Following
+pub mod Removals
+pub mod InPlaces

@@ -1,0 +1,4 @@
+pub mod Calm
+pub mod Leading
+pub mod Showing
+pub mod Clearing

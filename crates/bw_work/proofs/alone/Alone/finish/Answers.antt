@@ -1,5 +1,0 @@
-use Rattle.std.proofs.Common.{rules}
-use Rattle.bw_work.proofs.alone.Alone.finish.Goals as goal
-
-pub returns : goal.returns
-returns g c = search rules

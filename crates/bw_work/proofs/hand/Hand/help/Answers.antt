@@ -1,5 +1,0 @@
-use Rattle.std.proofs.Common.{rules}
-use Rattle.bw_work.proofs.hand.Hand.help.Goals as goal
-
-pub returns-clause-cost : goal.returns-clause-cost
-returns-clause-cost g c = search rules
