@@ -140,7 +140,7 @@ impl Account {
         *ends = Ends::default();
     }
 
-    /// Makes room for one more receipt. Fails for want of memory, with the account as it was.
+    /// Makes room for one more receipt. Fails for want of memory, with the trail as it was.
     #[inline(always)]
     pub fn reserve(&mut self) -> Result<(), NoMemory>
         ensures seen { self.new.seen ≡ self.old.seen }

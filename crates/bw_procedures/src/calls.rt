@@ -41,7 +41,8 @@ pub trait Calls<A: Allocator + Copy>: Steps<A, Step<A>> {
     /// helps what it meets unfinished, and after the insertion the leaf is tended.
     ///
     /// Adds one receipt beside those of the tree's shape: of the insertion, or of the look that
-    /// found the key's value. A reply stands, whatever ended helping or tending.
+    /// found the key's value. A reply stands, and beside it the fault that ended helping or
+    /// tending, if one did.
     ///
     /// # Errors
     ///
@@ -60,7 +61,7 @@ pub trait Calls<A: Allocator + Copy>: Steps<A, Step<A>> {
     /// key's leaf helps what it meets unfinished, and after the change the leaf is tended.
     ///
     /// Adds one receipt beside those of the tree's shape: of the insertion, or of the modification,
-    /// which has the value before it. A reply stands, whatever ended helping or tending.
+    /// which has the value before it. A reply stands as that of [`put`](Calls::put).
     ///
     /// # Errors
     ///
@@ -77,7 +78,7 @@ pub trait Calls<A: Allocator + Copy>: Steps<A, Step<A>> {
     /// it meets unfinished, and after the deletion the leaf is tended.
     ///
     /// Adds one receipt beside those of the tree's shape: of the deletion, or of the look that
-    /// found no value. A reply stands, whatever ended helping or tending.
+    /// found no value. A reply stands as that of [`put`](Calls::put).
     ///
     /// # Errors
     ///
