@@ -66,8 +66,8 @@ impl Fault {
 }
 
 impl From<clap::Error> for Fault {
-    ghost from_gives = {
-        λ error fault. (fault ≡ program_fault.Memory) ⊎ (fault ≡ program_fault.Usage error) };
+    ghost from_gives = { λ error fault.
+        (fault ≡ program_fault.Memory) ⊎ (fault ≡ program_fault.Usage error) };
 
     fn from(error: clap::Error) -> Fault {
         match error.kind() {

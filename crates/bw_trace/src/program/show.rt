@@ -26,8 +26,8 @@ pub(crate) fn table_of<T: Threads + Wait + Sync + Send + Copy, R: Read + Drop>(
     input: R,
 ) -> Result<Table<Global>, Fault>
     ensures played { options.steps ≡ true → IfOk result IsPlayed }
-    ensures done {
-        options.steps ≡ false → IfOk result (λ table. table.config ≡ options.setting.config) }
+    ensures done { options.steps ≡ false →
+        IfOk result (λ table. table.config ≡ options.setting.config) }
 {
     if options.steps {
         return Ok(play(alloc, input)?);
