@@ -47,3 +47,14 @@ pub record Continues {H : Type 0} (value : H → TableValue) (same : H → H →
   pub place : same old new
   pub config : (value new).config ≡ (value old).config
   pub leads : Leads (value old) trail (value new) longer
+
+pub continues_stay : {H : Type 0} {value : H → TableValue} {same : H → H → Type 0} {held : H} → same held held → (trail : List Receipt) → Continues value same held trail held trail
+continues_stay {H} {value} {same} {held} place trail = record { place = place; config = refl; leads = leads_stay (value held) trail }
+
+pub continues_join : {H : Type 0} {value : H → TableValue} {same : H → H → Type 0} {a b c : H} {s t u : List Receipt} → same a c
+    → Continues value same a s b t → Continues value same b t c u → Continues value same a s c u
+continues_join {H} {value} {same} {a} {b} {c} {s} {t} {u} place first then = record {
+  place = place;
+  config = then.config ∙ first.config;
+  leads = leads_join (value a) s (value b) t (value c) u first.leads then.leads;
+}

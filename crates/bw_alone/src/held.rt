@@ -31,23 +31,27 @@ pub(crate) fn install<A: Allocator + Copy, H: Holds<Table<A>>>(
     step: Step<A>,
 ) -> Result<Receipt, Refused>
     ensures accepted { IsOk result ↔ (refusal (H.value held.old) (proposal_of step) ≡ None) }
-    ensures taken { IfOk result (λ receipt. TakesStep (H.value held.old) (proposal_of step) receipt (H.value held.new)) }
-    ensures refused { IfErr result (λ reason. refusal (H.value held.old) (proposal_of step) ≡ Some reason) }
+    ensures taken { IfOk result (λ receipt.
+        TakesStep (H.value held.old) (proposal_of step) receipt (H.value held.new)) }
+    ensures refused { IfErr result (λ reason.
+        refusal (H.value held.old) (proposal_of step) ≡ Some reason) }
     ensures unchanged { OnErr result (H.value held.new ≡ H.value held.old) }
     ensures same { H.same held.old held.new }
 {
     held.with(|table| table.install(step))
 }
 
-/// Makes a wish come true for the key: see [`Table::change_at_once`].
+/// Carries out a wish for the key: see [`Table::change_at_once`].
 #[inline(always)]
 pub(crate) fn change_at_once<A: Allocator + Copy, H: Holds<Table<A>>>(
     held: &mut H,
     key: Key,
     wished: Wished,
 ) -> Option<AtOnce>
-    ensures done { IfSome result (λ done. IsDoneAtOnce (H.value held.old) done.page.0 key wished done.receipt (H.value held.new)) }
-    ensures map { IfSome result (λ done. TellsMap (telling_of done.receipt) (H.value held.old).slots (H.value held.new).slots) }
+    ensures done { IfSome result (λ it.
+        IsDoneAtOnce (H.value held.old) it.page.0 key wished it.receipt (H.value held.new)) }
+    ensures map { IfSome result (λ it.
+        TellsMap (telling_of it.receipt) (H.value held.old).slots (H.value held.new).slots) }
     ensures unchanged { IfNone result (H.value held.new ≡ H.value held.old) }
     ensures same { H.same held.old held.new }
 {
@@ -62,7 +66,8 @@ pub(crate) fn split_under<A: Allocator + Copy, H: Holds<Table<A>>>(
     page: Pid,
     number: usize,
 ) -> Option<(Pid, bool)>
-    ensures done { IfSome result (λ done. IsSplitUnder (H.value held.old) parent.0 page.0 number done.0 done.1 (H.value held.new)) }
+    ensures done { IfSome result (λ it.
+        IsSplitUnder (H.value held.old) parent.0 page.0 number it.0 it.1 (H.value held.new)) }
     ensures unchanged { IfNone result (H.value held.new ≡ H.value held.old) }
     ensures same { H.same held.old held.new }
 {

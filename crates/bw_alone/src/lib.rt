@@ -1,5 +1,5 @@
-//! The worker that has a table for itself: it takes each atomic step at once, without a lock. The table
-//! is lent to it, or its own.
+//! The worker that has a table for itself: it takes each atomic step at once, without a lock. The
+//! table is lent to it, or its own.
 #![tactic(auto)]
 
 mod held;

@@ -3,7 +3,7 @@
 ghost use Rattle.std.specs.Prelude.{◌≡◌, [], None, IfSome};
 ghost use Rattle.bw_keys.specs.Ranges.{end_of};
 ghost use Rattle.bw_law.specs.Tables.{Lawful, Booked};
-ghost use Rattle.bw_procedures.specs.Calls.{limit_of, IsEarned};
+ghost use Rattle.bw_procedures.specs.Calls.{Earned};
 ghost use Rattle.bw_procedures.specs.Clearing.{AddsRemovals};
 ghost use Rattle.bw_procedures.specs.Seen.{Grows, ends_of};
 ghost use Rattle.bw_alone.specs.Clearing.{IsMapWithout};
@@ -22,18 +22,19 @@ use std::alloc::{Allocator, Global};
 /// A worker that has a table for itself: its steps take no lock, and nobody else takes any.
 ///
 /// Its trail keeps a receipt, of some 40 bytes, for each accepted step and each look. So a worker
-/// that lives long calls [`take_trail`](Sole::take_trail) from time to time. The trails that it gets,
-/// one behind the other and with that of [`finish`](Sole::finish) as the last, are the trail that
-/// `finish` alone would have returned. An auditor wants all of them.
+/// that lives long calls [`take_trail`](Sole::take_trail) from time to time. The trails that it
+/// gets, one behind the other and with that of [`finish`](Sole::finish) as the last, are the trail
+/// that `finish` alone would have returned. An auditor wants all of them.
 #[derive(Drop)]
 pub struct Sole<A: Allocator + Copy, H: Holds<Table<A>>> {
-    pub(crate) table: H,
+    /// What holds the table.
+    pub table: H,
     alloc: A,
     pub(crate) account: Account,
 }
 
-/// A worker to which a table is lent. It changes a key at once, in one step, where the configuration
-/// keeps no records in chains, and splits pages step by step.
+/// A worker to which a table is lent. It changes a key at once, in one step, only where chains may
+/// have no more than one record, and splits pages step by step.
 pub type Alone<'t, A> = Sole<A, &'t mut Table<A>>;
 
 /// A worker that owns its table. It changes keys and splits pages at once wherever it can.
@@ -76,14 +77,6 @@ impl<A: Allocator + Copy, H: Holds<Table<A>>> Sole<A, H> {
         account.into_trail()
     }
 
-    /// Returns the table.
-    #[inline(always)]
-    pub fn table(&self) -> &Table<A>
-        ensures { result.now ≡ H.value self.now.table }
-    {
-        self.table.get()
-    }
-
     /// Returns what holds the table, and drops the receipts.
     pub fn into_holder(self) -> H
         ensures { result ≡ self.table }
@@ -115,49 +108,46 @@ impl<A: Allocator + Copy, H: Holds<Table<A>>> Sole<A, H> {
         self.account = Account::new(machine, self.table.get().config());
     }
 
-    /// Takes out the keys from the low on and below the high: see [`Calls::clear`]. Without a fault the
-    /// map is the one before without them.
+    /// Deletes the keys from the low on and below the high, as [`Calls::clear`] does. Without a fault
+    /// the map is then the one before without these keys.
     pub fn clear(&mut self, machine: Global, low: Key, high: Fence) -> Cleared
-        ensures continues { Continues H.value H.same self.old.table self.old.account.seen.trail self.new.table self.new.account.seen.trail }
+        ensures follows { Continues H.value H.same
+            self.old.table self.old.account.seen.trail
+            self.new.table self.new.account.seen.trail }
         ensures grows { Grows self.old.account.seen self.new.account.seen }
-        ensures receipts { AddsRemovals low (end_of high) result.removed self.old.account.seen self.new.account.seen }
-        ensures map { result.fault ≡ None → IsMapWithout low (end_of high) (H.value self.old.table).slots (H.value self.new.table).slots }
-        ensures fault { IfSome result.fault (IsEarned (limit_of self.old.account.seen) self.old.account.seen self.new.account.seen) }
+        ensures receipts { AddsRemovals low (end_of high) result.removed
+            self.old.account.seen self.new.account.seen }
+        ensures map { result.fault ≡ None → IsMapWithout low (end_of high)
+            (H.value self.old.table).slots (H.value self.new.table).slots }
+        ensures fault { IfSome result.fault (Earned self.old.account.seen self.new.account.seen) }
     {
         Calls::clear(self, machine, low, high)
     }
 }
 
 impl<A: Allocator + Copy, H: Holds<Table<A>>> Steps<A, Step<A>> for Sole<A, H> {
-    ghost use Rattle.std.specs.Prelude.{◌≡◌, refl};
-    ghost use Rattle.std.proofs.Common.{◌∙◌};
     ghost use Rattle.bw_alone.specs.Calm.{IsTrueOf};
-    ghost use Rattle.bw_alone.specs.Leading.{Continues, leads_stay, leads_join};
+    ghost use Rattle.bw_alone.specs.Leading.{Continues, continues_stay, continues_join};
     ghost use Rattle.bw_alone.specs.Showing.{Shows, shows_narrow};
 
     ghost seen = { λ s. s.account.seen };
 
-    // the table is in its place, by the same configuration, and the receipts lead from its map to the
-    // later one
-    ghost follows = { λ a b. Continues H.value H.same a.table a.account.seen.trail b.table b.account.seen.trail };
+    // the table is in its place, by the same configuration, and the receipts lead from its map to
+    // the later one
+    ghost follows = { λ a b.
+        Continues H.value H.same a.table a.account.seen.trail b.table b.account.seen.trail };
 
     ghost shows = { λ s low end pairs. Shows (H.value s.table) low end pairs };
 
     ghost calm = { λ s fact. IsTrueOf (H.value s.table) fact };
 
-    ghost stays = { λ s. record {
-      place = H.stays s.table;
-      config = refl;
-      leads = leads_stay (H.value s.table) s.account.seen.trail;
-    } };
+    ghost stays = { λ s. continues_stay (H.stays s.table) s.account.seen.trail };
 
-    ghost joins = { λ a b c first then. record {
-      place = H.joins a.table b.table c.table first.place then.place;
-      config = then.config ∙ first.config;
-      leads = leads_join (H.value a.table) a.account.seen.trail (H.value b.table) b.account.seen.trail (H.value c.table) c.account.seen.trail first.leads then.leads;
-    } };
+    ghost joins = { λ a b c first then.
+        continues_join (H.joins a.table b.table c.table first.place then.place) first then };
 
-    ghost narrows = { λ s low key end pairs le shown. shows_narrow (H.value s.table) low key end pairs le shown };
+    ghost narrows = { λ s low key end pairs le shown.
+        shows_narrow (H.value s.table) low key end pairs le shown };
 
     #[inline(always)]
     fn config(&self) -> Config {
@@ -297,8 +287,8 @@ impl<A: Allocator + Copy, H: Holds<Table<A>>> Steps<A, Step<A>> for Sole<A, H> {
     }
 }
 
-/// The number of the first entry that goes to the new page where the page is split: in the middle, or
-/// at three quarters of the last page of a level, since keys that rise all come to the new one.
+/// Returns the number of the first entry that goes to the new page when the page is split: in the
+/// middle, or at three quarters of the last page of a level, since rising keys all go to the new one.
 fn first_to_go(page: View) -> usize {
     let count = page.count as usize;
     match page.high {

@@ -7,7 +7,7 @@ use crate::tally::Tally;
 use crate::task::{Task, Work};
 use bw_keys::Key;
 use bw_step::Step;
-use bw_work::{Steps, delete, get, page_from, put, set};
+use bw_work::{Calls, Steps};
 use rand_core::Rng;
 use rand_pcg::Pcg32;
 use std::alloc::Global;
@@ -25,7 +25,7 @@ pub(crate) fn fill<S: Steps<Global, Step<Global>>>(
         return Ok(());
     }
     for key in order {
-        put(steps, 2 * u64::from(*key), u64::from(*key))?;
+        steps.put(2 * u64::from(*key), u64::from(*key))?;
     }
     Ok(())
 }
@@ -104,16 +104,16 @@ fn mix<S: Steps<Global, Step<Global>>>(
 }
 
 fn get_one<S: Steps<Global, Step<Global>>>(steps: &mut S, key: Key) -> Result<Tally, Stop> {
-    Ok(Tally::of_get(get(steps, key)?))
+    Ok(Tally::of_get(steps.get(key)?))
 }
 
 /// Gives the key itself as its value.
 fn put_one<S: Steps<Global, Step<Global>>>(steps: &mut S, key: Key) -> Result<Tally, Stop> {
-    Ok(Tally::of_put(put(steps, key, key)?.reply))
+    Ok(Tally::of_put(steps.put(key, key)?.reply))
 }
 
 fn delete_one<S: Steps<Global, Step<Global>>>(steps: &mut S, key: Key) -> Result<Tally, Stop> {
-    Ok(Tally::of_delete(delete(steps, key)?.reply))
+    Ok(Tally::of_delete(steps.delete(key)?.reply))
 }
 
 /// Sets drawn keys that are there, to drawn values.
@@ -137,7 +137,7 @@ fn set_one<S: Steps<Global, Step<Global>>>(
     key: Key,
     value: u64,
 ) -> Result<Tally, Stop> {
-    Ok(Tally::of_set(set(steps, key, value)?.reply))
+    Ok(Tally::of_set(steps.set(key, value)?.reply))
 }
 
 /// A put or a delete, in equal parts, of a drawn key.
@@ -207,7 +207,7 @@ fn scan<S: Steps<Global, Step<Global>>>(
     let mut pairs = Vec::with_capacity(alloc, 2 * SCANNED)?;
     let mut key = low;
     'leaves: while pairs.len() < limit {
-        let slice = page_from(steps, alloc, key)?;
+        let slice = steps.page_from(alloc, key)?;
         pairs.extend_from_slice(slice.pairs.as_slice())?;
         match slice.next {
             Some(next) => key = next,

@@ -4,7 +4,7 @@ use crate::ending::{Ending, Stop, hold};
 use crate::plain::{KEYS, Plain};
 use bw_keys::{Fence, Key};
 use bw_step::Step;
-use bw_work::{Act, Fault, Steps, do_act, get};
+use bw_work::{Act, Calls, Fault, Steps, do_act};
 use std::alloc::Global;
 
 /// What each worker of a trial does. The puts split a leaf twice, and the deletes merge one; what is
@@ -40,7 +40,7 @@ pub(crate) const ACTS: [Act; 18] = [
 fn see_all<S: Steps<Global, Step<Global>>>(steps: &mut S, plain: &Plain) -> Result<(), Stop> {
     for key in 0..KEYS as u64 {
         hold(
-            get(steps, key) == Ok(plain.get(key)),
+            steps.get(key) == Ok(plain.get(key)),
             "the pairs are the script's",
         )?;
     }

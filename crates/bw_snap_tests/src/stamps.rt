@@ -8,7 +8,7 @@ use bw_snap::{BlankBook, MAX_READERS, MAX_STAMPS, Naming, ReadTree, Reader, Stam
 use bw_step::Step;
 use bw_test_kit::LARGE;
 use bw_tree::Blanks;
-use bw_work::{Hand, Open, Steps, put};
+use bw_work::{Calls, Hand, Open, Steps};
 use std::alloc::Global;
 use std::marker::Brand;
 use std::sync::Wait;
@@ -26,7 +26,7 @@ fn stamp_all<R: Wait + Copy, N: Naming, D: Ledger, S: Steps<Global, Step<Global>
 ) -> Result<Vec<Stamp<N>>, Fail> {
     let mut stamps = Vec::new(machine);
     for key in 0..PAST {
-        put(steps, key, key)?;
+        steps.put(key, key)?;
         if stamps.push(tree.publish()?).is_err() {
             return Err("no memory".into());
         }
@@ -96,7 +96,7 @@ fn publish_over<R: Wait + Copy, N: Naming, D: Ledger>(
     };
     let mut hand = Hand::new(machine, machine, &tree, share, 0, &Open);
     let stamps = stamp_all(machine, &tree, &mut hand)?;
-    put(&mut hand, PAST, PAST)?;
+    hand.put(PAST, PAST)?;
     publish_past(&tree, stamps, (one, other))
 }
 

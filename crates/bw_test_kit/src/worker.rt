@@ -5,10 +5,7 @@ use bw_delta::NoMemory;
 use bw_keys::{Fence, Key};
 use bw_step::{Receipt, Step};
 use bw_tree::{Share, Shared};
-use bw_work::{
-    Cleared, Del, Done, Fault, Gate, Hand, Put, Set, Slice, Steps, clear, delete, get, page_from,
-    put, set,
-};
+use bw_work::{Calls, Cleared, Del, Done, Fault, Gate, Hand, Put, Set, Slice, Steps};
 use std::alloc::Global;
 
 /// A call of a worker.
@@ -112,21 +109,21 @@ fn answer<S: Steps<Global, Step<Global>>>(
 ) -> Result<(), Fault> {
     let added = match call {
         Call::Put(key, value) => {
-            let Done { reply, fault } = put(steps, key, value)?;
+            let Done { reply, fault } = steps.put(key, value)?;
             add(replies, Reply::Put(reply), fault)
         }
         Call::Set(key, value) => {
-            let Done { reply, fault } = set(steps, key, value)?;
+            let Done { reply, fault } = steps.set(key, value)?;
             add(replies, Reply::Set(reply), fault)
         }
         Call::Delete(key) => {
-            let Done { reply, fault } = delete(steps, key)?;
+            let Done { reply, fault } = steps.delete(key)?;
             add(replies, Reply::Delete(reply), fault)
         }
-        Call::Get(key) => add(replies, Reply::Get(get(steps, key)?), None),
-        Call::Slice(key) => add_slice(replies, &page_from(steps, machine, key)?),
+        Call::Get(key) => add(replies, Reply::Get(steps.get(key)?), None),
+        Call::Slice(key) => add_slice(replies, &steps.page_from(machine, key)?),
         Call::Clear(low, high) => {
-            let Cleared { removed, fault } = clear(steps, machine, low, high);
+            let Cleared { removed, fault } = steps.clear(machine, low, high);
             add(replies, Reply::Clear(removed), fault)
         }
     };
@@ -139,7 +136,7 @@ fn put_each<S: Steps<Global, Step<Global>>>(
     replies: &mut Vec<Reply>,
 ) -> Result<(), Fault> {
     for key in task.first..=task.last {
-        let Done { reply, fault } = put(steps, key, key)?;
+        let Done { reply, fault } = steps.put(key, key)?;
         if (reply != Put::Inserted || fault.is_some())
             && add(replies, Reply::Put(reply), fault).is_err()
         {

@@ -72,11 +72,13 @@ impl<'t, A: Allocator + Copy, S: Shared<A, Step<A>>, G: Gate> Hand<'t, A, S, G> 
         }
     }
 
-    /// Adds a look that the worker had elsewhere to its trail, as a receipt. Without memory for it the
-    /// worker stays as it was.
+    /// Adds the receipt of a look that the worker had elsewhere to its trail. Without memory for it
+    /// the worker stays as it was.
     pub fn note(&mut self, key: Key, look: Look) -> Result<(), NoMemory>
-        ensures share { Sums self.old.account.seen.trail self.old.share self.new.account.seen.trail self.new.share }
-        ensures seen { OnOk result (Looked keeps.Always key (Ok (Some look)) self.old.account.seen self.new.account.seen) }
+        ensures share { Sums self.old.account.seen.trail self.old.share
+            self.new.account.seen.trail self.new.share }
+        ensures seen { OnOk result (Looked keeps.Always key (Ok (Some look))
+            self.old.account.seen self.new.account.seen) }
         ensures unseen { OnErr result (self.new.account.seen ≡ self.old.account.seen) }
     {
         self.account.reserve()?;
@@ -123,7 +125,9 @@ impl<'t, A: Allocator + Copy, S: Shared<A, Step<A>>, G: Gate> Steps<A, Step<A>>
 
     ghost stays = { λ h. sums_stay h.account.seen.trail h.share };
 
-    ghost joins = { λ a b c p q. sums_join a.account.seen.trail b.account.seen.trail c.account.seen.trail a.share b.share c.share p q };
+    ghost joins = { λ a b c p q.
+        sums_join a.account.seen.trail b.account.seen.trail c.account.seen.trail
+        a.share b.share c.share p q };
 
     ghost narrows = { λ h low key end pairs le shown. tt };
 
@@ -171,8 +175,10 @@ impl<'t, A: Allocator + Copy, S: Shared<A, Step<A>>, G: Gate> Steps<A, Step<A>>
 
     #[inline(always)]
     fn install(&mut self, step: Step<A>) -> Result<Receipt, Denied>
-        ensures follows { Sums self.old.account.seen.trail self.old.share self.new.account.seen.trail self.new.share }
-        ensures seen { Installed (proposal_of step) result self.old.account.seen self.new.account.seen }
+        ensures follows { Sums self.old.account.seen.trail self.old.share
+            self.new.account.seen.trail self.new.share }
+        ensures seen { Installed (proposal_of step) result
+            self.old.account.seen self.new.account.seen }
     {
         if self.account.reserve().is_err() {
             return Err(Denied::NoMemory);

@@ -5,7 +5,7 @@ use bw_step::{Step, Todo};
 use bw_table::Table;
 use bw_test_kit::{Pages, Play, SMALL, Turns, Worked, play_on_new_tree};
 use bw_tree::{Share, Shared};
-use bw_work::{Alone, Fault, Hand, Open, Steps};
+use bw_work::{Alone, Calls, Fault, Hand, Open, Steps};
 use std::alloc::Global;
 use std::test::Fail;
 

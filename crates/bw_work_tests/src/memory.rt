@@ -4,7 +4,7 @@
 use bw_keys::{Fence, Key};
 use bw_table::Table;
 use bw_test_kit::{Call, Rooms, SMALL};
-use bw_work::{Alone, Fault, Put};
+use bw_work::{Alone, Calls, Fault, Put};
 use linked_list_allocator::LocalHeap;
 use std::alloc::{Allocator, Global};
 use std::test::Fail;

@@ -14,7 +14,7 @@ use Rattle.bw_table.proofs.Orders.{same_option}
 use Rattle.bw_alone.specs.Clearing.{IsMapWithout}
 use Rattle.nifforan.specs.Clearing.{Loses}
 use Rattle.nifforan.specs.Maps.{pairs_of, outside, before_put, value_after_put, after_put, before_set, before_delete}
-use Rattle.nifforan.proofs.Pairs.{pairs_are, cleared_pairs, same_outside, same_pairs, had_value, put_pairs, without_pairs, kept_pairs}
+use Rattle.nifforan.proofs.Listing.{pairs_are, cleared_pairs, same_outside, same_pairs, had_value, put_pairs, without_pairs, kept_pairs}
 
 module _ (old new : TableValue) (old_law : Lawful old) (new_law : Lawful new) (key : ℕ) where
   pub reply_is : {T : Type 0} (before after : T → Option ℕ) (result : Result (Done T) Fault) → IfOk result (λ done. ChangesKey old.slots new.slots key (before done.reply) (after done.reply))

@@ -14,7 +14,7 @@ use Rattle.bw_alone.specs.Leading.{Replays, Leads}
 use Rattle.bw_table.proofs.Orders.{book_counts}
 use Rattle.nifforan.specs.Clearing.{Loses}
 use Rattle.nifforan.specs.Maps.{pairs_of}
-use Rattle.nifforan.proofs.Pairs.{pairs_are}
+use Rattle.nifforan.proofs.Listing.{pairs_are}
 
 -- one removal, or a step of the tree's shape
 record LosesOne (k removed : ℕ) (old new : TableValue) : Type 0 where

@@ -2,6 +2,6 @@ pub mod Behind
 pub mod Changes
 pub mod Clearing
 pub mod Neighbours
-pub mod Pairs
+pub mod Listing
 pub mod Reading
 pub mod Replies

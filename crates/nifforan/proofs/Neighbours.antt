@@ -10,17 +10,17 @@ use Rattle.bw_chain.proofs.Firsts.{at-before, from_zero}
 use Rattle.bw_delta.proofs.Rises.{below_all}
 use Rattle.bw_law.specs.Tables.{TableValue, Lawful, Maps}
 use Rattle.bw_table.specs.Orders.{HasNoKeyWithin, IsNextAt, IsPreviousAt, LeafValue, last_key}
-use Rattle.nifforan.specs.Maps.{Pairs, pairs_of, within}
+use Rattle.nifforan.specs.Maps.{PairList, pairs_of, within}
 use Rattle.nifforan.specs.Reading.{IsLeafFor, below_end, end_past}
-use Rattle.nifforan.proofs.Pairs.{pairs_are}
+use Rattle.nifforan.proofs.Listing.{pairs_are}
 
 -- Lists.
 
-none_is_some : (e : ℕ × ℕ) (es : Pairs) (k value : ℕ) → at k es ≡ None → at k es ≡ Some value → ⊥
+none_is_some : (e : ℕ × ℕ) (es : PairList) (k value : ℕ) → at k es ≡ None → at k es ≡ Some value → ⊥
 none_is_some e es k value none some = cc (none, some)
 
 -- the entry at the key, where none comes before it
-first_is : (low end key : ℕ) (pair : ℕ × ℕ) (es : Pairs) → rises low end es ≡ true → key ≤ pair.0 → at pair.0 es ≡ Some pair.1 → ((k : ℕ) → key ≤ k → k < pair.0 → at k es ≡ None) → first_from key es ≡ Some pair
+first_is : (low end key : ℕ) (pair : ℕ × ℕ) (es : PairList) → rises low end es ≡ true → key ≤ pair.0 → at pair.0 es ≡ Some pair.1 → ((k : ℕ) → key ≤ k → k < pair.0 → at k es ≡ None) → first_from key es ≡ Some pair
 first_is low end key pair [] rise from there none = cc
 first_is low end key pair (d ∷ es) rise from there none = ⊎_elim
     (λ (before : d.0 < key).
@@ -34,7 +34,7 @@ first_is low end key pair (d ∷ es) rise from there none = ⊎_elim
     (cases_lt d.0 pair.0))
     (cases_lt d.0 key)
 
-first_is_none : (low end key : ℕ) (es : Pairs) → rises low end es ≡ true → ((k : ℕ) → key ≤ k → k < end → at k es ≡ None) → first_from key es ≡ None
+first_is_none : (low end key : ℕ) (es : PairList) → rises low end es ≡ true → ((k : ℕ) → key ≤ k → k < end → at k es ≡ None) → first_from key es ≡ None
 first_is_none low end key [] rise none = refl
 first_is_none low end key (d ∷ es) rise none = ⊎_elim
     (λ (before : d.0 < key).
@@ -42,14 +42,14 @@ first_is_none low end key (d ∷ es) rise none = ⊎_elim
     (λ (not_before : key ≤ d.0). let below : d.0 < end = grind (arith, nat_tests) in let n = none d.0 not_before below in grind (arith, nat_tests))
     (cases_lt d.0 key)
 
-last_is_none : (end : ℕ) (es : Pairs) → ((k : ℕ) → k < end → at k es ≡ None) → last_below end es ≡ None
+last_is_none : (end : ℕ) (es : PairList) → ((k : ℕ) → k < end → at k es ≡ None) → last_below end es ≡ None
 last_is_none end [] none = refl
 last_is_none end (d ∷ es) none = ⊎_elim
     (λ (below : d.0 < end). let n = none d.0 below in grind (arith, nat_tests))
     (λ (past : end ≤ d.0). let rest = last_is_none end es (λ k less. let n = none k less in grind (arith, nat_tests)) in grind (arith, nat_tests))
     (cases_lt d.0 end)
 
-last_is : (low past end : ℕ) (pair : ℕ × ℕ) (es : Pairs) → rises low past es ≡ true → pair.0 < end → at pair.0 es ≡ Some pair.1 → ((k : ℕ) → pair.0 + 1 ≤ k → k < end → at k es ≡ None) → last_below end es ≡ Some pair
+last_is : (low past end : ℕ) (pair : ℕ × ℕ) (es : PairList) → rises low past es ≡ true → pair.0 < end → at pair.0 es ≡ Some pair.1 → ((k : ℕ) → pair.0 + 1 ≤ k → k < end → at k es ≡ None) → last_below end es ≡ Some pair
 last_is low past end pair [] rise under there none = cc
 last_is low past end pair (d ∷ es) rise under there none = ⊎_elim
     (λ (same : d.0 ≡ pair.0).
@@ -67,20 +67,20 @@ last_is low past end pair (d ∷ es) rise under there none = ⊎_elim
     (cases_eq d.0 pair.0)
 
 -- what lies between two keys is empty where they don't lie so
-pub within_none : (low end : ℕ) (es : Pairs) → end ≤ low → within low end es ≡ []
+pub within_none : (low end : ℕ) (es : PairList) → end ≤ low → within low end es ≡ []
 within_none low end [] le = refl
 within_none low end (d ∷ es) le = grind (arith, nat_tests, within_none low end es)
 
-within_past : (a b low end : ℕ) (es : Pairs) → rises a b es ≡ true → end ≤ a → within low end es ≡ []
+within_past : (a b low end : ℕ) (es : PairList) → rises a b es ≡ true → end ≤ a → within low end es ≡ []
 within_past a b low end [] rise le = refl
 within_past a b low end (d ∷ es) rise le = grind (arith, nat_tests, within_past (d.0 + 1) b low end es)
 
-within_later : (a b low more end : ℕ) (es : Pairs) → rises a b es ≡ true → low ≤ a → more ≤ a → within low end es ≡ within more end es
+within_later : (a b low more end : ℕ) (es : PairList) → rises a b es ≡ true → low ≤ a → more ≤ a → within low end es ≡ within more end es
 within_later a b low more end [] rise le also = refl
 within_later a b low more end (d ∷ es) rise le also = grind (arith, nat_tests, within_later (d.0 + 1) b low more end es)
 
 -- the first pair from a key on is the first of those in a range, if it lies in it
-pub within_first : (a b low end : ℕ) (pair : ℕ × ℕ) (es : Pairs) → rises a b es ≡ true → first_from low es ≡ Some pair → pair.0 < end → within low end es ≡ pair ∷ within (pair.0 + 1) end es
+pub within_first : (a b low end : ℕ) (pair : ℕ × ℕ) (es : PairList) → rises a b es ≡ true → first_from low es ≡ Some pair → pair.0 < end → within low end es ≡ pair ∷ within (pair.0 + 1) end es
 within_first a b low end pair [] rise first under = cc
 within_first a b low end pair (d ∷ es) rise first under = ⊎_elim
     (λ (before : d.0 < low).
@@ -92,14 +92,14 @@ within_first a b low end pair (d ∷ es) rise first under = ⊎_elim
     subst (λ (p : ℕ × ℕ). within low end (d ∷ es) ≡ p ∷ within (p.0 + 1) end (d ∷ es)) its (inside d es here (subst (λ (p : ℕ × ℕ). p.0 < end) (sym its) under) rest))
     (cases_lt d.0 low)
   where
-    first_past : (low : ℕ) (pair : ℕ × ℕ) (es : Pairs) → first_from low es ≡ Some pair → low ≤ pair.0
+    first_past : (low : ℕ) (pair : ℕ × ℕ) (es : PairList) → first_from low es ≡ Some pair → low ≤ pair.0
     first_past low pair [] first = cc
     first_past low pair (d ∷ es) first = grind (arith, nat_tests, first_past low pair es)
 
-    inside : (d : ℕ × ℕ) (es : Pairs) → low ≤ d.0 → d.0 < end → within low end es ≡ within (d.0 + 1) end es → within low end (d ∷ es) ≡ d ∷ within (d.0 + 1) end (d ∷ es)
+    inside : (d : ℕ × ℕ) (es : PairList) → low ≤ d.0 → d.0 < end → within low end es ≡ within (d.0 + 1) end es → within low end (d ∷ es) ≡ d ∷ within (d.0 + 1) end (d ∷ es)
     inside d es here under rest = grind (arith, nat_tests)
 
-pub within_ends : (a b low end : ℕ) (es : Pairs) → rises a b es ≡ true → ((pair : ℕ × ℕ) → first_from low es ≡ Some pair → end ≤ pair.0) → within low end es ≡ []
+pub within_ends : (a b low end : ℕ) (es : PairList) → rises a b es ≡ true → ((pair : ℕ × ℕ) → first_from low es ≡ Some pair → end ≤ pair.0) → within low end es ≡ []
 within_ends a b low end [] rise past = refl
 within_ends a b low end (d ∷ es) rise past = ⊎_elim
     (λ (before : d.0 < low).
@@ -109,12 +109,12 @@ within_ends a b low end (d ∷ es) rise past = ⊎_elim
     grind (arith, nat_tests, within_past (d.0 + 1) b low end es))
     (cases_lt d.0 low)
 
-within_same : (low end : ℕ) (es : Pairs) → rises low end es ≡ true → within 0 end es ≡ es
+within_same : (low end : ℕ) (es : PairList) → rises low end es ≡ true → within 0 end es ≡ es
 within_same low end [] rise = refl
 within_same low end (d ∷ es) rise = grind (arith, nat_tests, within_same (d.0 + 1) end es)
 
 -- no key lies past the end
-within_beyond : (a b low end : ℕ) (es : Pairs) → rises a b es ≡ true → b ≤ low → within low end es ≡ []
+within_beyond : (a b low end : ℕ) (es : PairList) → rises a b es ≡ true → b ≤ low → within low end es ≡ []
 within_beyond a b low end [] rise le = refl
 within_beyond a b low end (d ∷ es) rise le = grind (arith, nat_tests, within_beyond (d.0 + 1) b low end es)
 
@@ -158,30 +158,30 @@ module _ (table : TableValue) (law : Lawful table) where
 
   -- the first pair from a key on is taken, if it lies below the end, and those past it are left
   pub first_is_taken : (from end : ℕ) (found taken : Option (ℕ × ℕ)) → found ≡ first_from from (pairs_of table.slots) → taken ≡ below_end end found
-      → YieldsFirst (λ (left : Pairs). left) (within from end (pairs_of table.slots)) taken (within (end_past taken) end (pairs_of table.slots))
-  first_is_taken from end None taken is below = subst (λ (o : Option (ℕ × ℕ)). YieldsFirst (λ (left : Pairs). left) (within from end es) o (within (end_past o) end es)) (sym below)
+      → YieldsFirst (λ (left : PairList). left) (within from end (pairs_of table.slots)) taken (within (end_past taken) end (pairs_of table.slots))
+  first_is_taken from end None taken is below = subst (λ (o : Option (ℕ × ℕ)). YieldsFirst (λ (left : PairList). left) (within from end es) o (within (end_past o) end es)) (sym below)
       (within_ends 0 key_count from end es rise (λ pair first. absurd (cc (is, first))), none_left end)
     where
-      es : Pairs
+      es : PairList
       es = pairs_of table.slots
 
       rise : rises 0 key_count es ≡ true
       rise = (pairs_are table law).rise
-  first_is_taken from end (Some pair) taken is below = subst (λ (o : Option (ℕ × ℕ)). YieldsFirst (λ (left : Pairs). left) (within from end es) o (within (end_past o) end es)) (sym below) (by_test (nat_lt pair.0 end) refl)
+  first_is_taken from end (Some pair) taken is below = subst (λ (o : Option (ℕ × ℕ)). YieldsFirst (λ (left : PairList). left) (within from end es) o (within (end_past o) end es)) (sym below) (by_test (nat_lt pair.0 end) refl)
     where
-      es : Pairs
+      es : PairList
       es = pairs_of table.slots
 
       rise : rises 0 key_count es ≡ true
       rise = (pairs_are table law).rise
 
-      by_test : (test : Bool) → nat_lt pair.0 end ≡ test → YieldsFirst (λ (left : Pairs). left) (within from end es) (cond test (Some pair) None) (within (end_past (cond test (Some pair) None)) end es)
+      by_test : (test : Bool) → nat_lt pair.0 end ≡ test → YieldsFirst (λ (left : PairList). left) (within from end es) (cond test (Some pair) None) (within (end_past (cond test (Some pair) None)) end es)
       by_test true less = within_first 0 key_count from end pair es rise (sym is) (grind (arith, nat_tests, less))
       by_test false more = (within_ends 0 key_count from end es rise (λ other first. let same : pair ≡ other = cc (is, first) in subst (λ (p : ℕ × ℕ). end ≤ p.0) same (grind (arith, nat_tests, more))), none_left end)
 
 -- an iterator that gives the first of a list and leaves the others comes to its end
-pub yields_progress : (can : Pairs → Type 0) → ((left : Pairs) → can left) → (old : Pairs) (taken : Option (ℕ × ℕ)) (new : Pairs) → YieldsFirst (λ (left : Pairs). left) old taken new
-    → MakesProgress can (item_count (λ (left : Pairs). left)) old taken new
+pub yields_progress : (can : PairList → Type 0) → ((left : PairList) → can left) → (old : PairList) (taken : Option (ℕ × ℕ)) (new : PairList) → YieldsFirst (λ (left : PairList). left) old taken new
+    → MakesProgress can (item_count (λ (left : PairList). left)) old taken new
 yields_progress can each old None new yields = record { on = λ finite. tt; keeps = tt; rests = λ finite. finite }
 yields_progress can each old (Some pair) new yields = record { on = λ finite. (each new, finite, omega (arith, ap length yields)); keeps = each new; rests = λ finite. tt }
 

@@ -17,7 +17,7 @@ use Rattle.bw_procedures.specs.declared.reply.Set.TheVariants as sets
 use Rattle.bw_procedures.specs.Seen.{Seen}
 use Rattle.bw_procedures.specs.Writing.{AddsReceipt, IsReceiptOfPut, IsReceiptOfSet, IsReceiptOfDelete}
 use Rattle.bw_alone.specs.Leading.{Replays, Leads}
-use Rattle.nifforan.specs.Maps.{before_put, value_after_put, before_set, before_delete}
+use Rattle.nifforan.specs.Maps.{Changes, before_put, value_after_put, before_set, before_delete}
 
 same_then : (a b c : List SlotValue) → SameMap a b → SameMap b c → SameMap a c
 same_then a b c first then = λ key value. ((λ maps. (first key value).0 ((then key value).0 maps)), (λ maps. (then key value).1 ((first key value).1 maps)))
@@ -121,10 +121,6 @@ delete_changes key (Removed value) (receipts.Deleted number k v) a b is tells =
     subst (λ (q : ℕ). ChangesKey a b q (Some value) None) is.0 (subst (λ (w : ℕ). ChangesKey a b k (Some w) None) is.1 tells)
 delete_changes key NoKey (receipts.Looked at k found) a b is tells = look_changes key k found None a b is.0 is.1 tells.0 tells.1
 delete_changes key reply r a b is tells = absurd is
-
--- with a reply the key changed as it tells
-abbrev pub Changes : {T : Type 0} → ℕ → (T → Option ℕ) → (T → Option ℕ) → Result (Done T) Fault → TableValue → TableValue → Type 0
-Changes key before after result a b = IfOk result (λ done. ChangesKey a.slots b.slots key (before done.reply) (after done.reply))
 
 changes : {T : Type 0} (key : ℕ) (before after : T → Option ℕ) (is_of : T → Receipt → Type 0) (result : Result (Done T) Fault) (old new : Seen) (a b : TableValue)
     → ((reply : T) (r : Receipt) (s t : List SlotValue) → is_of reply r → TellsMap (telling_of r) s t → ChangesKey s t key (before reply) (after reply))

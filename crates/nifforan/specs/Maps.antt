@@ -1,12 +1,14 @@
 -- The map as its callers see it, and what a call makes of it.
-use Rattle.std.specs.Prelude.{◌≡◌, ℕ, ◌&&◌, not, Bool, nat_le, nat_lt, List, [], ◌∷◌, Option, Some, None, filter, refl}
+use Rattle.std.specs.Prelude.{◌≡◌, ℕ, Result, IfOk, ◌&&◌, not, Bool, nat_le, nat_lt, List, [], ◌∷◌, Option, Some, None, filter, refl}
 use Rattle.std.specs.Coded.{Coded, code_by, coded×, coded_ℕ, coded_list}
 use Rattle.bw_keys.specs.declared.config.Config.{Config}
 use Rattle.bw_keys.specs.contracts.config.Config as config
 use Rattle.bw_delta.specs.Entries.{put}
 use Rattle.bw_step.specs.declared.receipt.Receipt.{Receipt}
 use Rattle.bw_law.specs.Slots.{SlotValue}
-use Rattle.bw_law.specs.Tables.{TableValue, Lawful, Booked, leaf_pairs}
+use Rattle.bw_law.specs.Tables.{TableValue, Lawful, Booked, ChangesKey, leaf_pairs}
+use Rattle.bw_procedures.specs.declared.fault.Fault.{Fault}
+use Rattle.bw_procedures.specs.declared.reply.Done.{Done}
 use Rattle.bw_procedures.specs.declared.reply.Del.{Del}
 use Rattle.bw_procedures.specs.declared.reply.Del.TheVariants.{Removed, NoKey}
 use Rattle.bw_procedures.specs.declared.reply.Put.{Put}
@@ -14,29 +16,29 @@ use Rattle.bw_procedures.specs.declared.reply.Put.TheVariants.{Inserted, Present
 use Rattle.bw_procedures.specs.declared.reply.Set.{Set}
 use Rattle.bw_procedures.specs.declared.reply.Set.TheVariants as sets
 
-abbrev pub Pairs : Type 0
-Pairs = List (ℕ × ℕ)
+abbrev pub PairList : Type 0
+PairList = List (ℕ × ℕ)
 
 -- a map: what it was made by, and its pairs in the order of their keys
 pub record MapValue : Type 0 where
   pub config : Config
-  pub pairs : Pairs
+  pub pairs : PairList
 
 abbrev pub map_code : Coded MapValue
 map_code =
-    code_by (Config × Pairs)
+    code_by (Config × PairList)
     (coded× config.the_row.coded (coded_list (coded× coded_ℕ coded_ℕ)))
     (λ m. (m.config, m.pairs))
     (λ p. record { config = p.0; pairs = p.1 })
     (λ _. refl)
 
 -- pairs put into a list, each at its place
-abbrev pub put_all : Pairs → Pairs → Pairs
+abbrev pub put_all : PairList → PairList → PairList
 put_all [] es = es
 put_all (pair ∷ pairs) es = put pair.0 pair.1 (put_all pairs es)
 
 -- the pairs of all leaves, in the order of their keys
-abbrev pub pairs_of : List SlotValue → Pairs
+abbrev pub pairs_of : List SlotValue → PairList
 pairs_of [] = []
 pairs_of (slot ∷ slots) = put_all (leaf_pairs slot) (pairs_of slots)
 
@@ -55,10 +57,10 @@ abbrev pub is_inside : ℕ → ℕ → ℕ × ℕ → Bool
 is_inside low end pair = nat_le low pair.0 && nat_lt pair.0 end
 
 -- the pairs with keys from the low on and below the end, and the others
-abbrev pub within : ℕ → ℕ → Pairs → Pairs
+abbrev pub within : ℕ → ℕ → PairList → PairList
 within low end pairs = filter (is_inside low end) pairs
 
-abbrev pub outside : ℕ → ℕ → Pairs → Pairs
+abbrev pub outside : ℕ → ℕ → PairList → PairList
 outside low end pairs = filter (λ pair. not (is_inside low end pair)) pairs
 
 -- what a reply tells of the value that the key had
@@ -75,7 +77,7 @@ before_delete (Removed value) = Some value
 before_delete NoKey = None
 
 -- the pairs after a put: a key that is there keeps its value
-abbrev pub after_put : ℕ → ℕ → Put → Pairs → Pairs
+abbrev pub after_put : ℕ → ℕ → Put → PairList → PairList
 after_put key value Inserted pairs = put key value pairs
 after_put key value (Present there) pairs = pairs
 
@@ -83,3 +85,7 @@ after_put key value (Present there) pairs = pairs
 abbrev pub value_after_put : ℕ → Put → ℕ
 value_after_put value Inserted = value
 value_after_put value (Present there) = there
+
+-- with a reply the key changed as the reply tells: from the value before it to the one after
+abbrev pub Changes : {T : Type 0} → ℕ → (T → Option ℕ) → (T → Option ℕ) → Result (Done T) Fault → TableValue → TableValue → Type 0
+Changes key before after result old new = IfOk result (λ done. ChangesKey old.slots new.slots key (before done.reply) (after done.reply))

@@ -3,11 +3,11 @@
 
 mod back;
 mod map;
-mod range;
+mod pairs;
 mod worker;
 
 pub use bw_keys::{BadConfig, Config, Fence, Field, Key};
 pub use bw_procedures::{Cleared, Del, Done, Fault, Put, Set};
 pub use bw_table::{NewFault, Table};
 pub use map::Map;
-pub use range::Range;
+pub use pairs::Pairs;

@@ -5,7 +5,7 @@ ghost use Rattle.bw_delta.specs.Entries.{at, put, without, first_entry, last_ent
 ghost use Rattle.bw_table.specs.Answers.{IsNewFault};
 ghost use Rattle.nifforan.specs.Maps.{map_of, within, outside, before_put, after_put, before_set, before_delete};
 
-use crate::range::Range;
+use crate::pairs::Pairs;
 use crate::worker::Worker;
 use bw_keys::{Config, Fence, Key};
 use bw_procedures::{Cleared, Del, Done, Fault, Put, Set};
@@ -33,9 +33,10 @@ impl<A: Allocator + Copy> Model for Map<A> {
 
     ghost coded = { map_code };
 
-    ghost view = { λ m. map_of m.worker.table };
+    ghost view = { λ m. map_of m.worker.owner.table.value };
 
-    ghost invariant = { λ m. IsReady m.worker.table m.worker.account.seen.trail };
+    ghost invariant = { λ m.
+        IsReady m.worker.owner.table.value m.worker.owner.account.seen.trail };
 }
 
 impl<A: Allocator + Copy> Map<A> {
@@ -60,27 +61,26 @@ impl<A: Allocator + Copy> Map<A> {
         }
     }
 
-    /// Gives the table out, with its pairs.
+    /// Returns the table, with its pairs.
     pub fn into_table(self) -> Table<A>
         ensures { map_of result ≡ self }
     {
         let Map { worker } = self;
-        let Worker { table, .. } = worker;
-        table
+        worker.into_table()
     }
 
     /// The configuration that the map was made by.
     pub fn config(&self) -> Config
         ensures { result ≡ self.now.config }
     {
-        self.worker.table.config()
+        self.worker.owner.table.value.config()
     }
 
     /// How many pairs there are. It takes the same time however many.
     pub fn len(&self) -> u64
         ensures { result ≡ length self.now.pairs }
     {
-        let book = self.worker.table.book();
+        let book = self.worker.owner.table.value.book();
         book.inserted - book.removed
     }
 
@@ -96,45 +96,45 @@ impl<A: Allocator + Copy> Map<A> {
     pub fn get(&self, key: Key) -> Option<u64>
         ensures { result ≡ at key self.now.pairs }
     {
-        self.worker.table.get(key)
+        self.worker.owner.table.value.get(key)
     }
 
     /// The pair with the least key, if there is any. It takes no memory.
     pub fn first(&self) -> Option<(Key, u64)>
         ensures { result ≡ first_entry self.now.pairs }
     {
-        self.worker.table.first()
+        self.worker.owner.table.value.first()
     }
 
     /// The pair with the greatest key, if there is any. It takes no memory.
     pub fn last(&self) -> Option<(Key, u64)>
         ensures { result ≡ last_entry self.now.pairs }
     {
-        self.worker.table.last()
+        self.worker.owner.table.value.last()
     }
 
     /// The pair with the least key at or above the key, if there is one. It takes no memory.
     pub fn next_at(&self, key: Key) -> Option<(Key, u64)>
         ensures { result ≡ first_from key self.now.pairs }
     {
-        self.worker.table.next_at(key)
+        self.worker.owner.table.value.next_at(key)
     }
 
     /// The pair with the greatest key at or below the key, if there is one. It takes no memory.
     pub fn previous_at(&self, key: Key) -> Option<(Key, u64)>
         ensures { result ≡ last_upto key self.now.pairs }
     {
-        self.worker.table.previous_at(key)
+        self.worker.owner.table.value.previous_at(key)
     }
 
     /// The pairs with keys from the low on and below the high, in the order of their keys. They are
     /// read from the map one after the other, and take no memory.
-    pub fn range(&self, low: Key, high: Fence) -> Range<'_, A>
+    pub fn range(&self, low: Key, high: Fence) -> Pairs<'_, A>
         ensures { result ≡ within low (end_of high) self.now.pairs }
     {
-        Range {
-            table: &self.worker.table,
-            leaf: self.worker.table.leaf_of(low),
+        Pairs {
+            table: &self.worker.owner.table.value,
+            leaf: self.worker.owner.table.value.leaf_of(low),
             lent: &[],
             next: Fence::Key(low),
             high,
@@ -143,10 +143,10 @@ impl<A: Allocator + Copy> Map<A> {
     }
 
     /// All pairs, in the order of their keys: see `range`.
-    pub fn iter(&self) -> Range<'_, A>
+    pub fn iter(&self) -> Pairs<'_, A>
         ensures { result ≡ self.now.pairs }
     {
-        // The law of the table is told with the worker.
+        // Reading the worker tells the law of its table.
         let _worker = &self.worker;
         self.range(0, Fence::Top)
     }

@@ -3,14 +3,13 @@
 //! A handle begins as zero, which is closed. `include/nifforan.h` tells C's side of each call.
 #![tactic(auto)]
 
-ghost use Rattle.std.specs.Prelude.{◌≡◌, ◌≢◌, ◌↔◌, ℕ, ◌+◌, None, Some, IfSome, length, take, drop, min};
+ghost use Rattle.std.specs.Prelude.{◌≡◌, ◌≢◌, ◌↔◌, ◌+◌, None, Some, IfSome, length};
 ghost use Rattle.bw_keys.specs.Limits.{first_bad_field};
 ghost use Rattle.bw_delta.specs.Entries.{at, put, without};
-ghost use Rattle.nifforan.specs.Maps.{outside};
-ghost use Rattle.nifforan_handle.specs.Answers.{had, next_key, IsCare, IsZeroWithout, IsZeroAtEnd};
-ghost use Rattle.nifforan_handle.specs.Held.{pairs_in, pairs_from, config_in, empty_map, put_if_absent};
-ghost use Rattle.nifforan_handle.specs.Reading.{are_pairs, first_key};
-ghost use Rattle.nifforan_handle.specs.Statuses.{config_of, status_of_field, IsStatus};
+ghost use Rattle.nifforan_handle.specs.Answers.{had, IsZeroWithout};
+ghost use Rattle.nifforan_handle.specs.Calls.{Writes, Clears, ReadsInto};
+ghost use Rattle.nifforan_handle.specs.Held.{pairs_in, pairs_from, empty_map, put_if_absent};
+ghost use Rattle.nifforan_handle.specs.Statuses.{config_of, status_of_field};
 ghost use Rattle.nifforan_handle.specs.declared.status.TheConstants.{CLOSED, NO_MEMORY, OK, OPEN};
 
 pub use nifforan_handle::{Cleared, Count, Handle, Pair, Read, Reply, Settings};
@@ -21,8 +20,10 @@ use std::alloc::Global;
 #[unsafe(no_mangle)]
 pub extern "C" fn nifforan_create(alloc: Global, map: &mut Handle, settings: &Settings) -> u32
     ensures open { map.old.held ≢ None ↔ result ≡ OPEN }
-    ensures setting { map.old.held ≡ None → IfSome (first_bad_field (config_of settings.now)) (λ field. result ≡ status_of_field field) }
-    ensures memory { map.old.held ≡ None → first_bad_field (config_of settings.now) ≡ None → result ≢ OK → result ≡ NO_MEMORY }
+    ensures setting { map.old.held ≡ None → IfSome (first_bad_field (config_of settings.now))
+        (λ field. result ≡ status_of_field field) }
+    ensures memory { map.old.held ≡ None → first_bad_field (config_of settings.now) ≡ None
+        → result ≢ OK → result ≡ NO_MEMORY }
     ensures new { result ≡ OK → map.new.held ≡ Some (empty_map (config_of settings.now)) }
     ensures unchanged { result ≢ OK → map.new.held ≡ map.old.held }
 {
@@ -56,15 +57,7 @@ pub extern "C" fn nifforan_get(alloc: Global, map: &mut Handle, key: u64) -> Rep
 /// Gives the key the value, unless the key is there: then it keeps its value, which the reply tells.
 #[unsafe(no_mangle)]
 pub extern "C" fn nifforan_put(alloc: Global, map: &mut Handle, key: u64, value: u64) -> Reply
-    ensures closed { map.old.held ≡ None ↔ result.status ≡ CLOSED }
-    ensures reply { result.status ≡ OK → had result ≡ at key (pairs_in map.old.held) }
-    ensures pairs { result.status ≡ OK → pairs_in map.new.held ≡ put_if_absent key value (pairs_in map.old.held) }
-    ensures status { IsStatus result.status }
-    ensures nothing { result.status ≢ OK → had result ≡ None }
-    ensures zero { IsZeroWithout result }
-    ensures care { IsCare result }
-    ensures unchanged { result.status ≢ OK → map.new.held ≡ map.old.held }
-    ensures config { config_in map.new.held ≡ config_in map.old.held }
+    ensures { Writes key (put_if_absent key value) result map.old.held map.new.held }
 {
     map.put(alloc, key, value)
 }
@@ -72,15 +65,7 @@ pub extern "C" fn nifforan_put(alloc: Global, map: &mut Handle, key: u64, value:
 /// Gives the key the value, whether it is there or not. The reply tells the value that it had.
 #[unsafe(no_mangle)]
 pub extern "C" fn nifforan_set(alloc: Global, map: &mut Handle, key: u64, value: u64) -> Reply
-    ensures closed { map.old.held ≡ None ↔ result.status ≡ CLOSED }
-    ensures reply { result.status ≡ OK → had result ≡ at key (pairs_in map.old.held) }
-    ensures pairs { result.status ≡ OK → pairs_in map.new.held ≡ put key value (pairs_in map.old.held) }
-    ensures status { IsStatus result.status }
-    ensures nothing { result.status ≢ OK → had result ≡ None }
-    ensures zero { IsZeroWithout result }
-    ensures care { IsCare result }
-    ensures unchanged { result.status ≢ OK → map.new.held ≡ map.old.held }
-    ensures config { config_in map.new.held ≡ config_in map.old.held }
+    ensures { Writes key (put key value) result map.old.held map.new.held }
 {
     map.set(alloc, key, value)
 }
@@ -88,15 +73,7 @@ pub extern "C" fn nifforan_set(alloc: Global, map: &mut Handle, key: u64, value:
 /// Takes the key out, if it is there. The reply tells the value that it had.
 #[unsafe(no_mangle)]
 pub extern "C" fn nifforan_delete(alloc: Global, map: &mut Handle, key: u64) -> Reply
-    ensures closed { map.old.held ≡ None ↔ result.status ≡ CLOSED }
-    ensures reply { result.status ≡ OK → had result ≡ at key (pairs_in map.old.held) }
-    ensures pairs { result.status ≡ OK → pairs_in map.new.held ≡ without key (pairs_in map.old.held) }
-    ensures status { IsStatus result.status }
-    ensures nothing { result.status ≢ OK → had result ≡ None }
-    ensures zero { IsZeroWithout result }
-    ensures care { IsCare result }
-    ensures unchanged { result.status ≢ OK → map.new.held ≡ map.old.held }
-    ensures config { config_in map.new.held ≡ config_in map.old.held }
+    ensures { Writes key (without key) result map.old.held map.new.held }
 {
     map.delete(alloc, key)
 }
@@ -105,13 +82,7 @@ pub extern "C" fn nifforan_delete(alloc: Global, map: &mut Handle, key: u64) -> 
 /// it before, it took out some of them, and no others.
 #[unsafe(no_mangle)]
 pub extern "C" fn nifforan_clear(alloc: Global, map: &mut Handle, low: u64, high: u64) -> Cleared
-    ensures closed { map.old.held ≡ None ↔ result.status ≡ CLOSED }
-    ensures status { IsStatus result.status }
-    ensures cleared { result.status ≡ OK → pairs_in map.new.held ≡ outside low (high + 1) (pairs_in map.old.held) }
-    ensures others { outside low (high + 1) (pairs_in map.new.held) ≡ outside low (high + 1) (pairs_in map.old.held) }
-    ensures fewer { (key value : ℕ) → at key (pairs_in map.new.held) ≡ Some value → at key (pairs_in map.old.held) ≡ Some value }
-    ensures count { length (pairs_in map.new.held) + result.removed ≡ length (pairs_in map.old.held) }
-    ensures config { config_in map.new.held ≡ config_in map.old.held }
+    ensures { Clears low (high + 1) result map.old.held map.new.held }
 {
     map.clear(alloc, low, high)
 }
@@ -127,11 +98,7 @@ pub extern "C" fn nifforan_read(
 ) -> Read
     ensures closed { map.old.held ≡ None ↔ result.status ≡ CLOSED }
     ensures open { map.old.held ≢ None ↔ result.status ≡ OK }
-    ensures count { result.count ≡ min (length pairs.old) (length (pairs_from key map.old.held)) }
-    ensures pairs { are_pairs (take result.count pairs.new) ≡ take result.count (pairs_from key map.old.held) }
-    ensures rest { drop result.count pairs.new ≡ drop result.count pairs.old }
-    ensures next { next_key result ≡ first_key (drop result.count (pairs_from key map.old.held)) }
-    ensures zero { IsZeroAtEnd result }
+    ensures reads { ReadsInto (pairs_from key map.old.held) result pairs.old pairs.new }
     ensures unchanged { map.new.held ≡ map.old.held }
 {
     map.read(alloc, key, pairs)

@@ -2,45 +2,45 @@
 use Rattle.std.proofs.Common.{◌≡◌, ℕ, ◌+◌, ◌<◌, ◌≤◌, List, [], ◌∷◌, ◌++◌, length, take, drop, min, map, slice_set, refl, sym, ap, subst, ◌∙◌, arith}
 use Rattle.std.proofs.lemmas.Grind.{common_steps}
 use Rattle.std.proofs.lemmas.List.{take_more_set, drop-set-lt, drop_at, take_at, map_push, append_assoc, drop-drop, length_push, length-set, length-append}
-use Rattle.nifforan.specs.Maps.{Pairs}
+use Rattle.nifforan.specs.Maps.{PairList}
 use Rattle.nifforan_handle.specs.Reading.{are_pairs}
 use Rattle.nifforan_handle.specs.declared.answer.Pair.{Pair}
 
 -- of all pairs, so many were given out and stand in the places, and the others are left
-pub record IsFilled (old now : List Pair) (all given left : Pairs) (count : ℕ) : Type 0 where
+pub record IsFilled (old now : List Pair) (all given left : PairList) (count : ℕ) : Type 0 where
   pub all_are : all ≡ given ++ left
   pub stand : are_pairs (take count now) ≡ given
   pub many : length given ≡ count
   pub room : count ≤ length now
   pub rest : drop count now ≡ drop count old
 
-pub none_yet : (old : List Pair) (all : Pairs) → IsFilled old old all [] all 0
+pub none_yet : (old : List Pair) (all : PairList) → IsFilled old old all [] all 0
 none_yet old all = record { all_are = refl; stand = refl; many = refl; room = grind arith; rest = refl }
 
-pub one_more : (old now : List Pair) (all given left rest : Pairs) (count key value : ℕ) → IsFilled old now all given left count → left ≡ (key, value) ∷ rest → count < length now
+pub one_more : (old now : List Pair) (all given left rest : PairList) (count key value : ℕ) → IsFilled old now all given left count → left ≡ (key, value) ∷ rest → count < length now
     → IsFilled old (slice_set now count (record { key = key; value = value })) all (given ++ (key, value) ∷ []) rest (count + 1)
 one_more old now all given left rest count key value filled next fits = let pair : Pair = record { key = key; value = value } in record {
-  all_are = filled.all_are ∙ ap (λ (l : Pairs). given ++ l) next ∙ sym (append_assoc given ((key, value) ∷ []) rest);
-  stand = ap are_pairs (take_more_set now count pair fits) ∙ map_push (λ (p : Pair). (p.key, p.value)) (take count now) pair ∙ ap (λ (l : Pairs). l ++ (key, value) ∷ []) filled.stand;
+  all_are = filled.all_are ∙ ap (λ (l : PairList). given ++ l) next ∙ sym (append_assoc given ((key, value) ∷ []) rest);
+  stand = ap are_pairs (take_more_set now count pair fits) ∙ map_push (λ (p : Pair). (p.key, p.value)) (take count now) pair ∙ ap (λ (l : PairList). l ++ (key, value) ∷ []) filled.stand;
   many = length_push given (key, value) ∙ ap (λ (n : ℕ). n + 1) filled.many;
   room = subst (λ (n : ℕ). count + 1 ≤ n) (sym (length-set now count pair)) (omega (arith, fits));
   rest = drop-set-lt (count + 1) now count pair (omega arith) ∙ sym (drop-drop 1 count now) ∙ ap (λ (l : List Pair). drop 1 l) filled.rest ∙ drop-drop 1 count old;
 }
 
 -- the pairs that are left are those behind the places that are filled
-pub left_is : (old now : List Pair) (all given left : Pairs) (count : ℕ) → IsFilled old now all given left count → left ≡ drop count all
-left_is old now all given left count filled = sym (drop_at given left count filled.many) ∙ ap (λ (l : Pairs). drop count l) (sym filled.all_are)
+pub left_is : (old now : List Pair) (all given left : PairList) (count : ℕ) → IsFilled old now all given left count → left ≡ drop count all
+left_is old now all given left count filled = sym (drop_at given left count filled.many) ∙ ap (λ (l : PairList). drop count l) (sym filled.all_are)
 
-pub pairs_are : (old now : List Pair) (all given left : Pairs) (count : ℕ) → IsFilled old now all given left count → are_pairs (take count now) ≡ take count all
-pairs_are old now all given left count filled = filled.stand ∙ sym (take_at given left count filled.many) ∙ ap (λ (l : Pairs). take count l) (sym filled.all_are)
+pub pairs_are : (old now : List Pair) (all given left : PairList) (count : ℕ) → IsFilled old now all given left count → are_pairs (take count now) ≡ take count all
+pairs_are old now all given left count filled = filled.stand ∙ sym (take_at given left count filled.many) ∙ ap (λ (l : PairList). take count l) (sym filled.all_are)
 
-all_many : (old now : List Pair) (all given left : Pairs) (count : ℕ) → IsFilled old now all given left count → length all ≡ count + length left
+all_many : (old now : List Pair) (all given left : PairList) (count : ℕ) → IsFilled old now all given left count → length all ≡ count + length left
 all_many old now all given left count filled = ap length filled.all_are ∙ length-append given left ∙ ap (λ (n : ℕ). n + length left) filled.many
 
 -- no place was left, or no pair
-pub full : (old now : List Pair) (all given left : Pairs) (count room : ℕ) → IsFilled old now all given left count → length now ≡ room → length now ≤ count → count ≡ min room (length all)
+pub full : (old now : List Pair) (all given left : PairList) (count room : ℕ) → IsFilled old now all given left count → length now ≡ room → length now ≤ count → count ≡ min room (length all)
 full old now all given left count room filled same over = let many = all_many old now all given left count filled in let fits = filled.room in omega (arith, many, fits, same, over)
 
-pub none_left : (old now : List Pair) (all given left : Pairs) (count room : ℕ) → IsFilled old now all given left count → length now ≡ room → left ≡ [] → count ≡ min room (length all)
+pub none_left : (old now : List Pair) (all given left : PairList) (count room : ℕ) → IsFilled old now all given left count → length now ≡ room → left ≡ [] → count ≡ min room (length all)
 none_left old now all given left count room filled same none =
-    let many : length all ≡ count + 0 = all_many old now all given left count filled ∙ ap (λ (l : Pairs). count + length l) none in let fits = filled.room in omega (arith, many, fits, same)
+    let many : length all ≡ count + 0 = all_many old now all given left count filled ∙ ap (λ (l : PairList). count + length l) none in let fits = filled.room in omega (arith, many, fits, same)

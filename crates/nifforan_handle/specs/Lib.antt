@@ -1,4 +1,5 @@
 pub mod Answers
+pub mod Calls
 pub mod Held
 pub mod Owned
 pub mod Reading

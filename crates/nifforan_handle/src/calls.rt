@@ -1,14 +1,13 @@
 //! What the calls for C do.
 
-ghost use Rattle.std.specs.Prelude.{◌≡◌, ◌≢◌, ◌↔◌, ℕ, ◌+◌, None, Some, IfSome, length, take, drop, min};
+ghost use Rattle.std.specs.Prelude.{◌≡◌, ◌≢◌, ◌↔◌, ◌+◌, None, Some, IfSome, length};
 ghost use Rattle.bw_keys.specs.Limits.{first_bad_field};
 ghost use Rattle.bw_keys.specs.Ranges.{end_of};
 ghost use Rattle.bw_delta.specs.Entries.{at, put, without};
-ghost use Rattle.nifforan.specs.Maps.{outside};
-ghost use Rattle.nifforan_handle.specs.Answers.{had, next_key, IsCare, IsZeroWithout, IsZeroAtEnd};
-ghost use Rattle.nifforan_handle.specs.Held.{pairs_in, pairs_from, config_in, empty_map, put_if_absent};
-ghost use Rattle.nifforan_handle.specs.Reading.{are_pairs, first_key};
-ghost use Rattle.nifforan_handle.specs.Statuses.{config_of, status_of_field, IsStatus};
+ghost use Rattle.nifforan_handle.specs.Answers.{had, IsZeroWithout};
+ghost use Rattle.nifforan_handle.specs.Calls.{Writes, Clears, ReadsInto};
+ghost use Rattle.nifforan_handle.specs.Held.{pairs_in, pairs_from, empty_map, put_if_absent};
+ghost use Rattle.nifforan_handle.specs.Statuses.{config_of, status_of_field};
 ghost use Rattle.nifforan_handle.specs.declared.status.TheConstants.{CLOSED, NO_MEMORY, OK, OPEN};
 
 use crate::answer::{Cleared, Count, Pair, Read, Reply};
@@ -25,8 +24,10 @@ impl Handle {
     /// `OPEN` where it holds a map, else that of the first setting out of its range, else `NO_MEMORY`.
     pub fn create(&mut self, alloc: Global, settings: &Settings) -> u32
         ensures open { self.old.held ≢ None ↔ result ≡ OPEN }
-        ensures setting { self.old.held ≡ None → IfSome (first_bad_field (config_of settings.now)) (λ field. result ≡ status_of_field field) }
-        ensures memory { self.old.held ≡ None → first_bad_field (config_of settings.now) ≡ None → result ≢ OK → result ≡ NO_MEMORY }
+        ensures setting { self.old.held ≡ None → IfSome (first_bad_field (config_of settings.now))
+            (λ field. result ≡ status_of_field field) }
+        ensures memory { self.old.held ≡ None → first_bad_field (config_of settings.now) ≡ None
+            → result ≢ OK → result ≡ NO_MEMORY }
         ensures new { result ≡ OK → self.new.held ≡ Some (empty_map (config_of settings.now)) }
         ensures unchanged { result ≢ OK → self.new.held ≡ self.old.held }
     {
@@ -85,15 +86,7 @@ impl Handle {
 
     /// Gives the key the value, unless the key is there: then it keeps its value, which the reply tells.
     pub fn put(&mut self, alloc: Global, key: u64, value: u64) -> Reply
-        ensures closed { self.old.held ≡ None ↔ result.status ≡ CLOSED }
-        ensures reply { result.status ≡ OK → had result ≡ at key (pairs_in self.old.held) }
-        ensures pairs { result.status ≡ OK → pairs_in self.new.held ≡ put_if_absent key value (pairs_in self.old.held) }
-        ensures status { IsStatus result.status }
-        ensures nothing { result.status ≢ OK → had result ≡ None }
-        ensures zero { IsZeroWithout result }
-        ensures care { IsCare result }
-        ensures unchanged { result.status ≢ OK → self.new.held ≡ self.old.held }
-        ensures config { config_in self.new.held ≡ config_in self.old.held }
+        ensures { Writes key (put_if_absent key value) result self.old.held self.new.held }
     {
         let Some(mut held) = self.take(alloc) else {
             return Reply::without(CLOSED);
@@ -105,15 +98,7 @@ impl Handle {
 
     /// Gives the key the value, whether it is there or not. The reply tells the value that it had.
     pub fn set(&mut self, alloc: Global, key: u64, value: u64) -> Reply
-        ensures closed { self.old.held ≡ None ↔ result.status ≡ CLOSED }
-        ensures reply { result.status ≡ OK → had result ≡ at key (pairs_in self.old.held) }
-        ensures pairs { result.status ≡ OK → pairs_in self.new.held ≡ put key value (pairs_in self.old.held) }
-        ensures status { IsStatus result.status }
-        ensures nothing { result.status ≢ OK → had result ≡ None }
-        ensures zero { IsZeroWithout result }
-        ensures care { IsCare result }
-        ensures unchanged { result.status ≢ OK → self.new.held ≡ self.old.held }
-        ensures config { config_in self.new.held ≡ config_in self.old.held }
+        ensures { Writes key (put key value) result self.old.held self.new.held }
     {
         let Some(mut held) = self.take(alloc) else {
             return Reply::without(CLOSED);
@@ -125,15 +110,7 @@ impl Handle {
 
     /// Takes the key out, if it is there. The reply tells the value that it had.
     pub fn delete(&mut self, alloc: Global, key: u64) -> Reply
-        ensures closed { self.old.held ≡ None ↔ result.status ≡ CLOSED }
-        ensures reply { result.status ≡ OK → had result ≡ at key (pairs_in self.old.held) }
-        ensures pairs { result.status ≡ OK → pairs_in self.new.held ≡ without key (pairs_in self.old.held) }
-        ensures status { IsStatus result.status }
-        ensures nothing { result.status ≢ OK → had result ≡ None }
-        ensures zero { IsZeroWithout result }
-        ensures care { IsCare result }
-        ensures unchanged { result.status ≢ OK → self.new.held ≡ self.old.held }
-        ensures config { config_in self.new.held ≡ config_in self.old.held }
+        ensures { Writes key (without key) result self.old.held self.new.held }
     {
         let Some(mut held) = self.take(alloc) else {
             return Reply::without(CLOSED);
@@ -146,13 +123,7 @@ impl Handle {
     /// Takes out the keys from the low to the high, both included, and tells how many. Where a fault ends
     /// it before, it took out some of them, and no others.
     pub fn clear(&mut self, alloc: Global, low: u64, high: u64) -> Cleared
-        ensures closed { self.old.held ≡ None ↔ result.status ≡ CLOSED }
-        ensures status { IsStatus result.status }
-        ensures cleared { result.status ≡ OK → pairs_in self.new.held ≡ outside low (high + 1) (pairs_in self.old.held) }
-        ensures others { outside low (high + 1) (pairs_in self.new.held) ≡ outside low (high + 1) (pairs_in self.old.held) }
-        ensures fewer { (key value : ℕ) → at key (pairs_in self.new.held) ≡ Some value → at key (pairs_in self.old.held) ≡ Some value }
-        ensures count { length (pairs_in self.new.held) + result.removed ≡ length (pairs_in self.old.held) }
-        ensures config { config_in self.new.held ≡ config_in self.old.held }
+        ensures { Clears low (high + 1) result self.old.held self.new.held }
     {
         let Some(mut held) = self.take(alloc) else {
             return Cleared {
@@ -170,11 +141,7 @@ impl Handle {
     pub fn read(&mut self, alloc: Global, key: u64, pairs: &mut [Pair]) -> Read
         ensures closed { self.old.held ≡ None ↔ result.status ≡ CLOSED }
         ensures open { self.old.held ≢ None ↔ result.status ≡ OK }
-        ensures count { result.count ≡ min (length pairs.old) (length (pairs_from key self.old.held)) }
-        ensures pairs { are_pairs (take result.count pairs.new) ≡ take result.count (pairs_from key self.old.held) }
-        ensures rest { drop result.count pairs.new ≡ drop result.count pairs.old }
-        ensures next { next_key result ≡ first_key (drop result.count (pairs_from key self.old.held)) }
-        ensures zero { IsZeroAtEnd result }
+        ensures reads { ReadsInto (pairs_from key self.old.held) result pairs.old pairs.new }
         ensures unchanged { self.new.held ≡ self.old.held }
     {
         let Some(held) = self.take(alloc) else {

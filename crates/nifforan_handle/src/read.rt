@@ -2,22 +2,18 @@
 ghost use Rattle.std.specs.Prelude.{◌≡◌, ◌≤◌, length, take, drop, min};
 ghost use Rattle.nifforan.specs.Maps.{within};
 ghost use Rattle.bw_keys.specs.Ranges.{key_count};
-ghost use Rattle.nifforan_handle.specs.Answers.{next_key, IsZeroAtEnd};
-ghost use Rattle.nifforan_handle.specs.Reading.{are_pairs, first_key};
+ghost use Rattle.nifforan_handle.specs.Calls.{ReadsInto};
+ghost use Rattle.nifforan_handle.specs.Reading.{are_pairs};
 ghost use Rattle.nifforan_handle.specs.declared.status.TheConstants.{OK};
 
 use crate::answer::{Pair, Read};
 use bw_keys::{Fence, Key};
-use nifforan::{Map, Range};
+use nifforan::{Map, Pairs};
 use std::alloc::Global;
 
 pub(crate) fn pairs_from(map: &Map<Global>, key: Key, places: &mut [Pair]) -> Read
     ensures status { result.status ≡ OK }
-    ensures count { result.count ≡ min (length places.old) (length (within key key_count map.now.pairs)) }
-    ensures pairs { are_pairs (take result.count places.new) ≡ take result.count (within key key_count map.now.pairs) }
-    ensures rest { drop result.count places.new ≡ drop result.count places.old }
-    ensures next { next_key result ≡ first_key (drop result.count (within key key_count map.now.pairs)) }
-    ensures zero { IsZeroAtEnd result }
+    ensures reads { ReadsInto (within key key_count map.now.pairs) result places.old places.new }
 {
     let mut left = map.range(key, Fence::Top);
     let count = fill(&mut left, places);
@@ -29,7 +25,7 @@ pub(crate) fn pairs_from(map: &Map<Global>, key: Key, places: &mut [Pair]) -> Re
 }
 
 /// Writes the pairs that are left to the places, until no place or no pair is left, and tells how many.
-fn fill(left: &mut Range<'_, Global>, places: &mut [Pair]) -> usize
+fn fill(left: &mut Pairs<'_, Global>, places: &mut [Pair]) -> usize
     ensures count { result ≡ min (length places.old) (length left.old) }
     ensures left { left.new ≡ drop result left.old }
     ensures pairs { are_pairs (take result places.new) ≡ take result left.old }

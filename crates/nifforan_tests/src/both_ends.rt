@@ -1,7 +1,7 @@
 //! Ranges read from both ends, beside the kit's map, over leaves on which records stand.
 
 use bw_share::{Config, Job, Worker, share};
-use nifforan::{Fence, Map, Range};
+use nifforan::{Fence, Map, Pairs};
 use rand_core::{Rng, SeedableRng};
 use rand_pcg::Pcg32;
 use std::alloc::{AllocError, Global};
@@ -77,7 +77,7 @@ fn owned(pair: (&u64, &u64)) -> (u64, u64) {
 
 /// Whether both give the same, pair for pair, and then none, from the ends that the bits tell.
 fn are_alike(
-    mut left: Range<'_, Global>,
+    mut left: Pairs<'_, Global>,
     mut wanted: btree_map::Range<'_, u64, u64>,
     mut turns: u64,
     count: u64,

@@ -9,7 +9,7 @@ use bw_keys::Config;
 use bw_step::Step;
 use bw_table::Table;
 use bw_tree::{Blanks, MadeBy, Share, Shared, Tree};
-use bw_work::{Fault, Hand, Open};
+use bw_work::{Calls, Fault, Hand, Open};
 use std::alloc::Global;
 use std::marker::Brand;
 use std::sync::Wait;

@@ -5,4 +5,4 @@ use Rattle.nifforan.proofs.Neighbours.{first_is_head}
 use Rattle.nifforan.proofs.map.Map.first.Goals as goal
 
 pub returns : goal.returns
-returns g c = first_is_head c.self.inside.worker.table c.self.invariant.lawful c.first.result c.first.ensures.first c.first.ensures.none ∙ ap (λ (m : MapValue). first_entry m.pairs) c.self.view_is
+returns g c = first_is_head c.self.inside.worker.owner.table.value c.self.invariant.lawful c.first.result c.first.ensures.first c.first.ensures.none ∙ ap (λ (m : MapValue). first_entry m.pairs) c.self.view_is

@@ -1,7 +1,7 @@
 use Rattle.std.proofs.Common.{refl, ap, ◌∙◌, arith}
 use Rattle.bw_law.specs.Tables.{TableValue}
 use Rattle.nifforan.specs.Maps.{MapValue, pairs_of}
-use Rattle.nifforan.proofs.Pairs.{new_is_empty}
+use Rattle.nifforan.proofs.Listing.{new_is_empty}
 use Rattle.nifforan.proofs.map.Map.new.Goals as goal
 
 pub returns-clause-empty : goal.returns-clause-empty

@@ -5,4 +5,4 @@ use Rattle.nifforan.proofs.Neighbours.{next_is_first}
 use Rattle.nifforan.proofs.map.Map.next_at.Goals as goal
 
 pub returns : goal.returns
-returns g c = next_is_first c.self.inside.worker.table c.self.invariant.lawful c.args.key c.next_at.result c.next_at.ensures.next c.next_at.ensures.none ∙ ap (λ (m : MapValue). first_from c.args.key m.pairs) c.self.view_is
+returns g c = next_is_first c.self.inside.worker.owner.table.value c.self.invariant.lawful c.args.key c.next_at.result c.next_at.ensures.next c.next_at.ensures.none ∙ ap (λ (m : MapValue). first_from c.args.key m.pairs) c.self.view_is

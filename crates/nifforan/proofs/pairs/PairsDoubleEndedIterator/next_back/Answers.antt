@@ -3,7 +3,7 @@ use Rattle.bw_keys.specs.Ranges.{end_of}
 use Rattle.nifforan.specs.Maps.{pairs_of, within}
 use Rattle.nifforan.proofs.Behind.{steps_back, yields_back_progress}
 use Rattle.nifforan.proofs.Neighbours.{within_none}
-use Rattle.nifforan.proofs.range.RangeDoubleEndedIterator.next_back.Goals as goal
+use Rattle.nifforan.proofs.pairs.PairsDoubleEndedIterator.next_back.Goals as goal
 
 pub returns-in_default-clause-steps : goal.returns-in_default-clause-steps
 returns-in_default-clause-steps g c =

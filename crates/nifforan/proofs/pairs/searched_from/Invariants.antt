@@ -1,5 +1,5 @@
 use Rattle.nifforan.proofs.Reading.{IsSearch, search_left}
-use Rattle.nifforan.proofs.range.searched_from.Given as goal
+use Rattle.nifforan.proofs.pairs.searched_from.Given as goal
 
 abbrev pub invariant-leaves : goal.invariant-leaves
 invariant-leaves g l = IsSearch l.table l.leaf l.key l.from

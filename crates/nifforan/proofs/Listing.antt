@@ -19,12 +19,12 @@ use Rattle.bw_law.proofs.NewTable.{new_law}
 use Rattle.bw_law.proofs.Shares.{pair_is_spanned}
 use Rattle.bw_table.proofs.Orders.{one_map, same_option}
 use Rattle.bw_alone.specs.Clearing.{IsMapWithout}
-use Rattle.nifforan.specs.Maps.{Pairs, put_all, pairs_of, outside}
+use Rattle.nifforan.specs.Maps.{PairList, put_all, pairs_of, outside}
 
 -- Lists.
 
 -- what stands at a key after pairs were put into a list
-found_all : (key value : ℕ) (ps es : Pairs) → at key (put_all ps es) ≡ Some value → (at key ps ≡ Some value) ⊎ (at key es ≡ Some value)
+found_all : (key value : ℕ) (ps es : PairList) → at key (put_all ps es) ≡ Some value → (at key ps ≡ Some value) ⊎ (at key es ≡ Some value)
 found_all key value [] es found = inr found
 found_all key value (p ∷ ps) es found = let put = at-put p.0 key p.1 (put_all ps es) in ⊎_elim
     (λ (same : p.0 ≡ key). inl (grind (arith, nat_tests)))
@@ -33,35 +33,35 @@ found_all key value (p ∷ ps) es found = let put = at-put p.0 key p.1 (put_all 
     ⊎_elim (λ (here : at key ps ≡ Some value). inl (grind (arith, nat_tests))) (λ (there : at key es ≡ Some value). inr there) (found_all key value ps es rest))
     (cases_eq p.0 key)
 
-here_all : (key value : ℕ) (ps es : Pairs) → at key ps ≡ Some value → at key (put_all ps es) ≡ Some value
+here_all : (key value : ℕ) (ps es : PairList) → at key ps ≡ Some value → at key (put_all ps es) ≡ Some value
 here_all key value [] es found = cc
 here_all key value (p ∷ ps) es found = grind (arith, nat_tests, at-put p.0 key p.1 (put_all ps es), here_all key value ps es)
 
-there_all : (key value : ℕ) (ps es : Pairs) → at key ps ≡ None → at key es ≡ Some value → at key (put_all ps es) ≡ Some value
+there_all : (key value : ℕ) (ps es : PairList) → at key ps ≡ None → at key es ≡ Some value → at key (put_all ps es) ≡ Some value
 there_all key value [] es none found = found
 there_all key value (p ∷ ps) es none found = grind (arith, nat_tests, at-put p.0 key p.1 (put_all ps es), there_all key value ps es)
 
-rise_all : (end low : ℕ) (ps es : Pairs) → rises low end ps ≡ true → rises 0 end es ≡ true → rises 0 end (put_all ps es) ≡ true
+rise_all : (end low : ℕ) (ps es : PairList) → rises low end ps ≡ true → rises 0 end es ≡ true → rises 0 end (put_all ps es) ≡ true
 rise_all end low [] es first then = then
 rise_all end low (p ∷ ps) es first then =
     let rest : rises (p.0 + 1) end ps ≡ true = grind (arith, nat_tests) in
     let below : p.0 < end = grind (arith, nat_tests) in
     rises-put end 0 p.0 p.1 (put_all ps es) (omega arith) below (rise_all end (p.0 + 1) ps es rest then)
 
-rises_further : (low end more : ℕ) (es : Pairs) → end ≤ more → rises low end es ≡ true → rises low more es ≡ true
+rises_further : (low end more : ℕ) (es : PairList) → end ≤ more → rises low end es ≡ true → rises low more es ≡ true
 rises_further low end more [] le rise = refl
 rises_further low end more (e ∷ es) le rise = grind (arith, nat_tests, rises_further (e.0 + 1) end more es)
 
-rises_outside : (low end a b : ℕ) (es : Pairs) → rises a b es ≡ true → rises a b (outside low end es) ≡ true
+rises_outside : (low end a b : ℕ) (es : PairList) → rises a b es ≡ true → rises a b (outside low end es) ≡ true
 rises_outside low end a b [] rise = refl
 rises_outside low end a b (e ∷ es) rise = grind (arith, nat_tests, rises_outside low end (e.0 + 1) b es, rises-lower b a (e.0 + 1) (outside low end es))
 
-at_outside : (low end key : ℕ) (es : Pairs) → (key < low) ⊎ (end ≤ key) → at key (outside low end es) ≡ at key es
+at_outside : (low end key : ℕ) (es : PairList) → (key < low) ⊎ (end ≤ key) → at key (outside low end es) ≡ at key es
 at_outside low end key [] out = refl
 at_outside low end key (e ∷ es) (inl less) = grind (arith, nat_tests, at_outside low end key es (inl less))
 at_outside low end key (e ∷ es) (inr more) = grind (arith, nat_tests, at_outside low end key es (inr more))
 
-at_inside : (low end key : ℕ) (es : Pairs) → low ≤ key → key < end → at key (outside low end es) ≡ None
+at_inside : (low end key : ℕ) (es : PairList) → low ≤ key → key < end → at key (outside low end es) ≡ None
 at_inside low end key [] from below = refl
 at_inside low end key (e ∷ es) from below = grind (arith, nat_tests, at_inside low end key es from below)
 
@@ -120,7 +120,7 @@ module _ (table : TableValue) (law : Lawful table) where
   }
 
   -- and no other one is
-  pub list_is : (pairs : Pairs) → IsTheMap table pairs → pairs_of table.slots ≡ pairs
+  pub list_is : (pairs : PairList) → IsTheMap table pairs → pairs_of table.slots ≡ pairs
   list_is pairs is = one_map table (pairs_of table.slots) pairs pairs_are is
 
   pub value_is : (key : ℕ) (found : Option ℕ) → IsValueAt table.slots key found → found ≡ at key (pairs_of table.slots)
@@ -134,7 +134,7 @@ new_is_empty config fine fits =
     list_is (new_table config) empty.lawful [] (record { rise = refl; same = λ key value. ((λ there. absurd (cc there)), (λ maps. absurd (empty.no_pairs key value maps))) })
 
 module _ (old new : TableValue) (old_law : Lawful old) (new_law : Lawful new) where
-  abbrev pairs : Pairs
+  abbrev pairs : PairList
   pairs = pairs_of old.slots
 
   pub same_pairs : SameMap old.slots new.slots → pairs_of new.slots ≡ pairs_of old.slots
@@ -147,7 +147,7 @@ module _ (old new : TableValue) (old_law : Lawful old) (new_law : Lawful new) wh
   })
 
   -- what has a value at each key, in the new map, is the new map
-  by_values : (es : Pairs) → rises 0 key_count es ≡ true → ((key : ℕ) → IsValueAt new.slots key (at key es)) → pairs_of new.slots ≡ es
+  by_values : (es : PairList) → rises 0 key_count es ≡ true → ((key : ℕ) → IsValueAt new.slots key (at key es)) → pairs_of new.slots ≡ es
   by_values es rise is = list_is new new_law es (record { rise = rise; same = λ key value. is key value })
 
   old_value : (key : ℕ) → IsValueAt old.slots key (at key pairs)
@@ -229,7 +229,7 @@ module _ (old new : TableValue) (old_law : Lawful old) (new_law : Lawful new) wh
           (cases_lt k low)
 
 -- lists that have the same at each key out of a range
-pub same_outside : (low high : ℕ) (xs ys : Pairs) → rises 0 key_count xs ≡ true → rises 0 key_count ys ≡ true → ((key : ℕ) → (key < low) ⊎ (high ≤ key) → at key xs ≡ at key ys) → outside low high xs ≡ outside low high ys
+pub same_outside : (low high : ℕ) (xs ys : PairList) → rises 0 key_count xs ≡ true → rises 0 key_count ys ≡ true → ((key : ℕ) → (key < low) ⊎ (high ≤ key) → at key xs ≡ at key ys) → outside low high xs ≡ outside low high ys
 same_outside low high xs ys first second same =
     same_entries 0 key_count (outside low high xs) (outside low high ys) (rises_outside low high 0 key_count xs first) (rises_outside low high 0 key_count ys second) each
   where

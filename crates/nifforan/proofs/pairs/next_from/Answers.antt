@@ -1,7 +1,7 @@
 use Rattle.std.proofs.Common.{◌<◌, arith}
 use Rattle.bw_keys.specs.Ranges.{key_count}
 use Rattle.nifforan.proofs.Reading.{at_once, lent_is_next, lent_is_held, rest_is_next}
-use Rattle.nifforan.proofs.range.next_from.Goals as goal
+use Rattle.nifforan.proofs.pairs.next_from.Goals as goal
 
 pub returns-in-Some-clause-next : goal.returns-in-Some-clause-next
 returns-in-Some-clause-next g c =

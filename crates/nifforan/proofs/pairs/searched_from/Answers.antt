@@ -4,7 +4,7 @@ use Rattle.bw_keys.specs.Ranges.{key_count, end_of}
 use Rattle.bw_chain.proofs.Firsts.{first_from-bound}
 use Rattle.bw_table.specs.Orders.{HasNoKeyWithin}
 use Rattle.nifforan.proofs.Reading.{lent_is_next, lent_is_held, rest_is_next, next_is_here, none_is_here, none_before_next, held_for}
-use Rattle.nifforan.proofs.range.searched_from.Goals as goal
+use Rattle.nifforan.proofs.pairs.searched_from.Goals as goal
 
 pub returns-in-Some-clause-next : goal.returns-in-Some-clause-next
 returns-in-Some-clause-next g c = lent_is_next c.args.table.now c.leaves.leaf c.args.key c.leaves.from c.leaves.invariant c.in-Some.pair c.take_first.new.lent.now (rw c.in-Some.ensures.first at c.pairs_from.ensures)

@@ -11,12 +11,13 @@ use bw_table::{LeafRef, Table};
 use std::alloc::Allocator;
 use std::marker::Model;
 
-/// The pairs of a map whose keys lie in a range, in the order of their keys, from either end. It takes
-/// no memory: it holds a leaf of the map, and walks along the leaf's own list. It searches only at the
-/// leaf's end, and for each key that a record of the leaf names. From behind it holds another leaf,
-/// which it searches for when the first pair is taken there.
+/// The pairs of a map whose keys lie in a range, in the order of their keys, from either end.
+///
+/// It takes no memory: it holds a leaf of the map, and walks along the leaf's own list. It searches
+/// only at the leaf's end, and for each key that a record of the leaf names. From behind it holds
+/// another leaf, which it searches for when the first pair is taken there.
 #[derive(Drop)]
-pub struct Range<'m, A: Allocator + Copy> {
+pub struct Pairs<'m, A: Allocator + Copy> {
     pub(crate) table: &'m Table<A>,
     pub(crate) leaf: LeafRef<'m, A>,
     /// The leaf's pairs that come next, as they lie side by side in it, or some of them.
@@ -29,14 +30,14 @@ pub struct Range<'m, A: Allocator + Copy> {
     pub(crate) back: Option<Back<'m, A>>,
 }
 
-impl<'m, A: Allocator + Copy> Model for Range<'m, A> {
+impl<'m, A: Allocator + Copy> Model for Pairs<'m, A> {
     ghost use Rattle.std.specs.Coded.{coded_list, coded×, coded_ℕ};
     ghost use Rattle.std.specs.Prelude.{IfSome};
     ghost use Rattle.bw_keys.specs.Ranges.{end_of};
-    ghost use Rattle.nifforan.specs.Maps.{Pairs, pairs_of, within};
+    ghost use Rattle.nifforan.specs.Maps.{PairList, pairs_of, within};
     ghost use Rattle.nifforan.specs.Reading.{IsLeafFor, AreLent, HoldsUnder};
 
-    ghost Value = { Pairs };
+    ghost Value = { PairList };
 
     ghost coded = { coded_list (coded× coded_ℕ coded_ℕ) };
 
@@ -47,7 +48,7 @@ impl<'m, A: Allocator + Copy> Model for Range<'m, A> {
         × IfSome r.back (HoldsUnder r.table.now (end_of r.high)) };
 }
 
-impl<'m, A: Allocator + Copy> Iterator for Range<'m, A> {
+impl<'m, A: Allocator + Copy> Iterator for Pairs<'m, A> {
     ghost use Rattle.std.specs.Iterator.{YieldsFirst, item_count};
 
     type Item = (Key, u64);
@@ -69,7 +70,7 @@ impl<'m, A: Allocator + Copy> Iterator for Range<'m, A> {
     }
 }
 
-impl<'m, A: Allocator + Copy> DoubleEndedIterator for Range<'m, A> {
+impl<'m, A: Allocator + Copy> DoubleEndedIterator for Pairs<'m, A> {
     ghost use Rattle.std.specs.Iterator.{YieldsLast};
 
     ghost next_back_gives = { YieldsLast (λ left. left) };
