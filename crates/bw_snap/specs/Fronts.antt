@@ -1,4 +1,4 @@
--- The book of the announced lists, its rule, and what the step that announces a list tells.
+-- The announced lists, their rule, and what the step that announces a list reports.
 use Rattle.std.specs.Prelude.{ℕ, ◌≡◌, ◌==◌, true, List, [], ◌∷◌, ◌++◌, length, MatchBool}
 use Rattle.logbook.specs.Pages.{Cell, Step, View, Book, Named}
 use Rattle.bw_step.specs.Proposals.{Proposal}
@@ -14,12 +14,12 @@ abbrev pub newest : List Proposal → List (List Proposal) → List Proposal
 newest first [] = first
 newest first (steps ∷ more) = newest steps more
 
--- the first word is the number of the lists. A book has two words, and this one leaves the second at 0
+-- of the two words of a log the first is the number of the lists, and the second stays 0
 pub record IsKept (cells : List Cell) (log : List (List Proposal)) : Type 0 where
   pub words : cells ≡ (length log, true) ∷ (0, true) ∷ []
   pub rising : Rise [] log
 
--- a list that was announced, and the book in which it stands
+-- a list that was announced, and where it stands
 pub record Announced : Type 0 where
   pub list : List Proposal
   pub book : Book
@@ -27,6 +27,6 @@ pub record Announced : Type 0 where
 abbrev pub head_of : Book → Named
 head_of book = record { tracked = true; key = 0; book = book }
 
--- the list was added to all that had been seen, or the book was longer
+-- the list was added to all that had been seen, or more lists were there
 abbrev pub Adds : Step (List Proposal) → View (List Proposal) ℕ → ℕ → View (List Proposal) ℕ → Type 0
 Adds step seen found then = MatchBool (found == step.old) (then.0 ≡ seen.0 ++ step.ask ∷ []) (Unit {0})

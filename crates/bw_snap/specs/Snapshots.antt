@@ -1,5 +1,5 @@
 -- Lists of accepted steps, and the tables that they lead to.
-use Rattle.std.specs.Prelude.{◌≡◌, List, [], ◌∷◌, ◌++◌, None}
+use Rattle.std.specs.Prelude.{◌≡◌, Bool, List, [], ◌∷◌, ◌++◌, None, MatchBool}
 use Rattle.bw_keys.specs.declared.config.Config.{Config}
 use Rattle.bw_step.specs.Proposals.{Proposal}
 use Rattle.bw_law.specs.Tables.{TableValue, new_table}
@@ -18,3 +18,7 @@ IsSnapshot config steps table = LeadTo (new_table config) steps table
 -- the list goes on from the other
 abbrev pub BeginsWith : List Proposal → List Proposal → Type 0
 BeginsWith steps seen = (rest : List Proposal) × (steps ≡ seen ++ rest)
+
+-- one list goes on from the other, and the test says whether it is the first
+abbrev pub GoesOn : Bool → List Proposal → List Proposal → Type 0
+GoesOn test one other = MatchBool test (BeginsWith one other) (BeginsWith other one)

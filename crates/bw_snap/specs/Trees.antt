@@ -1,5 +1,5 @@
 -- What the lock of a tree with readers keeps, and what its calls answer.
-use Rattle.std.specs.Prelude.{◌≡◌, ℕ, Bool, true, false, List, Some, None}
+use Rattle.std.specs.Prelude.{◌≡◌, ℕ, Bool, true, false, List, [], Some, None}
 use Rattle.bw_keys.specs.declared.config.Config.{Config}
 use Rattle.bw_keys.specs.Limits.{first_bad_field, is_out_of}
 use Rattle.bw_step.specs.Proposals.{Proposal}
@@ -18,6 +18,10 @@ pub record PublishedValue : Type 0 where
   pub published : TableValue
   pub pending : List Proposal
   pub list : List Proposal
+
+-- a table that is published as it is, with no step before
+abbrev pub published_as_it_is : TableValue → PublishedValue
+published_as_it_is table = record { table = table; published = table; pending = []; list = [] }
 
 -- the pending steps lead from the published table to the table, and the published list to the published one
 pub record IsPublished (config : Config) (value : PublishedValue) : Type 0 where

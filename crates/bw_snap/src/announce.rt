@@ -30,9 +30,9 @@ impl Front {
         writer: &WritingEnd<N>,
         rt: &R,
     )
-        requires book { self.old.book ≡ N.book }
+        requires book { self.old.book ≡ N.announcements }
         requires list { BeginsWith (writer.now.desk.shown.value.front.list ++ steps_of (drop writer.now.behind writer.now.log.items)) self.old.list }
-        ensures { self.new ≡ record { list = writer.now.desk.shown.value.front.list ++ steps_of (drop writer.now.behind writer.now.log.items); book = N.book } }
+        ensures { self.new ≡ record { list = writer.now.desk.shown.value.front.list ++ steps_of (drop writer.now.behind writer.now.log.items); book = N.announcements } }
     {
         for _ in rt.forever() {
             if self.try_announce(head, writer) {
@@ -44,9 +44,9 @@ impl Front {
 
     /// The same, unless the book has a list that this front hasn't seen.
     fn try_announce<N: Naming>(&mut self, head: &Head<N>, writer: &WritingEnd<N>) -> bool
-        requires book { self.old.book ≡ N.book }
+        requires book { self.old.book ≡ N.announcements }
         requires list { BeginsWith (writer.now.desk.shown.value.front.list ++ steps_of (drop writer.now.behind writer.now.log.items)) self.old.list }
-        ensures { MatchBool result (self.new ≡ record { list = writer.now.desk.shown.value.front.list ++ steps_of (drop writer.now.behind writer.now.log.items); book = N.book }) (self.new ≡ self.old) }
+        ensures { MatchBool result (self.new ≡ record { list = writer.now.desk.shown.value.front.list ++ steps_of (drop writer.now.behind writer.now.log.items); book = N.announcements }) (self.new ≡ self.old) }
     {
         let count = self.count;
         if count == u64::MAX {

@@ -39,7 +39,7 @@ pub fn begin<N: Naming>(
 ) -> Result<WritingEnd<N>, NoMemory>
     requires some { 0 < readers }
     requires few { readers < 2 ^ 32 }
-    requires front { front.now ≡ record { list = []; book = N.book } }
+    requires front { front.now ≡ record { list = []; book = N.announcements } }
     requires config { N.config ≡ config }
     ensures table { IfOk result (λ w. w.desk.shown.value.table ≡ new_table config) }
     ensures front { IfOk result (λ w. w.desk.shown.value.front ≡ front.now) }
@@ -76,7 +76,7 @@ pub struct Glance {
 #[inline(always)]
 pub fn read<N: Naming>(reader: ReadingEnd<N>, key: Key) -> (ReadingEnd<N>, Option<Glance>)
     ensures look { IfSome result.1 (λ glance. IsLookIn N.config key glance.front.list glance.look) }
-    ensures book { IfSome result.1 (λ glance. glance.front.book ≡ N.book) }
+    ensures book { IfSome result.1 (λ glance. glance.front.book ≡ N.announcements) }
     ensures seen { BeginsWith (view result.0.place) (view reader.place) }
     ensures list { IfSome result.1 (λ glance. glance.front.list ≡ view result.0.place) }
     ensures closed { IfNone result.1 (view result.0.place ≡ view reader.place) }
@@ -117,7 +117,7 @@ pub fn read_pairs<N: Naming>(
     part: (Key, usize),
 ) -> (ReadingEnd<N>, Option<Result<Scan, NoMemory>>)
     ensures pairs { IfSome result.1 (λ read. IfOk read (λ scan. IsListedIn N.config part.0 part.1 scan.front.list scan.pairs.items)) }
-    ensures book { IfSome result.1 (λ read. IfOk read (λ scan. scan.front.book ≡ N.book)) }
+    ensures book { IfSome result.1 (λ read. IfOk read (λ scan. scan.front.book ≡ N.announcements)) }
     ensures seen { BeginsWith (view result.0.place) (view reader.place) }
     ensures list { IfSome result.1 (λ read. IfOk read (λ scan. scan.front.list ≡ view result.0.place)) }
     ensures closed { IfNone result.1 (view result.0.place ≡ view reader.place) }
@@ -147,7 +147,7 @@ fn publish<N: Naming, R: Wait>(
     writer: WritingEnd<N>,
     rt: &R,
 ) -> (WritingEnd<N>, Result<(), AllocError>)
-    requires { Land N.config N.book writer.desk.shown.value.table writer.desk.shown.value.front (drop writer.behind writer.log.items) }
+    requires { Land N.config N.announcements writer.desk.shown.value.table writer.desk.shown.value.front (drop writer.behind writer.log.items) }
     ensures ok { let end = fold noted (writer.desk.shown.value.table, writer.desk.shown.value.front) (drop writer.behind writer.log.items) in OnOk result.1 ((result.0.desk.shown.value.table ≡ end.0) × (result.0.desk.shown.value.front ≡ end.1) × (drop result.0.behind result.0.log.items ≡ []) × (view result.0.desk.place ≡ end.1.list)) }
     ensures err { OnErr result.1 ((result.0.desk.shown.value ≡ writer.desk.shown.value) × (drop result.0.behind result.0.log.items ≡ drop writer.behind writer.log.items) × (view result.0.desk.place ≡ view writer.desk.place)) }
 {
@@ -156,7 +156,7 @@ fn publish<N: Naming, R: Wait>(
 
 /// Publishes what is pending, in place. Where the published table is to be is where its list leads.
 pub fn advance<N: Naming, R: Wait>(writer: &mut WritingEnd<N>, rt: &R) -> Result<(), AllocError>
-    requires { Land N.config N.book writer.old.desk.shown.value.table writer.old.desk.shown.value.front (drop writer.old.behind writer.old.log.items) }
+    requires { Land N.config N.announcements writer.old.desk.shown.value.table writer.old.desk.shown.value.front (drop writer.old.behind writer.old.log.items) }
     ensures ok { let end = fold noted (writer.old.desk.shown.value.table, writer.old.desk.shown.value.front) (drop writer.old.behind writer.old.log.items) in OnOk result ((writer.new.desk.shown.value.table ≡ end.0) × (writer.new.desk.shown.value.front ≡ end.1) × (drop writer.new.behind writer.new.log.items ≡ []) × (view writer.new.desk.place ≡ end.1.list)) }
     ensures err { OnErr result ((writer.new.desk.shown.value ≡ writer.old.desk.shown.value) × (drop writer.new.behind writer.new.log.items ≡ drop writer.old.behind writer.old.log.items) × (view writer.new.desk.place ≡ view writer.old.desk.place)) }
 {

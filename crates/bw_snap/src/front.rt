@@ -1,7 +1,7 @@
-//! The book of the announced lists, and fronts, which know a beginning of it.
+//! The announced lists of a tree, and fronts, which know a beginning of them.
 
-ghost use Rattle.std.specs.Prelude.{◌≡◌, [], MatchBool};
-ghost use Rattle.bw_snap.specs.Snapshots.{BeginsWith};
+ghost use Rattle.std.specs.Prelude.{◌≡◌, []};
+ghost use Rattle.bw_snap.specs.Snapshots.{GoesOn};
 ghost use Rattle.bw_snap.specs.Fronts.{head_of};
 
 use crate::proposed::List;
@@ -9,7 +9,7 @@ use bw_tree::MadeBy;
 use logbook::{Gain, Play, Rule, Seen, Start, Word};
 use std::marker::{Brand, Model, PhantomData};
 
-/// The rule of the book: each list begins with the one before it.
+/// The rule of the announced lists: each begins with the one before it.
 pub struct Rising;
 
 impl Rule<List, u64> for Rising {
@@ -39,7 +39,7 @@ impl Gain<List, u64> for Nothing {
     ghost after = { λ names about answer. ftrue };
 }
 
-/// The step that adds a list to the book.
+/// The step that announces a list.
 pub struct Add;
 
 impl Play<List, u64> for Add {
@@ -49,43 +49,43 @@ impl Play<List, u64> for Add {
 }
 
 /// A ledger of insertions that names a tree with readers: by the configuration that it is made by,
-/// and by the book of its announced lists.
+/// and by its announced lists.
 pub trait Naming: MadeBy {
     ghost use Rattle.logbook.specs.Pages.{Book};
 
-    // the book of the announced lists
-    ghost book: { Book };
+    // where the lists are announced
+    ghost announcements: { Book };
 }
 
 impl Naming for Brand {
-    ghost book = { record { number = 0; log_name = 0; cells_name = 0 } };
+    ghost announcements = { record { number = 0; log_name = 0; cells_name = 0 } };
 }
 
-/// A book without a list, which names no tree yet.
+/// Where a tree's lists will be announced. No list is there yet, and no tree is named by it.
 #[derive(Drop)]
-pub struct BlankBook {
+pub struct Announcements {
     head: Word<List, u64, Rising>,
     seen: Seen<List, u64, Rising>,
     pub ghost empty: { seen.log ≡ [] },
     pub ghost head_is: { head ≡ head_of seen.book },
 }
 
-impl BlankBook {
-    /// A new book. It takes no memory.
-    pub fn new() -> BlankBook {
+impl Announcements {
+    /// Returns new announcements without a list. It takes no memory.
+    pub fn new() -> Announcements {
         let (seen, mut first, _second) = Seen::open(Start::alone(), 0, 0);
-        BlankBook {
+        Announcements {
             head: Word::tracked(0, &mut first),
             seen,
         }
     }
 
-    /// The book's word under a tree's name, and the front that has seen nothing.
+    /// Returns the word under a tree's name, and the front that has seen nothing.
     pub(crate) fn named<N: Naming>(self) -> (Head<N>, Front)
-        requires { self.seen.book ≡ N.book }
-        ensures { result.1 ≡ record { list = []; book = N.book } }
+        requires { self.seen.book ≡ N.announcements }
+        ensures { result.1 ≡ record { list = []; book = N.announcements } }
     {
-        let BlankBook { head, seen } = self;
+        let Announcements { head, seen } = self;
         let head = Head {
             word: head,
             of: PhantomData,
@@ -95,16 +95,16 @@ impl BlankBook {
     }
 }
 
-/// The book's word, which is the number of the lists. Who has it may announce a list.
+/// The word that is the number of the announced lists. Who has it may announce a list.
 #[derive(Drop)]
 pub struct Head<N: Naming> {
     pub(crate) word: Word<List, u64, Rising>,
     of: PhantomData<N>,
-    ghost is_head: { word ≡ head_of N.book },
+    ghost is_head: { word ≡ head_of N.announcements },
 }
 
 /// A list that was announced, with all that were announced before it. Contracts see it as that
-/// list, with its book.
+/// list, with the place where it is announced.
 #[derive(Drop)]
 pub struct Front {
     pub(crate) count: u64,
@@ -123,7 +123,7 @@ impl Model for Front {
 }
 
 impl Front {
-    /// A copy.
+    /// Returns a copy.
     pub fn again(&self) -> Front
         ensures { result ≡ self.now }
     {
@@ -133,11 +133,11 @@ impl Front {
         }
     }
 
-    /// Whether this list was announced no earlier than the other, and so begins with it. If not,
-    /// the other begins with this one.
+    /// Returns whether this list was announced no earlier than the other, and so begins with it. If
+    /// not, the other begins with this one.
     pub fn goes_on(&self, other: &Front) -> bool
         requires { other.now.book ≡ self.now.book }
-        ensures { MatchBool result (BeginsWith self.now.list other.now.list) (BeginsWith other.now.list self.now.list) }
+        ensures { GoesOn result self.now.list other.now.list }
     {
         let mut both = self.seen.again();
         both.learn(&other.seen);

@@ -15,7 +15,7 @@ mod shown;
 mod stamp;
 
 pub use fault::{Closed, ScanFault, SnapFault};
-pub use front::{BlankBook, Naming};
+pub use front::{Announcements, Naming};
 pub use published::{MAX_READERS, MAX_STAMPS, Published};
 pub use read_tree::ReadTree;
 pub use reader::Reader;

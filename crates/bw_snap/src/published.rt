@@ -1,20 +1,19 @@
 //! The locked table, with the writing end of the published pair.
 
-ghost use Rattle.std.specs.Prelude.{◌≡◌, ◌<◌, ◌++◌, ◌∷◌, ◌↔◌, [], None, length, All, IsOk, IfOk, IfErr, OnOk, OnErr, MatchResult};
+ghost use Rattle.std.specs.Prelude.{◌≡◌, ◌<◌, ◌++◌, ◌∷◌, ◌↔◌, [], None, length, All, IsOk, IfOk, IfErr, OnOk, OnErr};
 ghost use Rattle.bw_keys.specs.Limits.{first_bad_field};
 ghost use Rattle.bw_step.specs.ProposalView.{proposal_of};
 ghost use Rattle.bw_step.specs.Steps.{IsReceiptOf};
-ghost use Rattle.bw_law.specs.Effects.{TakesStep};
 ghost use Rattle.bw_law.specs.Laws.{MapAfter};
 ghost use Rattle.bw_law.specs.Refusals.{refusal};
 ghost use Rattle.bw_law.specs.Tables.{new_table};
-ghost use Rattle.bw_tree.specs.Shares.{no_changes, counted, shared_in, sum_of, Opens};
-ghost use Rattle.bw_tree.specs.Trees.{IsTree, CountsPairs};
-ghost use Rattle.bw_snap.specs.Trees.{IsPublished, IsDenialOf, IsSnapFault, MayBeRead, is_bad_reader_number};
+ghost use Rattle.bw_tree.specs.Shares.{no_changes, CountsIn};
+ghost use Rattle.bw_tree.specs.Trees.{IsTree, IsClosed, IsReceiptFrom, OpensFor};
+ghost use Rattle.bw_snap.specs.Trees.{IsPublished, IsDenialOf, IsSnapFault, MayBeRead, is_bad_reader_number, published_as_it_is};
 
 use crate::ends::{WritingEnd, advance, append, begin, newcomer, surely_told};
 use crate::fault::SnapFault;
-use crate::front::{BlankBook, Front, Head, Naming};
+use crate::front::{Announcements, Front, Head, Naming};
 use crate::note::Note;
 use crate::reader::Reader;
 use crate::stamp::Stamp;
@@ -62,7 +61,7 @@ impl<R: Wait + Drop, N: Naming, D: Ledger> Model for Published<R, N, D> {
     ghost invariant = { λ p. LeadTo p.writer.desk.shown.value.table (steps_of (drop p.writer.behind p.writer.log.items)) p.booked
         × IsSnapshot N.config p.writer.desk.shown.value.front.list p.writer.desk.shown.value.table
         × BeginsWith (p.writer.desk.shown.value.front.list ++ steps_of (drop p.writer.behind p.writer.log.items)) p.announced.list
-        × (p.writer.desk.shown.value.front.book ≡ N.book) × (p.announced.book ≡ N.book)
+        × (p.writer.desk.shown.value.front.book ≡ N.announcements) × (p.announced.book ≡ N.announcements)
         × (seen_by p.writer.desk.place ≡ p.writer.desk.shown.value.front.list) };
 }
 
@@ -87,14 +86,12 @@ impl<R: Wait + Drop, N: Naming, D: Ledger> Published<R, N, D> {
         machine: Global,
         config: Config,
         blanks: Blanks,
-        book: BlankBook,
+        announcements: Announcements,
         readers: u32,
     ) -> Result<(Published<R, N, D>, Vec<Share<N, D>>), SnapFault>
-        requires insertions { Opens N.name N.parts blanks.insertions }
-        requires removals { Opens D.name D.parts blanks.removals }
-        requires book { book.seen.book ≡ N.book }
-        requires config { N.config ≡ config }
-        ensures new { IfOk result (λ made. made.0 ≡ record { table = new_table config; published = new_table config; pending = []; list = [] }) }
+        requires ledgers { OpensFor N.Ledger N.config D.Ledger config blanks }
+        requires announcements { announcements.seen.book ≡ N.announcements }
+        ensures new { IfOk result (λ made. made.0 ≡ published_as_it_is (new_table config)) }
         ensures count { IfOk result (λ made. length made.1.items ≡ blanks.workers) }
         ensures shares { IfOk result (λ made. All (λ share. share ≡ no_changes) made.1.items) }
         ensures fine { OnOk result (MayBeRead config blanks.workers readers) }
@@ -104,7 +101,7 @@ impl<R: Wait + Drop, N: Naming, D: Ledger> Published<R, N, D> {
             Ok(made) => made,
             Err(fault) => return Err(fault),
         };
-        let (head, announced) = book.named::<N>();
+        let (head, announced) = announcements.named::<N>();
         let writer = match begin(machine, config, &announced, (readers + MAX_STAMPS) as usize) {
             Ok(writer) => writer,
             Err(NoMemory) => return Err(SnapFault::NoMemory),
@@ -148,14 +145,14 @@ impl<R: Wait + Drop, N: Naming, D: Ledger> Published<R, N, D> {
     ) -> Result<Receipt, Denied>
         requires { proposal_of twin ≡ proposal_of step }
         ensures accepted { OnOk result (refusal self.old.table (proposal_of step) ≡ None) }
-        ensures taken { IfOk result (λ receipt. TakesStep self.old.table (proposal_of step) receipt self.new.table) }
+        ensures taken { IfOk result (IsReceiptFrom self.old.table (proposal_of step) self.new.table) }
         ensures told { IfOk result (IsReceiptOf (proposal_of step)) }
         ensures map { OnOk result (MapAfter self.old.table (proposal_of step)) }
         ensures pending { OnOk result (self.new.pending ≡ self.old.pending ++ proposal_of step ∷ []) }
         ensures published { OnOk result ((self.new.published ≡ self.old.published) × (self.new.list ≡ self.old.list)) }
         ensures denied { IfErr result (IsDenialOf self.old.table (proposal_of step)) }
         ensures unchanged { OnErr result (self.new ≡ self.old) }
-        ensures share { MatchResult result (λ receipt. share.new ≡ counted share.old receipt) (λ _. share.new ≡ share.old) }
+        ensures share { CountsIn share.old share.new result }
     {
         match self.booked.table().check(&step) {
             Ok(()) => {}
@@ -208,10 +205,7 @@ impl<R: Wait + Drop, N: Naming, D: Ledger> Published<R, N, D> {
     /// Gives the table out, as `Booked::close` does. The published copies are given up.
     pub fn close(self, shares: Vec<Share<N, D>>) -> Result<Table<Global>, MissingShare>
         ensures table { IfOk result (λ table. table ≡ self.table) }
-        ensures config { IfOk result (λ table. table.config ≡ N.config) }
-        ensures tree { IfOk result IsTree }
-        ensures book { IfOk result (λ table. shared_in table.book ≡ sum_of shares.items) }
-        ensures pairs { IfOk result (λ table. CountsPairs table (sum_of shares.items)) }
+        ensures closed { IfOk result (IsClosed N.config shares.items) }
         ensures all { IsOk result ↔ (length shares.items ≡ N.parts) }
         ensures missing { OnErr result (length shares.items < N.parts) }
     {
@@ -242,9 +236,7 @@ fn new_booked<I: MadeBy, D: Ledger>(
     blanks: Blanks,
     readers: u32,
 ) -> Result<(Booked<Global, I, D>, Vec<Share<I, D>>), SnapFault>
-    requires insertions { Opens I.name I.parts blanks.insertions }
-    requires removals { Opens D.name D.parts blanks.removals }
-    requires config { I.config ≡ config }
+    requires ledgers { OpensFor I.Ledger I.config D.Ledger config blanks }
     ensures table { IfOk result (λ made. made.0 ≡ new_table config) }
     ensures count { IfOk result (λ made. length made.1.items ≡ blanks.workers) }
     ensures shares { IfOk result (λ made. All (λ share. share ≡ no_changes) made.1.items) }

@@ -1,14 +1,14 @@
 //! The lock round a published table.
 
-ghost use Rattle.std.specs.Prelude.{◌≡◌, ◌<◌, ◌↔◌, [], IsOk, IfOk, IfErr, OnOk, OnErr, MatchResult, All, length};
+ghost use Rattle.std.specs.Prelude.{◌≡◌, ◌<◌, ◌↔◌, [], IsOk, IfOk, IfErr, OnOk, OnErr, All, length};
 ghost use Rattle.bw_step.specs.ProposalView.{proposal_of};
 ghost use Rattle.bw_step.specs.Steps.{IsReceiptOf};
-ghost use Rattle.bw_tree.specs.Shares.{no_changes, counted, shared_in, sum_of, Opens};
-ghost use Rattle.bw_tree.specs.Trees.{IsTree, CountsPairs};
+ghost use Rattle.bw_tree.specs.Shares.{no_changes, CountsIn};
+ghost use Rattle.bw_tree.specs.Trees.{IsTree, IsClosed, OpensFor};
 ghost use Rattle.bw_snap.specs.Trees.{IsSnapFault, IsWant, MayBeRead};
 
 use crate::fault::SnapFault;
-use crate::front::{BlankBook, Naming};
+use crate::front::{Announcements, Naming};
 use crate::published::Published;
 use crate::reader::Reader;
 use crate::stamp::Stamp;
@@ -39,13 +39,11 @@ impl<R: Wait + Copy, N: Naming, D: Ledger> ReadTree<R, N, D> {
         machine: Global,
         config: Config,
         blanks: Blanks,
-        book: BlankBook,
+        announcements: Announcements,
         readers: u32,
     ) -> Result<(ReadTree<R, N, D>, Vec<Share<N, D>>, Vec<Reader<N>>), SnapFault>
-        requires insertions { Opens N.name N.parts blanks.insertions }
-        requires removals { Opens D.name D.parts blanks.removals }
-        requires book { book.seen.book ≡ N.book }
-        requires config { N.config ≡ config }
+        requires ledgers { OpensFor N.Ledger N.config D.Ledger config blanks }
+        requires announcements { announcements.seen.book ≡ N.announcements }
         ensures config { IfOk result (λ made. made.0.config ≡ config) }
         ensures count { IfOk result (λ made. length made.1.items ≡ blanks.workers) }
         ensures shares { IfOk result (λ made. All (λ share. share ≡ no_changes) made.1.items) }
@@ -54,7 +52,7 @@ impl<R: Wait + Copy, N: Naming, D: Ledger> ReadTree<R, N, D> {
         ensures fine { OnOk result (MayBeRead config blanks.workers readers) }
         ensures fault { IfErr result (IsSnapFault config blanks.workers readers) }
     {
-        let (published, shares) = match Published::new(rt, machine, config, blanks, book, readers) {
+        let (published, shares) = match Published::new(rt, machine, config, blanks, announcements, readers) {
             Ok(made) => made,
             Err(fault) => return Err(fault),
         };
@@ -92,10 +90,7 @@ impl<R: Wait + Copy, N: Naming, D: Ledger> ReadTree<R, N, D> {
     /// and all pairs are lost. So have each worker hand its share back beside its error, or take the
     /// table by [`into_table`](ReadTree::into_table).
     pub fn close(self, shares: Vec<Share<N, D>>) -> Result<Table<Global>, MissingShare>
-        ensures config { IfOk result (λ table. table.config ≡ N.config) }
-        ensures tree { IfOk result IsTree }
-        ensures book { IfOk result (λ table. shared_in table.book ≡ sum_of shares.items) }
-        ensures pairs { IfOk result (λ table. CountsPairs table (sum_of shares.items)) }
+        ensures closed { IfOk result (IsClosed N.config shares.items) }
         ensures all { IsOk result ↔ (length shares.items ≡ N.parts) }
         ensures missing { OnErr result (length shares.items < N.parts) }
     {
@@ -178,7 +173,7 @@ impl<R: Wait + Copy, N: Naming, D: Ledger> Shared<Global, Step<Global>> for Read
     /// Takes the step by `Published::install`. The step's twin is made before the lock is taken.
     #[inline(always)]
     fn install(&self, share: &mut Share<N, D>, step: Step<Global>) -> Result<Receipt, Denied>
-        ensures share { MatchResult result (λ receipt. share.new ≡ counted share.old receipt) (λ _. share.new ≡ share.old) }
+        ensures share { CountsIn share.old share.new result }
         ensures receipt { IfOk result (IsReceiptOf (proposal_of step)) }
     {
         match step.twin(self.machine) {

@@ -36,12 +36,12 @@ impl<N: Naming> Model for Reader<N> {
 
     ghost view = { λ r. r.front.list };
 
-    ghost invariant = { λ r. (r.front.book ≡ N.book) × BeginsWith (seen_by r.inner.place) r.front.list };
+    ghost invariant = { λ r. (r.front.book ≡ N.announcements) × BeginsWith (seen_by r.inner.place) r.front.list };
 }
 
 impl<N: Naming> Reader<N> {
     pub(crate) fn over(inner: ReadingEnd<N>, front: Front) -> Reader<N>
-        requires book { front.book ≡ N.book }
+        requires book { front.book ≡ N.announcements }
         requires list { BeginsWith (view inner.place) front.list }
         ensures { result ≡ front.list }
     {

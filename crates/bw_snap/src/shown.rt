@@ -85,7 +85,7 @@ impl<N: Naming> Protocol<Shown, List> for Backed<N> {
     ghost use Rattle.std.specs.Prelude.{[]};
     ghost use Rattle.bw_snap.specs.Views.{Backs};
 
-    ghost holds = { λ s views. Backs N.config N.book s.table s.front views };
+    ghost holds = { λ s views. Backs N.config N.announcements s.table s.front views };
 
     ghost first = { [] };
 }
@@ -99,7 +99,7 @@ pub struct Sees<N> {
 impl<N: Naming> Outcome<Shown, List> for Sees<N> {
     ghost use Rattle.bw_snap.specs.Views.{SeesOn};
 
-    ghost then = { λ v x y w. SeesOn N.config N.book v y.table y.front w };
+    ghost then = { λ v x y w. SeesOn N.config N.announcements v y.table y.front w };
 }
 
 /// The writing end tells all that it has seen, and keeps it.

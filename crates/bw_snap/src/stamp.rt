@@ -24,12 +24,12 @@ impl<N: Naming> Model for Stamp<N> {
 
     ghost view = { λ s. s.front.list };
 
-    ghost invariant = { λ s. (s.front.book ≡ N.book) × (told_to s.inner.place ≡ s.front.list) };
+    ghost invariant = { λ s. (s.front.book ≡ N.announcements) × (told_to s.inner.place ≡ s.front.list) };
 }
 
 impl<N: Naming> Stamp<N> {
     pub(crate) fn over(inner: ReadingEnd<N>, front: Front) -> Stamp<N>
-        requires book { front.book ≡ N.book }
+        requires book { front.book ≡ N.announcements }
         requires list { view inner.place ≡ front.list }
         ensures { result ≡ front.list }
     {

@@ -1,11 +1,11 @@
 //! Two workers and a reader of one tree, each in a thread of its own.
 
 ghost use Rattle.std.specs.Prelude.{◌≡◌};
-ghost use Rattle.bw_tree.specs.Shares.{Opens};
+ghost use Rattle.bw_tree.specs.Trees.{OpensFor};
 
 use crate::seen::{Left, Seen};
 use bw_keys::Config;
-use bw_snap::{BlankBook, Naming, ReadTree, Reader};
+use bw_snap::{Announcements, Naming, ReadTree, Reader};
 use bw_test_kit::{Told, Worked};
 use bw_tree::{Blanks, Share};
 use std::alloc::Global;
@@ -77,16 +77,14 @@ fn work_over<
     machine: Global,
     config: Config,
     blanks: Blanks,
-    book: BlankBook,
+    announcements: Announcements,
     crew: &C,
 ) -> Result<Left, Fail>
-    requires insertions { Opens N.name N.parts blanks.insertions }
-    requires removals { Opens D.name D.parts blanks.removals }
-    requires book { book.seen.book ≡ N.book }
-    requires config { N.config ≡ config }
+    requires announcements { announcements.seen.book ≡ N.announcements }
+    requires ledgers { OpensFor N.Ledger N.config D.Ledger config blanks }
 {
     let (tree, mut shares, mut readers) = ReadTree::<R, N, D>::with_readers(
-        rt, machine, config, blanks, book, 1,
+        rt, machine, config, blanks, announcements, 1,
     )?;
     let (Some(one), Some(zero), Some(reader)) = (shares.pop(), shares.pop(), readers.pop()) else {
         return Err("there are too few shares or readers".into());
@@ -110,6 +108,6 @@ pub(crate) fn work_on_new_tree<R: Threads + Wait + Sync + Send + Copy, C: Crew +
     config: Config,
     crew: &C,
 ) -> Result<Left, Fail> {
-    let (blanks, book) = (Blanks::new(2), BlankBook::new());
-    work_over::<Brand, Brand, R, C>(rt, machine, config, blanks, book, crew)
+    let (blanks, announcements) = (Blanks::new(2), Announcements::new());
+    work_over::<Brand, Brand, R, C>(rt, machine, config, blanks, announcements, crew)
 }

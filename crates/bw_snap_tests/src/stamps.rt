@@ -1,10 +1,10 @@
 //! As many stamps as a tree has room for, and a publication past them.
 
 ghost use Rattle.std.specs.Prelude.{◌≡◌};
-ghost use Rattle.bw_tree.specs.Shares.{Opens};
+ghost use Rattle.bw_tree.specs.Trees.{OpensFor};
 
 use bw_keys::{Config, Key};
-use bw_snap::{BlankBook, MAX_READERS, MAX_STAMPS, Naming, ReadTree, Reader, Stamp};
+use bw_snap::{Announcements, MAX_READERS, MAX_STAMPS, Naming, ReadTree, Reader, Stamp};
 use bw_step::Step;
 use bw_test_kit::LARGE;
 use bw_tree::Blanks;
@@ -76,19 +76,17 @@ fn publish_over<R: Wait + Copy, N: Naming, D: Ledger>(
     machine: Global,
     config: Config,
     blanks: Blanks,
-    book: BlankBook,
+    announcements: Announcements,
 ) -> Result<Found, Fail>
-    requires insertions { Opens N.name N.parts blanks.insertions }
-    requires removals { Opens D.name D.parts blanks.removals }
-    requires book { book.seen.book ≡ N.book }
-    requires config { N.config ≡ config }
+    requires announcements { announcements.seen.book ≡ N.announcements }
+    requires ledgers { OpensFor N.Ledger N.config D.Ledger config blanks }
 {
     let (tree, mut shares, mut readers) = ReadTree::<R, N, D>::with_readers(
         rt,
         machine,
         config,
         blanks,
-        book,
+        announcements,
         MAX_READERS,
     )?;
     let (Some(share), Some(one), Some(other)) = (shares.pop(), readers.pop(), readers.pop()) else {
@@ -101,8 +99,8 @@ fn publish_over<R: Wait + Copy, N: Naming, D: Ledger>(
 }
 
 fn publish_on_new_tree<R: Wait + Copy>(rt: R, machine: Global) -> Result<Found, Fail> {
-    let (blanks, book) = (Blanks::new(1), BlankBook::new());
-    publish_over::<R, Brand, Brand>(rt, machine, LARGE, blanks, book)
+    let (blanks, announcements) = (Blanks::new(1), Announcements::new());
+    publish_over::<R, Brand, Brand>(rt, machine, LARGE, blanks, announcements)
 }
 
 #[test]

@@ -1,7 +1,7 @@
 //! A table that is handed out though a share is lost.
 
 ghost use Rattle.std.specs.Prelude.{◌≡◌};
-ghost use Rattle.bw_tree.specs.Shares.{Opens};
+ghost use Rattle.bw_tree.specs.Trees.{OpensFor};
 
 use bw_keys::{Config, Key};
 use bw_test_kit::{Change, SMALL, step_of};
@@ -28,9 +28,7 @@ fn of_tree<I: MadeBy, D: Ledger, R: Wait + Drop>(
     config: Config,
     blanks: Blanks,
 ) -> Result<Vec<(Key, u64)>, Fail>
-    requires insertions { Opens I.name I.parts blanks.insertions }
-    requires removals { Opens D.name D.parts blanks.removals }
-    requires config { I.config ≡ config }
+    requires ledgers { OpensFor I.Ledger I.config D.Ledger config blanks }
 {
     let (tree, mut shares) = Tree::<R, Global, I, D>::new(rt, machine, machine, config, blanks)?;
     let mut lost = shares.pop().ok_or("there is no share")?;

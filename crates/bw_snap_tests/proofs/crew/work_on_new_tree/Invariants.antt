@@ -10,4 +10,4 @@ abbrev pub ghosts-work_over-N-MadeBy : goal.ghosts-work_over-N-MadeBy
 ghosts-work_over-N-MadeBy g a = record { config = a.config }
 
 abbrev pub ghosts-work_over-N-Naming : goal.ghosts-work_over-N-Naming
-ghosts-work_over-N-Naming g a = record { book = a.book.seen.book }
+ghosts-work_over-N-Naming g a = record { announcements = a.announcements.seen.book }

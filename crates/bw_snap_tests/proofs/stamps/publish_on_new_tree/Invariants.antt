@@ -10,4 +10,4 @@ abbrev pub ghosts-publish_over-N-MadeBy : goal.ghosts-publish_over-N-MadeBy
 ghosts-publish_over-N-MadeBy g a = record { config = a.config }
 
 abbrev pub ghosts-publish_over-N-Naming : goal.ghosts-publish_over-N-Naming
-ghosts-publish_over-N-Naming g a = record { book = a.book.seen.book }
+ghosts-publish_over-N-Naming g a = record { announcements = a.announcements.seen.book }
