@@ -1,10 +1,10 @@
 //! Each call of a job's worker and of its reader, with what it answers, and each fault of the numbers.
 
 ghost use Rattle.std.specs.Prelude.{◌≡◌, ◌<◌, IfOk};
-ghost use Rattle.bw_share.specs.Sharing.{AreNumbered};
+ghost use Rattle.nifforan_shared.specs.Workers.{AreNumbered};
 
-use bw_share::{
-    Config, Del, Done, Fault, Fence, Finished, Job, Put, Reader, ReadingJob, ScanFault, Set,
+use nifforan_shared::{
+    Config, Del, Done, Fault, Fence, Job, Outcome, Put, ReadingJob, Reads, ScanFault, Set,
     ShareFault, Worker, share, share_with_readers,
 };
 use std::alloc::Global;
@@ -56,8 +56,9 @@ fn call_each<W: Worker>(hand: &mut W, first: u64) -> Answers
     let set = [reply(hand.set(first + 201, 1)), reply(hand.set(first, 1))];
     let deleted = [reply(hand.delete(first + 1)), reply(hand.delete(first + 1))];
     let found = hand.get(first).ok();
-    let removed = hand.clear(first + 10, Fence::Key(first + 20)).removed;
-    let listed = match hand.page_from(first + 50) {
+    let machine = hand.alloc();
+    let removed = hand.clear(machine, first + 10, Fence::Key(first + 20)).removed;
+    let listed = match hand.page_from(machine, first + 50) {
         Ok(slice) => slice.pairs.first().copied(),
         Err(_) => None,
     };
@@ -68,7 +69,7 @@ fn call_each<W: Worker>(hand: &mut W, first: u64) -> Answers
 impl ReadingJob for Calls {
     type Output = Result<Vec<(u64, u64)>, ScanFault>;
 
-    fn work<W: Worker, R: Reader>(
+    fn work<W: Worker, R: Reads>(
         &self,
         worker: u32,
         hand: &mut W,
@@ -92,7 +93,7 @@ fn share_calls<R: Threads + Wait + Sync + Send + Copy>(
     calls: &Calls,
     config: Config,
     workers: u32,
-) -> Result<Finished<Part>, ShareFault>
+) -> Result<Outcome<Part>, ShareFault>
     ensures { IfOk result (λ finished. AreNumbered (λ part. part.worker) 0 finished.outputs.items) }
 {
     share(rt, calls.machine, config, workers, calls)

@@ -3,7 +3,7 @@
 #![tactic(auto)]
 
 use anyhow::Result;
-use bw_share::{Config, Fault, Job, Reader, ReadingJob, Worker, share, share_with_readers};
+use nifforan_shared::{Config, Fault, Job, ReadingJob, Reads, Worker, share, share_with_readers};
 
 /// A thousand keys for each worker.
 struct Fill;
@@ -24,7 +24,7 @@ impl Job for Fill {
 impl ReadingJob for Fill {
     type Output = Result<Option<u64>, Fault>;
 
-    fn work<W: Worker, R: Reader>(
+    fn work<W: Worker, R: Reads>(
         &self,
         worker: u32,
         hand: &mut W,

@@ -1,0 +1,26 @@
+use Rattle.std.proofs.Common.{rules, ◌≡◌, ◌∷◌, ◌+◌, [], ℕ, length, ap, subst, sym, arith, length-append}
+use Rattle.std.proofs.lemmas.List.Elements.{All-head, All-tail}
+use Rattle.nifforan_shared.specs.Workers.{AreNumbered}
+use Rattle.nifforan_shared.proofs.Workers.{by_number_more}
+use Rattle.nifforan_shared.proofs.crew.join_all.Goals as goal
+
+pub loop-handle-preserved : goal.loop-handle-preserved
+loop-handle-preserved g c =
+    let inv = c.loop-handle.invariant in
+    let part = c.args.part.now in
+    let handle = c.in-Some.handle in
+    let rest = c.next.new.self.rest.items in
+    let split : c.loop-handle.handle-iterator.rest.items ≡ handle ∷ rest = search rules in
+    let numbered = rw split at inv.numbered in
+    let tasks = rw split at inv.part in
+    let same = All-head (λ handle. handle.promise.part.value ≡ part) handle rest tasks in
+    let grown = c.push_reserved.ensures.items in
+    let more : length c.push_reserved.new.self.items ≡ length c.loop-handle.outputs.items + 1 = omega (arith, ap length grown, length-append c.loop-handle.outputs.items (c.join.result ∷ [])) in
+    record {
+      count = omega (arith, more, ap length split, inv.count);
+      room = rw c.push_reserved.ensures.capacity inv.room;
+      numbered = subst (λ (k : ℕ). AreNumbered (λ handle. handle.promise.worker) k rest) (sym more) numbered.1;
+      part = All-tail (λ handle. handle.promise.part.value ≡ part) handle rest tasks;
+      told = by_number_more (g.P.Part.told part) c.loop-handle.outputs.items c.push_reserved.new.self.items c.join.result handle.promise.worker grown inv.told
+          (subst (λ job. g.P.Part.told job handle.promise.worker c.join.result) same c.join.ensures) (omega (arith, numbered.0));
+    }

@@ -1,0 +1,27 @@
+use denote.Param.Send.{sendable}
+use Rattle.std.proofs.Common.{rules, ◌≡◌, length, ◌∙◌}
+use Rattle.std.proofs.Crossing.{crosses}
+use Rattle.nifforan_shared.proofs.Crossing.{Tree-sync}
+use Rattle.nifforan_shared.proofs.Trails.{counts_trails}
+use Rattle.nifforan_shared.proofs.Workers.{nothing_asked}
+use Rattle.nifforan_shared.proofs.sharing.share_locked.Goals as goal
+
+pub work_all-requires-sync-T : goal.work_all-requires-sync-T
+work_all-requires-sync-T g c κs within = search (Tree-sync, sendable, crosses) depth 60 fits 10000
+
+pub work_all-requires-clause-given : goal.work_all-requires-clause-given
+work_all-requires-clause-given g c κs within = nothing_asked 0 c.in_ok-kits.kits.items
+
+pub returns-clause-shared : goal.returns-clause-shared
+returns-clause-shared g c =
+    let all = c.in_ok-shares.field-0 in
+    let closed = c.in-Ok-close.ensures in
+    let many : length c.in_ok-kits.kits.items ≡ c.args.blanks.workers = search rules in
+    record {
+      tree = closed.tree;
+      config = closed.config ∙ c.requires.config;
+      outputs = all.answered ∙ (c.in_ok-shares.ensures.count ∙ many);
+      trails = all.trailed ∙ (c.in_ok-shares.ensures.count ∙ many);
+      pairs = counts_trails c.in-Ok-close.table all.shares.items all.trails.items all.counted closed.pairs;
+      told = c.in_ok-shares.ensures.told;
+    }

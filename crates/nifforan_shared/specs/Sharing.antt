@@ -1,0 +1,38 @@
+-- When a tree may be shared, what it comes to, and which fault says what.
+use Rattle.std.specs.Prelude.{◌≡◌, ℕ, true, false, List, length, Some, None}
+use Rattle.bw_keys.specs.declared.config.Config.{Config}
+use Rattle.bw_keys.specs.Limits.{first_bad_field, is_out_of}
+use Rattle.bw_step.specs.Trails.{lists_of}
+use Rattle.bw_tree.specs.Trees.{IsTree, CountsPairs}
+use Rattle.nifforan_shared.specs.declared.outcome.Outcome.{Outcome}
+use Rattle.nifforan_shared.specs.declared.fault.CrewFault.{CrewFault}
+use Rattle.nifforan_shared.specs.declared.fault.CrewFault.TheVariants as crew
+use Rattle.nifforan_shared.specs.declared.fault.ShareFault.{ShareFault}
+use Rattle.nifforan_shared.specs.declared.fault.ShareFault.TheVariants.{BadConfig, BadWorkers, NoMemory, NoThread}
+use Rattle.nifforan_shared.specs.Workers.{Promised, AllTold, changes_in}
+
+-- What a tree comes to that workers shared: a lawful table, made by the configuration; an output and a trail of each worker, of which the
+-- promise holds; and as many pairs as all trails have insertions, less their removals.
+pub record IsShared {O : Type 0} (promise : Promised O) (made_by : Config) (workers : ℕ) (outcome : Outcome O) : Type 0 where
+  pub tree : IsTree outcome.table
+  pub config : outcome.table.config ≡ made_by
+  pub outputs : length outcome.outputs.items ≡ workers
+  pub trails : length outcome.trails.items ≡ workers
+  pub pairs : CountsPairs outcome.table (changes_in (lists_of outcome.trails.items))
+  pub told : AllTold promise outcome.outputs.items outcome.trails.items
+
+-- a tree may be made by the configuration, and shared by so many workers, of which there may be at most so many
+abbrev pub MayShare : ℕ → Config → ℕ → Type 0
+MayShare most config workers = (first_bad_field config ≡ None) × (is_out_of 1 most workers ≡ false)
+
+-- the first fault that applies
+abbrev pub IsShareFault : ℕ → Config → ℕ → ShareFault → Type 0
+IsShareFault most config workers (BadConfig bad) = first_bad_field config ≡ Some bad.0
+IsShareFault most config workers BadWorkers = (first_bad_field config ≡ None) × (is_out_of 1 most workers ≡ true)
+IsShareFault most config workers NoMemory = MayShare most config workers
+IsShareFault most config workers NoThread = MayShare most config workers
+
+-- what a fault of the crew is to the tree that it was to share
+abbrev pub share_fault_of : CrewFault → ShareFault
+share_fault_of crew.NoMemory = NoMemory
+share_fault_of crew.NoThread = NoThread

@@ -1,0 +1,92 @@
+//! Why a tree wasn't shared.
+
+ghost use Rattle.std.specs.Prelude.{◌≡◌};
+ghost use Rattle.nifforan_shared.specs.declared.fault.CrewFault.TheVariants as crew;
+ghost use Rattle.nifforan_shared.specs.declared.fault.ShareFault.TheVariants as faults;
+
+use bw_delta::NoMemory as Want;
+use bw_keys::BadConfig;
+use std::alloc::{AllocError, AllocFailed};
+use thiserror::Error;
+
+/// Why the workers of a crew didn't do their task. Those whose threads were started did it, and
+/// what they did is given up.
+#[derive(Clone, Copy, Debug, PartialEq, Eq, Error)]
+pub enum CrewFault {
+    /// There was no room for what the workers bring back.
+    #[error("out of memory")]
+    NoMemory,
+    /// A worker's thread couldn't be started.
+    #[error("threads")]
+    NoThread,
+}
+
+impl From<Want> for CrewFault {
+    ghost from_gives = { λ _ fault. fault ≡ crew.NoMemory };
+
+    fn from(_: Want) -> CrewFault {
+        CrewFault::NoMemory
+    }
+}
+
+impl From<AllocError> for CrewFault {
+    ghost from_gives = { λ _ fault. fault ≡ crew.NoMemory };
+
+    fn from(_: AllocError) -> CrewFault {
+        CrewFault::NoMemory
+    }
+}
+
+impl<T: Drop> From<AllocFailed<T>> for CrewFault {
+    ghost from_gives = { λ _ fault. fault ≡ crew.NoMemory };
+
+    fn from(_: AllocFailed<T>) -> CrewFault {
+        CrewFault::NoMemory
+    }
+}
+
+/// Why a tree wasn't shared. The first two are found before any thread starts, in this order.
+#[derive(Clone, Copy, Debug, PartialEq, Eq, Error)]
+pub enum ShareFault {
+    /// A field of the configuration is out of its range.
+    #[error("{0}")]
+    BadConfig(BadConfig),
+    /// There are no workers, or too many.
+    #[error("bad workers")]
+    BadWorkers,
+    #[error("out of memory")]
+    NoMemory,
+    /// A worker's thread couldn't be started. Those that were started did their jobs, and what they
+    /// did is given up.
+    #[error("threads")]
+    NoThread,
+}
+
+impl From<CrewFault> for ShareFault {
+    ghost use Rattle.nifforan_shared.specs.Sharing.{share_fault_of};
+
+    ghost from_gives = { λ crew fault. fault ≡ share_fault_of crew };
+
+    fn from(fault: CrewFault) -> ShareFault {
+        match fault {
+            CrewFault::NoMemory => ShareFault::NoMemory,
+            CrewFault::NoThread => ShareFault::NoThread,
+        }
+    }
+}
+
+impl From<Want> for ShareFault {
+    ghost from_gives = { λ _ fault. fault ≡ faults.NoMemory };
+
+    fn from(_: Want) -> ShareFault {
+        ShareFault::NoMemory
+    }
+}
+
+impl From<AllocError> for ShareFault {
+    ghost from_gives = { λ _ fault. fault ≡ faults.NoMemory };
+
+    fn from(_: AllocError) -> ShareFault {
+        ShareFault::NoMemory
+    }
+}

@@ -1,0 +1,83 @@
+//! What all workers bring back.
+
+ghost use Rattle.std.specs.Prelude.{◌≡◌, ◌≤◌, [], IfOk, length, map, vec_capacity};
+ghost use Rattle.bw_step.specs.Trails.{lists_of};
+ghost use Rattle.nifforan_shared.specs.Workers.{share_by};
+
+use bw_delta::NoMemory;
+use bw_step::Receipt;
+use bw_tree::Share;
+use std::alloc::Global;
+use std::sync::ledger::Ledger;
+
+/// What a worker brings back. Its share is the sum of its trail.
+#[derive(Drop)]
+pub struct Worked<I: Ledger, D: Ledger, O> {
+    pub share: Share<I, D>,
+    pub trail: Vec<Receipt>,
+    pub output: O,
+    ghost counted: { share ≡ share_by trail.items },
+}
+
+/// The workers' shares, trails and outputs, by the workers' numbers.
+#[derive(Drop)]
+pub struct Gathered<I: Ledger, D: Ledger, O> {
+    pub shares: Vec<Share<I, D>>,
+    pub trails: Vec<Vec<Receipt>>,
+    pub outputs: Vec<O>,
+    ghost trailed: { length trails.items ≡ length shares.items },
+    ghost answered: { length outputs.items ≡ length shares.items },
+    ghost counted: { shares.items ≡ map (λ trail. share_by trail.items) trails.items },
+}
+
+impl<I: Ledger, D: Ledger, O: Drop> Gathered<I, D, O> {
+    /// Makes room for what `workers` workers bring back.
+    pub fn with_room(machine: Global, workers: usize) -> Result<Gathered<I, D, O>, NoMemory>
+        ensures empty { IfOk result (λ room. room.shares.items ≡ []) }
+        ensures shares { IfOk result (λ room. workers ≤ vec_capacity room.shares) }
+        ensures trails { IfOk result (λ room. workers ≤ vec_capacity room.trails) }
+        ensures outputs { IfOk result (λ room. workers ≤ vec_capacity room.outputs) }
+    {
+        Ok(Gathered {
+            shares: Vec::with_capacity(machine, workers)?,
+            trails: Vec::with_capacity(machine, workers)?,
+            outputs: Vec::with_capacity(machine, workers)?,
+        })
+    }
+}
+
+/// Sorts what the workers bring back into the room. Asks for no memory, so that what was done isn't
+/// given up for want of it.
+pub fn gather<I: Ledger, D: Ledger, O: Drop>(
+    room: Gathered<I, D, O>,
+    all: Vec<Worked<I, D, O>>,
+) -> Gathered<I, D, O>
+    requires empty { room.shares.items ≡ [] }
+    requires shares { length all.items ≤ vec_capacity room.shares }
+    requires trails { length all.items ≤ vec_capacity room.trails }
+    requires outputs { length all.items ≤ vec_capacity room.outputs }
+    ensures count { length result.shares.items ≡ length all.items }
+    ensures trails { lists_of result.trails.items ≡ map (λ worked. worked.trail.items) all.items }
+    ensures outputs { result.outputs.items ≡ map (λ worked. worked.output) all.items }
+{
+    let Gathered {
+        mut shares,
+        mut trails,
+        mut outputs,
+    } = room;
+    for worked in all {
+        let Worked {
+            share,
+            trail,
+            output,
+        } = worked;
+        shares.push_reserved(share);
+        trails.push_reserved(trail);
+        outputs.push_reserved(output);
+    }
+    Gathered {
+        shares,
+        trails,
+        outputs,
+    }
+}

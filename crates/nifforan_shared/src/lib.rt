@@ -1,0 +1,32 @@
+//! A tree shared by worker threads, in one call: it makes the tree, starts a thread for each
+//! worker, joins them all, and hands the table out.
+#![tactic(auto)]
+
+mod crew;
+mod fault;
+mod gathering;
+mod hands;
+mod job;
+mod member;
+mod outcome;
+mod reading;
+mod seats;
+mod sharing;
+mod task;
+mod worker;
+
+pub use bw_delta::NoMemory;
+pub use bw_keys::{BadConfig, Config, Fence, Field, Key, MAX_WORKERS};
+pub use bw_procedures::{Calls, Cleared, Del, Done, Fault, Put, Set, Slice, Steps};
+pub use bw_snap::{Closed, MAX_READERS, ScanFault};
+pub use bw_step::Receipt;
+pub use bw_table::Table;
+pub use fault::{CrewFault, ShareFault};
+pub use gathering::Gathered;
+pub use hands::work_all;
+pub use job::{Job, ReadingJob};
+pub use outcome::Outcome;
+pub use reading::{Reading, Reads, readings_of};
+pub use sharing::{share, share_with_readers};
+pub use task::Task;
+pub use worker::{Notes, Worker};

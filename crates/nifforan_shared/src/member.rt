@@ -1,0 +1,135 @@
+//! A worker of a shared tree, whose share is the sum of its trail.
+
+ghost use Rattle.std.specs.Prelude.{◌≡◌, []};
+ghost use Rattle.bw_tree.specs.Shares.{no_changes};
+ghost use Rattle.nifforan_shared.specs.Workers.{share_by};
+
+use crate::worker::Notes;
+use bw_delta::{Chain, NoMemory};
+use bw_keys::{Config, Key, Pid, Version};
+use bw_procedures::{Ends, Keep, Steps};
+use bw_step::{CopyFault, Denied, Look, Next, Place, Receipt, Step, View};
+use bw_tree::{Share, Shared};
+use bw_work::{Gate, Hand};
+use std::alloc::Global;
+use std::marker::Model;
+
+/// A hand on a tree that others share. All that it makes lies in the machine's memory. Contracts
+/// see it as what a worker's account is.
+#[derive(Drop)]
+pub struct Member<'t, S: Shared<Global, Step<Global>>, G: Gate> {
+    hand: Hand<'t, Global, S, G>,
+}
+
+impl<'t, S: Shared<Global, Step<Global>>, G: Gate> Model for Member<'t, S, G> {
+    ghost use Rattle.std.specs.Prelude.{[]};
+    ghost use Rattle.bw_procedures.specs.Seen.{Seen};
+    ghost use Rattle.bw_tree.specs.Shares.{no_changes};
+    ghost use Rattle.bw_work.specs.Hands.{Sums};
+
+    ghost Value = { Seen };
+
+    ghost view = { λ m. m.hand.account.seen };
+
+    ghost invariant = { λ m. Sums [] no_changes m.hand.account.seen.trail m.hand.share };
+}
+
+impl<'t, S: Shared<Global, Step<Global>>, G: Gate> Member<'t, S, G> {
+    /// Makes a worker that has taken no step yet, with a share of nothing.
+    pub fn new(
+        machine: Global,
+        tree: &'t S,
+        share: Share<S::Insertions, S::Removals>,
+        worker: u32,
+        gate: &'t G,
+    ) -> Member<'t, S, G>
+        requires { share ≡ no_changes }
+        ensures { result.trail ≡ [] }
+    {
+        Member {
+            hand: Hand::new(machine, machine, tree, share, worker, gate),
+        }
+    }
+
+    /// Returns the share and the trail.
+    pub fn finish(self) -> (Share<S::Insertions, S::Removals>, Vec<Receipt>)
+        ensures trail { result.1.items ≡ self.entry.trail }
+        ensures share { result.0 ≡ share_by result.1.items }
+    {
+        let Member { hand, .. } = self;
+        hand.finish()
+    }
+}
+
+impl<'t, S: Shared<Global, Step<Global>>, G: Gate> Steps<Global, Step<Global>>
+    for Member<'t, S, G> {
+    ghost seen = { λ m. m };
+
+    // what its share is raised by is the member's own law
+    ghost follows = { λ a b. Unit {0} };
+
+    ghost shows = { λ m low end pairs. Unit {0} };
+
+    // others may take steps at any time
+    ghost calm = { λ m fact. ⊥ };
+
+    ghost stays = { λ m. tt };
+
+    ghost joins = { λ a b c p q. tt };
+
+    ghost narrows = { λ m low key end pairs le shown. tt };
+
+    fn config(&self) -> Config {
+        self.hand.config()
+    }
+
+    fn alloc(&self) -> Global {
+        self.hand.alloc()
+    }
+
+    fn root(&self) -> Place {
+        self.hand.root()
+    }
+
+    fn visit(&mut self, place: Place, key: Key, goal: u8) -> Next {
+        self.hand.visit(place, key, goal)
+    }
+
+    fn peek(&mut self, pid: Pid) -> Option<View> {
+        self.hand.peek(pid)
+    }
+
+    fn look(&mut self, pid: Pid, key: Key, keep: Keep) -> Result<Option<Look>, NoMemory> {
+        self.hand.look(pid, key, keep)
+    }
+
+    fn copy_page(&mut self, pid: Pid, version: Version) -> Result<Chain<Global>, CopyFault> {
+        self.hand.copy_page(pid, version)
+    }
+
+    fn install(&mut self, step: Step<Global>) -> Result<Receipt, Denied> {
+        self.hand.install(step)
+    }
+
+    fn idle(&mut self) {
+        self.hand.idle();
+    }
+
+    fn effort(&self) -> u64 {
+        self.hand.effort()
+    }
+
+    fn ends(&self) -> Ends {
+        self.hand.ends()
+    }
+
+    fn trail(&self) -> &[Receipt] {
+        self.hand.trail()
+    }
+}
+
+impl<'t, S: Shared<Global, Step<Global>>, G: Gate> Notes for Member<'t, S, G> {
+    fn note(&mut self, key: Key, look: Look) -> Result<(), NoMemory> {
+        self.hand.note(key, look)
+    }
+}

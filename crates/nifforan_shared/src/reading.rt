@@ -1,0 +1,91 @@
+//! The reader that a job is given.
+
+ghost use Rattle.std.specs.Prelude.{◌≡◌, IfOk, length};
+
+use bw_delta::NoMemory;
+use bw_keys::Key;
+use bw_snap::{Closed, Naming, ReadTree, ScanFault};
+use std::alloc::Global;
+use std::sync::Wait;
+use std::sync::ledger::Ledger;
+
+/// Reads what was published of a tree, without the tree's lock. What it reads is the map after a
+/// list of accepted steps, which begins with each list that it has read before.
+pub trait Reads {
+    ghost use Rattle.std.specs.Prelude.{◌≡◌, List, IfOk, OnOk, OnErr};
+    ghost use Rattle.bw_keys.specs.declared.config.Config.{Config};
+    ghost use Rattle.bw_step.specs.Proposals.{Proposal};
+    ghost use Rattle.bw_snap.specs.Answers.{IsFoundIn, IsListedIn};
+    ghost use Rattle.bw_snap.specs.Snapshots.{BeginsWith};
+
+    // the configuration that the tree was made by
+    ghost made_by: { Self → Config };
+
+    // the list of steps that it has seen or learnt of
+    ghost list: { Self → List Proposal };
+
+    /// Publishes what all workers have changed so far, and learns of it: what this reader reads
+    /// from then on has all that. Takes the tree's lock.
+    fn publish(&mut self) -> Result<(), NoMemory>
+        ensures made_by { made_by self.new ≡ made_by self.old }
+        ensures learnt { BeginsWith (list self.new) (list self.old) }
+        ensures refused { OnErr result (list self.new ≡ list self.old) };
+
+    /// Returns the value at the key, if the map has one.
+    fn get(&mut self, key: Key) -> Result<Option<u64>, Closed>
+        ensures made_by { made_by self.new ≡ made_by self.old }
+        ensures seen { BeginsWith (list self.new) (list self.old) }
+        ensures found { IfOk result (IsFoundIn (made_by self.old) key (list self.new)) }
+        ensures closed { OnErr result (list self.new ≡ list self.old) };
+
+    /// Replaces the list by the first pairs of the map from the key on, in the order of their keys
+    /// and at most `limit` of them. After a fault the list is as before.
+    fn scan(&mut self, low: Key, limit: usize, out: &mut Vec<(Key, u64)>) -> Result<(), ScanFault>
+        ensures made_by { made_by self.new ≡ made_by self.old }
+        ensures seen { BeginsWith (list self.new) (list self.old) }
+        ensures pairs { OnOk result
+            (IsListedIn (made_by self.old) low limit (list self.new) out.new.items) }
+        ensures fault { OnErr result ((list self.new ≡ list self.old) × (out.new ≡ out.old)) };
+}
+
+/// A reader with its tree, whose pending steps it may publish.
+#[derive(Drop)]
+pub struct Reading<'t, R: Wait + Copy, N: Naming, D: Ledger> {
+    pub tree: &'t ReadTree<R, N, D>,
+    pub reader: bw_snap::Reader<N>,
+}
+
+/// Returns each reader with its tree.
+pub fn readings_of<'t, R: Wait + Copy, N: Naming, D: Ledger>(
+    machine: Global,
+    tree: &'t ReadTree<R, N, D>,
+    readers: Vec<bw_snap::Reader<N>>,
+) -> Result<Vec<Reading<'t, R, N, D>>, NoMemory>
+    ensures { IfOk result (λ readings. length readings.items ≡ length readers.items) }
+{
+    let mut readings = Vec::with_capacity(machine, readers.len())?;
+    for reader in readers {
+        readings.push(Reading { tree, reader })?;
+    }
+    Ok(readings)
+}
+
+impl<'t, R: Wait + Copy, N: Naming, D: Ledger> Reads for Reading<'t, R, N, D> {
+    ghost made_by = { λ r. N.config };
+
+    ghost list = { λ r. r.reader };
+
+    fn publish(&mut self) -> Result<(), NoMemory> {
+        let stamp = self.tree.publish()?;
+        self.reader.learn(stamp);
+        Ok(())
+    }
+
+    fn get(&mut self, key: Key) -> Result<Option<u64>, Closed> {
+        self.reader.get(key)
+    }
+
+    fn scan(&mut self, low: Key, limit: usize, out: &mut Vec<(Key, u64)>) -> Result<(), ScanFault> {
+        self.reader.scan(low, limit, out)
+    }
+}

@@ -1,0 +1,167 @@
+//! Trees that are shared for the length of one call.
+
+ghost use Rattle.std.specs.Prelude.{◌≡◌, IsOk, IfOk, IfErr, OnOk};
+ghost use Rattle.bw_tree.specs.Shares.{Opens};
+ghost use Rattle.nifforan_shared.specs.Sharing.{IsShared, MayShare, IsShareFault};
+
+use crate::fault::ShareFault;
+use crate::gathering::Gathered;
+use crate::hands::work_all;
+use crate::job::{Job, ReadingJob};
+use crate::outcome::Outcome;
+use crate::reading::readings_of;
+use crate::task::{ByHand, WithReader};
+use bw_keys::{Config, MAX_WORKERS};
+use bw_snap::{BlankBook, MAX_READERS, Naming, ReadTree};
+use bw_tree::{Blanks, MadeBy, Tree};
+use bw_work::Open;
+use std::alloc::Global;
+use std::marker::Brand;
+use std::sync::Wait;
+use std::sync::ledger::Ledger;
+use std::thread::Threads;
+
+/// Shares a new tree among `workers` workers, 1 to `MAX_WORKERS`, each of which does the job in a
+/// thread of its own, and returns the table once all have ended. All lies in the machine's memory.
+///
+/// A job that ends early costs nothing: what it returns stands in [`outputs`](Outcome::outputs),
+/// and the table has all that was done by then.
+///
+/// Each worker keeps a receipt, of some 40 bytes, for each accepted step and each look, to the end.
+pub fn share<O: Drop + Send, J: Job<Output = O> + Sync, R: Threads + Wait + Sync + Send + Copy>(
+    rt: R,
+    machine: Global,
+    config: Config,
+    workers: u32,
+    job: &J,
+) -> Result<Outcome<O>, ShareFault>
+    ensures shared { IfOk result (IsShared (J.told job.now) config workers) }
+    ensures fine { IsOk result → MayShare 64 config workers }
+    ensures fault { IfErr result (IsShareFault 64 config workers) }
+{
+    check(config, workers, MAX_WORKERS)?;
+    let blanks = Blanks::new(workers);
+    share_locked::<Brand, Brand, O, J, R>(rt, machine, config, blanks, job)
+}
+
+/// Shares a new tree among `workers` workers, 1 to `MAX_READERS`, as [`share`] does. Each of them
+/// is given a reader beside its hand, by which it reads without the tree's lock what was published.
+/// What the workers change isn't read so before one of them publishes it.
+pub fn share_with_readers<
+    O: Drop + Send,
+    J: ReadingJob<Output = O> + Sync,
+    R: Threads + Wait + Sync + Send + Copy,
+>(rt: R, machine: Global, config: Config, workers: u32, job: &J) -> Result<Outcome<O>, ShareFault>
+    ensures shared { IfOk result (IsShared (J.told job.now) config workers) }
+    ensures fine { IsOk result → MayShare 16 config workers }
+    ensures fault { IfErr result (IsShareFault 16 config workers) }
+{
+    check(config, workers, MAX_READERS)?;
+    let blanks = Blanks::new(workers);
+    let book = BlankBook::new();
+    share_read::<Brand, Brand, O, J, R>(rt, machine, config, workers, blanks, book, job)
+}
+
+/// Returns the first fault that is there before any thread starts, want of memory apart.
+fn check(config: Config, workers: u32, most: u32) -> Result<(), ShareFault>
+    ensures fine { OnOk result (MayShare most config workers) }
+    ensures fault { IfErr result (IsShareFault most config workers) }
+{
+    if let Err(bad) = config.check() {
+        return Err(ShareFault::BadConfig(bad));
+    }
+    if !(1..=most).contains(&workers) {
+        return Err(ShareFault::BadWorkers);
+    }
+    Ok(())
+}
+
+/// Shares a tree with these blank ledgers.
+#[tactic(auto, using(crate::proofs::Workers::few_workers))]
+fn share_locked<
+    I: MadeBy + Send + Sync,
+    D: Ledger + Send + Sync,
+    O: Drop + Send,
+    J: Job<Output = O> + Sync,
+    R: Threads + Wait + Sync + Send + Copy,
+>(rt: R, machine: Global, config: Config, blanks: Blanks, job: &J) -> Result<Outcome<O>, ShareFault>
+    requires insertions { Opens I.name I.parts blanks.insertions }
+    requires removals { Opens D.name D.parts blanks.removals }
+    requires config { I.config ≡ config }
+    requires made { MayShare 64 config blanks.workers }
+    ensures shared { IfOk result (IsShared (J.told job.now) config blanks.workers) }
+    ensures fault { IfErr result (IsShareFault 64 config blanks.workers) }
+{
+    let Ok((tree, shares)) = Tree::<R, Global, I, D>::new(rt, machine, machine, config, blanks)
+    else {
+        return Err(ShareFault::NoMemory);
+    };
+    let kits = Vec::from_elem(machine, (), shares.len())?;
+    let Gathered {
+        shares,
+        trails,
+        outputs,
+    } = work_all(&rt, machine, &tree, &Open, &ByHand { job }, shares, kits)?;
+    let Ok(table) = tree.close(shares) else {
+        unreachable!()
+    };
+    Ok(Outcome {
+        table,
+        outputs,
+        trails,
+    })
+}
+
+/// Shares a tree with a reader for each worker, with these blank ledgers and this blank book.
+#[tactic(auto, using(crate::proofs::Workers::few_workers))]
+fn share_read<
+    N: Naming + Send + Sync,
+    D: Ledger + Send + Sync,
+    O: Drop + Send,
+    J: ReadingJob<Output = O> + Sync,
+    R: Threads + Wait + Sync + Send + Copy,
+>(
+    rt: R,
+    machine: Global,
+    config: Config,
+    workers: u32,
+    blanks: Blanks,
+    book: BlankBook,
+    job: &J,
+) -> Result<Outcome<O>, ShareFault>
+    requires insertions { Opens N.name N.parts blanks.insertions }
+    requires removals { Opens D.name D.parts blanks.removals }
+    requires book { book.seen.book ≡ N.book }
+    requires config { N.config ≡ config }
+    requires workers { blanks.workers ≡ workers }
+    requires made { MayShare 16 config workers }
+    ensures shared { IfOk result (IsShared (J.told job.now) config workers) }
+    ensures fault { IfErr result (IsShareFault 16 config workers) }
+{
+    let made = ReadTree::<R, N, D>::with_readers(rt, machine, config, blanks, book, workers);
+    let Ok((tree, shares, readers)) = made else {
+        return Err(ShareFault::NoMemory);
+    };
+    let kits = readings_of(machine, &tree, readers)?;
+    let Gathered {
+        shares,
+        trails,
+        outputs,
+    } = work_all(
+        &rt,
+        machine,
+        &tree,
+        &Open,
+        &WithReader { job },
+        shares,
+        kits,
+    )?;
+    let Ok(table) = tree.close(shares) else {
+        unreachable!()
+    };
+    Ok(Outcome {
+        table,
+        outputs,
+        trails,
+    })
+}
