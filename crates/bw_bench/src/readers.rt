@@ -1,7 +1,7 @@
 //! Trees with readers: what readers do, alone and beside one writer, and what puts cost that are published.
 
 ghost use Rattle.std.specs.Prelude.{◌≡◌};
-ghost use Rattle.bw_tree.specs.Shares.{Opens};
+ghost use Rattle.bw_tree.specs.Trees.{OpensFor};
 
 use crate::Stop;
 use crate::tally::Tally;
@@ -9,7 +9,7 @@ use crate::task::{Task, Work};
 use crate::trees::{PART, Timed, fill_by_hand};
 use crate::work::{change_one, drawn_part, key_at, work};
 use bw_keys::Config;
-use bw_snap::{BlankBook, Naming, ReadTree, Reader, ScanFault};
+use bw_snap::{Announcements, Naming, ReadTree, Reader, ScanFault};
 use bw_tree::{Blanks, Share};
 use bw_work::{Hand, Open};
 use rand_core::Rng;
@@ -302,11 +302,9 @@ fn try_over<
     N: Naming + Send + Sync,
     D: Ledger + Send + Sync,
     R: Clock + Threads + Wait + Sync + Send + Copy,
->(rt: R, config: Config, blanks: Blanks, book: BlankBook, crew: &Crew) -> Result<Figures, Stop>
-    requires insertions { Opens N.name N.parts blanks.insertions }
-    requires removals { Opens D.name D.parts blanks.removals }
-    requires book { book.seen.book ≡ N.book }
-    requires config { N.config ≡ config }
+>(rt: R, config: Config, blanks: Blanks, announcements: Announcements, crew: &Crew) -> Result<Figures, Stop>
+    requires announcements { announcements.seen.book ≡ N.announcements }
+    requires ledgers { OpensFor N.Ledger N.config D.Ledger config blanks }
 {
     let alloc = crew.alloc;
     let (tree, mut shares, readers) = ReadTree::<R, N, D>::with_readers(
@@ -314,7 +312,7 @@ fn try_over<
         alloc,
         config,
         blanks,
-        book,
+        announcements,
         crew.task.workers,
     )?;
     let share = shares.pop().ok_or(Stop::Wrong)?;
@@ -348,5 +346,5 @@ pub(crate) fn try_readers<R: Clock + Threads + Wait + Sync + Send + Copy>(
         keys: task.known_keys(alloc, Vec::new(alloc))?,
         ended: AtomicU64::new(0),
     };
-    try_over::<Brand, Brand, R>(rt, task.config, Blanks::new(1), BlankBook::new(), &crew)
+    try_over::<Brand, Brand, R>(rt, task.config, Blanks::new(1), Announcements::new(), &crew)
 }

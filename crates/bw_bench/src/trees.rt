@@ -2,7 +2,7 @@
 //! it, or by readers.
 
 ghost use Rattle.std.specs.Prelude.{◌≡◌};
-ghost use Rattle.bw_tree.specs.Shares.{Opens};
+ghost use Rattle.bw_tree.specs.Trees.{OpensFor};
 
 use crate::Stop;
 use crate::maps::run_map;
@@ -162,9 +162,7 @@ fn shared<
     D: Ledger + Send + Sync,
     R: Clock + Threads + Wait + Sync + Send + Copy,
 >(rt: R, alloc: Global, task: &Task, config: Config, blanks: Blanks) -> Result<Timed, Stop>
-    requires insertions { Opens I.name I.parts blanks.insertions }
-    requires removals { Opens D.name D.parts blanks.removals }
-    requires config { I.config ≡ config }
+    requires ledgers { OpensFor I.Ledger I.config D.Ledger config blanks }
 {
     let order = task.order(alloc)?;
     let (tree, mut shares) = Tree::<R, Global, I, D>::new(rt, alloc, alloc, config, blanks)?;

@@ -14,14 +14,14 @@
 //! | `abandon` | the same, but the shares are lost |
 
 ghost use Rattle.std.specs.Prelude.{◌≡◌};
-ghost use Rattle.bw_tree.specs.Shares.{Opens};
+ghost use Rattle.bw_tree.specs.Trees.{OpensFor};
 
 use crate::texts::compare;
 use crate::vectors::config_of;
 use anyhow::{Context, Result, bail};
 use bw_keys::Config;
 use bw_run::{Reply, do_act};
-use bw_snap::{BlankBook, Naming, ReadTree, Reader, Stamp};
+use bw_snap::{Announcements, Naming, ReadTree, Reader, Stamp};
 use bw_table::Table;
 use bw_trace::read_trace;
 use bw_tree::{Blanks, Share};
@@ -140,16 +140,14 @@ fn play_over<R: Wait + Copy, N: Naming, D: Ledger>(
     config: Config,
     readers: u32,
     blanks: Blanks,
-    book: BlankBook,
+    announcements: Announcements,
     lines: &String,
     played: &mut String,
 ) -> Result<()>
-    requires insertions { Opens N.name N.parts blanks.insertions }
-    requires removals { Opens D.name D.parts blanks.removals }
-    requires book { book.seen.book ≡ N.book }
-    requires config { N.config ≡ config }
+    requires announcements { announcements.seen.book ≡ N.announcements }
+    requires ledgers { OpensFor N.Ledger N.config D.Ledger config blanks }
 {
-    let made = ReadTree::<R, N, D>::with_readers(rt, alloc, config, blanks, book, readers);
+    let made = ReadTree::<R, N, D>::with_readers(rt, alloc, config, blanks, announcements, readers);
     let (tree, mut shares, mut readers) = match made {
         Ok(made) => made,
         Err(fault) => return Ok(writeln!(played, "> {fault}")?),
@@ -181,7 +179,7 @@ fn play<R: Wait + Copy>(rt: R, alloc: Global, script: &str) -> Result<String> {
         config_of(options)?,
         readers.parse()?,
         Blanks::new(workers.parse()?),
-        BlankBook::new(),
+        Announcements::new(),
         &lines,
         &mut played,
     )?;

@@ -1,7 +1,7 @@
 //! Traces that are run without the program: by a worker that has a table for itself, and by one with a hand on a tree.
 
 ghost use Rattle.std.specs.Prelude.{◌≡◌};
-ghost use Rattle.bw_tree.specs.Shares.{Opens};
+ghost use Rattle.bw_tree.specs.Trees.{OpensFor};
 
 use crate::vectors::joined;
 use anyhow::{Context, Result};
@@ -63,9 +63,7 @@ pub(crate) fn run_by_hand<I: MadeBy, D: Ledger, R: Wait + Drop>(
     blanks: Blanks,
     trace: &[u8],
 ) -> Result<String>
-    requires insertions { Opens I.name I.parts blanks.insertions }
-    requires removals { Opens D.name D.parts blanks.removals }
-    requires config { I.config ≡ config }
+    requires ledgers { OpensFor I.Ledger I.config D.Ledger config blanks }
 {
     let (tree, mut shares) = Tree::<R, Global, I, D>::new(rt, alloc, alloc, config, blanks)?;
     let share = shares.pop().context("there is no share")?;

@@ -1,14 +1,14 @@
 //! Publications and scans that are refused memory.
 
 ghost use Rattle.std.specs.Prelude.{◌≡◌};
-ghost use Rattle.bw_tree.specs.Shares.{Opens};
+ghost use Rattle.bw_tree.specs.Trees.{OpensFor};
 
 use crate::acts::{ACTS, act_all};
 use crate::ending::{Ending, Stop, hold};
 use crate::plain::{KEYS, Plain};
 use crate::workers::judge;
 use bw_keys::Config;
-use bw_snap::{BlankBook, Naming, ReadTree, Reader, ScanFault};
+use bw_snap::{Announcements, Naming, ReadTree, Reader, ScanFault};
 use bw_step::{Receipt, Step};
 use bw_test_kit::SMALL;
 use bw_tree::{Blanks, Share};
@@ -147,16 +147,14 @@ fn published_over<R: Wait + Copy, N: Naming, D: Ledger>(
     machine: Global,
     config: Config,
     blanks: Blanks,
-    book: BlankBook,
+    announcements: Announcements,
     groups: &[&[Act]],
 ) -> Result<Ending, Stop>
-    requires insertions { Opens N.name N.parts blanks.insertions }
-    requires removals { Opens D.name D.parts blanks.removals }
-    requires book { book.seen.book ≡ N.book }
-    requires config { N.config ≡ config }
+    requires announcements { announcements.seen.book ≡ N.announcements }
+    requires ledgers { OpensFor N.Ledger N.config D.Ledger config blanks }
 {
     let Ok((tree, mut shares, mut readers)) = ReadTree::<R, N, D>::with_readers(
-        rt, machine, config, blanks, book, 1,
+        rt, machine, config, blanks, announcements, 1,
     ) else {
         return Err(Stop::Memory);
     };
@@ -181,7 +179,7 @@ pub(crate) fn beside_readers<R: Wait + Copy>(rt: R, machine: Global) -> Result<E
         machine,
         SMALL,
         Blanks::new(1),
-        BlankBook::new(),
+        Announcements::new(),
         &groups,
     )
 }
@@ -193,7 +191,7 @@ pub(crate) fn publications<R: Wait + Copy>(rt: R, machine: Global) -> Result<End
         machine,
         LONG_CHAINS,
         Blanks::new(1),
-        BlankBook::new(),
+        Announcements::new(),
         &GROUPS,
     )
 }

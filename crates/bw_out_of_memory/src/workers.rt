@@ -1,7 +1,7 @@
 //! Workers that are refused memory: one alone, and one by hand.
 
 ghost use Rattle.std.specs.Prelude.{◌≡◌};
-ghost use Rattle.bw_tree.specs.Shares.{Opens};
+ghost use Rattle.bw_tree.specs.Trees.{OpensFor};
 
 use crate::acts::{ACTS, act_all};
 use crate::ending::{Ending, Stop, hold};
@@ -78,9 +78,7 @@ fn by_hand_over<R: Wait + Copy, I: MadeBy, D: Ledger>(
     config: Config,
     blanks: Blanks,
 ) -> Result<Ending, Stop>
-    requires insertions { Opens I.name I.parts blanks.insertions }
-    requires removals { Opens D.name D.parts blanks.removals }
-    requires config { I.config ≡ config }
+    requires ledgers { OpensFor I.Ledger I.config D.Ledger config blanks }
 {
     let Ok((tree, mut shares)) = Tree::<R, Global, I, D>::new(rt, machine, machine, config, blanks)
     else {

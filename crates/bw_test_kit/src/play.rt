@@ -1,7 +1,7 @@
 //! A tree for two workers, from its making to its end.
 
 ghost use Rattle.std.specs.Prelude.{◌≡◌};
-ghost use Rattle.bw_tree.specs.Shares.{Opens};
+ghost use Rattle.bw_tree.specs.Trees.{OpensFor};
 
 use crate::pages::Pages;
 use bw_keys::Config;
@@ -116,9 +116,7 @@ fn play_over<
     blanks: Blanks,
     play: &P,
 ) -> Result<Ended<T>, NoTree>
-    requires insertions { Opens I.name I.parts blanks.insertions }
-    requires removals { Opens D.name D.parts blanks.removals }
-    requires config { I.config ≡ config }
+    requires ledgers { OpensFor I.Ledger I.config D.Ledger config blanks }
 {
     let Ok((tree, mut shares)) = Tree::<R, Global, I, D>::new(rt, machine, machine, config, blanks)
     else {

@@ -1,7 +1,7 @@
 //! Trees that are shared for the length of one call.
 
 ghost use Rattle.std.specs.Prelude.{◌≡◌, IsOk, IfOk, IfErr, OnOk};
-ghost use Rattle.bw_tree.specs.Shares.{Opens};
+ghost use Rattle.bw_tree.specs.Trees.{OpensFor};
 ghost use Rattle.nifforan_shared.specs.Sharing.{IsShared, MayShare, IsShareFault};
 
 use crate::fault::ShareFault;
@@ -12,7 +12,7 @@ use crate::outcome::Outcome;
 use crate::reading::readings_of;
 use crate::task::{ByHand, WithReader};
 use bw_keys::{Config, MAX_WORKERS};
-use bw_snap::{BlankBook, MAX_READERS, Naming, ReadTree};
+use bw_snap::{Announcements, MAX_READERS, Naming, ReadTree};
 use bw_tree::{Blanks, MadeBy, Tree};
 use bw_work::Open;
 use std::alloc::Global;
@@ -58,8 +58,8 @@ pub fn share_with_readers<
 {
     check(config, workers, MAX_READERS)?;
     let blanks = Blanks::new(workers);
-    let book = BlankBook::new();
-    share_read::<Brand, Brand, O, J, R>(rt, machine, config, workers, blanks, book, job)
+    let announcements = Announcements::new();
+    share_read::<Brand, Brand, O, J, R>(rt, machine, config, workers, blanks, announcements, job)
 }
 
 /// Returns the first fault that is there before any thread starts, want of memory apart.
@@ -85,9 +85,7 @@ fn share_locked<
     J: Job<Output = O> + Sync,
     R: Threads + Wait + Sync + Send + Copy,
 >(rt: R, machine: Global, config: Config, blanks: Blanks, job: &J) -> Result<Outcome<O>, ShareFault>
-    requires insertions { Opens I.name I.parts blanks.insertions }
-    requires removals { Opens D.name D.parts blanks.removals }
-    requires config { I.config ≡ config }
+    requires ledgers { OpensFor I.Ledger I.config D.Ledger config blanks }
     requires made { MayShare 64 config blanks.workers }
     ensures shared { IfOk result (IsShared (J.told job.now) config blanks.workers) }
     ensures fault { IfErr result (IsShareFault 64 config blanks.workers) }
@@ -126,19 +124,17 @@ fn share_read<
     config: Config,
     workers: u32,
     blanks: Blanks,
-    book: BlankBook,
+    announcements: Announcements,
     job: &J,
 ) -> Result<Outcome<O>, ShareFault>
-    requires insertions { Opens N.name N.parts blanks.insertions }
-    requires removals { Opens D.name D.parts blanks.removals }
-    requires book { book.seen.book ≡ N.book }
-    requires config { N.config ≡ config }
+    requires announcements { announcements.seen.book ≡ N.announcements }
+    requires ledgers { OpensFor N.Ledger N.config D.Ledger config blanks }
     requires workers { blanks.workers ≡ workers }
     requires made { MayShare 16 config workers }
     ensures shared { IfOk result (IsShared (J.told job.now) config workers) }
     ensures fault { IfErr result (IsShareFault 16 config workers) }
 {
-    let made = ReadTree::<R, N, D>::with_readers(rt, machine, config, blanks, book, workers);
+    let made = ReadTree::<R, N, D>::with_readers(rt, machine, config, blanks, announcements, workers);
     let Ok((tree, shares, readers)) = made else {
         return Err(ShareFault::NoMemory);
     };

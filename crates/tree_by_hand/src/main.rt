@@ -2,7 +2,7 @@
 #![tactic(auto)]
 
 ghost use Rattle.std.specs.Prelude.{◌≡◌};
-ghost use Rattle.bw_tree.specs.Shares.{Opens};
+ghost use Rattle.bw_tree.specs.Trees.{OpensFor};
 
 use anyhow::{Result, anyhow};
 use bw_keys::Config;
@@ -53,9 +53,7 @@ fn fill_all<
     config: Config,
     blanks: Blanks,
 ) -> Result<(Table<Global>, Result<(), Fault>)>
-    requires insertions { Opens I.name I.parts blanks.insertions }
-    requires removals { Opens D.name D.parts blanks.removals }
-    requires config { I.config ≡ config }
+    requires ledgers { OpensFor I.Ledger I.config D.Ledger config blanks }
 {
     let (tree, shares) = Tree::<R, Global, I, D>::new(rt, machine, machine, config, blanks)?;
     let (shares, done) = join_all(&rt, machine, &tree, shares)?;

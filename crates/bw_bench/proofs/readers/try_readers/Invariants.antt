@@ -10,4 +10,4 @@ abbrev pub ghosts-try_over-N-MadeBy : goal.ghosts-try_over-N-MadeBy
 ghosts-try_over-N-MadeBy g a = record { config = a.config }
 
 abbrev pub ghosts-try_over-N-Naming : goal.ghosts-try_over-N-Naming
-ghosts-try_over-N-Naming g a = record { book = a.book.seen.book }
+ghosts-try_over-N-Naming g a = record { announcements = a.announcements.seen.book }

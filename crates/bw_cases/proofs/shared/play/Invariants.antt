@@ -10,4 +10,4 @@ abbrev pub ghosts-play_over-N-MadeBy : goal.ghosts-play_over-N-MadeBy
 ghosts-play_over-N-MadeBy g a = record { config = a.config }
 
 abbrev pub ghosts-play_over-N-Naming : goal.ghosts-play_over-N-Naming
-ghosts-play_over-N-Naming g a = record { book = a.book.seen.book }
+ghosts-play_over-N-Naming g a = record { announcements = a.announcements.seen.book }

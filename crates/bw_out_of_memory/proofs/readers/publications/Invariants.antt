@@ -10,4 +10,4 @@ abbrev pub ghosts-published_over-N-MadeBy : goal.ghosts-published_over-N-MadeBy
 ghosts-published_over-N-MadeBy g a = record { config = a.config }
 
 abbrev pub ghosts-published_over-N-Naming : goal.ghosts-published_over-N-Naming
-ghosts-published_over-N-Naming g a = record { book = a.book.seen.book }
+ghosts-published_over-N-Naming g a = record { announcements = a.announcements.seen.book }

@@ -10,4 +10,4 @@ abbrev pub ghosts-share_read-N-MadeBy : goal.ghosts-share_read-N-MadeBy
 ghosts-share_read-N-MadeBy g a = record { config = a.config }
 
 abbrev pub ghosts-share_read-N-Naming : goal.ghosts-share_read-N-Naming
-ghosts-share_read-N-Naming g a = record { book = a.book.seen.book }
+ghosts-share_read-N-Naming g a = record { announcements = a.announcements.seen.book }
