@@ -23,7 +23,7 @@ pub spent_grows : (a b : Seen) → OnlySpends a b → Grows a b
 spent_grows a b p = record { config = p.same.config; trail = adds_nothing a.trail b.trail p.same.trail; effort = p.effort; full = omega (arith, p.same.full); tall = omega (arith, p.same.tall); worn = omega (arith, p.same.worn) }
 
 -- removals in a range are removals in a wider one
-removals_lower : (low at high : ℕ) (xs : List Told) → low ≤ at → AreRemovals at high xs → AreRemovals low high xs
+pub removals_lower : (low at high : ℕ) (xs : List Told) → low ≤ at → AreRemovals at high xs → AreRemovals low high xs
 removals_lower low at high [] le are = tt
 removals_lower low at high (x ∷ xs) le are = (are.0, are.1, omega (arith, le, are.2), are.3, are.4)
 
