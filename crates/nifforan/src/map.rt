@@ -1,9 +1,12 @@
-ghost use Rattle.std.specs.Prelude.{◌≡◌, ◌↔◌, ℕ, ◌+◌, [], Some, None, IsTrue, IsOk, IfOk, IfErr, OnErr, length};
+ghost use Rattle.std.specs.Prelude.{◌≡◌, ◌↔◌, ℕ, ◌+◌, [], Some, None, length};
+ghost use Rattle.std.specs.Prelude.{IsTrue, IsOk, IfOk, IfErr, OnErr};
 ghost use Rattle.bw_keys.specs.Limits.{first_bad_field};
 ghost use Rattle.bw_keys.specs.Ranges.{end_of};
-ghost use Rattle.bw_delta.specs.Entries.{at, put, without, first_entry, last_entry, first_from, last_upto};
+ghost use Rattle.bw_delta.specs.Entries.{at, put, without};
+ghost use Rattle.bw_delta.specs.Entries.{first_entry, last_entry, first_from, last_upto};
 ghost use Rattle.bw_table.specs.Answers.{IsNewFault};
-ghost use Rattle.nifforan.specs.Maps.{map_of, within, outside, before_put, after_put, before_set, before_delete};
+ghost use Rattle.nifforan.specs.Maps.{map_of, within, outside};
+ghost use Rattle.nifforan.specs.Maps.{before_put, after_put, before_set, before_delete};
 
 use crate::pairs::Pairs;
 use crate::worker::Worker;
@@ -15,12 +18,12 @@ use std::marker::Model;
 
 /// An ordered map from u64 keys to u64 values, for one thread.
 ///
-/// A call that changes it may end with a fault: `NoMemory`, `TableFull` where no slot is free for a new
-/// page, `TooTall` where the tree has its greatest height, `Worn` where a page's version or the number of
-/// changes is used up, and `Contended` where it took the effort that the configuration allows a call. In
-/// the place of a reply a fault says that the map has the pairs that it had. Beside a reply, in
-/// `Done::fault`, it says that the pairs are as the reply tells, and only the care for the pages was cut
-/// short, which a later call takes up again.
+/// A call that changes it may end with a fault: `NoMemory`, `TableFull` where no slot is free for a
+/// new page, `TooTall` where the tree has its greatest height, `Worn` where a page's version or the
+/// number of changes is used up, and `Contended` where it took the effort that the configuration
+/// allows a call. In the place of a reply a fault says that the map has the pairs that it had. Beside
+/// a reply, in `Done::fault`, it says that the pairs are as the reply tells, and only the care for the
+/// pages was cut short, which a later call takes up again.
 #[derive(Drop)]
 pub struct Map<A: Allocator + Copy> {
     worker: Worker<A>,
@@ -40,8 +43,8 @@ impl<A: Allocator + Copy> Model for Map<A> {
 }
 
 impl<A: Allocator + Copy> Map<A> {
-    /// A map without pairs, or why there is none: a field of the configuration is out of its range, or
-    /// memory is short. The pairs will lie in `alloc`, all else in the machine's memory.
+    /// Makes a map without pairs. The pairs will lie in `alloc`, all else in the machine's memory.
+    /// Fails where a field of the configuration is out of its range, or memory is short.
     pub fn new(machine: Global, alloc: A, config: Config) -> Result<Map<A>, NewFault>
         ensures config { IfOk result (λ map. map.config ≡ config) }
         ensures empty { IfOk result (λ map. map.pairs ≡ []) }
@@ -52,7 +55,7 @@ impl<A: Allocator + Copy> Map<A> {
         Ok(Map::from_table(machine, alloc, table))
     }
 
-    /// The map that the table has. New pairs will lie in `alloc`, all else in the machine's memory.
+    /// Makes the map that the table has. New pairs will lie in `alloc`, all else in the machine's memory.
     pub fn from_table(machine: Global, alloc: A, table: Table<A>) -> Map<A>
         ensures { result ≡ map_of table }
     {
@@ -69,14 +72,14 @@ impl<A: Allocator + Copy> Map<A> {
         worker.into_table()
     }
 
-    /// The configuration that the map was made by.
+    /// Returns the configuration that the map was made by.
     pub fn config(&self) -> Config
         ensures { result ≡ self.now.config }
     {
         self.worker.owner.table.value.config()
     }
 
-    /// How many pairs there are. It takes the same time however many.
+    /// Returns the number of pairs, in constant time.
     pub fn len(&self) -> u64
         ensures { result ≡ length self.now.pairs }
     {
@@ -84,14 +87,14 @@ impl<A: Allocator + Copy> Map<A> {
         book.inserted - book.removed
     }
 
-    /// Whether there is no pair.
+    /// Whether the map has no pair.
     pub fn is_empty(&self) -> bool
         ensures { IsTrue result ↔ (self.now.pairs ≡ []) }
     {
         self.len() == 0
     }
 
-    /// The value at the key, if it has one. It takes no memory.
+    /// Returns the value of the key, if it has one. Takes no memory.
     #[inline(always)]
     pub fn get(&self, key: Key) -> Option<u64>
         ensures { result ≡ at key self.now.pairs }
@@ -99,36 +102,36 @@ impl<A: Allocator + Copy> Map<A> {
         self.worker.owner.table.value.get(key)
     }
 
-    /// The pair with the least key, if there is any. It takes no memory.
+    /// Returns the pair with the least key, if there is any. Takes no memory.
     pub fn first(&self) -> Option<(Key, u64)>
         ensures { result ≡ first_entry self.now.pairs }
     {
         self.worker.owner.table.value.first()
     }
 
-    /// The pair with the greatest key, if there is any. It takes no memory.
+    /// Returns the pair with the greatest key, if there is any. Takes no memory.
     pub fn last(&self) -> Option<(Key, u64)>
         ensures { result ≡ last_entry self.now.pairs }
     {
         self.worker.owner.table.value.last()
     }
 
-    /// The pair with the least key at or above the key, if there is one. It takes no memory.
+    /// Returns the pair with the least key at or above the key, if there is one. Takes no memory.
     pub fn next_at(&self, key: Key) -> Option<(Key, u64)>
         ensures { result ≡ first_from key self.now.pairs }
     {
         self.worker.owner.table.value.next_at(key)
     }
 
-    /// The pair with the greatest key at or below the key, if there is one. It takes no memory.
+    /// Returns the pair with the greatest key at or below the key, if there is one. Takes no memory.
     pub fn previous_at(&self, key: Key) -> Option<(Key, u64)>
         ensures { result ≡ last_upto key self.now.pairs }
     {
         self.worker.owner.table.value.previous_at(key)
     }
 
-    /// The pairs with keys from the low on and below the high, in the order of their keys. They are
-    /// read from the map one after the other, and take no memory.
+    /// Returns the pairs with keys from the low on and below the high, in the order of their keys.
+    /// They are read from the map one after the other, and take no memory.
     pub fn range(&self, low: Key, high: Fence) -> Pairs<'_, A>
         ensures { result ≡ within low (end_of high) self.now.pairs }
     {
@@ -142,7 +145,7 @@ impl<A: Allocator + Copy> Map<A> {
         }
     }
 
-    /// All pairs, in the order of their keys: see `range`.
+    /// Returns all pairs, in the order of their keys: see `range`.
     pub fn iter(&self) -> Pairs<'_, A>
         ensures { result ≡ self.now.pairs }
     {
@@ -151,17 +154,18 @@ impl<A: Allocator + Copy> Map<A> {
         self.range(0, Fence::Top)
     }
 
-    /// Gives the key the value, unless the key is there: then it keeps its value, which the reply tells.
+    /// Inserts the pair, unless the key has a value: then it keeps that, and the reply has it.
     pub fn put(&mut self, key: Key, value: u64) -> Result<Done<Put>, Fault>
         ensures reply { IfOk result (λ done. before_put done.reply ≡ at key self.old.pairs) }
-        ensures pairs { IfOk result (λ done. self.new.pairs ≡ after_put key value done.reply self.old.pairs) }
+        ensures pairs { IfOk result (λ done.
+            self.new.pairs ≡ after_put key value done.reply self.old.pairs) }
         ensures unchanged { OnErr result (self.new.pairs ≡ self.old.pairs) }
         ensures config { self.new.config ≡ self.old.config }
     {
         self.worker.put(key, value)
     }
 
-    /// Gives the key the value, whether it is there or not. The reply tells the value that it had.
+    /// Sets the key to the value. The reply has the value before it, if there was one.
     pub fn set(&mut self, key: Key, value: u64) -> Result<Done<Set>, Fault>
         ensures reply { IfOk result (λ done. before_set done.reply ≡ at key self.old.pairs) }
         ensures pairs { IfOk result (λ done. self.new.pairs ≡ put key value self.old.pairs) }
@@ -171,7 +175,7 @@ impl<A: Allocator + Copy> Map<A> {
         self.worker.set(key, value)
     }
 
-    /// Takes the key out, if it is there. The reply tells the value that it had.
+    /// Deletes the key, if it has a value. The reply has that value.
     pub fn delete(&mut self, key: Key) -> Result<Done<Del>, Fault>
         ensures reply { IfOk result (λ done. before_delete done.reply ≡ at key self.old.pairs) }
         ensures pairs { IfOk result (λ done. self.new.pairs ≡ without key self.old.pairs) }
@@ -181,12 +185,15 @@ impl<A: Allocator + Copy> Map<A> {
         self.worker.delete(key)
     }
 
-    /// Takes out the keys from the low on and below the high, and tells how many. Where a fault ends it
-    /// before, it took out some of them, and no others.
+    /// Deletes the keys from the low on and below the high, and returns how many it deleted. Where a
+    /// fault ends it before, it has deleted some of them, and no others.
     pub fn clear(&mut self, low: Key, high: Fence) -> Cleared
-        ensures cleared { result.fault ≡ None → self.new.pairs ≡ outside low (end_of high) self.old.pairs }
-        ensures others { outside low (end_of high) self.new.pairs ≡ outside low (end_of high) self.old.pairs }
-        ensures fewer { (key value : ℕ) → at key self.new.pairs ≡ Some value → at key self.old.pairs ≡ Some value }
+        ensures cleared { result.fault ≡ None
+            → self.new.pairs ≡ outside low (end_of high) self.old.pairs }
+        ensures others { outside low (end_of high) self.new.pairs
+            ≡ outside low (end_of high) self.old.pairs }
+        ensures fewer { (key value : ℕ)
+            → at key self.new.pairs ≡ Some value → at key self.old.pairs ≡ Some value }
         ensures count { length self.new.pairs + result.removed ≡ length self.old.pairs }
         ensures config { self.new.config ≡ self.old.config }
     {
