@@ -52,7 +52,14 @@ impl<R: Wait + Copy, N: Naming, D: Ledger> ReadTree<R, N, D> {
         ensures fine { OnOk result (MayBeRead config blanks.workers readers) }
         ensures fault { IfErr result (IsSnapFault config blanks.workers readers) }
     {
-        let (published, shares) = match Published::new(rt, machine, config, blanks, announcements, readers) {
+        let (published, shares) = match Published::new(
+            rt,
+            machine,
+            config,
+            blanks,
+            announcements,
+            readers,
+        ) {
             Ok(made) => made,
             Err(fault) => return Err(fault),
         };
