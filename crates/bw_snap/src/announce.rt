@@ -42,8 +42,8 @@ impl Front {
         unreachable!()
     }
 
-    /// Tries to announce it. Returns whether it did: it doesn't where a list was announced that this
-    /// front hasn't seen.
+    /// Tries to announce it, and returns whether it did: it doesn't where a list was announced that
+    /// this front hasn't seen.
     fn try_announce<N: Naming>(&mut self, head: &Head<N>, writer: &WritingEnd<N>) -> bool
         requires book { self.old.book ≡ N.announcements }
         requires list { BeginsWith (next_list writer.now) self.old.list }

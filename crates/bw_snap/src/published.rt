@@ -8,7 +8,7 @@ ghost use Rattle.bw_law.specs.Laws.{MapAfter};
 ghost use Rattle.bw_law.specs.Refusals.{refusal};
 ghost use Rattle.bw_law.specs.Tables.{new_table};
 ghost use Rattle.bw_tree.specs.Shares.{no_changes, CountsIn};
-ghost use Rattle.bw_tree.specs.Trees.{IsTree, IsClosed, IsReceiptFrom, OpensFor};
+ghost use Rattle.bw_tree.specs.Trees.{IsTree, IsClosed, Leads, OpensFor};
 ghost use Rattle.bw_snap.specs.Trees.{IsPublished, IsDenialOf, IsSnapFault, MayBeRead, is_bad_reader_number, published_as_it_is};
 
 use crate::ends::{WritingEnd, advance, append, begin, newcomer, surely_told};
@@ -59,10 +59,12 @@ impl<R: Wait + Drop, N: Naming, D: Ledger> Model for Published<R, N, D> {
 
     ghost view = { λ p. published_value p.booked p.writer };
 
-    ghost invariant = { λ p. LeadTo p.writer.desk.shown.value.table (steps_of (unpublished p.writer)) p.booked
+    ghost invariant = { λ p.
+        LeadTo p.writer.desk.shown.value.table (steps_of (unpublished p.writer)) p.booked
         × IsSnapshot N.config p.writer.desk.shown.value.front.list p.writer.desk.shown.value.table
         × BeginsWith (next_list p.writer) p.announced.list
-        × (p.writer.desk.shown.value.front.book ≡ N.announcements) × (p.announced.book ≡ N.announcements)
+        × (p.writer.desk.shown.value.front.book ≡ N.announcements)
+        × (p.announced.book ≡ N.announcements)
         × (seen_by p.writer.desk.place ≡ p.writer.desk.shown.value.front.list) };
 }
 
@@ -146,7 +148,7 @@ impl<R: Wait + Drop, N: Naming, D: Ledger> Published<R, N, D> {
     ) -> Result<Receipt, Denied>
         requires { proposal_of twin ≡ proposal_of step }
         ensures accepted { OnOk result (refusal self.old.table (proposal_of step) ≡ None) }
-        ensures taken { IfOk result (IsReceiptFrom self.old.table (proposal_of step) self.new.table) }
+        ensures taken { IfOk result (Leads self.old.table (proposal_of step) self.new.table) }
         ensures told { IfOk result (IsReceiptOf (proposal_of step)) }
         ensures map { OnOk result (MapAfter self.old.table (proposal_of step)) }
         ensures steps { OnOk result (self.new.pending ≡ self.old.pending ++ proposal_of step ∷ []) }
@@ -170,8 +172,8 @@ impl<R: Wait + Drop, N: Naming, D: Ledger> Published<R, N, D> {
         }
     }
 
-    /// Publishes what is pending, and stamps the list that was published. It is refused where memory
-    /// is, and where there are `MAX_STAMPS` stamps. The stamp's place is kept before anything is
+    /// Publishes what is pending, and stamps the list that was published. Fails where memory is
+    /// refused, and where there are `MAX_STAMPS` stamps. The stamp's place is kept before anything is
     /// published, so that it is there when the stamp is made.
     pub fn publish(&mut self) -> Result<Stamp<N>, NoMemory>
         ensures table { OnOk result (self.new.table ≡ self.old.table) }
