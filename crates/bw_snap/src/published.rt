@@ -173,8 +173,8 @@ impl<R: Wait + Drop, N: Naming, D: Ledger> Published<R, N, D> {
     }
 
     /// Publishes what is pending, and stamps the list that was published. Fails where memory is
-    /// refused, and where there are `MAX_STAMPS` stamps. The stamp's place is kept before anything is
-    /// published, so that it is there when the stamp is made.
+    /// refused, and where there are `MAX_STAMPS` stamps. The stamp's place is kept before anything
+    /// is published, so that it is there when the stamp is made.
     pub fn publish(&mut self) -> Result<Stamp<N>, NoMemory>
         ensures table { OnOk result (self.new.table ≡ self.old.table) }
         ensures published { OnOk result (self.new.published ≡ self.old.table) }

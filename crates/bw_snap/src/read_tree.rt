@@ -92,9 +92,9 @@ impl<R: Wait + Copy, N: Naming, D: Ledger> ReadTree<R, N, D> {
         published.into_inner().into_table()
     }
 
-    /// Returns the table, as `Booked::close` does. Its readers answer no more. Where a worker dropped
-    /// its share, as by an early `?`, it fails with [`MissingShare`], and all pairs are lost. So have
-    /// each worker hand its share back beside its error, or take the table by
+    /// Returns the table, as `Booked::close` does. Its readers answer no more. Where a worker
+    /// dropped its share, as by an early `?`, it fails with [`MissingShare`], and all pairs are
+    /// lost. So have each worker hand its share back beside its error, or take the table by
     /// [`into_table`](ReadTree::into_table).
     pub fn close(self, shares: Vec<Share<N, D>>) -> Result<Table<Global>, MissingShare>
         ensures closed { IfOk result (IsClosed N.config shares.items) }

@@ -63,8 +63,8 @@ impl<N: Naming> Reader<N> {
         }
     }
 
-    /// Returns what the map has at the key after a list of accepted steps, which begins with all that this
-    /// reader has seen and learnt. The list is the reader's from then on.
+    /// Returns what the map has at the key after a list of accepted steps, which begins with all
+    /// that this reader has seen and learnt. The list is the reader's from then on.
     #[inline(always)]
     pub fn get(&mut self, key: Key) -> Result<Option<u64>, Closed>
         ensures seen { BeginsWith self.new self.old }
@@ -93,8 +93,8 @@ impl<N: Naming> Reader<N> {
         }
     }
 
-    /// Fills `out` with the first pairs of the map from the key on, in the order of their keys and at
-    /// most `limit`, after such a list of steps. After a fault `out` and the reader are as before.
+    /// Fills `out` with the first pairs of the map from the key on, in the order of their keys and
+    /// at most `limit`, after such a list of steps. After a fault `out` and the reader are as before.
     pub fn scan(
         &mut self,
         low: Key,
