@@ -6,3 +6,4 @@ pub mod Views
 pub mod Trees
 pub mod Codes
 pub mod Answers
+pub mod Ends

@@ -1,8 +1,8 @@
 //! The step that announces a list, before it is published.
 
-ghost use Rattle.std.specs.Prelude.{◌≡◌, ◌++◌, drop, MatchBool};
+ghost use Rattle.std.specs.Prelude.{◌≡◌};
 ghost use Rattle.bw_snap.specs.Snapshots.{BeginsWith};
-ghost use Rattle.bw_snap.specs.Notes.{steps_of};
+ghost use Rattle.bw_snap.specs.Ends.{next_list, next_front, Becomes};
 
 use crate::ends::WritingEnd;
 use crate::front::{Add, Front, Head, Naming, Nothing, Rising};
@@ -12,18 +12,18 @@ use std::sync::Wait;
 
 /// The step asks for the published list, and then what is pending.
 impl<N: Naming> Plain<WritingEnd<N>, List, u64> for Add {
-    ghost use Rattle.std.specs.Prelude.{◌++◌, None, drop};
-    ghost use Rattle.bw_snap.specs.Notes.{steps_of};
+    ghost use Rattle.std.specs.Prelude.{None};
+    ghost use Rattle.bw_snap.specs.Ends.{next_list};
 
-    ghost ask = { λ w. w.desk.shown.value.front.list ++ steps_of (drop w.behind w.log.items) };
+    ghost ask = { λ w. next_list w };
 
     ghost state = { λ w. None };
 }
 
 impl Front {
-    /// Adds the published list with what is pending to the book. The book's word is written under the
-    /// tree's lock alone, so the first try finds it as it was left. No clause of the book says so: hence a
-    /// loop, and not a fault that never comes. After 2^64 - 1 lists it wouldn't end.
+    /// Announces the published list with what is pending. The word is written under the tree's lock
+    /// alone, so the first try finds it as it was left. No clause says so: hence a loop, and not a
+    /// fault that never comes. After 2^64 - 1 lists it wouldn't end.
     pub(crate) fn announce<N: Naming, R: Wait>(
         &mut self,
         head: &Head<N>,
@@ -31,8 +31,8 @@ impl Front {
         rt: &R,
     )
         requires book { self.old.book ≡ N.announcements }
-        requires list { BeginsWith (writer.now.desk.shown.value.front.list ++ steps_of (drop writer.now.behind writer.now.log.items)) self.old.list }
-        ensures { self.new ≡ record { list = writer.now.desk.shown.value.front.list ++ steps_of (drop writer.now.behind writer.now.log.items); book = N.announcements } }
+        requires list { BeginsWith (next_list writer.now) self.old.list }
+        ensures { self.new ≡ next_front N.announcements writer.now }
     {
         for _ in rt.forever() {
             if self.try_announce(head, writer) {
@@ -42,11 +42,12 @@ impl Front {
         unreachable!()
     }
 
-    /// The same, unless the book has a list that this front hasn't seen.
+    /// Tries to announce it, and returns whether it did: it doesn't where a list was announced that
+    /// this front hasn't seen.
     fn try_announce<N: Naming>(&mut self, head: &Head<N>, writer: &WritingEnd<N>) -> bool
         requires book { self.old.book ≡ N.announcements }
-        requires list { BeginsWith (writer.now.desk.shown.value.front.list ++ steps_of (drop writer.now.behind writer.now.log.items)) self.old.list }
-        ensures { MatchBool result (self.new ≡ record { list = writer.now.desk.shown.value.front.list ++ steps_of (drop writer.now.behind writer.now.log.items); book = N.announcements }) (self.new ≡ self.old) }
+        requires list { BeginsWith (next_list writer.now) self.old.list }
+        ensures { Becomes result self.old self.new (next_front N.announcements writer.now) }
     {
         let count = self.count;
         if count == u64::MAX {

@@ -1,13 +1,12 @@
 //! The reading and the writing end of the published pair, and their steps.
 
-ghost use Rattle.std.specs.Prelude.{◌≡◌, ◌<◌, ◌^◌, ◌++◌, ◌∷◌, [], drop, fold, IfOk, IfSome, IfNone, OnOk, OnErr, MatchResult};
+ghost use Rattle.std.specs.Prelude.{◌≡◌, ◌<◌, ◌^◌, [], IfOk, IfSome, IfNone, OnOk, OnErr};
 ghost use Rattle.left_right.specs.Sides.{view};
 ghost use Rattle.bw_law.specs.Tables.{new_table};
 ghost use Rattle.bw_table.specs.Gets.{IsListing};
-ghost use Rattle.bw_snap.specs.Notes.{noted};
 ghost use Rattle.bw_snap.specs.Snapshots.{BeginsWith};
-ghost use Rattle.bw_snap.specs.Views.{Land};
-ghost use Rattle.bw_snap.specs.Answers.{IsLookIn, IsListedIn};
+ghost use Rattle.bw_snap.specs.Ends.{unpublished, Appends, MayPublish, Publishes, IsUnpublished};
+ghost use Rattle.bw_snap.specs.Answers.{IsLookIn, IsScanFrom};
 
 use crate::front::{Front, Naming};
 use crate::note::Note;
@@ -30,7 +29,7 @@ pub type ReadingEnd<N> = Reader<Shown, List, Backed<N>>;
 
 pub type WritingEnd<N> = Writer<Shown, Note, List, Backed<N>>;
 
-/// The writing end of two tables without pairs, with nothing pending.
+/// Returns the writing end of two tables without pairs, with nothing pending.
 pub fn begin<N: Naming>(
     machine: Global,
     config: Config,
@@ -43,7 +42,7 @@ pub fn begin<N: Naming>(
     requires config { N.config ≡ config }
     ensures table { IfOk result (λ w. w.desk.shown.value.table ≡ new_table config) }
     ensures front { IfOk result (λ w. w.desk.shown.value.front ≡ front.now) }
-    ensures pending { IfOk result (λ w. drop w.behind w.log.items ≡ []) }
+    ensures pending { IfOk result (λ w. unpublished w ≡ []) }
     ensures seen { IfOk result (λ w. view w.desk.place ≡ []) }
 {
     let first = empty(machine, config, front)?;
@@ -54,7 +53,7 @@ pub fn begin<N: Naming>(
     }
 }
 
-/// A table without pairs, with this front.
+/// Returns a table without pairs, with this front.
 fn empty(machine: Global, config: Config, front: &Front) -> Result<Shown, NoMemory>
     ensures table { IfOk result (λ shown. shown.table ≡ new_table config) }
     ensures front { IfOk result (λ shown. shown.front ≡ front.now) }
@@ -72,7 +71,7 @@ pub struct Glance {
     pub front: Front,
 }
 
-/// What the published table has at the key; none, where it gave no entry.
+/// Returns what the published table has at the key; none, where it gave no entry.
 #[inline(always)]
 pub fn read<N: Naming>(reader: ReadingEnd<N>, key: Key) -> (ReadingEnd<N>, Option<Glance>)
     ensures look { IfSome result.1 (λ glance. IsLookIn N.config key glance.front.list glance.look) }
@@ -98,7 +97,7 @@ pub struct Scan {
     pub front: Front,
 }
 
-/// The table's first pairs from the key on, and its front.
+/// Returns the table's first pairs from the key on, and its front.
 fn scan_of(shown: &Shown, low: Key, limit: usize) -> Result<Scan, NoMemory>
     ensures pairs { IfOk result (λ scan. IsListing shown.now.table low limit scan.pairs.items) }
     ensures front { IfOk result (λ scan. scan.front ≡ shown.now.front) }
@@ -111,15 +110,15 @@ fn scan_of(shown: &Shown, low: Key, limit: usize) -> Result<Scan, NoMemory>
     })
 }
 
-/// The first pairs that the published table has from the key on; none, where it gave no entry.
+/// Returns the published table's first pairs from the key on; none, where it gave no entry.
 pub fn read_pairs<N: Naming>(
     reader: ReadingEnd<N>,
     part: (Key, usize),
 ) -> (ReadingEnd<N>, Option<Result<Scan, NoMemory>>)
-    ensures pairs { IfSome result.1 (λ read. IfOk read (λ scan. IsListedIn N.config part.0 part.1 scan.front.list scan.pairs.items)) }
+    ensures pairs { IfSome result.1 (λ read. IfOk read (IsScanFrom N.config part.0 part.1)) }
     ensures book { IfSome result.1 (λ read. IfOk read (λ scan. scan.front.book ≡ N.announcements)) }
     ensures seen { BeginsWith (view result.0.place) (view reader.place) }
-    ensures list { IfSome result.1 (λ read. IfOk read (λ scan. scan.front.list ≡ view result.0.place)) }
+    ensures list { IfSome result.1 (λ read. IfOk read (λ s. s.front.list ≡ view result.0.place)) }
     ensures closed { IfNone result.1 (view result.0.place ≡ view reader.place) }
 {
     match reader.enter_as::<Sees<N>>() {
@@ -134,7 +133,7 @@ pub fn read_pairs<N: Naming>(
 /// Puts a note behind what is pending.
 pub fn append<N: Naming>(writer: &mut WritingEnd<N>, note: Note) -> Result<(), NoMemory>
     ensures desk { writer.new.desk ≡ writer.old.desk }
-    ensures pending { MatchResult result (λ _. drop writer.new.behind writer.new.log.items ≡ drop writer.old.behind writer.old.log.items ++ note ∷ []) (λ _. drop writer.new.behind writer.new.log.items ≡ drop writer.old.behind writer.old.log.items) }
+    ensures pending { Appends note (unpublished writer.old) (unpublished writer.new) result }
 {
     match writer.append(note) {
         Ok(()) => Ok(()),
@@ -147,23 +146,23 @@ fn publish<N: Naming, R: Wait>(
     writer: WritingEnd<N>,
     rt: &R,
 ) -> (WritingEnd<N>, Result<(), AllocError>)
-    requires { Land N.config N.announcements writer.desk.shown.value.table writer.desk.shown.value.front (drop writer.behind writer.log.items) }
-    ensures ok { let end = fold noted (writer.desk.shown.value.table, writer.desk.shown.value.front) (drop writer.behind writer.log.items) in OnOk result.1 ((result.0.desk.shown.value.table ≡ end.0) × (result.0.desk.shown.value.front ≡ end.1) × (drop result.0.behind result.0.log.items ≡ []) × (view result.0.desk.place ≡ end.1.list)) }
-    ensures err { OnErr result.1 ((result.0.desk.shown.value ≡ writer.desk.shown.value) × (drop result.0.behind result.0.log.items ≡ drop writer.behind writer.log.items) × (view result.0.desk.place ≡ view writer.desk.place)) }
+    requires { MayPublish N.config N.announcements writer }
+    ensures ok { OnOk result.1 (Publishes writer result.0) }
+    ensures err { OnErr result.1 (IsUnpublished writer result.0) }
 {
     writer.publish_as::<Sees<N>, R>(rt)
 }
 
-/// Publishes what is pending, in place. Where the published table is to be is where its list leads.
+/// Publishes what is pending, in place.
 pub fn advance<N: Naming, R: Wait>(writer: &mut WritingEnd<N>, rt: &R) -> Result<(), AllocError>
-    requires { Land N.config N.announcements writer.old.desk.shown.value.table writer.old.desk.shown.value.front (drop writer.old.behind writer.old.log.items) }
-    ensures ok { let end = fold noted (writer.old.desk.shown.value.table, writer.old.desk.shown.value.front) (drop writer.old.behind writer.old.log.items) in OnOk result ((writer.new.desk.shown.value.table ≡ end.0) × (writer.new.desk.shown.value.front ≡ end.1) × (drop writer.new.behind writer.new.log.items ≡ []) × (view writer.new.desk.place ≡ end.1.list)) }
-    ensures err { OnErr result ((writer.new.desk.shown.value ≡ writer.old.desk.shown.value) × (drop writer.new.behind writer.new.log.items ≡ drop writer.old.behind writer.old.log.items) × (view writer.new.desk.place ≡ view writer.old.desk.place)) }
+    requires { MayPublish N.config N.announcements writer.old }
+    ensures ok { OnOk result (Publishes writer.old writer.new) }
+    ensures err { OnErr result (IsUnpublished writer.old writer.new) }
 {
     replace_with(writer, rt, publish)
 }
 
-/// A reader that has seen nothing. It takes one of the places for readers up.
+/// Returns a reader that has seen nothing. It takes up one of the places for readers.
 pub fn newcomer<N: Naming>(source: &Source<N>) -> Result<ReadingEnd<N>, NoMemory>
     ensures { IfOk result (λ reader. view reader.place ≡ []) }
 {
@@ -173,7 +172,7 @@ pub fn newcomer<N: Naming>(source: &Source<N>) -> Result<ReadingEnd<N>, NoMemory
     }
 }
 
-/// A new reader that has learnt all that the writing end has seen.
+/// Returns a new reader that has learnt all that the writing end has seen.
 fn told<N: Naming>(writer: &mut WritingEnd<N>) -> Result<ReadingEnd<N>, AllocError>
     ensures desk { writer.new.desk.shown ≡ writer.old.desk.shown }
     ensures log { (writer.new.log ≡ writer.old.log) × (writer.new.behind ≡ writer.old.behind) }
@@ -185,7 +184,7 @@ fn told<N: Naming>(writer: &mut WritingEnd<N>) -> Result<ReadingEnd<N>, AllocErr
     Ok(reader)
 }
 
-/// The same, as soon as there is a place for it.
+/// Does the same, as soon as there is a place for it.
 pub fn surely_told<N: Naming, R: Wait>(writer: &mut WritingEnd<N>, rt: &R) -> ReadingEnd<N>
     ensures desk { writer.new.desk.shown ≡ writer.old.desk.shown }
     ensures log { (writer.new.log ≡ writer.old.log) × (writer.new.behind ≡ writer.old.behind) }

@@ -8,7 +8,7 @@ ghost use Rattle.bw_law.specs.Laws.{MapAfter};
 ghost use Rattle.bw_law.specs.Refusals.{refusal};
 ghost use Rattle.bw_law.specs.Tables.{new_table};
 ghost use Rattle.bw_tree.specs.Shares.{no_changes, CountsIn};
-ghost use Rattle.bw_tree.specs.Trees.{IsTree, IsClosed, IsReceiptFrom, OpensFor};
+ghost use Rattle.bw_tree.specs.Trees.{IsTree, IsClosed, Leads, OpensFor};
 ghost use Rattle.bw_snap.specs.Trees.{IsPublished, IsDenialOf, IsSnapFault, MayBeRead, is_bad_reader_number, published_as_it_is};
 
 use crate::ends::{WritingEnd, advance, append, begin, newcomer, surely_told};
@@ -45,23 +45,26 @@ pub struct Published<R: Wait + Drop, N: Naming, D: Ledger> {
 }
 
 impl<R: Wait + Drop, N: Naming, D: Ledger> Model for Published<R, N, D> {
-    ghost use Rattle.std.specs.Prelude.{◌≡◌, ◌++◌, drop};
+    ghost use Rattle.std.specs.Prelude.{◌≡◌};
     ghost use Rattle.bw_snap.specs.Codes.{published_code};
     ghost use Rattle.bw_snap.specs.Trees.{PublishedValue};
     ghost use Rattle.bw_snap.specs.Snapshots.{LeadTo, IsSnapshot, BeginsWith};
     ghost use Rattle.bw_snap.specs.Notes.{steps_of};
+    ghost use Rattle.bw_snap.specs.Ends.{unpublished, next_list, published_value};
     ghost use Rattle.left_right.specs.Sides.{view as seen_by};
 
     ghost Value = { PublishedValue };
 
     ghost coded = { published_code };
 
-    ghost view = { λ p. record { table = p.booked; published = p.writer.desk.shown.value.table; pending = steps_of (drop p.writer.behind p.writer.log.items); list = p.writer.desk.shown.value.front.list } };
+    ghost view = { λ p. published_value p.booked p.writer };
 
-    ghost invariant = { λ p. LeadTo p.writer.desk.shown.value.table (steps_of (drop p.writer.behind p.writer.log.items)) p.booked
+    ghost invariant = { λ p.
+        LeadTo p.writer.desk.shown.value.table (steps_of (unpublished p.writer)) p.booked
         × IsSnapshot N.config p.writer.desk.shown.value.front.list p.writer.desk.shown.value.table
-        × BeginsWith (p.writer.desk.shown.value.front.list ++ steps_of (drop p.writer.behind p.writer.log.items)) p.announced.list
-        × (p.writer.desk.shown.value.front.book ≡ N.announcements) × (p.announced.book ≡ N.announcements)
+        × BeginsWith (next_list p.writer) p.announced.list
+        × (p.writer.desk.shown.value.front.book ≡ N.announcements)
+        × (p.announced.book ≡ N.announcements)
         × (seen_by p.writer.desk.place ≡ p.writer.desk.shown.value.front.list) };
 }
 
@@ -145,11 +148,12 @@ impl<R: Wait + Drop, N: Naming, D: Ledger> Published<R, N, D> {
     ) -> Result<Receipt, Denied>
         requires { proposal_of twin ≡ proposal_of step }
         ensures accepted { OnOk result (refusal self.old.table (proposal_of step) ≡ None) }
-        ensures taken { IfOk result (IsReceiptFrom self.old.table (proposal_of step) self.new.table) }
+        ensures taken { IfOk result (Leads self.old.table (proposal_of step) self.new.table) }
         ensures told { IfOk result (IsReceiptOf (proposal_of step)) }
         ensures map { OnOk result (MapAfter self.old.table (proposal_of step)) }
-        ensures pending { OnOk result (self.new.pending ≡ self.old.pending ++ proposal_of step ∷ []) }
-        ensures published { OnOk result ((self.new.published ≡ self.old.published) × (self.new.list ≡ self.old.list)) }
+        ensures steps { OnOk result (self.new.pending ≡ self.old.pending ++ proposal_of step ∷ []) }
+        ensures published { OnOk result (self.new.published ≡ self.old.published) }
+        ensures list { OnOk result (self.new.list ≡ self.old.list) }
         ensures denied { IfErr result (IsDenialOf self.old.table (proposal_of step)) }
         ensures unchanged { OnErr result (self.new ≡ self.old) }
         ensures share { CountsIn share.old share.new result }
@@ -168,12 +172,14 @@ impl<R: Wait + Drop, N: Naming, D: Ledger> Published<R, N, D> {
         }
     }
 
-    /// Publishes what is pending, and stamps the list that was published. It is refused where memory
-    /// is, and where there are `MAX_STAMPS` stamps. The stamp's place is kept before anything is
-    /// published, so that it is there when the stamp is made.
+    /// Publishes what is pending, and stamps the list that was published. Fails where memory is
+    /// refused, and where there are `MAX_STAMPS` stamps. The stamp's place is kept before anything
+    /// is published, so that it is there when the stamp is made.
     pub fn publish(&mut self) -> Result<Stamp<N>, NoMemory>
-        ensures table { OnOk result ((self.new.table ≡ self.old.table) × (self.new.published ≡ self.old.table)) }
-        ensures list { OnOk result ((self.new.list ≡ self.old.list ++ self.old.pending) × (self.new.pending ≡ [])) }
+        ensures table { OnOk result (self.new.table ≡ self.old.table) }
+        ensures published { OnOk result (self.new.published ≡ self.old.table) }
+        ensures list { OnOk result (self.new.list ≡ self.old.list ++ self.old.pending) }
+        ensures pending { OnOk result (self.new.pending ≡ []) }
         ensures stamp { IfOk result (λ stamp. stamp ≡ self.new.list) }
         ensures unchanged { OnErr result (self.new ≡ self.old) }
     {

@@ -32,8 +32,8 @@ pub struct ReadTree<R: Wait + Copy, N: Naming, D: Ledger> {
 }
 
 impl<R: Wait + Copy, N: Naming, D: Ledger> ReadTree<R, N, D> {
-    /// A tree without pairs, the workers' shares, and so many readers, 1 to `MAX_READERS`, that have
-    /// seen nothing.
+    /// Returns a tree without pairs, the workers' shares, and `readers` readers that have seen
+    /// nothing, 1 to `MAX_READERS`.
     pub fn with_readers(
         rt: R,
         machine: Global,
@@ -52,7 +52,14 @@ impl<R: Wait + Copy, N: Naming, D: Ledger> ReadTree<R, N, D> {
         ensures fine { OnOk result (MayBeRead config blanks.workers readers) }
         ensures fault { IfErr result (IsSnapFault config blanks.workers readers) }
     {
-        let (published, shares) = match Published::new(rt, machine, config, blanks, announcements, readers) {
+        let (published, shares) = match Published::new(
+            rt,
+            machine,
+            config,
+            blanks,
+            announcements,
+            readers,
+        ) {
             Ok(made) => made,
             Err(fault) => return Err(fault),
         };
@@ -75,7 +82,7 @@ impl<R: Wait + Copy, N: Naming, D: Ledger> ReadTree<R, N, D> {
         self.published.lock(&self.rt).publish()
     }
 
-    /// Gives the table out, and asks for no share, as `Booked::into_table` does. Its readers answer
+    /// Returns the table, and asks for no share, as `Booked::into_table` does. Its readers answer
     /// no more.
     pub fn into_table(self) -> Table<Global>
         ensures config { result.config ≡ N.config }
@@ -85,10 +92,10 @@ impl<R: Wait + Copy, N: Naming, D: Ledger> ReadTree<R, N, D> {
         published.into_inner().into_table()
     }
 
-    /// Gives the table out, as `Booked::close` does. Its readers answer no more. It wants all
-    /// shares: where a worker dropped its own, as by an early `?`, the answer is [`MissingShare`],
-    /// and all pairs are lost. So have each worker hand its share back beside its error, or take the
-    /// table by [`into_table`](ReadTree::into_table).
+    /// Returns the table, as `Booked::close` does. Its readers answer no more. Where a worker
+    /// dropped its share, as by an early `?`, it fails with [`MissingShare`], and all pairs are
+    /// lost. So have each worker hand its share back beside its error, or take the table by
+    /// [`into_table`](ReadTree::into_table).
     pub fn close(self, shares: Vec<Share<N, D>>) -> Result<Table<Global>, MissingShare>
         ensures closed { IfOk result (IsClosed N.config shares.items) }
         ensures all { IsOk result ↔ (length shares.items ≡ N.parts) }
@@ -99,7 +106,7 @@ impl<R: Wait + Copy, N: Naming, D: Ledger> ReadTree<R, N, D> {
     }
 }
 
-/// So many readers of what is published.
+/// Returns `count` readers of what is published.
 fn readers_of<R: Wait + Copy, N: Naming, D: Ledger>(
     machine: Global,
     published: &Published<R, N, D>,

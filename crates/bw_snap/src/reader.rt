@@ -36,7 +36,8 @@ impl<N: Naming> Model for Reader<N> {
 
     ghost view = { λ r. r.front.list };
 
-    ghost invariant = { λ r. (r.front.book ≡ N.announcements) × BeginsWith (seen_by r.inner.place) r.front.list };
+    ghost invariant = { λ r. (r.front.book ≡ N.announcements)
+        × BeginsWith (seen_by r.inner.place) r.front.list };
 }
 
 impl<N: Naming> Reader<N> {
@@ -62,8 +63,8 @@ impl<N: Naming> Reader<N> {
         }
     }
 
-    /// What the map has at the key after a list of accepted steps, which begins with all that this
-    /// reader has seen and learnt. The list is the reader's from then on.
+    /// Returns what the map has at the key after a list of accepted steps, which begins with all
+    /// that this reader has seen and learnt. The list is the reader's from then on.
     #[inline(always)]
     pub fn get(&mut self, key: Key) -> Result<Option<u64>, Closed>
         ensures seen { BeginsWith self.new self.old }
@@ -76,7 +77,7 @@ impl<N: Naming> Reader<N> {
         }
     }
 
-    /// As `get`, and how many changes of the map that list has.
+    /// Does as `get`, and returns also how many changes of the map that list has.
     #[inline(always)]
     pub fn look(&mut self, key: Key) -> Result<Look, Closed>
         ensures seen { BeginsWith self.new self.old }
@@ -92,9 +93,8 @@ impl<N: Naming> Reader<N> {
         }
     }
 
-    /// Makes the list the first pairs of the map from the key on, in the order of their keys and no
-    /// more than the limit, after such a list of steps. After a fault it is as before, and so is the
-    /// reader.
+    /// Fills `out` with the first pairs of the map from the key on, in the order of their keys and
+    /// at most `limit`, after such a list of steps. After a fault `out` and the reader are as before.
     pub fn scan(
         &mut self,
         low: Key,

@@ -24,7 +24,8 @@ impl<N: Naming> Model for Stamp<N> {
 
     ghost view = { λ s. s.front.list };
 
-    ghost invariant = { λ s. (s.front.book ≡ N.announcements) × (told_to s.inner.place ≡ s.front.list) };
+    ghost invariant = { λ s. (s.front.book ≡ N.announcements)
+        × (told_to s.inner.place ≡ s.front.list) };
 }
 
 impl<N: Naming> Stamp<N> {

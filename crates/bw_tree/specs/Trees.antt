@@ -43,9 +43,9 @@ pub record IsClosed (made : Config) (shares : List ShareValue) (table : TableVal
   pub book : shared_in table.book ≡ sum_of shares
   pub pairs : CountsPairs table (sum_of shares)
 
--- the receipt of the step that leads from the old table to the new one
-abbrev pub IsReceiptFrom : TableValue → Proposal → TableValue → Receipt → Type 0
-IsReceiptFrom old step new receipt = TakesStep old step receipt new
+-- the step leads from the old table to the new one, with this receipt
+abbrev pub Leads : TableValue → Proposal → TableValue → Receipt → Type 0
+Leads old step new receipt = TakesStep old step receipt new
 
 -- there are no workers, or too many
 abbrev pub is_bad_number : ℕ → Bool

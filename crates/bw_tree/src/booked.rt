@@ -8,7 +8,7 @@ ghost use Rattle.bw_law.specs.Laws.{MapAfter};
 ghost use Rattle.bw_law.specs.Refusals.{refusal};
 ghost use Rattle.bw_tree.specs.Shares.{no_changes, CountsIn};
 ghost use Rattle.bw_step.specs.Steps.{IsReceiptOf};
-ghost use Rattle.bw_tree.specs.Trees.{IsTree, IsClosed, IsReceiptFrom};
+ghost use Rattle.bw_tree.specs.Trees.{IsTree, IsClosed, Leads};
 ghost use Rattle.bw_tree.specs.Trees.{OpensFor, IsNewFault, MayBeMade, is_bad_number};
 
 use crate::fault::{MissingShare, NewFault};
@@ -86,7 +86,7 @@ impl<A: Allocator + Copy, I: MadeBy, D: Ledger> Booked<A, I, D> {
     #[inline(always)]
     pub fn install(&mut self, share: &mut Share<I, D>, step: Step<A>) -> Result<Receipt, Refused>
         ensures accepted { IsOk result ↔ (refusal self.old (proposal_of step) ≡ None) }
-        ensures taken { IfOk result (IsReceiptFrom self.old (proposal_of step) self.new) }
+        ensures taken { IfOk result (Leads self.old (proposal_of step) self.new) }
         ensures told { IfOk result (IsReceiptOf (proposal_of step)) }
         ensures map { OnOk result (MapAfter self.old (proposal_of step)) }
         ensures refused { IfErr result (λ why. refusal self.old (proposal_of step) ≡ Some why) }

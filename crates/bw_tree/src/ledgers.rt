@@ -116,10 +116,10 @@ struct Merged<I: Ledger, D: Ledger> {
 
 /// Merges the shares into one; returns none where there is no share.
 fn merge<I: Ledger, D: Ledger>(shares: Vec<Share<I, D>>) -> Option<Merged<I, D>>
-    ensures insertions { IfSome result (λ all. all.insertions.parts ≡ length shares.items) }
-    ensures removals { IfSome result (λ all. all.removals.parts ≡ length shares.items) }
-    ensures inserted { IfSome result (λ all. all.insertions.amount ≡ (sum_of shares.items).inserted) }
-    ensures removed { IfSome result (λ all. all.removals.amount ≡ (sum_of shares.items).removed) }
+    ensures insertions { IfSome result (λ m. m.insertions.parts ≡ length shares.items) }
+    ensures removals { IfSome result (λ m. m.removals.parts ≡ length shares.items) }
+    ensures inserted { IfSome result (λ m. m.insertions.amount ≡ (sum_of shares.items).inserted) }
+    ensures removed { IfSome result (λ m. m.removals.amount ≡ (sum_of shares.items).removed) }
     ensures some_insertions { IfSome result (λ _. length shares.items ≤ I.parts) }
     ensures some_removals { IfSome result (λ _. length shares.items ≤ D.parts) }
     ensures none { IfNone result (shares.items ≡ []) }

@@ -1,5 +1,5 @@
-//! The workers' shares of the book: amounts of two ledgers, which take no bytes. What a share counts
-//! is known to contracts alone.
+//! The workers' shares of the book: amounts of two ledgers, which take no bytes. What a share
+//! counts is known to contracts alone.
 
 ghost use Rattle.std.specs.Prelude.{◌≡◌};
 
@@ -7,8 +7,8 @@ use std::marker::Model;
 use std::sync::ledger;
 use std::sync::ledger::{Blank, Ledger};
 
-/// Two new ledgers, of insertions and of removals, with a part for each worker. The types that stand
-/// for them name one tree.
+/// Two new ledgers, of insertions and of removals, with a part for each worker. The types that
+/// stand for them name one tree.
 #[derive(Drop)]
 pub struct Blanks {
     pub(crate) workers: u32,

@@ -45,13 +45,13 @@ pub trait Shared<A: Allocator + Copy, P: Proposes> {
     /// key.
     fn look(&self, pid: Pid, key: Key) -> Option<Look>;
 
-    /// Returns a copy of the page's chain, if the page is in a row and still has the version that was
-    /// seen.
+    /// Returns a copy of the page's chain, if the page is in a row and still has the version that
+    /// was seen.
     fn copy_page(&self, alloc: A, pid: Pid, seen: Version) -> Result<Chain<A>, CopyFault>
         ensures { IfOk result IsSound };
 
-    /// Takes the step, and counts an insertion or a removal in the share. Returns the step's receipt,
-    /// or why it was denied.
+    /// Takes the step, and counts an insertion or a removal in the share. Returns the step's
+    /// receipt, or why it was denied.
     fn install(
         &self,
         share: &mut Share<Self::Insertions, Self::Removals>,

@@ -21,8 +21,8 @@ invariant_of-self-in-Ok-install g c =
     let run = leads_one_more v.table c.self.inside.booked c.install.new.self (steps_of notes) step c.self.invariant.0 accepted taken.leads in
     rw (c.append.ensures.desk, pending) (run, c.self.invariant.1, begins_one_more v.front.list (steps_of notes) step c.self.inside.announced.list c.self.invariant.2, c.self.invariant.3, c.self.invariant.4, c.self.invariant.5)
 
-pub returns-in-Ok-install-clause-pending : goal.returns-in-Ok-install-clause-pending
-returns-in-Ok-install-clause-pending g c =
+pub returns-in-Ok-install-clause-steps : goal.returns-in-Ok-install-clause-steps
+returns-in-Ok-install-clause-steps g c =
     let w = c.self.inside.writer in
     let notes = drop w.behind w.log.items in
     let step : Proposal = proposal_of c.args.step in

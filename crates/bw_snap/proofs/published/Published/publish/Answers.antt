@@ -58,16 +58,18 @@ invariant_of-self-2 g c =
     rw (told.desk, told.log.0, told.log.1, told.seen, table, front, end.2, end.3, c.announce.ensures)
     (refl, leads_on (new_table g.N.MadeBy.config) v.table c.self.inside.booked v.front.list (steps_of notes) c.self.invariant.1 c.self.invariant.0, ([], refl), refl, refl, ap (λ p. p.1.list) landed ∙ ap (λ (f : Announced). f.list) is)
 
-pub returns-clause-table : goal.returns-clause-table
-returns-clause-table g c =
+pub returns-clause-published : goal.returns-clause-published
+returns-clause-published g c =
     let w = c.self.inside.writer in
     let notes = drop w.behind w.log.items in
     let v : Shown = w.desk.shown.value in
     let landed : fold noted (v.table, v.front) (notes ++ Mark c.again.result ∷ []) ≡ (c.self.inside.booked, c.again.result) = marked v.table c.self.inside.booked v.front c.again.result notes c.self.invariant.0 in
     let end = rw (c.append.ensures.desk, c.in-Ok.ensures.pending) at c.in-Ok-advance.ensures.ok in
     let table : c.advance.new.writer.desk.shown.value.table ≡ c.self.inside.booked = end.0 ∙ ap (λ p. p.0) landed in
-    let was = ap (λ (h : PublishedValue). h.table) c.self.view_is in
-    (was, ap (λ (shown : Part Shown). shown.value.table) c.surely_told-inner.ensures.desk ∙ (table ∙ was))
+    ap (λ (shown : Part Shown). shown.value.table) c.surely_told-inner.ensures.desk ∙ (table ∙ ap (λ (h : PublishedValue). h.table) c.self.view_is)
+
+pub returns-clause-table : goal.returns-clause-table
+returns-clause-table g c = ap (λ (h : PublishedValue). h.table) c.self.view_is
 
 pub returns-clause-list : goal.returns-clause-list
 returns-clause-list g c =
@@ -80,7 +82,13 @@ returns-clause-list g c =
     let front : c.advance.new.writer.desk.shown.value.front ≡ record { list = v.front.list ++ steps_of notes; book = g.N.Naming.announcements } = end.1 ∙ (ap (λ p. p.1) landed ∙ is) in
     let lists : v.front.list ++ steps_of notes ≡ c.args.self.now.list ++ c.args.self.now.pending = ap (λ (h : PublishedValue). h.list ++ h.pending) c.self.view_is in
     let told = c.surely_told-inner.ensures in
-    rw (told.desk, told.log.0, told.log.1) (ap (λ (f : Announced). f.list) front ∙ lists, ap steps_of end.2)
+    rw (told.desk) (ap (λ (f : Announced). f.list) front ∙ lists)
+
+pub returns-clause-pending : goal.returns-clause-pending
+returns-clause-pending g c =
+    let end = c.in-Ok-advance.ensures.ok in
+    let told = c.surely_told-inner.ensures in
+    rw (told.log.0, told.log.1) (ap steps_of end.2)
 
 pub invariant_of-self : goal.invariant_of-self
 invariant_of-self g c =

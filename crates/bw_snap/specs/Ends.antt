@@ -1,0 +1,54 @@
+-- What a clause reads of the writing end of the published pair.
+use Rattle.std.specs.Prelude.{◌≡◌, Bool, List, [], ◌∷◌, ◌++◌, drop, fold, Result, MatchBool, MatchResult}
+use Rattle.left_right.specs.Sides.{view}
+use Rattle.left_right.specs.declared.Absorb.{Ghosts}
+use Rattle.left_right.specs.declared.writer.Writer.{Writer}
+use Rattle.logbook.specs.Pages.{Book}
+use Rattle.bw_keys.specs.declared.config.Config.{Config}
+use Rattle.bw_step.specs.Proposals.{Proposal}
+use Rattle.bw_law.specs.Tables.{TableValue}
+use Rattle.bw_snap.specs.declared.note.Note.{Note}
+use Rattle.bw_snap.specs.declared.shown.Shown.{Shown}
+use Rattle.bw_snap.specs.Fronts.{Announced}
+use Rattle.bw_snap.specs.Notes.{noted, steps_of}
+use Rattle.bw_snap.specs.Trees.{PublishedValue}
+use Rattle.bw_snap.specs.Views.{Land}
+
+-- the front became this one where the test holds, and stayed as it was where not
+abbrev pub Becomes : Bool → Announced → Announced → Announced → Type 0
+Becomes test old new front = MatchBool test (new ≡ front) (new ≡ old)
+
+-- the note was put behind the others, or nothing was
+abbrev pub Appends : {E : Type 0} → Note → List Note → List Note → Result (Unit {0}) E → Type 0
+Appends note old new result = MatchResult result (λ _. new ≡ old ++ note ∷ []) (λ _. new ≡ old)
+
+module _ {P A S : Type 0} {g : Ghosts Shown Note S} where
+  -- the notes that the published table hasn't absorbed
+  abbrev pub unpublished : Writer Shown Note (List Proposal) P A S g → List Note
+  unpublished w = drop w.behind w.log.items
+
+  -- the list that the next publication shows: the published one, and then the steps that are pending
+  abbrev pub next_list : Writer Shown Note (List Proposal) P A S g → List Proposal
+  next_list w = w.desk.shown.value.front.list ++ steps_of (unpublished w)
+
+  -- the front of that list, once it is announced here
+  abbrev pub next_front : Book → Writer Shown Note (List Proposal) P A S g → Announced
+  next_front book w = record { list = next_list w; book = book }
+
+  -- the published pair shows what the unpublished notes lead to, and the writing end has seen it
+  abbrev pub Publishes : Writer Shown Note (List Proposal) P A S g → Writer Shown Note (List Proposal) P A S g → Type 0
+  Publishes old new =
+      let end = fold noted (old.desk.shown.value.table, old.desk.shown.value.front) (unpublished old) in
+      (new.desk.shown.value.table ≡ end.0) × (new.desk.shown.value.front ≡ end.1) × (unpublished new ≡ []) × (view new.desk.place ≡ end.1.list)
+
+  -- the published pair and the notes are as they were, and the writing end has seen no more
+  abbrev pub IsUnpublished : Writer Shown Note (List Proposal) P A S g → Writer Shown Note (List Proposal) P A S g → Type 0
+  IsUnpublished old new = (new.desk.shown.value ≡ old.desk.shown.value) × (unpublished new ≡ unpublished old) × (view new.desk.place ≡ view old.desk.place)
+
+  -- the unpublished notes lead to a table that is where its list leads
+  abbrev pub MayPublish : Config → Book → Writer Shown Note (List Proposal) P A S g → Type 0
+  MayPublish config book w = Land config book w.desk.shown.value.table w.desk.shown.value.front (unpublished w)
+
+  -- a table beside the writing end that publishes it
+  abbrev pub published_value : TableValue → Writer Shown Note (List Proposal) P A S g → PublishedValue
+  published_value table w = record { table = table; published = w.desk.shown.value.table; pending = steps_of (unpublished w); list = w.desk.shown.value.front.list }
