@@ -1,9 +1,8 @@
 pub mod Receipts
 pub mod Plans
 pub mod Merges
-pub mod Gatherings
+pub mod Answering
 pub mod Verdicts
 pub mod Numbers
 pub mod Runs
 pub mod Readers
-pub mod Crossing

@@ -14,10 +14,6 @@ use Rattle.bw_run.specs.Faults.{EndsBadly, IsRunFault, IsVerdictOn, MayRun, Stop
 pub same_length : {X Y Z : Type 0} → (f : X → Z) (g : Y → Z) (xs : List X) (ys : List Y) → map f xs ≡ map g ys → length xs ≡ length ys
 same_length f g xs ys same = sym (length-map xs f) ∙ (ap length same ∙ length-map ys g)
 
--- one more of each, which have the same
-pub same_more : {X Y Z : Type 0} → (f : X → Z) (g : Y → Z) (xs more : List X) (ys : List Y) (x : X) (y : Y) → more ≡ xs ++ x ∷ [] → map f xs ≡ map g ys → f x ≡ g y → map f more ≡ map g (ys ++ y ∷ [])
-same_more f g xs more ys x y grown same is = ap (map f) grown ∙ (map-append f xs (x ∷ []) ∙ ((λ j. same j ++ is j ∷ []) ∙ sym (map-append g ys (y ∷ []))))
-
 -- as many workers are as many, whatever their number is called
 pub stops_same : (may_close : Bool) (n workers : ℕ) (rows : List Row) (fault : RunFault) → n ≡ workers → StopsWithin may_close n rows fault → StopsWithin may_close workers rows fault
 stops_same may_close n workers rows fault many stops = subst (λ (k : ℕ). StopsWithin may_close k rows fault) many stops

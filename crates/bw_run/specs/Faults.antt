@@ -8,6 +8,8 @@ use Rattle.bw_audit.specs.declared.verdict.Verdict.TheVariants.{No}
 use Rattle.bw_tree.specs.Trees.{MayBeMade, is_bad_number}
 use Rattle.bw_run.specs.declared.fault.RunFault.{RunFault}
 use Rattle.bw_run.specs.declared.fault.RunFault.TheVariants.{Config as BadConfig, Workers, Readers, NoReader, Threads, Memory, Stopped, Audit}
+use Rattle.nifforan_shared.specs.declared.fault.CrewFault.{CrewFault}
+use Rattle.nifforan_shared.specs.declared.fault.CrewFault.TheVariants.{NoMemory, NoThread}
 use Rattle.bw_texts.specs.declared.trace.row.Row.{Row}
 use Rattle.bw_run.specs.Rows.{IsRowOf}
 
@@ -57,3 +59,8 @@ abbrev pub IsVerdictOn : List (List Receipt) → List (ℕ × ℕ) → RunFault 
 IsVerdictOn trails pairs Memory = Unit {0}
 IsVerdictOn trails pairs (Audit worker receipt) = verdict_of trails pairs ≡ No worker receipt
 IsVerdictOn trails pairs _ = ⊥
+
+-- what a fault of the crew is to the run
+abbrev pub run_fault_of : CrewFault → RunFault
+run_fault_of NoMemory = Memory
+run_fault_of NoThread = Threads

@@ -1,5 +1,6 @@
+pub mod Stops
 pub mod Reads
 pub mod Rows
-pub mod Counts
+pub mod Answers
 pub mod Faults
 pub mod Runs

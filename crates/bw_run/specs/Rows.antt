@@ -1,11 +1,8 @@
 -- A trace as its workers see it.
 use Rattle.std.specs.Prelude.{◌≡◌, ℕ, ◌-◌, ◌<◌, ◌≤◌, ◌==◌, if◌then◌else◌, List, [], ◌∷◌, ◌++◌, length, slice_index_or}
-use Rattle.bw_step.specs.declared.receipt.Receipt.{Receipt}
 use Rattle.bw_procedures.specs.declared.reply.Reply.{Reply}
 use Rattle.bw_procedures.specs.declared.act.Act.{Act}
 use Rattle.bw_texts.specs.declared.trace.row.Row.{Row}
-use Rattle.bw_step.specs.Tellings.{told_in}
-use Rattle.bw_procedures.specs.Told.{GoWith}
 
 -- the acts of a worker's rows, in their order
 abbrev pub acts_of : ℕ → List Row → List Act
@@ -39,11 +36,6 @@ ArePlanned plan rows = (worker : ℕ) → worker < length plan → slice_index_o
 -- each worker has as many replies as rows
 abbrev pub AreFull : List Row → List (List Reply) → Type 0
 AreFull rows columns = (worker : ℕ) → worker < length columns → length (slice_index_or columns worker []) ≡ length (acts_of worker rows)
-
--- each worker's trail tells what goes with its rows and its replies, of which there are as many
-pub record AreAnswered (rows : List Row) (columns : List (List Reply)) (trails : List (List Receipt)) : Type 0 where
-  pub full : AreFull rows columns
-  pub told : (worker : ℕ) → worker < length columns → GoWith (acts_of worker rows) (slice_index_or columns worker []) (told_in (slice_index_or trails worker []))
 
 -- the replies stand in the order of the rows, and each worker's own are those of its list
 pub record IsMerged (rows : List Row) (columns : List (List Reply)) (merged : List Reply) : Type 0 where

@@ -1,22 +1,30 @@
 -- What a run that came to its end leaves.
 use Rattle.std.specs.Prelude.{◌≡◌, ℕ, ◌<◌, List, [], length, slice_index_or}
-use Rattle.bw_step.specs.declared.receipt.Receipt.{Receipt}
-use Rattle.bw_law.specs.Tables.{TableValue}
-use Rattle.bw_table.specs.Views.{ArePairsOf}
-use Rattle.bw_tree.specs.Trees.{IsTree}
-use Rattle.bw_audit.specs.Legal.{IsLegal}
-use Rattle.bw_procedures.specs.declared.reply.Reply.{Reply}
-use Rattle.bw_texts.specs.declared.trace.row.Row.{Row}
-use Rattle.bw_run.specs.Counts.{CountsChanges}
-use Rattle.bw_run.specs.Rows.{acts_of, replies_to}
 use Rattle.bw_step.specs.Tellings.{told_in}
+use Rattle.bw_step.specs.Trails.{lists_of}
+use Rattle.bw_table.specs.Views.{ArePairsOf}
+use Rattle.bw_tree.specs.Trees.{IsTree, CountsPairs}
+use Rattle.bw_audit.specs.Legal.{IsLegal}
 use Rattle.bw_procedures.specs.Told.{GoWith}
+use Rattle.bw_texts.specs.declared.trace.row.Row.{Row}
+use Rattle.nifforan_shared.specs.Workers.{changes_in}
+use Rattle.bw_run.specs.declared.ending.Finished.{Finished}
+use Rattle.bw_run.specs.Rows.{acts_of, replies_to}
+
+-- each worker's trail tells what goes with its rows and the replies to them
+abbrev pub TellsItsReplies : ℕ → List Row → Finished → Type 0
+TellsItsReplies workers rows finished =
+    (worker : ℕ) → worker < workers → GoWith (acts_of worker rows) (replies_to worker rows finished.replies.items) (told_in (slice_index_or (lists_of finished.trails.items) worker []))
+
+-- the trails are a legal history with the pairs that the table has
+abbrev pub IsLegalRun : Finished → Type 0
+IsLegalRun finished = (pairs : List (ℕ × ℕ)) → ArePairsOf finished.table pairs → IsLegal (lists_of finished.trails.items) pairs
 
 -- the replies and the trails are of the rows, and the trails explain the table
-pub record IsRunOf (workers : ℕ) (rows : List Row) (table : TableValue) (replies : List Reply) (trails : List (List Receipt)) : Type 0 where
-  pub replied : length replies ≡ length rows
-  pub trailed : length trails ≡ workers
-  pub told : (worker : ℕ) → worker < workers → GoWith (acts_of worker rows) (replies_to worker rows replies) (told_in (slice_index_or trails worker []))
-  pub tree : IsTree table
-  pub legal : (pairs : List (ℕ × ℕ)) → ArePairsOf table pairs → IsLegal trails pairs
-  pub count : (pairs : List (ℕ × ℕ)) → ArePairsOf table pairs → CountsChanges trails pairs
+pub record IsRunOf (workers : ℕ) (rows : List Row) (finished : Finished) : Type 0 where
+  pub replied : length finished.replies.items ≡ length rows
+  pub trailed : length finished.trails.items ≡ workers
+  pub told : TellsItsReplies workers rows finished
+  pub tree : IsTree finished.table
+  pub legal : IsLegalRun finished
+  pub count : CountsPairs finished.table (changes_in (lists_of finished.trails.items))

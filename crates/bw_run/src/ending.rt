@@ -1,15 +1,15 @@
 //! The end of a run.
 
-ghost use Rattle.std.specs.Prelude.{◌≡◌, ◌<◌, IfOk, IfErr, length, map, sum_by};
+ghost use Rattle.std.specs.Prelude.{◌≡◌, ◌<◌, IfOk, IfErr, length};
 ghost use Rattle.std.specs.List.{AllByRecursion};
 ghost use Rattle.bw_step.specs.Trails.{lists_of};
-ghost use Rattle.bw_tree.specs.Shares.{share_of};
 ghost use Rattle.bw_tree.specs.Trees.{IsTree, CountsPairs};
-ghost use Rattle.bw_run.specs.Counts.{insertions, removals};
+ghost use Rattle.nifforan_shared.specs.Workers.{changes_in};
+ghost use Rattle.bw_run.specs.Answers.{AreAnswered, columns_of};
 ghost use Rattle.bw_run.specs.Faults.{EndsBadly};
-ghost use Rattle.bw_run.specs.Rows.{AreAnswered};
 ghost use Rattle.bw_run.specs.Runs.{IsRunOf};
 
+use crate::answers::Answers;
 use crate::fault::RunFault;
 use crate::judgement::judge;
 use crate::merging::merge;
@@ -29,26 +29,26 @@ pub struct Finished {
     pub trails: Vec<Vec<Receipt>>,
 }
 
-/// The end of a run of which this table, and each worker's replies and trail, are left: if its
-/// history is legal, with the replies in the order of the rows.
+/// Ends a run of which this table, and each worker's answers and trail, are left: audits its
+/// history, and brings the replies into the order of the rows. Fails where the history isn't legal.
 pub(crate) fn finish(
     machine: Global,
     rows: &[Row],
     table: Table<Global>,
-    replies: Vec<Vec<Reply>>,
+    answers: Vec<Answers>,
     trails: Vec<Vec<Receipt>>,
 ) -> Result<Finished, RunFault>
-    requires workers { AllByRecursion (λ row. row.worker < length replies.items) rows.now }
-    requires trails { length trails.items ≡ length replies.items }
-    requires answered { AreAnswered rows.now (map (λ column. column.items) replies.items) (lists_of trails.items) }
+    requires workers { AllByRecursion (λ row. row.worker < length answers.items) rows.now }
+    requires trails { length trails.items ≡ length answers.items }
+    requires answered { AreAnswered rows.now (columns_of answers.items) (lists_of trails.items) }
     requires tree { IsTree table }
-    requires counted { CountsPairs table (share_of (sum_by insertions (lists_of trails.items)) (sum_by removals (lists_of trails.items))) }
-    ensures finished { IfOk result (λ finished. IsRunOf (length replies.items) rows.now finished.table finished.replies.items (lists_of finished.trails.items)) }
+    requires counted { CountsPairs table (changes_in (lists_of trails.items)) }
+    ensures finished { IfOk result (IsRunOf (length answers.items) rows.now) }
     ensures table { IfOk result (λ finished. finished.table ≡ table) }
-    ensures fault { IfErr result (EndsBadly (length replies.items)) }
+    ensures fault { IfErr result (EndsBadly (length answers.items)) }
 {
     judge(machine, &table, &trails)?;
-    let replies = merge(machine, rows, replies)?;
+    let replies = merge(machine, rows, answers)?;
     Ok(Finished {
         table,
         replies,

@@ -5,8 +5,8 @@ ghost use Rattle.bw_run.specs.declared.fault.RunFault.TheVariants as run_fault;
 
 use bw_delta::NoMemory;
 use bw_keys::BadConfig;
-use bw_work::Fault;
-use std::alloc::AllocFailed;
+use bw_procedures::Fault;
+use nifforan_shared::CrewFault;
 use thiserror::Error;
 
 /// Why a run has no end to show. The first three are found before any worker starts, in this order.
@@ -46,10 +46,15 @@ impl From<NoMemory> for RunFault {
     }
 }
 
-impl<T: Drop> From<AllocFailed<T>> for RunFault {
-    ghost from_gives = { λ _ fault. fault ≡ run_fault.Memory };
+impl From<CrewFault> for RunFault {
+    ghost use Rattle.bw_run.specs.Faults.{run_fault_of};
 
-    fn from(_: AllocFailed<T>) -> RunFault {
-        RunFault::Memory
+    ghost from_gives = { λ crew fault. fault ≡ run_fault_of crew };
+
+    fn from(fault: CrewFault) -> RunFault {
+        match fault {
+            CrewFault::NoMemory => RunFault::Memory,
+            CrewFault::NoThread => RunFault::Threads,
+        }
     }
 }

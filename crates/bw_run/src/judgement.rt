@@ -13,7 +13,7 @@ use bw_step::Receipt;
 use bw_table::Table;
 use std::alloc::Global;
 
-/// Whether the trails with the table's pairs are a legal history.
+/// Audits the trails with the table's pairs. Fails where they aren't a legal history.
 #[tactic(auto, using(crate::proofs::Verdicts::same_pairs))]
 pub(crate) fn judge(
     machine: Global,
@@ -21,8 +21,10 @@ pub(crate) fn judge(
     trails: &[Vec<Receipt>],
 ) -> Result<(), RunFault>
     requires { IsTree table.now }
-    ensures legal { OnOk result ((pairs : List (ℕ × ℕ)) → ArePairsOf table.now pairs → IsLegal (lists_of trails.now) pairs) }
-    ensures fault { IfErr result (λ fault. (pairs : List (ℕ × ℕ)) → ArePairsOf table.now pairs → IsVerdictOn (lists_of trails.now) pairs fault) }
+    ensures legal { OnOk result ((pairs : List (ℕ × ℕ)) → ArePairsOf table.now pairs
+        → IsLegal (lists_of trails.now) pairs) }
+    ensures fault { IfErr result (λ fault. (pairs : List (ℕ × ℕ)) → ArePairsOf table.now pairs
+        → IsVerdictOn (lists_of trails.now) pairs fault) }
 {
     let pairs = table.pairs(machine)?;
     match audit(machine, trails, &pairs) {

@@ -3,18 +3,17 @@
 #![tactic(auto)]
 
 mod acts;
-mod crew;
+mod answers;
 mod ending;
 mod fault;
-mod gathering;
-mod job;
 mod judgement;
+mod kits;
+mod looks;
 mod merging;
 mod plan;
 mod rows;
-mod run_tree;
 mod runner;
-mod stop;
+mod stopping;
 
 pub use bw_procedures::{Act, Reply, do_act};
 pub use bw_texts::{Row, is_trace_for};

@@ -9,7 +9,7 @@ use bw_procedures::Act;
 use bw_texts::Row;
 use std::alloc::Global;
 
-/// Each worker's acts, in the order of its rows.
+/// Returns each worker's acts, in the order of its rows.
 pub(crate) fn share_out(
     machine: Global,
     workers: u32,
@@ -17,7 +17,8 @@ pub(crate) fn share_out(
 ) -> Result<Vec<Vec<Act>>, NoMemory>
     requires { AllByRecursion (λ row. row.worker < workers) rows.now }
     ensures count { IfOk result (λ plan. length plan.items ≡ workers) }
-    ensures planned { IfOk result (λ plan. ArePlanned (map (λ acts. acts.items) plan.items) rows.now) }
+    ensures planned { IfOk result (λ plan.
+        ArePlanned (map (λ acts. acts.items) plan.items) rows.now) }
 {
     let mut plan = no_acts(machine, workers)?;
     for row in rows {
@@ -26,17 +27,19 @@ pub(crate) fn share_out(
     Ok(plan)
 }
 
-/// Puts the row's act behind the other acts of its worker.
+/// Appends the row's act to those of its worker.
 fn add_act(plan: &mut Vec<Vec<Act>>, row: Row) -> Result<(), NoMemory>
     requires { row.worker < length plan.old.items }
     ensures count { length plan.new.items ≡ length plan.old.items }
-    ensures added { OnOk result (AddsAct (map (λ acts. acts.items) plan.old.items) row (map (λ acts. acts.items) plan.new.items)) }
+    ensures added { OnOk result
+        (AddsAct (map (λ acts. acts.items) plan.old.items) row
+        (map (λ acts. acts.items) plan.new.items)) }
 {
     plan[row.worker as usize].push(row.act)?;
     Ok(())
 }
 
-/// A list without acts for each worker.
+/// Returns an empty list for each worker.
 fn no_acts(machine: Global, workers: u32) -> Result<Vec<Vec<Act>>, NoMemory>
     ensures { IfOk result (λ plan. map (λ acts. acts.items) plan.items ≡ replicate workers []) }
 {

@@ -1,58 +1,86 @@
-//! The rows of a trace, done on a tree.
+//! The rows of a trace, done by a crew.
 
-ghost use Rattle.std.specs.Prelude.{◌≡◌, ◌<◌, ◌^◌, IfOk, IfErr, All, length, map, sum_by};
+ghost use Rattle.std.specs.Prelude.{◌≡◌, ◌<◌, ◌≤◌, IfOk, IfErr, All, length};
 ghost use Rattle.std.specs.List.{AllByRecursion};
 ghost use Rattle.bw_step.specs.Trails.{lists_of};
-ghost use Rattle.bw_tree.specs.Shares.{share_of, no_changes, sum_of};
-ghost use Rattle.bw_run.specs.Counts.{insertions, removals};
+ghost use Rattle.bw_tree.specs.Shares.{no_changes};
 ghost use Rattle.bw_run.specs.Faults.{StopsWithin};
-ghost use Rattle.bw_run.specs.Rows.{AreAnswered};
+ghost use Rattle.bw_run.specs.Answers.{AreAnswered, columns_of};
 
-use crate::crew::work_all;
+use crate::acts::do_acts;
+use crate::answers::Answers;
 use crate::fault::RunFault;
-use crate::gathering::{Gathered, gather};
-use crate::job::jobs_of;
-use crate::plan::share_out;
-use crate::run_tree::RunTree;
+use crate::kits::{Kit, kits_for};
+use crate::looks::Looks;
+use crate::stopping::check_stops;
+use bw_step::Step;
 use bw_texts::Row;
-use bw_tree::Share;
+use bw_tree::{Share, Shared};
 use bw_work::Gate;
+use nifforan_shared::{Gathered, Notes, Task, work_all};
 use std::alloc::Global;
 use std::sync::Wait;
 use std::sync::ledger::Ledger;
 use std::thread::Threads;
 
-/// Does the rows on the tree by a worker for each share, and gathers what they bring back. The first
-/// readers are the first workers'.
+/// The rows of a trace as a crew's task: each worker does its own.
+#[derive(Drop)]
+struct Rows<'r> {
+    rows: &'r [Row],
+}
+
+impl<'r, L: Looks + Drop> Task<Kit<L>> for Rows<'r> {
+    ghost use Rattle.std.specs.Prelude.{◌≡◌};
+    ghost use Rattle.bw_run.specs.Rows.{acts_of};
+    ghost use Rattle.bw_run.specs.Answers.{AreAnswersTo};
+
+    type Output = Answers;
+
+    ghost given = { λ task worker kit. kit.acts.items ≡ acts_of worker task.rows.now };
+
+    ghost told = { λ task worker answers trail.
+        AreAnswersTo L.may_close (acts_of worker task.rows.now) answers trail };
+
+    fn run<W: Notes>(&self, _worker: u32, hand: &mut W, kit: Kit<L>) -> Answers {
+        let Kit {
+            acts,
+            mut replies,
+            mut reader,
+        } = kit;
+        let stop = do_acts(hand, &mut reader, &acts, &mut replies).err();
+        Answers { replies, stop }
+    }
+}
+
+/// Does the rows on the tree by a worker for each share, and gathers what they bring back. The
+/// first readers are the first workers'. Where some of the workers stopped, the fault is that of
+/// the least number.
 pub(crate) fn do_rows<
     I: Ledger + Send + Sync,
     D: Ledger + Send + Sync,
-    L: Drop + Send,
-    C: Copy + Send,
-    T: RunTree<Insertions = I, Removals = D, Reader = L, Closed = C> + Sync,
-    R: Threads + Wait + Sync + Send + Copy,
+    L: Looks + Drop + Send,
+    T: Shared<Global, Step<Global>, Insertions = I, Removals = D> + Sync,
+    R: Threads + Wait + Sync,
     G: Gate + Sync,
 >(
-    rt: R,
+    rt: &R,
     machine: Global,
     tree: &T,
     shares: Vec<Share<I, D>>,
     readers: Vec<L>,
     rows: &[Row],
     gate: &G,
-) -> Result<Gathered<I, D>, RunFault>
-    requires few { length shares.items < 2 ^ 32 }
+) -> Result<Gathered<I, D, Answers>, RunFault>
+    requires few { length shares.items ≤ 64 }
     requires new { All (λ share. share ≡ no_changes) shares.items }
     requires workers { AllByRecursion (λ row. row.worker < length shares.items) rows.now }
-    ensures shares { IfOk result (λ gathered. length gathered.shares.items ≡ length shares.items) }
-    ensures replies { IfOk result (λ gathered. length gathered.replies.items ≡ length shares.items) }
-    ensures trails { IfOk result (λ gathered. length gathered.trails.items ≡ length shares.items) }
-    ensures answered { IfOk result (λ gathered. AreAnswered rows.now (map (λ column. column.items) gathered.replies.items) (lists_of gathered.trails.items)) }
-    ensures sums { IfOk result (λ gathered. sum_of gathered.shares.items ≡ share_of (sum_by insertions (lists_of gathered.trails.items)) (sum_by removals (lists_of gathered.trails.items))) }
-    ensures fault { IfErr result (StopsWithin T.may_close (length shares.items) rows.now) }
+    ensures count { IfOk result (λ all. length all.shares.items ≡ length shares.items) }
+    ensures answered { IfOk result (λ all.
+        AreAnswered rows.now (columns_of all.outputs.items) (lists_of all.trails.items)) }
+    ensures fault { IfErr result (StopsWithin L.may_close (length shares.items) rows.now) }
 {
-    let plan = share_out(machine, shares.len() as u32, rows)?;
-    let jobs = jobs_of(machine, plan, shares, readers)?;
-    let all = work_all(rt, machine, tree, gate, jobs)?;
-    gather::<T>(machine, rows, all)
+    let kits = kits_for(machine, shares.len() as u32, rows, readers)?;
+    let all = work_all(rt, machine, tree, gate, &Rows { rows }, shares, kits)?;
+    check_stops::<L>(rows, &all.outputs)?;
+    Ok(all)
 }

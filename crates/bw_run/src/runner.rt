@@ -1,41 +1,37 @@
 //! Runs of a trace by worker threads.
 
-ghost use Rattle.std.specs.Prelude.{◌≡◌, ◌≤◌, ◌<◌, ℕ, [], List, IsOk, IfOk, IfErr, OnOk, length, slice_index_or};
+ghost use Rattle.std.specs.Prelude.{◌≡◌, ◌<◌, [], IsOk, IfOk, IfErr, OnOk, length};
 ghost use Rattle.std.specs.List.{AllByRecursion};
-ghost use Rattle.bw_step.specs.Tellings.{told_in};
 ghost use Rattle.bw_step.specs.Trails.{lists_of};
-ghost use Rattle.bw_table.specs.Views.{ArePairsOf};
 ghost use Rattle.bw_tree.specs.Shares.{Opens};
-ghost use Rattle.bw_tree.specs.Trees.{IsTree, MayBeMade};
-ghost use Rattle.bw_audit.specs.Legal.{IsLegal};
-ghost use Rattle.bw_procedures.specs.Told.{GoWith};
-ghost use Rattle.bw_run.specs.Counts.{CountsChanges};
+ghost use Rattle.bw_tree.specs.Trees.{IsTree, CountsPairs, MayBeMade};
+ghost use Rattle.nifforan_shared.specs.Workers.{changes_in};
 ghost use Rattle.bw_run.specs.Faults.{IsRunFault, MayRun};
-ghost use Rattle.bw_run.specs.Rows.{acts_of, replies_to};
-ghost use Rattle.bw_run.specs.Runs.{IsRunOf};
+ghost use Rattle.bw_run.specs.Runs.{IsRunOf, IsLegalRun, TellsItsReplies};
 
 use crate::ending::{Finished, finish};
 use crate::fault::RunFault;
-use crate::gathering::Gathered;
 use crate::rows::do_rows;
 use bw_keys::{Config, MAX_WORKERS};
 use bw_snap::{BlankBook, MAX_READERS, Naming, ReadTree, SnapFault};
 use bw_texts::Row;
 use bw_tree::{Blanks, MadeBy, Tree};
 use bw_work::Gate;
+use nifforan_shared::{Gathered, readings_of};
 use std::alloc::Global;
+use std::convert::Infallible;
 use std::marker::Brand;
 use std::sync::Wait;
 use std::sync::ledger::Ledger;
 use std::thread::Threads;
 
-/// Runs a trace on a new table: so many workers, 1 to `MAX_WORKERS`, each in a thread of its own, do
-/// their rows in the order of the trace, side by side on one tree, and call the gate. Then the trails
-/// of their receipts are audited with the pairs that the table has.
+/// Runs a trace on a new table: `workers` workers, 1 to `MAX_WORKERS`, each in a thread of its own,
+/// do their rows in the order of the trace, side by side on one tree, and call the gate. Then the
+/// trails of their receipts are audited with the pairs that the table has.
 ///
-/// Each of the first `readers` workers, which are at most all of them and at most `MAX_READERS`, has
-/// a reader: at a row that gets a key it publishes what was changed, lets its reader learn of that,
-/// and answers what the reader finds, without the lock. With no readers nothing is published.
+/// Each of the first `readers` workers, which are at most all of them and at most `MAX_READERS`,
+/// has a reader: at a row that gets a key it publishes what was changed, lets its reader learn of
+/// that, and replies what the reader finds, without the lock. With no readers nothing is published.
 ///
 /// Where a worker gives up a row, it does no more, and the others do all of theirs.
 pub fn run<R: Threads + Wait + Sync + Send + Copy, G: Gate + Sync>(
@@ -50,11 +46,12 @@ pub fn run<R: Threads + Wait + Sync + Send + Copy, G: Gate + Sync>(
     requires { AllByRecursion (λ row. row.worker < workers) rows.now }
     ensures replies { IfOk result (λ finished. length finished.replies.items ≡ length rows.now) }
     ensures trails { IfOk result (λ finished. length finished.trails.items ≡ workers) }
-    ensures told { IfOk result (λ finished. (worker : ℕ) → worker < workers → GoWith (acts_of worker rows.now) (replies_to worker rows.now finished.replies.items) (told_in (slice_index_or (lists_of finished.trails.items) worker []))) }
+    ensures told { IfOk result (TellsItsReplies workers rows.now) }
     ensures tree { IfOk result (λ finished. IsTree finished.table) }
     ensures config { IfOk result (λ finished. finished.table.config ≡ config) }
-    ensures legal { IfOk result (λ finished. (pairs : List (ℕ × ℕ)) → ArePairsOf finished.table pairs → IsLegal (lists_of finished.trails.items) pairs) }
-    ensures count { IfOk result (λ finished. (pairs : List (ℕ × ℕ)) → ArePairsOf finished.table pairs → CountsChanges (lists_of finished.trails.items) pairs) }
+    ensures legal { IfOk result IsLegalRun }
+    ensures count { IfOk result (λ finished.
+        CountsPairs finished.table (changes_in (lists_of finished.trails.items))) }
     ensures fine { IsOk result → MayRun config workers readers }
     ensures fault { IfErr result (IsRunFault config workers readers rows.now) }
 {
@@ -75,7 +72,7 @@ pub fn run<R: Threads + Wait + Sync + Send + Copy, G: Gate + Sync>(
     )
 }
 
-/// Answers the first fault that is there before any worker starts, want of memory apart.
+/// Returns the first fault that is there before any worker starts, want of memory apart.
 fn check(config: Config, workers: u32, readers: u32) -> Result<(), RunFault>
     ensures fine { OnOk result (MayRun config workers readers) }
     ensures fault { IfErr result (IsRunFault config workers readers []) }
@@ -92,7 +89,7 @@ fn check(config: Config, workers: u32, readers: u32) -> Result<(), RunFault>
     Ok(())
 }
 
-/// A run over a tree of which all reads take the lock, with these blank ledgers.
+/// Runs the rows on a tree of which all reads take the lock, with these blank ledgers.
 fn run_locked<
     I: MadeBy + Send + Sync,
     D: Ledger + Send + Sync,
@@ -111,7 +108,7 @@ fn run_locked<
     requires config { I.config ≡ config }
     requires made { MayBeMade config blanks.workers }
     requires workers { AllByRecursion (λ row. row.worker < blanks.workers) rows.now }
-    ensures finished { IfOk result (λ finished. IsRunOf blanks.workers rows.now finished.table finished.replies.items (lists_of finished.trails.items)) }
+    ensures finished { IfOk result (IsRunOf blanks.workers rows.now) }
     ensures config { IfOk result (λ finished. finished.table.config ≡ config) }
     ensures fault { IfErr result (IsRunFault config blanks.workers 0 rows.now) }
 {
@@ -119,18 +116,19 @@ fn run_locked<
     else {
         return Err(RunFault::Memory);
     };
+    let readers = Vec::<Infallible>::new(machine);
     let Gathered {
         shares,
-        replies,
         trails,
-    } = do_rows(rt, machine, &tree, shares, Vec::new(machine), rows, gate)?;
+        outputs,
+    } = do_rows(&rt, machine, &tree, shares, readers, rows, gate)?;
     let Ok(table) = tree.close(shares) else {
         unreachable!()
     };
-    finish(machine, rows, table, replies, trails)
+    finish(machine, rows, table, outputs, trails)
 }
 
-/// A run over a tree with so many readers, with these blank ledgers and this blank book.
+/// Runs the rows on a tree with `readers` readers, with these blank ledgers and this blank book.
 fn run_read<
     N: Naming + Send + Sync,
     D: Ledger + Send + Sync,
@@ -153,7 +151,7 @@ fn run_read<
     requires made { MayRun config blanks.workers readers }
     requires some { 0 < readers }
     requires workers { AllByRecursion (λ row. row.worker < blanks.workers) rows.now }
-    ensures finished { IfOk result (λ finished. IsRunOf blanks.workers rows.now finished.table finished.replies.items (lists_of finished.trails.items)) }
+    ensures finished { IfOk result (IsRunOf blanks.workers rows.now) }
     ensures config { IfOk result (λ finished. finished.table.config ≡ config) }
     ensures fault { IfErr result (IsRunFault config blanks.workers readers rows.now) }
 {
@@ -163,13 +161,14 @@ fn run_read<
         Err(SnapFault::NoReader) => return Err(RunFault::NoReader),
         Err(_) => return Err(RunFault::Memory),
     };
+    let readers = readings_of(machine, &tree, readers)?;
     let Gathered {
         shares,
-        replies,
         trails,
-    } = do_rows(rt, machine, &tree, shares, readers, rows, gate)?;
+        outputs,
+    } = do_rows(&rt, machine, &tree, shares, readers, rows, gate)?;
     let Ok(table) = tree.close(shares) else {
         unreachable!()
     };
-    finish(machine, rows, table, replies, trails)
+    finish(machine, rows, table, outputs, trails)
 }

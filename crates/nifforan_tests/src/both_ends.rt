@@ -1,7 +1,7 @@
 //! Ranges read from both ends, beside the kit's map, over leaves on which records stand.
 
 use nifforan::{Fence, Map, Pairs};
-use nifforan_shared::{Config, Job, Worker, share};
+use nifforan_shared::{Calls as _, Config, Job, Worker, share};
 use rand_core::{Rng, SeedableRng};
 use rand_pcg::Pcg32;
 use std::alloc::{AllocError, Global};

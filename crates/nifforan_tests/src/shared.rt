@@ -4,8 +4,8 @@ ghost use Rattle.std.specs.Prelude.{◌≡◌, ◌<◌, IfOk};
 ghost use Rattle.nifforan_shared.specs.Workers.{AreNumbered};
 
 use nifforan_shared::{
-    Config, Del, Done, Fault, Fence, Job, Outcome, Put, ReadingJob, Reads, ScanFault, Set,
-    ShareFault, Worker, share, share_with_readers,
+    Calls as _, Config, Del, Done, Fault, Fence, Job, Outcome, Put, ReadingJob, Reads, ScanFault,
+    Set, ShareFault, Steps, Worker, share, share_with_readers,
 };
 use std::alloc::Global;
 use std::sync::Wait;

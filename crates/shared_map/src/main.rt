@@ -3,7 +3,9 @@
 #![tactic(auto)]
 
 use anyhow::Result;
-use nifforan_shared::{Config, Fault, Job, ReadingJob, Reads, Worker, share, share_with_readers};
+use nifforan_shared::{
+    Calls, Config, Fault, Job, ReadingJob, Reads, Worker, share, share_with_readers,
+};
 
 /// A thousand keys for each worker.
 struct Fill;

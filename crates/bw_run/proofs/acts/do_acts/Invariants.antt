@@ -1,14 +1,12 @@
 use Rattle.std.proofs.Common.{◌≡◌, ◌≤◌, length, vec_len}
 use Rattle.std.specs.Prelude.{vec_capacity}
-use Rattle.bw_work.specs.Hands.{Sums}
 use Rattle.bw_step.specs.Tellings.{told_in}
 use Rattle.bw_procedures.specs.Told.{GoWith}
 use Rattle.bw_run.proofs.acts.do_acts.Given as goal
 
 abbrev pub invariant-loop-act : goal.invariant-loop-act
 invariant-loop-act g l = record {
-  follows : Sums l.fn.hand.account.seen.trail l.fn.hand.share l.hand.account.seen.trail l.hand.share;
-  told : GoWith l.acts l.replies.items (told_in l.hand.account.seen.trail);
+  told : GoWith l.acts l.replies.items (told_in (g.W.Steps.seen l.hand).trail);
   count : vec_len l.replies ≡ l.act-index;
   room : length l.acts ≤ vec_capacity l.replies;
 }

@@ -1,38 +1,37 @@
-use Rattle.std.proofs.Common.{rules, ◌≡◌, ◌<◌, [], length, map, refl, ap, sym, subst, ◌∙◌}
-use Rattle.std.specs.Prelude.{slice_index_or, sum_by}
+use Rattle.std.proofs.Common.{rules, ◌≡◌, ◌<◌, [], length, ap, sym, subst, ◌∙◌}
+use Rattle.std.specs.Prelude.{slice_index_or}
 use Rattle.std.proofs.lemmas.List.{length-map}
 use Rattle.bw_step.specs.Tellings.{told_in}
 use Rattle.bw_step.specs.Trails.{lists_of}
 use Rattle.bw_procedures.specs.Told.{GoWith}
-use Rattle.bw_tree.specs.Shares.{share_of}
 use Rattle.bw_audit.specs.Legal.{IsLegal}
-use Rattle.bw_run.specs.Counts.{insertions, removals}
+use Rattle.bw_run.specs.Answers.{columns_of}
 use Rattle.bw_run.specs.Faults.{EndsBadly}
 use Rattle.bw_run.specs.Rows.{acts_of}
 use Rattle.bw_run.proofs.Runs.{verdict_found}
-use Rattle.bw_run.proofs.Verdicts.{changes_counted}
 use Rattle.bw_run.proofs.ending.finish.Goals as goal
 
 pub returns-in_err-judge-clause-fault : goal.returns-in_err-judge-clause-fault
 returns-in_err-judge-clause-fault c =
     let trails = lists_of c.deref.result.now in
-    let count : length trails ≡ length c.args.replies.items =
+    let count : length trails ≡ length c.args.answers.items =
     length-map c.deref.result.now (λ trail. trail.items) ∙ (ap length c.deref.ensures.value ∙ c.requires.trails) in
-    let fault : EndsBadly (length c.args.replies.items) c.in_err-judge.field-0.0 =
-    verdict_found (length c.args.replies.items) c.args.table trails c.in_err-judge.field-0.0 count c.requires.tree c.in_err-judge.ensures.fault in
+    let fault : EndsBadly (length c.args.answers.items) c.in_err-judge.field-0.0 =
+    verdict_found (length c.args.answers.items) c.args.table trails c.in_err-judge.field-0.0 count c.requires.tree c.in_err-judge.ensures.fault in
     search rules
 
 pub returns-clause-finished : goal.returns-clause-finished
 returns-clause-finished c =
     let trails = lists_of c.args.trails.items in
-    let columns : length (map (λ column. column.items) c.args.replies.items) ≡ length c.args.replies.items = length-map c.args.replies.items (λ column. column.items) in
+    let columns = columns_of c.args.answers.items in
+    let many : length columns ≡ length c.args.answers.items = length-map c.args.answers.items (λ each. each.replies.items) in
     record {
       replied = c.in_ok-replies.ensures.count;
-      trailed = length-map c.args.trails.items (λ trail. trail.items) ∙ c.requires.trails;
+      trailed = c.requires.trails;
       told = λ worker inside.
-          let within : worker < length (map (λ column. column.items) c.args.replies.items) = subst (λ n. worker < n) (sym columns) inside in
+          let within : worker < length columns = subst (λ n. worker < n) (sym many) inside in
           subst (λ replies. GoWith (acts_of worker c.args.rows.now) replies (told_in (slice_index_or trails worker []))) (sym (c.in_ok-replies.ensures.own worker within)) (c.requires.answered.told worker within);
       tree = c.requires.tree;
       legal = λ pairs are. subst (λ ts. IsLegal (lists_of ts) pairs) c.deref.ensures.value (c.in_ok-judge.ensures.legal pairs are);
-      count = λ pairs are. changes_counted c.args.table (share_of (sum_by insertions trails) (sum_by removals trails)) trails pairs c.requires.counted refl are;
+      count = c.requires.counted;
     }

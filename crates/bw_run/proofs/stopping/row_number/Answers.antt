@@ -2,8 +2,8 @@ use Rattle.std.proofs.Common.{arith}
 use Rattle.bw_procedures.specs.declared.act.Act.TheVariants as acts
 use Rattle.bw_texts.specs.declared.trace.row.Row.{Row}
 use Rattle.bw_run.proofs.Numbers.{own_passed, other_passed}
-use Rattle.bw_run.proofs.gathering.row_number.Goals.{then-rows-place+else-left-eq0, else-rows-place}
-use Rattle.bw_run.proofs.gathering.row_number.Goals as goal
+use Rattle.bw_run.proofs.stopping.row_number.Goals.{then-rows-place+else-left-eq0, else-rows-place}
+use Rattle.bw_run.proofs.stopping.row_number.Goals as goal
 
 pub loop-place-preserved : goal.loop-place-preserved
 loop-place-preserved c =

@@ -1,6 +1,6 @@
 use Rattle.std.proofs.Common.{◌≡◌, ◌+◌, ◌<◌, drop, length, take}
 use Rattle.bw_run.specs.Rows.{acts_of}
-use Rattle.bw_run.proofs.gathering.row_number.Given as goal
+use Rattle.bw_run.proofs.stopping.row_number.Given as goal
 
 abbrev pub invariant-loop-place : goal.invariant-loop-place
 invariant-loop-place l = record {

@@ -1,0 +1,85 @@
+//! What answers a worker's get rows without the tree's lock.
+
+ghost use Rattle.std.specs.Prelude.{◌≡◌, IfOk, IfErr};
+ghost use Rattle.bw_snap.specs.Answers.{IsLookIn};
+ghost use Rattle.bw_snap.specs.Snapshots.{BeginsWith};
+ghost use Rattle.bw_run.specs.Reads.{IsFoundBy};
+ghost use Rattle.bw_run.specs.Stops.{MayStop};
+
+use crate::answers::Stop;
+use bw_keys::Key;
+use bw_snap::{Closed, Naming, Reader, Stamp};
+use bw_step::Look;
+use nifforan_shared::Reading;
+use std::convert::Infallible;
+use std::sync::Wait;
+use std::sync::ledger::Ledger;
+
+/// A reader of a run's tree.
+pub(crate) trait Looks {
+    ghost use Rattle.std.specs.Prelude.{◌≡◌, ℕ, Bool, IfOk, IfErr};
+    ghost use Rattle.bw_step.specs.declared.view.Look.{Look};
+    ghost use Rattle.bw_run.specs.Stops.{MayStop};
+
+    // the look is what the reader found at the key
+    ghost finds: { Self → ℕ → Look → Type 0 };
+
+    // the reader may find nothing to read
+    ghost may_close: { Bool };
+
+    /// Looks the key up, after all that the calling thread has changed.
+    fn look(&mut self, key: Key) -> Result<Look, Stop>
+        ensures found { IfOk result (finds self.new key) }
+        ensures stop { IfErr result (MayStop may_close) };
+}
+
+/// There is no reader: each read takes the tree's lock.
+impl Looks for Infallible {
+    ghost use Rattle.std.specs.Prelude.{false};
+
+    ghost finds = { λ reader key look. ⊥ };
+
+    ghost may_close = { false };
+
+    fn look(&mut self, _key: Key) -> Result<Look, Stop> {
+        match *self {}
+    }
+}
+
+/// Publishes first what the calling thread has changed, and has the reader learn of that.
+impl<'t, R: Wait + Copy, N: Naming, D: Ledger> Looks for Reading<'t, R, N, D> {
+    ghost use Rattle.std.specs.Prelude.{true};
+    ghost use Rattle.bw_snap.specs.Answers.{IsLookIn};
+
+    ghost finds = { λ reading key look. IsLookIn N.config key reading.reader look };
+
+    ghost may_close = { true };
+
+    fn look(&mut self, key: Key) -> Result<Look, Stop> {
+        let stamp = self.tree.publish()?;
+        match look_after(&mut self.reader, stamp, key) {
+            Ok(look) => Ok(look),
+            Err(Closed) => Err(Stop::Closed),
+        }
+    }
+}
+
+/// Looks the key up, once the reader has learnt of what the stamp covers.
+fn look_after<N: Naming>(reader: &mut Reader<N>, stamp: Stamp<N>, key: Key) -> Result<Look, Closed>
+    ensures look { IfOk result (IsLookIn N.config key reader.new) }
+    ensures learnt { BeginsWith reader.new stamp }
+{
+    reader.learn(stamp);
+    reader.look(key)
+}
+
+/// Looks the key up by the reader, if there is one.
+pub(crate) fn look_by<L: Looks>(reader: &mut Option<L>, key: Key) -> Result<Option<Look>, Stop>
+    ensures found { IfOk result (IsFoundBy L.finds reader.new key) }
+    ensures stop { IfErr result (MayStop L.may_close) }
+{
+    match reader {
+        Some(reader) => Ok(Some(reader.look(key)?)),
+        None => Ok(None),
+    }
+}
