@@ -3,7 +3,7 @@
 ghost use Rattle.std.specs.Prelude.{◌≡◌, ◌<◌, [], IsOk, IfOk, IfErr, OnOk, length};
 ghost use Rattle.std.specs.List.{AllByRecursion};
 ghost use Rattle.bw_step.specs.Trails.{lists_of};
-ghost use Rattle.bw_tree.specs.Shares.{Opens};
+ghost use Rattle.bw_tree.specs.Trees.{OpensFor};
 ghost use Rattle.bw_tree.specs.Trees.{IsTree, CountsPairs, MayBeMade};
 ghost use Rattle.nifforan_shared.specs.Workers.{changes_in};
 ghost use Rattle.bw_run.specs.Faults.{IsRunFault, MayRun};
@@ -13,7 +13,7 @@ use crate::ending::{Finished, finish};
 use crate::fault::RunFault;
 use crate::rows::do_rows;
 use bw_keys::{Config, MAX_WORKERS};
-use bw_snap::{BlankBook, MAX_READERS, Naming, ReadTree, SnapFault};
+use bw_snap::{Announcements, MAX_READERS, Naming, ReadTree, SnapFault};
 use bw_texts::Row;
 use bw_tree::{Blanks, MadeBy, Tree};
 use bw_work::Gate;
@@ -65,7 +65,7 @@ pub fn run<R: Threads + Wait + Sync + Send + Copy, G: Gate + Sync>(
         machine,
         config,
         blanks,
-        BlankBook::new(),
+        Announcements::new(),
         readers,
         rows,
         gate,
@@ -103,9 +103,7 @@ fn run_locked<
     rows: &[Row],
     gate: &G,
 ) -> Result<Finished, RunFault>
-    requires insertions { Opens I.name I.parts blanks.insertions }
-    requires removals { Opens D.name D.parts blanks.removals }
-    requires config { I.config ≡ config }
+    requires ledgers { OpensFor I.Ledger I.config D.Ledger config blanks }
     requires made { MayBeMade config blanks.workers }
     requires workers { AllByRecursion (λ row. row.worker < blanks.workers) rows.now }
     ensures finished { IfOk result (IsRunOf blanks.workers rows.now) }
@@ -139,15 +137,13 @@ fn run_read<
     machine: Global,
     config: Config,
     blanks: Blanks,
-    book: BlankBook,
+    announcements: Announcements,
     readers: u32,
     rows: &[Row],
     gate: &G,
 ) -> Result<Finished, RunFault>
-    requires insertions { Opens N.name N.parts blanks.insertions }
-    requires removals { Opens D.name D.parts blanks.removals }
-    requires book { book.seen.book ≡ N.book }
-    requires config { N.config ≡ config }
+    requires announcements { announcements.seen.book ≡ N.announcements }
+    requires ledgers { OpensFor N.Ledger N.config D.Ledger config blanks }
     requires made { MayRun config blanks.workers readers }
     requires some { 0 < readers }
     requires workers { AllByRecursion (λ row. row.worker < blanks.workers) rows.now }
@@ -155,7 +151,7 @@ fn run_read<
     ensures config { IfOk result (λ finished. finished.table.config ≡ config) }
     ensures fault { IfErr result (IsRunFault config blanks.workers readers rows.now) }
 {
-    let made = ReadTree::<R, N, D>::with_readers(rt, machine, config, blanks, book, readers);
+    let made = ReadTree::<R, N, D>::with_readers(rt, machine, config, blanks, announcements, readers);
     let (tree, shares, readers) = match made {
         Ok(made) => made,
         Err(SnapFault::NoReader) => return Err(RunFault::NoReader),

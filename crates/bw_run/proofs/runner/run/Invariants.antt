@@ -19,4 +19,4 @@ abbrev pub ghosts-run_read-N-MadeBy : goal.ghosts-run_read-N-MadeBy
 ghosts-run_read-N-MadeBy g a = record { config = a.config }
 
 abbrev pub ghosts-run_read-N-Naming : goal.ghosts-run_read-N-Naming
-ghosts-run_read-N-Naming g a = record { book = a.book.seen.book }
+ghosts-run_read-N-Naming g a = record { announcements = a.announcements.seen.book }
