@@ -1,4 +1,4 @@
-// The operations of bw_bench on ordered maps of C++ libraries.
+// The operations of bench_tree on ordered maps of C++ libraries.
 
 #include "index.hpp"
 #include "task.hpp"

@@ -1,4 +1,4 @@
-//! The operations of `bw_bench` on the ordered maps of Rust's standard library.
+//! The operations of `bench_tree` on the ordered maps of Rust's standard library.
 
 mod beside;
 mod dice;

@@ -1,4 +1,4 @@
-//! Keys drawn by Zipf's distribution with exponent 0.99, the same as `bw_bench` draws, and so by integers.
+//! Keys drawn by Zipf's distribution with exponent 0.99, the same as `bench_tree` draws, and so by integers.
 
 use crate::dice::Dice;
 

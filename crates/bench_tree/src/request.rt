@@ -1,0 +1,84 @@
+//! What the program is asked for.
+
+use crate::task::{Task, number};
+use crate::trees::{CONFIG, Structure};
+use bw_keys::Config;
+
+/// How the words are given.
+pub(crate) const USAGE: &str = "\
+usage: bench_tree STRUCTURE WORK WORKERS KEYS OPERATIONS
+       bench_tree beside WORK READERS KEYS OPERATIONS CHANGES
+       bench_tree puts KEYS CHANGES
+       bench_tree pending WORK KEYS
+       bench_tree tallies KEYS OPERATIONS
+       bench_tree pages CHAIN FANOUT, and one of the first five behind it
+STRUCTURE is alone, map (one worker both), hand, or reader (at most 16, for what only reads);
+WORK is load, rising, set, delete, scan, list, the percent of gets beside puts and deletes (100, 95, 50), the same by
+Zipf's distribution (zipf, zipf95, zipf50), and fill or fill-rising are scans after the one or other load;
+a tree with readers is published every so many CHANGES;
+CHAIN is the most records of a page (1 to 32), FANOUT the most entries (4 to 64); 2 and 64 without these words.
+";
+
+#[derive(Clone, Copy, Debug, PartialEq, Eq)]
+pub(crate) enum Request {
+    /// How fast a structure does a task.
+    Rate(Structure, Task),
+    /// How fast readers do a task beside a writer that publishes every so many changes.
+    Beside { task: Task, every: u32 },
+    /// How fast a load is done that is published every so many puts.
+    Puts { task: Task, every: u32 },
+    /// A tree is to be filled with nothing published.
+    Pending(Task),
+    /// What one worker is answered by each structure, for each kind of work in this one's place.
+    Tallies(Task),
+}
+
+impl Request {
+    /// None where the words ask for nothing that there is.
+    pub(crate) fn read(words: &[&str]) -> Option<Request> {
+        match words {
+            ["pages", chain, fanout, rest @ ..] => {
+                let chain = number(chain, 1, 32)?;
+                let fanout = number(fanout, 4, 64)?;
+                let config = Config {
+                    chain,
+                    fanout,
+                    ..CONFIG
+                };
+                Request::read_on(config, rest)
+            }
+            _ => Request::read_on(CONFIG, words),
+        }
+    }
+
+    /// What is asked of trees of this configuration.
+    fn read_on(config: Config, words: &[&str]) -> Option<Request> {
+        match words {
+            ["puts", keys, every] => Some(Request::Puts {
+                task: Task::read(config, "load", "1", keys, "0")?,
+                every: number(every, 1, u32::MAX)?,
+            }),
+            ["pending", work, keys] => {
+                Some(Request::Pending(Task::read(config, work, "1", keys, "0")?))
+            }
+            ["tallies", keys, operations] => Some(Request::Tallies(Task::read(
+                config, "load", "1", keys, operations,
+            )?)),
+            ["beside", work, readers, keys, operations, every] => {
+                let task = Task::read(config, work, readers, keys, operations)?;
+                let every = number(every, 1, u32::MAX)?;
+                Structure::Reader
+                    .is_for(&task)
+                    .then_some(Request::Beside { task, every })
+            }
+            [structure, work, workers, keys, operations] => {
+                let structure = Structure::read(structure)?;
+                let task = Task::read(config, work, workers, keys, operations)?;
+                structure
+                    .is_for(&task)
+                    .then_some(Request::Rate(structure, task))
+            }
+            _ => None,
+        }
+    }
+}

@@ -1,0 +1,56 @@
+//! Goes through cases in files, and tells of each file whether it is answered as was foretold, or where it first isn't.
+//! An argument `KIND/NAME` names the files of a case or of a row of cases; with a kind alone, `steps` or `drawings`,
+//! the script on standard input is played or drawn, and the answers or drawings are printed.
+#![tactic(auto)]
+
+mod commands;
+mod lines;
+mod program;
+mod scripts;
+mod shared;
+mod texts;
+mod vectors;
+mod ways;
+
+use anyhow::{Result, bail};
+use std::process::ExitCode;
+use std::rt::Files;
+use std::sync::Wait;
+use std::thread::Threads;
+use std::{env, io};
+
+/// What is to be printed of an argument. That a case isn't answered as was foretold is an error, too.
+fn tell<R: Threads + Wait + Sync + Send + Copy + Files + Input + AllocGlobal>(
+    rt: R,
+    argument: &str,
+) -> Result<String> {
+    let alloc = rt.alloc();
+    match argument.split_once('/') {
+        Some(("commands", name)) => commands::agree(rt, alloc, &texts::read(&rt, argument)?, name),
+        Some(("vectors", name)) => vectors::agree(rt, argument, name),
+        Some(("shared", _)) => shared::agree(rt, alloc, &texts::read(&rt, argument)?),
+        Some(("steps", name)) => scripts::agree(&rt, argument, name),
+        Some(("drawings", name)) => scripts::agree_drawn(&rt, argument, name),
+        None if argument == "steps" => {
+            scripts::answers(alloc, &io::read_to_string(alloc, rt.reader())?)
+        }
+        None if argument == "drawings" => {
+            Ok(scripts::drawings(alloc, &io::read_to_string(alloc, rt.reader())?)?.concat(alloc)?)
+        }
+        _ => bail!("there is no such kind"),
+    }
+}
+
+fn main(rt: HostRuntime) -> Result<ExitCode> {
+    let mut status = ExitCode::SUCCESS;
+    for argument in env::args(&rt)?.skip(1) {
+        match tell(rt, &argument) {
+            Ok(lines) => print!(rt; "{lines}")?,
+            Err(fault) => {
+                println!(rt; "{argument}: {fault:#}")?;
+                status = ExitCode::FAILURE;
+            }
+        }
+    }
+    Ok(status)
+}

@@ -1,0 +1,29 @@
+//! Texts of files, and what was answered beside them.
+
+use crate::lines::{first_difference, line_at};
+use anyhow::{Result, bail};
+use std::fs;
+use std::rt::Files;
+
+pub(crate) fn read<R: Files + AllocGlobal>(rt: &R, name: &str) -> Result<String> {
+    Ok(fs::read_to_string(rt, name)?)
+}
+
+/// Reads the file of this name with this ending.
+pub(crate) fn read_part<R: Files + AllocGlobal>(
+    rt: &R,
+    name: &str,
+    ending: &str,
+) -> Result<String> {
+    read(rt, &format!(in rt.alloc(); "{name}.{ending}")?)
+}
+
+/// Fails with the first line that differs, an empty text standing for one that isn't there.
+pub(crate) fn compare(answered: &str, foretold: &str) -> Result<()> {
+    let Some(number) = first_difference(answered, foretold) else {
+        return Ok(());
+    };
+    let line = line_at(answered, number).unwrap_or("");
+    let wanted = line_at(foretold, number).unwrap_or("");
+    bail!("line {number} is '{line}', and not '{wanted}'")
+}

@@ -1,0 +1,165 @@
+//! A reader that looks all the time, beside two workers that change the map and publish.
+
+use crate::crew::{Crew, work_on_new_tree};
+use crate::seen::Seen;
+use bw_audit::Verdict;
+use bw_keys::Fence;
+use bw_snap::{Naming, ReadTree, Reader};
+use bw_step::{Book, Receipt};
+use test_kit::{LARGE, Meeting, Told, Worked};
+use bw_tree::Share;
+use bw_work::{Act, Fault, Hand, Open, do_act};
+use rand_core::{Rng, SeedableRng};
+use rand_pcg::Pcg32;
+use std::alloc::Global;
+use std::sync::Wait;
+use std::sync::atomic::{AtomicU64, Ordering};
+use std::sync::ledger::Ledger;
+use std::test::Fail;
+use std::thread;
+
+const RUNS: u64 = 20;
+
+/// How often the reader looks in each run.
+const LOOKS: u64 = 5_000;
+
+/// How many acts a worker does at most, where the reader takes longer.
+const MOST_ACTS: u64 = 2_000;
+
+/// How often the reader turns at most until the workers have ended.
+const MOST_TURNS: u64 = 1_000_000_000;
+
+const KEYS: u64 = 16;
+
+/// How many looks the reader has between two of its turns.
+const TURN: u64 = 256;
+
+/// The workers draw acts, and publish after one in four, until the reader has looked often enough, which
+/// begins behind the first publication. When they have ended it looks once more.
+#[derive(Drop)]
+struct Beside {
+    machine: Global,
+    run: u64,
+    /// Where the reader waits for the first publication.
+    begun: Meeting,
+    /// How many readers have looked often enough.
+    read: AtomicU64,
+    /// How many workers have ended.
+    written: AtomicU64,
+}
+
+fn drawn_act(rng: &mut Pcg32) -> Act {
+    let key = rng.next_u64() % KEYS;
+    let value = rng.next_u64();
+    match rng.next_u32() % 10 {
+        0..=2 => Act::Put { key, value },
+        3..=5 => Act::Set { key, value },
+        6..=8 => Act::Delete { key },
+        _ => Act::Clear {
+            low: key,
+            high: Fence::Key(key.saturating_add(4)),
+        },
+    }
+}
+
+impl Crew for Beside {
+    fn write<R: Wait + Copy, N: Naming, D: Ledger>(
+        &self,
+        tree: &ReadTree<R, N, D>,
+        worker: u32,
+        share: Share<N, D>,
+    ) -> Worked<N, D, Told> {
+        let machine = self.machine;
+        let mut rng = Pcg32::seed_from_u64(
+            self.run.wrapping_mul(2).wrapping_add(u64::from(worker)),
+        );
+        let mut hand = Hand::new(machine, machine, tree, share, worker, &Open);
+        let mut fault = None;
+        for act in 0..MOST_ACTS {
+            if self.read.load(Ordering::SeqCst) == 1 {
+                break;
+            }
+            fault = fault.or(do_act(&mut hand, machine, drawn_act(&mut rng)).err());
+            if act % 4 == 0 && tree.publish().is_err() {
+                fault = Some(Fault::NoMemory);
+            }
+            self.begun.arrive(worker);
+            thread::yield_now();
+        }
+        if tree.publish().is_err() {
+            fault = Some(Fault::NoMemory);
+        }
+        self.written.fetch_add(1, Ordering::SeqCst);
+        let (share, trail) = hand.finish();
+        Worked {
+            share,
+            told: Told {
+                replies: Vec::new(machine),
+                trail,
+                fault,
+            },
+        }
+    }
+
+    fn read<N: Naming>(&self, reader: Reader<N>) -> Seen {
+        let mut reader = reader;
+        let mut seen = Seen::nothing(self.machine);
+        self.begun.wait_for(0);
+        for look in 0..LOOKS {
+            seen.look(&mut reader, look % KEYS);
+            if look % TURN == 0 {
+                thread::yield_now();
+            }
+        }
+        self.read.store(1, Ordering::SeqCst);
+        for _ in 0..MOST_TURNS {
+            if self.written.load(Ordering::SeqCst) == 2 {
+                break;
+            }
+            thread::yield_now();
+        }
+        seen.look(&mut reader, 0);
+        seen
+    }
+}
+
+/// How many changes a look saw.
+fn changes_in(look: Option<&Receipt>) -> u64 {
+    match look {
+        Some(Receipt::Looked { at, .. }) => *at,
+        _ => 0,
+    }
+}
+
+#[test]
+fn looks_beside_writers_are_answered_and_explained(rt: HostRuntime) -> Result<(), Fail> {
+    let machine = rt.alloc();
+    let mut were_between = false;
+    for run in 0..RUNS {
+        let crew = Beside {
+            machine,
+            run,
+            begun: Meeting::new(),
+            read: AtomicU64::new(0),
+            written: AtomicU64::new(0),
+        };
+        let left = work_on_new_tree(rt, machine, LARGE, &crew)?;
+        let Book {
+            inserted,
+            removed,
+            modified,
+        } = left.table.survey(machine)?.book;
+        let all = inserted.saturating_add(removed).saturating_add(modified);
+        let looks = &left.seen.trail;
+        let middle = changes_in(looks.get(looks.len() / 2));
+        were_between = were_between || (0 < middle && middle < all);
+        assert_eq!(rt;
+            (left.zero.fault, left.one.fault, left.seen.unanswered),
+            (None, None, 0)
+        );
+        assert_eq!(rt; changes_in(looks.last()), all, "run {run}");
+        assert_eq!(rt; left.verdict(machine)?, Verdict::Yes, "run {run}");
+    }
+    assert!(rt; were_between);
+    Ok(())
+}

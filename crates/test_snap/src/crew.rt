@@ -1,0 +1,113 @@
+//! Two workers and a reader of one tree, each in a thread of its own.
+
+ghost use Rattle.std.specs.Prelude.{◌≡◌};
+ghost use Rattle.bw_tree.specs.Trees.{OpensFor};
+
+use crate::seen::{Left, Seen};
+use bw_keys::Config;
+use bw_snap::{Announcements, Naming, ReadTree, Reader};
+use test_kit::{Told, Worked};
+use bw_tree::{Blanks, Share};
+use std::alloc::Global;
+use std::marker::Brand;
+use std::sync::Wait;
+use std::sync::ledger::Ledger;
+use std::test::Fail;
+use std::thread::{Threads, join};
+
+/// What the threads do, and what each tells.
+pub(crate) trait Crew {
+    /// What a worker does, 0 or 1.
+    fn write<R: Wait + Copy, N: Naming, D: Ledger>(
+        &self,
+        tree: &ReadTree<R, N, D>,
+        worker: u32,
+        share: Share<N, D>,
+    ) -> Worked<N, D, Told>;
+
+    fn read<N: Naming>(&self, reader: Reader<N>) -> Seen;
+}
+
+/// Lets both workers do their work.
+fn write_both<
+    N: Naming + Send + Sync,
+    D: Ledger + Send + Sync,
+    R: Threads + Wait + Sync + Send + Copy,
+    C: Crew + Sync,
+>(
+    rt: R,
+    tree: &ReadTree<R, N, D>,
+    (zero, one): (Share<N, D>, Share<N, D>),
+    crew: &C,
+) -> (Worked<N, D, Told>, Worked<N, D, Told>) {
+    join(
+        &rt,
+        move || crew.write(tree, 0, zero),
+        move || crew.write(tree, 1, one),
+    )
+}
+
+/// Lets all do their work side by side.
+fn work_all<
+    N: Naming + Send + Sync,
+    D: Ledger + Send + Sync,
+    R: Threads + Wait + Sync + Send + Copy,
+    C: Crew + Sync,
+>(
+    rt: R,
+    tree: &ReadTree<R, N, D>,
+    shares: (Share<N, D>, Share<N, D>),
+    reader: Reader<N>,
+    crew: &C,
+) -> ((Worked<N, D, Told>, Worked<N, D, Told>), Seen) {
+    join(
+        &rt,
+        move || write_both(rt, tree, shares, crew),
+        move || crew.read(reader),
+    )
+}
+
+fn work_over<
+    N: Naming + Send + Sync,
+    D: Ledger + Send + Sync,
+    R: Threads + Wait + Sync + Send + Copy,
+    C: Crew + Sync,
+>(
+    rt: R,
+    machine: Global,
+    config: Config,
+    blanks: Blanks,
+    announcements: Announcements,
+    crew: &C,
+) -> Result<Left, Fail>
+    requires announcements { announcements.seen.book ≡ N.announcements }
+    requires ledgers { OpensFor N.Ledger N.config D.Ledger config blanks }
+{
+    let (tree, mut shares, mut readers) = ReadTree::<R, N, D>::with_readers(
+        rt, machine, config, blanks, announcements, 1,
+    )?;
+    let (Some(one), Some(zero), Some(reader)) = (shares.pop(), shares.pop(), readers.pop()) else {
+        return Err("there are too few shares or readers".into());
+    };
+    let ((zero, one), seen) = work_all(rt, &tree, (zero, one), reader, crew);
+    if shares.push(zero.share).is_err() || shares.push(one.share).is_err() {
+        return Err("no memory".into());
+    }
+    Ok(Left {
+        table: tree.close(shares)?,
+        zero: zero.told,
+        one: one.told,
+        seen,
+    })
+}
+
+/// Lets a crew work on a new tree.
+pub(crate) fn work_on_new_tree<R: Threads + Wait + Sync + Send + Copy, C: Crew + Sync>(
+    rt: R,
+    machine: Global,
+    config: Config,
+    crew: &C,
+) -> Result<Left, Fail> {
+    let (blanks, announcements) = (Blanks::new(2), Announcements::new());
+    work_over::<Brand, Brand, R, C>(rt, machine, config, blanks, announcements, crew)
+}

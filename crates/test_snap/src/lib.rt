@@ -1,0 +1,16 @@
+//! Tests of a reader in a thread of its own, beside two workers: what a reader sees while one of them
+//! is held, and while both write and publish all the time; and of the room for stamps.
+#![tactic(auto)]
+
+pub mod reads;
+
+#[cfg(test)]
+mod beside;
+#[cfg(test)]
+mod crew;
+#[cfg(test)]
+mod seen;
+#[cfg(test)]
+mod stamps;
+#[cfg(test)]
+mod two_workers;

@@ -1,0 +1,55 @@
+//! What readers do, without a runtime value: none of these functions can wait for a lock.
+ghost use Rattle.std.specs.Prelude.{IfOk, OnOk};
+ghost use Rattle.bw_snap.specs.Answers.{IsFoundIn, IsLookIn, IsListedIn};
+ghost use Rattle.bw_snap.specs.Snapshots.{BeginsWith};
+
+use bw_keys::Key;
+use bw_snap::{Closed, Naming, Reader, ScanFault, Stamp};
+use bw_step::Look;
+
+/// What the map has at the key, once two stamps were learnt, in any order.
+pub fn get_after<N: Naming>(
+    reader: &mut Reader<N>,
+    one: Stamp<N>,
+    other: Stamp<N>,
+    key: Key,
+) -> Result<Option<u64>, Closed>
+    ensures found { IfOk result (IsFoundIn N.config key reader.new) }
+    ensures own { BeginsWith reader.new reader.old }
+    ensures one { BeginsWith reader.new one }
+    ensures other { BeginsWith reader.new other }
+{
+    reader.learn(one);
+    reader.learn(other);
+    reader.get(key)
+}
+
+/// As `get_after`, with the number of the changes that were seen.
+pub fn look_after<N: Naming>(
+    reader: &mut Reader<N>,
+    stamp: Stamp<N>,
+    key: Key,
+) -> Result<Look, Closed>
+    ensures look { IfOk result (IsLookIn N.config key reader.new) }
+    ensures own { BeginsWith reader.new reader.old }
+    ensures stamp { BeginsWith reader.new stamp }
+{
+    reader.learn(stamp);
+    reader.look(key)
+}
+
+/// The first pairs from the key on, once the stamp was learnt.
+pub fn scan_after<N: Naming>(
+    reader: &mut Reader<N>,
+    stamp: Stamp<N>,
+    low: Key,
+    limit: usize,
+    out: &mut Vec<(Key, u64)>,
+) -> Result<(), ScanFault>
+    ensures pairs { OnOk result (IsListedIn N.config low limit reader.new out.new.items) }
+    ensures own { BeginsWith reader.new reader.old }
+    ensures stamp { BeginsWith reader.new stamp }
+{
+    reader.learn(stamp);
+    reader.scan(low, limit, out)
+}

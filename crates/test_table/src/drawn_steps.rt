@@ -1,0 +1,72 @@
+//! Ten thousand drawn steps from two threads, forged ones among them.
+
+use bw_step::Step;
+use bw_tree::{Share, Shared};
+use rand_core::SeedableRng;
+use rand_pcg::Pcg32;
+use std::alloc::Global;
+use std::test::Fail;
+use test_kit::{
+    Ended, Pages, Play, SMALL, Tally, Turns, Worked, drawn_step, partition_the_keys,
+    play_on_new_tree,
+};
+
+/// How many steps each of the two threads proposes.
+const STEPS: u32 = 5000;
+
+/// Each worker proposes drawn steps; fewer, where memory ran out.
+#[derive(Drop)]
+struct Drawn {
+    machine: Global,
+}
+
+impl Play<Tally> for Drawn {
+    fn work<S: Shared<Global, Step<Global>> + Pages<Global>>(
+        &self,
+        tree: &S,
+        worker: u32,
+        share: Share<S::Insertions, S::Removals>,
+    ) -> Worked<S::Insertions, S::Removals, Tally> {
+        let mut rng = Pcg32::seed_from_u64(if worker == 0 { 7 } else { 8 });
+        let mut share = share;
+        let mut tally = Tally::NOTHING;
+        for _ in 0..STEPS {
+            match drawn_step(&mut rng, self.machine, tree) {
+                Ok(step) => tally.count(tree.install(&mut share, step).ok()),
+                Err(_) => break,
+            }
+        }
+        Worked { share, told: tally }
+    }
+}
+
+#[test]
+fn drawn_steps_from_two_threads_are_counted(rt: HostRuntime) -> Result<(), Fail> {
+    let machine = rt.alloc();
+    let play = Drawn { machine };
+    let Ended { table, zero, one } = play_on_new_tree(
+        rt,
+        machine,
+        SMALL,
+        Turns::SideBySide,
+        &play,
+    )?;
+    assert_eq!(rt; (zero.total(), one.total()), (5000, 5000));
+    assert!(rt; zero.has_changes() && one.has_changes(), "{zero:?} {one:?}");
+    let inserted = zero.inserted.saturating_add(one.inserted);
+    let deleted = zero.deleted.saturating_add(one.deleted);
+    let modified = zero.modified.saturating_add(one.modified);
+    let survey = table.survey(machine)?;
+    assert_eq!(rt;
+        (
+            survey.book.inserted,
+            survey.book.removed,
+            survey.book.modified
+        ),
+        (inserted, deleted, modified)
+    );
+    let many = table.pairs(machine)?.len() as u64;
+    assert_eq!(rt; inserted.checked_sub(deleted), Some(many));
+    assert!(rt; partition_the_keys(&survey.leaves));
+    Ok(())
+}

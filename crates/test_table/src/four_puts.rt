@@ -1,0 +1,61 @@
+//! Four puts from two threads, by a shared tree.
+
+use bw_keys::{Config, Key};
+use bw_step::{Receipt, Step};
+use bw_tree::{Share, Shared};
+use std::alloc::Global;
+use std::test::Fail;
+use test_kit::{Change, Pages, Play, Turns, Worked, are_own_pairs, play_on_new_tree, step_of};
+
+/// Puts the key with itself as value on page 0, and where the page has changed meanwhile again, at
+/// most 4 times.
+fn put<S: Shared<Global, Step<Global>> + Pages<Global>>(
+    tree: &S,
+    machine: Global,
+    share: &mut Share<S::Insertions, S::Removals>,
+    key: Key,
+) -> Option<Receipt> {
+    for _attempt in 0..5 {
+        let step = step_of(machine, tree, Change::Insert(0, key, key)).ok()?;
+        if let Ok(receipt) = tree.install(share, step) {
+            return Some(receipt);
+        }
+    }
+    None
+}
+
+/// Each worker puts two keys, and tells how many it put.
+#[derive(Drop)]
+struct FourPuts {
+    machine: Global,
+}
+
+impl Play<u32> for FourPuts {
+    fn work<S: Shared<Global, Step<Global>> + Pages<Global>>(
+        &self,
+        tree: &S,
+        worker: u32,
+        share: Share<S::Insertions, S::Removals>,
+    ) -> Worked<S::Insertions, S::Removals, u32> {
+        let mut share = share;
+        let mut puts = 0u32;
+        for key in if worker == 0 { [1, 2] } else { [3, 4] } {
+            if put(tree, self.machine, &mut share, key).is_some() {
+                puts = puts.saturating_add(1);
+            }
+        }
+        Worked { share, told: puts }
+    }
+}
+
+#[test]
+fn two_threads_put(rt: HostRuntime) -> Result<(), Fail> {
+    let machine = rt.alloc();
+    let play = FourPuts { machine };
+    for run in 0..100 {
+        let ended = play_on_new_tree(rt, machine, Config::default(), Turns::SideBySide, &play)?;
+        assert!(rt; are_own_pairs(&ended.table.pairs(machine)?, 4), "run {run}");
+        assert_eq!(rt; (ended.zero, ended.one), (2, 2), "run {run}");
+    }
+    Ok(())
+}

@@ -1,0 +1,22 @@
+//! Tests of the mapping table and of what stands on it: what scripts of steps can't say. The summaries
+//! that the table lends, leaves at rest, what is done at once, and memory that runs out; steps that two
+//! threads propose to a shared tree, a tree whose share is lost, and histories and runs that were judged
+//! by hand.
+#![tactic(auto)]
+
+#[cfg(test)]
+mod at_once;
+#[cfg(test)]
+mod drawn_steps;
+#[cfg(test)]
+mod four_puts;
+#[cfg(test)]
+mod handed_out;
+#[cfg(test)]
+mod histories;
+#[cfg(test)]
+mod memory;
+#[cfg(test)]
+mod rest;
+#[cfg(test)]
+mod stale;

@@ -1,0 +1,209 @@
+//! Chains in a heap of their own: they are given back, and what is refused is said.
+
+use bw_keys::{Config, Key};
+use bw_table::{CopyFault, Refused, Table};
+use linked_list_allocator::LocalHeap;
+use std::alloc::Global;
+use std::test::Fail;
+use test_kit::{
+    Change, Pages, Rooms, SMALL, THREE_LEAVES, growing_heaps, seen, step_of, take, take_all,
+};
+
+/// Steps on a table with so many slots, and then puts of the keys from 0 on: a page has this depth, and
+/// another step is refused.
+struct Row {
+    slots: u32,
+    changes: [&'static [Change]; 2],
+    puts: Key,
+    page: u32,
+    next: Change,
+    left: Left,
+}
+
+/// What is left of a row: why the step was refused, whether it took memory and gave it back, and how deep the
+/// copy of the page is.
+#[derive(Clone, Copy, Debug, PartialEq, Eq)]
+struct Left {
+    refused: Option<Refused>,
+    is_given_back: bool,
+    depth: u8,
+}
+
+static ROWS: [Row; 3] = [
+    // a full table: a leaf that was split, under inner pages that were split in turn
+    Row {
+        slots: 8,
+        changes: [
+            &[
+                Change::Insert(0, 1, 1),
+                Change::Insert(0, 2, 2),
+                Change::Consolidate(0),
+                Change::Split(0),
+            ],
+            &[
+                Change::Grow(1),
+                Change::Split(2),
+                Change::Grow(3),
+                Change::Split(4),
+                Change::Grow(5),
+                Change::Split(6),
+            ],
+        ],
+        puts: 0,
+        page: 7,
+        next: Change::Grow(7),
+        left: Left {
+            refused: Some(Refused::TableFull),
+            is_given_back: true,
+            depth: 0,
+        },
+    },
+    // the deepest chain
+    Row {
+        slots: 64,
+        changes: [&[], &[]],
+        puts: 64,
+        page: 0,
+        next: Change::Insert(0, 64, 64),
+        left: Left {
+            refused: Some(Refused::Deep),
+            is_given_back: true,
+            depth: 64,
+        },
+    },
+    // a page that was merged and freed
+    Row {
+        slots: 64,
+        changes: [
+            &THREE_LEAVES,
+            &[
+                Change::Mark(1, 2),
+                Change::Merge(0, 1),
+                Change::TermDelete(2, 1),
+            ],
+        ],
+        puts: 0,
+        page: 0,
+        next: Change::TermDelete(2, 1),
+        left: Left {
+            refused: Some(Refused::Absent),
+            is_given_back: true,
+            depth: 3,
+        },
+    },
+];
+
+fn puts<'a>(heap: &'a LocalHeap, table: &mut Table<&'a LocalHeap>, keys: Key) -> Result<(), Fail> {
+    for key in 0..keys {
+        take(heap, table, Change::Insert(0, key, key))?;
+    }
+    Ok(())
+}
+
+/// Does the row in a heap, and lets the table go before the copy.
+fn left_of(machine: Global, heap: &LocalHeap, row: &Row) -> Result<Left, Fail> {
+    let config = Config {
+        pages: row.slots,
+        ..SMALL
+    };
+    let mut table = Table::new(machine, heap, config)?;
+    take_all(heap, &mut table, row.changes[0])?;
+    take_all(heap, &mut table, row.changes[1])?;
+    puts(heap, &mut table, row.puts)?;
+    let copy = table.chain(heap, row.page, seen(&table, row.page))?;
+    let used = heap.used();
+    let step = step_of(heap, &table, row.next)?;
+    let with_step = heap.used();
+    let refused = table.install(step).err();
+    let is_given_back = used < with_step && heap.used() == used;
+    drop(table);
+    Ok(Left {
+        refused,
+        is_given_back,
+        depth: copy.depth(),
+    })
+}
+
+#[test]
+fn a_dropped_table_leaves_nothing_behind(rt: HostRuntime) -> Result<(), Fail> {
+    for row in ROWS.iter() {
+        let heap = LocalHeap::new(rt.alloc(), 65536)?;
+        assert_eq!(rt; left_of(rt.alloc(), &heap, row)?, row.left);
+        assert_eq!(rt; heap.used(), 0);
+    }
+    Ok(())
+}
+
+/// A step of each kind for a tree of three leaves.
+static ONE_OF_EACH: [Change; 10] = [
+    Change::Insert(0, 0, 0),
+    Change::Delete(0, 1),
+    Change::Modify(0, 1, 10),
+    Change::Consolidate(1),
+    Change::Split(3),
+    Change::TermAdd(2, 3),
+    Change::Grow(3),
+    Change::Mark(1, 2),
+    Change::Merge(0, 1),
+    Change::TermDelete(2, 1),
+];
+
+/// Makes twins of a step in the heaps; the first has room for the step and a tree of three leaves.
+fn twin_in_each<'a>(
+    machine: Global,
+    heaps: &'a [LocalHeap],
+    change: Change,
+) -> Result<Rooms, Fail> {
+    let (ample, tight) = heaps.split_first().ok_or("no heap")?;
+    let mut table = Table::new(machine, ample, SMALL)?;
+    take_all(ample, &mut table, &THREE_LEAVES)?;
+    let step = step_of(ample, &table, change)?;
+    let mut rooms = Rooms::NONE;
+    for heap in tight {
+        let made = step.twin(heap).is_ok();
+        rooms.count(made, heap);
+    }
+    Ok(rooms)
+}
+
+/// Copies a page that was merged in each heap.
+fn copy_in_each<'a>(machine: Global, heaps: &'a [LocalHeap]) -> Result<Rooms, Fail> {
+    let (ample, tight) = heaps.split_first().ok_or("no heap")?;
+    let mut table = Table::new(machine, ample, SMALL)?;
+    take_all(ample, &mut table, &THREE_LEAVES)?;
+    take_all(
+        ample,
+        &mut table,
+        &[Change::Mark(1, 2), Change::Merge(0, 1)],
+    )?;
+    let mut rooms = Rooms::NONE;
+    for heap in tight {
+        let made = match table.chain(heap, 0, seen(&table, 0)) {
+            Ok(copy) => copy.depth() == 3,
+            Err(fault) => fault != CopyFault::NoMemory,
+        };
+        rooms.count(made, heap);
+    }
+    Ok(rooms)
+}
+
+fn is_nothing_left(heaps: &[LocalHeap]) -> bool {
+    for heap in heaps {
+        if heap.used() != 0 {
+            return false;
+        }
+    }
+    true
+}
+
+#[test]
+fn each_request_of_a_twin_or_a_copy_may_be_refused(rt: HostRuntime) -> Result<(), Fail> {
+    let heaps = growing_heaps(rt.alloc(), 200)?;
+    for change in ONE_OF_EACH.iter() {
+        let rooms = twin_in_each(rt.alloc(), &heaps, *change)?;
+        assert!(rt; rooms.are_fair(), "{change:?}");
+    }
+    assert!(rt; copy_in_each(rt.alloc(), &heaps)?.are_fair());
+    assert!(rt; is_nothing_left(&heaps));
+    Ok(())
+}

@@ -1,0 +1,132 @@
+//! A worker that is alone makes changes at once where a page is consolidated after each record. A hand on
+//! a tree makes the same drawn calls step by step, and both are answered alike, leave the same receipts
+//! and spend the same effort.
+
+use bw_keys::{Config, Fence};
+use bw_step::{Receipt, Step};
+use bw_table::Table;
+use test_kit::{
+    Call, LARGE, Pages, Play, Reply, SMALL, Task, Turns, Worked, play_on_new_tree, work,
+};
+use bw_tree::{Share, Shared};
+use bw_work::{Alone, Ends, Fault, Hand, Open, Steps};
+use rand_core::{Rng, SeedableRng};
+use rand_pcg::Pcg32;
+use std::alloc::{AllocError, Global};
+use std::test::Fail;
+
+/// How many calls a worker makes, at most.
+const CALLS: u32 = 400;
+
+const KEYS: u32 = 48;
+
+/// Room for all keys; so little that the table gets full; so little effort that tending gives up; and
+/// versions that are used up.
+static CONFIGS: [Config; 5] = [
+    Config { chain: 1, ..LARGE },
+    Config {
+        chain: 1,
+        pages: 8,
+        ..SMALL
+    },
+    Config {
+        chain: 1,
+        tries: 1,
+        ..LARGE
+    },
+    Config {
+        chain: 1,
+        tries: 3,
+        ..LARGE
+    },
+    Config {
+        chain: 1,
+        first_version: u64::MAX - 12,
+        ..LARGE
+    },
+];
+
+fn drawn_call(rng: &mut Pcg32) -> Call {
+    let key = u64::from(rng.next_u32() % KEYS);
+    let value = u64::from(rng.next_u32());
+    match rng.next_u32() % 32 {
+        0 => Call::Clear(key, Fence::Key(key + 8)),
+        1..=3 => Call::Get(key),
+        4..=9 => Call::Set(key, value),
+        10..=19 => Call::Delete(key),
+        _ => Call::Put(key, value),
+    }
+}
+
+fn drawn_calls(machine: Global, seed: u64) -> Result<Vec<Call>, AllocError> {
+    let mut rng = Pcg32::seed_from_u64(seed);
+    let mut calls = Vec::new(machine);
+    for _ in 0..CALLS {
+        calls.push(drawn_call(&mut rng))?;
+    }
+    Ok(calls)
+}
+
+/// What came of the calls, which end where one has no reply.
+#[derive(Debug, PartialEq, Eq, Drop)]
+struct Outcome {
+    replies: Vec<Reply>,
+    trail: Vec<Receipt>,
+    fault: Option<Fault>,
+    effort: u64,
+    ends: Ends,
+}
+
+fn outcome_of<S: Steps<Global, Step<Global>>>(
+    machine: Global,
+    steps: &mut S,
+    calls: &[Call],
+) -> Outcome {
+    let told = work(machine, steps, Task::calls(calls));
+    Outcome {
+        replies: told.replies,
+        trail: told.trail,
+        fault: told.fault,
+        effort: steps.effort(),
+        ends: steps.ends(),
+    }
+}
+
+/// The first of two hands makes the calls, the other none.
+#[derive(Drop)]
+struct ByHand {
+    machine: Global,
+    calls: Vec<Call>,
+}
+
+impl Play<Outcome> for ByHand {
+    fn work<S: Shared<Global, Step<Global>> + Pages<Global>>(
+        &self,
+        tree: &S,
+        worker: u32,
+        share: Share<S::Insertions, S::Removals>,
+    ) -> Worked<S::Insertions, S::Removals, Outcome> {
+        let calls: &[Call] = if worker == 0 { &self.calls } else { &[] };
+        let mut hand = Hand::new(self.machine, self.machine, tree, share, worker, &Open);
+        let told = outcome_of(self.machine, &mut hand, calls);
+        let (share, _) = hand.finish();
+        Worked { share, told }
+    }
+}
+
+#[test]
+fn changes_at_once_are_those_of_the_steps(rt: HostRuntime) -> Result<(), Fail> {
+    let machine = rt.alloc();
+    for config in CONFIGS.iter() {
+        for seed in 0..4 {
+            let calls = drawn_calls(machine, seed)?;
+            let mut table = Table::new(machine, machine, *config)?;
+            let mut alone = Alone::new(machine, machine, &mut table);
+            let at_once = outcome_of(machine, &mut alone, &calls);
+            let by_hand = ByHand { machine, calls };
+            let ended = play_on_new_tree(rt, machine, *config, Turns::OneByOne, &by_hand)?;
+            assert_eq!(rt; at_once, ended.zero, "seed {seed}");
+        }
+    }
+    Ok(())
+}

@@ -1,0 +1,70 @@
+//! What calls of a worker cost.
+
+use bw_keys::Pid;
+use bw_step::{Step, Todo};
+use bw_table::Table;
+use test_kit::{Pages, Play, SMALL, Turns, Worked, play_on_new_tree};
+use bw_tree::{Share, Shared};
+use bw_work::{Alone, Calls, Fault, Hand, Open, Steps};
+use std::alloc::Global;
+use std::test::Fail;
+
+/// Calls of a hand where nobody is in the way, and no page is to be consolidated, split or helped.
+#[derive(Drop)]
+struct ByHand {
+    machine: Global,
+}
+
+/// The effort after a change of each kind, with that of a put which changes nothing, after a page was
+/// tended, and after help.
+type Efforts = Result<(u64, u64, u64), Fault>;
+
+fn efforts<S: Shared<Global, Step<Global>>>(hand: &mut Hand<'_, Global, S, Open>) -> Efforts {
+    let _inserted = hand.put(1, 10)?;
+    let _present = hand.put(1, 11)?;
+    let _replaced = hand.set(1, 12)?;
+    let _removed = hand.delete(1)?;
+    let changed = hand.effort();
+    hand.tend(Pid(0))?;
+    let tended = hand.effort();
+    hand.help(Todo::Post(Pid(1)))?;
+    Ok((changed, tended, hand.effort()))
+}
+
+impl Play<Efforts> for ByHand {
+    fn work<S: Shared<Global, Step<Global>> + Pages<Global>>(
+        &self,
+        tree: &S,
+        worker: u32,
+        share: Share<S::Insertions, S::Removals>,
+    ) -> Worked<S::Insertions, S::Removals, Efforts> {
+        let mut hand = Hand::new(self.machine, self.machine, tree, share, worker, &Open);
+        let told = efforts(&mut hand);
+        let (share, _) = hand.finish();
+        Worked { share, told }
+    }
+}
+
+/// The same by a worker that is alone.
+fn lone_efforts(machine: Global) -> Result<(u64, u64, u64), Fail> {
+    let mut table = Table::new(machine, machine, SMALL)?;
+    let mut alone = Alone::new(machine, machine, &mut table);
+    let _inserted = alone.put(1, 10)?;
+    let _present = alone.put(1, 11)?;
+    let _replaced = alone.set(1, 12)?;
+    let _removed = alone.delete(1)?;
+    let changed = alone.effort();
+    alone.tend(Pid(0))?;
+    let tended = alone.effort();
+    alone.help(Todo::Post(Pid(1)))?;
+    Ok((changed, tended, alone.effort()))
+}
+
+#[test]
+fn only_help_costs_effort_where_nothing_is_in_the_way(rt: HostRuntime) -> Result<(), Fail> {
+    let machine = rt.alloc();
+    assert_eq!(rt; lone_efforts(machine)?, (0, 0, 1));
+    let ended = play_on_new_tree(rt, machine, SMALL, Turns::OneByOne, &ByHand { machine })?;
+    assert_eq!(rt; ended.zero, Ok((0, 0, 1)));
+    Ok(())
+}

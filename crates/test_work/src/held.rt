@@ -1,0 +1,154 @@
+//! A worker that does its task while another one is held.
+
+use bw_audit::{Verdict, audit, is_ascending};
+use bw_keys::{Fence, Key};
+use bw_step::{Kind, Receipt, Step};
+use bw_table::Table;
+use test_kit::{
+    BESIDE_CALLS, Call, Ended, HELD_CALLS, HOLDS, HeldAfter, Pages, Play, Reply, SMALL, Task, Told,
+    Turns, Worked, are_both_done, leaves_of, play_on_new_tree, receipt,
+};
+use bw_tree::{Share, Shared};
+use bw_work::{Del, Put};
+use std::alloc::Global;
+use std::test::Fail;
+
+/// Each worker does a task, worker 1 while worker 0 is held.
+#[derive(Drop)]
+struct Both {
+    machine: Global,
+    held: HeldAfter,
+    zero: Task<'static>,
+    one: Task<'static>,
+}
+
+impl Play<Told> for Both {
+    fn work<S: Shared<Global, Step<Global>> + Pages<Global>>(
+        &self,
+        tree: &S,
+        worker: u32,
+        share: Share<S::Insertions, S::Removals>,
+    ) -> Worked<S::Insertions, S::Removals, Told> {
+        let task = if worker == 0 { self.zero } else { self.one };
+        self.held.work(self.machine, tree, share, worker, task)
+    }
+}
+
+/// A worker's calls, what they reply, and what they leave on its trail.
+type Calls = (&'static [Call], &'static [Reply], &'static [Receipt]);
+
+/// After which step worker 0 is held, how many keys it puts before its calls, and the calls of both.
+struct Case {
+    kind: Kind,
+    puts: Key,
+    zero: Calls,
+    one: Calls,
+    leaves: &'static [(Key, Fence, u64)],
+}
+
+static CASES: [Case; 2] = [
+    // the split is finished by worker 1
+    Case {
+        kind: Kind::Split,
+        puts: 5,
+        zero: (&[], &[], &[]),
+        one: (
+            &[Call::Put(6, 6)],
+            &[Reply::Put(Put::Inserted)],
+            &[receipt!(Grow 2, 1), receipt!(inserted 6, 6)],
+        ),
+        leaves: &[(0, Fence::Key(3), 2), (3, Fence::Top, 4)],
+    },
+    // a key that worker 1 takes out is not counted
+    Case {
+        kind: Kind::Consolidate,
+        puts: 3,
+        zero: (
+            &[Call::Clear(0, Fence::Top)],
+            &[Reply::Clear(2)],
+            &[
+                receipt!(deleted 4, 1),
+                receipt!(Consolidate 0),
+                receipt!(deleted 6, 2),
+                receipt!(looked 6, 3, None),
+            ],
+        ),
+        one: (
+            &[Call::Delete(3)],
+            &[Reply::Delete(Del::Removed(3))],
+            &[receipt!(deleted 5, 3)],
+        ),
+        leaves: &[(0, Fence::Top, 0)],
+    },
+];
+
+fn has_told(told: &Told, (_, replies, trail): Calls) -> bool {
+    told.fault.is_none() && told.replies.as_slice() == replies && told.trail.as_slice() == trail
+}
+
+#[test]
+fn a_worker_goes_on_where_one_is_held(rt: HostRuntime) -> Result<(), Fail> {
+    let machine = rt.alloc();
+    for case in CASES.iter() {
+        let play = Both {
+            machine,
+            held: HeldAfter::new(case.kind),
+            zero: Task {
+                first: 1,
+                last: case.puts,
+                calls: case.zero.0,
+            },
+            one: Task::calls(case.one.0),
+        };
+        let ended = play_on_new_tree(rt, machine, SMALL, Turns::SideBySide, &play)?;
+        let Ended { table, zero, one } = &ended;
+        assert!(rt; play.held.came_about(), "{:?}", case.kind);
+        assert!(rt;
+            has_told(zero, case.zero) && has_told(one, case.one),
+            "{zero:?} {one:?}"
+        );
+        assert_eq!(rt; leaves_of(machine, table)?.as_slice(), case.leaves);
+    }
+    Ok(())
+}
+
+/// What an audit says of the trails and of the pairs that are left.
+fn verdict_on(
+    machine: Global,
+    table: &Table<Global>,
+    trails: &[Vec<Receipt>],
+) -> Result<Option<Verdict>, Fail> {
+    let pairs = table.pairs(machine)?;
+    if !is_ascending(&pairs) {
+        return Ok(None);
+    }
+    Ok(Some(audit(machine, trails, &pairs)?))
+}
+
+#[test]
+fn a_worker_does_all_while_another_is_held_after_any_step(rt: HostRuntime) -> Result<(), Fail> {
+    let machine = rt.alloc();
+    for (kind, before) in HOLDS {
+        let play = Both {
+            machine,
+            held: HeldAfter::new(kind),
+            zero: Task::calls(&HELD_CALLS),
+            one: Task::calls(&BESIDE_CALLS),
+        };
+        let Ended { table, zero, one } = play_on_new_tree(
+            rt,
+            machine,
+            SMALL,
+            Turns::SideBySide,
+            &play,
+        )?;
+        assert!(rt; play.held.came_about(), "{kind:?}");
+        assert!(rt;
+            are_both_done(machine, &table, before, (&zero, &one))?,
+            "{kind:?}: {zero:?} {one:?}"
+        );
+        let verdict = verdict_on(machine, &table, &[zero.trail, one.trail])?;
+        assert_eq!(rt; verdict, Some(Verdict::Yes), "{kind:?}");
+    }
+    Ok(())
+}

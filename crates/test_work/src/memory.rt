@@ -1,0 +1,143 @@
+//! A worker that is alone in a small heap. That what it is refused changes nothing is proved; here calls are
+//! refused only where there is no room, and all memory is given back.
+
+use bw_keys::{Fence, Key};
+use bw_table::Table;
+use test_kit::{Call, Rooms, SMALL};
+use bw_work::{Alone, Calls, Fault, Put};
+use linked_list_allocator::LocalHeap;
+use std::alloc::{Allocator, Global};
+use std::test::Fail;
+
+/// A heap of 4,096 bytes has no room for so many pairs.
+const MOST: Key = 300;
+
+/// Puts the keys from 1 on, each with itself as value, and answers the one that memory was refused
+/// for. None where each had room, or another answer came.
+fn put_until_refused<A: Allocator + Copy>(alone: &mut Alone<'_, A>) -> Option<Key> {
+    for key in 1..=MOST {
+        match alone.put(key, key) {
+            Ok(done) if done.reply == Put::Inserted => {}
+            Err(Fault::NoMemory) => return Some(key),
+            _ => return None,
+        }
+    }
+    None
+}
+
+/// Whether each key from 1 on, and below the end, has itself as value.
+fn has_each<A: Allocator + Copy>(alone: &mut Alone<'_, A>, end: Key) -> bool {
+    for key in 1..end {
+        if alone.get(key) != Ok(Some(key)) {
+            return false;
+        }
+    }
+    true
+}
+
+/// Fills a table in the heap. How many keys had room; None where an answer was wrong, or the table hasn't just
+/// these.
+fn fill_table(machine: Global, heap: &LocalHeap) -> Option<u64> {
+    let mut table = Table::new(machine, heap, SMALL).ok()?;
+    let mut alone = Alone::new(machine, heap, &mut table);
+    let refused = put_until_refused(&mut alone)?;
+    let is_kept = has_each(&mut alone, refused) && alone.get(refused) == Ok(None);
+    alone.finish();
+    let pairs = table.pairs(machine).ok()?.len() as u64;
+    (is_kept && pairs.checked_add(1) == Some(refused)).then_some(pairs)
+}
+
+#[test]
+fn a_full_heap_refuses_and_keeps_what_was_inserted(rt: HostRuntime) -> Result<(), Fail> {
+    let heap = LocalHeap::new(rt.alloc(), 4096)?;
+    let pairs = fill_table(rt.alloc(), &heap).ok_or("another answer")?;
+    assert!(rt; pairs > 1);
+    assert_eq!(rt; heap.used(), 0);
+    Ok(())
+}
+
+/// The keys from 1 to this one are put, and then the calls made, in heaps that grow by so many bytes.
+type Case = (Key, &'static [Call], usize);
+
+static CASES: [Case; 2] = [
+    // the first chain is consolidated once
+    (
+        0,
+        &[
+            Call::Set(9, 1),
+            Call::Set(9, 2),
+            Call::Set(9, 3),
+            Call::Set(9, 4),
+            Call::Set(8, 5),
+            Call::Delete(9),
+            Call::Set(9, 6),
+            Call::Slice(8),
+        ],
+        16,
+    ),
+    (24, &[Call::Clear(0, Fence::Top), Call::Get(1)], 32),
+];
+
+/// Makes a call. The fault that came, with a reply or in place of one.
+fn fault_of<A: Allocator + Copy>(
+    machine: Global,
+    alone: &mut Alone<'_, A>,
+    call: Call,
+) -> Option<Fault> {
+    match call {
+        Call::Put(key, value) => alone.put(key, value).map_or_else(Some, |done| done.fault),
+        Call::Set(key, value) => alone.set(key, value).map_or_else(Some, |done| done.fault),
+        Call::Delete(key) => alone.delete(key).map_or_else(Some, |done| done.fault),
+        Call::Get(key) => alone.get(key).err(),
+        Call::Slice(key) => alone.page_from(machine, key).err(),
+        Call::Clear(low, high) => alone.clear(machine, low, high).fault,
+    }
+}
+
+/// Makes the calls of a case. Whether there was room for all; None where another fault came.
+fn had_room<A: Allocator + Copy>(
+    machine: Global,
+    alone: &mut Alone<'_, A>,
+    (puts, calls, _): Case,
+) -> Option<bool> {
+    let mut had_room = true;
+    for key in 1..=puts {
+        had_room = had_room
+            && alone
+                .put(key, key)
+                .and_then(|done| done.into_result())
+                .is_ok();
+    }
+    for call in calls {
+        match fault_of(machine, alone, *call) {
+            None => {}
+            Some(Fault::NoMemory) => had_room = false,
+            Some(_) => return None,
+        }
+    }
+    Some(had_room)
+}
+
+/// Makes the calls of a case on a table in the heap. Whether there was room for all.
+fn work_in(machine: Global, heap: &LocalHeap, case: Case) -> Result<bool, Fail> {
+    let Ok(mut table) = Table::new(machine, heap, SMALL) else {
+        return Ok(false);
+    };
+    let mut alone = Alone::new(machine, heap, &mut table);
+    Ok(had_room(machine, &mut alone, case).ok_or("another fault")?)
+}
+
+// A heap grows from run to run, so each request is once the first to be refused.
+#[test]
+fn each_request_may_be_refused(rt: HostRuntime) -> Result<(), Fail> {
+    for case in CASES.iter() {
+        let mut rooms = Rooms::NONE;
+        for cells in 1..400usize {
+            let heap = LocalHeap::new(rt.alloc(), case.2.wrapping_mul(cells))?;
+            let made = work_in(rt.alloc(), &heap, *case)?;
+            rooms.count(made, &heap);
+        }
+        assert!(rt; rooms.are_fair(), "{rooms:?}");
+    }
+    Ok(())
+}
