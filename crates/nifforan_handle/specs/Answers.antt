@@ -13,6 +13,10 @@ number_if false n = None
 abbrev pub had : Reply → Option ℕ
 had reply = number_if reply.found reply.value
 
+-- there is a reply, which tells that the key had this before
+abbrev pub RepliesWith : Option ℕ → Reply → Type 0
+RepliesWith before reply = (reply.status ≡ OK) × (had reply ≡ before)
+
 -- where the key had no value, the number in its place is 0
 abbrev pub IsZeroWithout : Reply → Type 0
 IsZeroWithout reply = reply.found ≡ false → reply.value ≡ 0

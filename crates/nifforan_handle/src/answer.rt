@@ -1,7 +1,7 @@
 //! What calls answer.
 ghost use Rattle.std.specs.Prelude.{◌≡◌, None, Some, IfOk, IfErr, IfSome};
 ghost use Rattle.nifforan.specs.Maps.{before_put, before_set, before_delete};
-ghost use Rattle.nifforan_handle.specs.Answers.{had, next_key, IsCare, IsZeroWithout, IsZeroAtEnd};
+ghost use Rattle.nifforan_handle.specs.Answers.{had, next_key, RepliesWith, IsCare, IsZeroWithout, IsZeroAtEnd};
 ghost use Rattle.nifforan_handle.specs.Statuses.{status_of_fault, status_of, IsStatus};
 ghost use Rattle.nifforan_handle.specs.declared.status.TheConstants.{CLOSED, OK};
 
@@ -53,7 +53,7 @@ impl Reply {
     }
 
     pub(crate) fn of_put(answer: Result<Done<Put>, Fault>) -> Reply
-        ensures reply { IfOk answer (λ done. (result.status ≡ OK) × (had result ≡ before_put done.reply)) }
+        ensures reply { IfOk answer (λ done. RepliesWith (before_put done.reply) result) }
         ensures care { IfOk answer (λ done. result.care ≡ status_of done.fault) }
         ensures fault { IfErr answer (λ fault. result.status ≡ status_of_fault fault) }
         ensures nothing { IfErr answer (λ fault. had result ≡ None) }
@@ -73,7 +73,7 @@ impl Reply {
     }
 
     pub(crate) fn of_set(answer: Result<Done<Set>, Fault>) -> Reply
-        ensures reply { IfOk answer (λ done. (result.status ≡ OK) × (had result ≡ before_set done.reply)) }
+        ensures reply { IfOk answer (λ done. RepliesWith (before_set done.reply) result) }
         ensures care { IfOk answer (λ done. result.care ≡ status_of done.fault) }
         ensures fault { IfErr answer (λ fault. result.status ≡ status_of_fault fault) }
         ensures nothing { IfErr answer (λ fault. had result ≡ None) }
@@ -93,7 +93,7 @@ impl Reply {
     }
 
     pub(crate) fn of_delete(answer: Result<Done<Del>, Fault>) -> Reply
-        ensures reply { IfOk answer (λ done. (result.status ≡ OK) × (had result ≡ before_delete done.reply)) }
+        ensures reply { IfOk answer (λ done. RepliesWith (before_delete done.reply) result) }
         ensures care { IfOk answer (λ done. result.care ≡ status_of done.fault) }
         ensures fault { IfErr answer (λ fault. result.status ≡ status_of_fault fault) }
         ensures nothing { IfErr answer (λ fault. had result ≡ None) }

@@ -59,7 +59,8 @@ impl Handle {
 
     /// Gives out the map that the handle holds, if it holds one, and closes the handle.
     pub(crate) fn take(&mut self, alloc: Global) -> Option<Box<Map<Global>>>
-        ensures map { MatchOption result (self.old.held ≡ None) (λ map. self.old.held ≡ Some map.value) }
+        ensures map { MatchOption result (self.old.held ≡ None)
+            (λ map. self.old.held ≡ Some map.value) }
         ensures closed { self.new.held ≡ None }
     {
         replace(self, Handle::closed()).into_map(alloc)

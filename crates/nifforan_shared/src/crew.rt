@@ -66,7 +66,8 @@ pub(crate) fn run_all<
             requires few { length kits.items ≤ 64 }
             requires given { ByNumber (P.given part.now) 0 kits.items }
             ensures count { IfOk result (λ outputs. length outputs.items ≡ length kits.items) }
-            ensures told { IfOk result (λ outputs. ByNumber (P.told part.entry.now) 0 outputs.items) }
+            ensures told { IfOk result
+                (λ outputs. ByNumber (P.told part.entry.now) 0 outputs.items) }
         {
             // asked for here, since what was done is given up where memory is wanting behind it
             let room = Vec::with_capacity(machine, kits.len())?;

@@ -7,9 +7,9 @@ use std::alloc::Global;
 
 /// What comes between a worker that takes a step or looks, and the tree.
 pub trait Hook<S: Shared<Global, Step<Global>>> {
-    ghost use Rattle.std.specs.Prelude.{◌≡◌, IfOk, MatchResult};
+    ghost use Rattle.std.specs.Prelude.{◌≡◌, IfOk};
     ghost use Rattle.bw_step.specs.ProposalView.{proposal_of};
-    ghost use Rattle.bw_tree.specs.Shares.{counted};
+    ghost use Rattle.bw_tree.specs.Shares.{CountsIn};
     ghost use Rattle.bw_step.specs.Steps.{IsReceiptOf};
 
     /// Proposes the step to the tree, or another in its place.
@@ -19,7 +19,7 @@ pub trait Hook<S: Shared<Global, Step<Global>>> {
         share: &mut Share<S::Insertions, S::Removals>,
         step: Step<Global>,
     ) -> Result<Receipt, Denied>
-        ensures share { MatchResult result (λ receipt. share.new ≡ counted share.old receipt) (λ _. share.new ≡ share.old) }
+        ensures share { CountsIn share.old share.new result }
         ensures receipt { IfOk result (IsReceiptOf (proposal_of step)) };
 
     /// Looks at the tree.
