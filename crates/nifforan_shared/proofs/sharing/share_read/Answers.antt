@@ -18,7 +18,7 @@ work_all-requires-clause-given g c κs within = nothing_asked 0 c.in_ok-kits.kit
 pub returns-clause-shared : goal.returns-clause-shared
 returns-clause-shared g c =
     let all = c.in_ok-shares.field-0 in
-    let closed = c.in-Ok-close.ensures in
+    let closed = c.in-Ok-close.ensures.closed in
     let many : length c.in_ok-kits.kits.items ≡ c.args.workers = search rules in
     record {
       tree = closed.tree;
