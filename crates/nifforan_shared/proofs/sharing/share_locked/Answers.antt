@@ -19,7 +19,7 @@ returns-clause-shared g c =
     let many : length c.in_ok-kits.kits.items ≡ c.args.blanks.workers = search rules in
     record {
       tree = closed.tree;
-      config = closed.config ∙ c.requires.config;
+      config = closed.config ∙ c.requires.ledgers.made;
       outputs = all.answered ∙ (c.in_ok-shares.ensures.count ∙ many);
       trails = all.trailed ∙ (c.in_ok-shares.ensures.count ∙ many);
       pairs = counts_trails c.in-Ok-close.table all.shares.items all.trails.items all.counted closed.pairs;
