@@ -2,3 +2,4 @@ pub mod Calm
 pub mod Leading
 pub mod Showing
 pub mod Clearing
+pub mod Doing

@@ -8,7 +8,7 @@ ghost use Rattle.bw_law.specs.Refusals.{refusal};
 ghost use Rattle.bw_law.specs.Tables.{Lawful, Booked, TellsMap};
 ghost use Rattle.bw_table.specs.InPlaces.{IsDoneAtOnce, IsSplitUnder};
 
-use crate::holding::Holds;
+use crate::holding::{Does, Holds};
 use bw_chain::Wished;
 use bw_keys::{Key, Pid};
 use bw_step::{AtOnce, Receipt, Refused, Step};
@@ -38,7 +38,7 @@ pub(crate) fn install<A: Allocator + Copy, H: Holds<Table<A>>>(
     ensures unchanged { OnErr result (H.value held.new ≡ H.value held.old) }
     ensures same { H.same held.old held.new }
 {
-    held.with(|table| table.install(step))
+    held.with(Installing { step })
 }
 
 /// Carries out a wish for the key: see [`Table::change_at_once`].
@@ -55,7 +55,7 @@ pub(crate) fn change_at_once<A: Allocator + Copy, H: Holds<Table<A>>>(
     ensures unchanged { IfNone result (H.value held.new ≡ H.value held.old) }
     ensures same { H.same held.old held.new }
 {
-    held.with(|table| table.change_at_once(key, wished))
+    held.with(Changing { key, wished })
 }
 
 /// Splits the page and names the new one in the parent: see [`Table::split_under`].
@@ -71,5 +71,70 @@ pub(crate) fn split_under<A: Allocator + Copy, H: Holds<Table<A>>>(
     ensures unchanged { IfNone result (H.value held.new ≡ H.value held.old) }
     ensures same { H.same held.old held.new }
 {
-    held.with(|table| table.split_under(parent, page, number))
+    held.with(Splitting {
+        parent,
+        page,
+        number,
+    })
+}
+
+/// That the table takes a step.
+#[derive(Drop)]
+struct Installing<A: Allocator + Copy> {
+    step: Step<A>,
+}
+
+impl<A: Allocator + Copy> Does<Table<A>> for Installing<A> {
+    ghost use Rattle.bw_step.specs.ProposalView.{proposal_of};
+    ghost use Rattle.bw_alone.specs.Doing.{Installs};
+
+    type Answer = Result<Receipt, Refused>;
+
+    ghost does = { λ it old answer new. Installs (proposal_of it.step) old answer new };
+
+    #[inline(always)]
+    fn run(self, table: &mut Table<A>) -> Result<Receipt, Refused> {
+        table.install(self.step)
+    }
+}
+
+/// That a wish for a key is carried out at once.
+#[derive(Clone, Copy)]
+struct Changing {
+    key: Key,
+    wished: Wished,
+}
+
+impl<A: Allocator + Copy> Does<Table<A>> for Changing {
+    ghost use Rattle.bw_alone.specs.Doing.{Changes};
+
+    type Answer = Option<AtOnce>;
+
+    ghost does = { λ it old answer new. Changes it.key it.wished old answer new };
+
+    #[inline(always)]
+    fn run(self, table: &mut Table<A>) -> Option<AtOnce> {
+        table.change_at_once(self.key, self.wished)
+    }
+}
+
+/// That a page is split, and the new one named in the parent.
+#[derive(Clone, Copy)]
+struct Splitting {
+    parent: Pid,
+    page: Pid,
+    number: usize,
+}
+
+impl<A: Allocator + Copy> Does<Table<A>> for Splitting {
+    ghost use Rattle.bw_alone.specs.Doing.{Splits};
+
+    type Answer = Option<(Pid, bool)>;
+
+    ghost does = { λ it old answer new. Splits it.parent.0 it.page.0 it.number old answer new };
+
+    #[inline(always)]
+    fn run(self, table: &mut Table<A>) -> Option<(Pid, bool)> {
+        table.split_under(self.parent, self.page, self.number)
+    }
 }

@@ -2,10 +2,22 @@
 
 ghost use Rattle.std.specs.Prelude.{◌≡◌};
 
+/// What is to be done with a value. A closure would say as much, but takes no hint to be built in.
+pub trait Does<T> {
+    /// What comes of it.
+    type Answer;
+
+    // what it leaves of the value, and answers
+    ghost does: { Self → T → Self.Answer → T → Type 0 };
+
+    /// Does it.
+    fn run(self, value: &mut T) -> Self::Answer
+        ensures { does self value.old result value.new };
+}
+
 /// A value of its own, or a reference to one.
 pub trait Holds<T>: Drop {
     ghost use Rattle.std.specs.Prelude.{◌≡◌};
-    ghost use Rattle.std.specs.Fn.{FnOnceReturnsAtMut};
 
     ghost value: { Self → T };
 
@@ -16,10 +28,9 @@ pub trait Holds<T>: Drop {
     fn get(&self) -> &T
         ensures { result.now ≡ value self.now };
 
-    /// Calls the function with the value.
-    fn with<R, F: FnOnce(&mut T) -> R>(&mut self, f: F) -> R
-        requires { F.IsAlwaysCallable f }
-        ensures done { FnOnceReturnsAtMut F.FnOnce f (value self.old) result (value self.new) }
+    /// Does something with the value.
+    fn with<D: Does<T>>(&mut self, what: D) -> D::Answer
+        ensures done { D.does what (value self.old) result (value self.new) }
         ensures same { same self.old self.new };
 
     /// Whether the value is its own.
@@ -52,8 +63,8 @@ impl<T: Drop> Holds<T> for Own<T> {
     }
 
     #[inline(always)]
-    fn with<R, F: FnOnce(&mut T) -> R>(&mut self, f: F) -> R {
-        f(&mut self.value)
+    fn with<D: Does<T>>(&mut self, what: D) -> D::Answer {
+        what.run(&mut self.value)
     }
 
     #[inline(always)]
@@ -80,8 +91,8 @@ impl<T> Holds<T> for &mut T {
     }
 
     #[inline(always)]
-    fn with<R, F: FnOnce(&mut T) -> R>(&mut self, f: F) -> R {
-        f(self)
+    fn with<D: Does<T>>(&mut self, what: D) -> D::Answer {
+        what.run(self)
     }
 
     #[inline(always)]

@@ -6,5 +6,5 @@ mod held;
 mod holding;
 mod sole;
 
-pub use holding::{Holds, Own};
+pub use holding::{Does, Holds, Own};
 pub use sole::{Alone, Owner, Sole};
