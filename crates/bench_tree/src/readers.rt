@@ -302,7 +302,13 @@ fn try_over<
     N: Naming + Send + Sync,
     D: Ledger + Send + Sync,
     R: Clock + Threads + Wait + Sync + Send + Copy,
->(rt: R, config: Config, blanks: Blanks, announcements: Announcements, crew: &Crew) -> Result<Figures, Stop>
+>(
+    rt: R,
+    config: Config,
+    blanks: Blanks,
+    announcements: Announcements,
+    crew: &Crew,
+) -> Result<Figures, Stop>
     requires announcements { announcements.seen.book ≡ N.announcements }
     requires ledgers { OpensFor N.Ledger N.config D.Ledger config blanks }
 {

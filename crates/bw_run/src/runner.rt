@@ -151,7 +151,14 @@ fn run_read<
     ensures config { IfOk result (λ finished. finished.table.config ≡ config) }
     ensures fault { IfErr result (IsRunFault config blanks.workers readers rows.now) }
 {
-    let made = ReadTree::<R, N, D>::with_readers(rt, machine, config, blanks, announcements, readers);
+    let made = ReadTree::<R, N, D>::with_readers(
+        rt,
+        machine,
+        config,
+        blanks,
+        announcements,
+        readers,
+    );
     let (tree, shares, readers) = match made {
         Ok(made) => made,
         Err(SnapFault::NoReader) => return Err(RunFault::NoReader),

@@ -134,7 +134,14 @@ fn share_read<
     ensures shared { IfOk result (IsShared (J.told job.now) config workers) }
     ensures fault { IfErr result (IsShareFault 16 config workers) }
 {
-    let made = ReadTree::<R, N, D>::with_readers(rt, machine, config, blanks, announcements, workers);
+    let made = ReadTree::<R, N, D>::with_readers(
+        rt,
+        machine,
+        config,
+        blanks,
+        announcements,
+        workers,
+    );
     let Ok((tree, shares, readers)) = made else {
         return Err(ShareFault::NoMemory);
     };

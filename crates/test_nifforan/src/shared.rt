@@ -57,7 +57,9 @@ fn call_each<W: Worker>(hand: &mut W, first: u64) -> Answers
     let deleted = [reply(hand.delete(first + 1)), reply(hand.delete(first + 1))];
     let found = hand.get(first).ok();
     let machine = hand.alloc();
-    let removed = hand.clear(machine, first + 10, Fence::Key(first + 20)).removed;
+    let removed = hand
+        .clear(machine, first + 10, Fence::Key(first + 20))
+        .removed;
     let listed = match hand.page_from(machine, first + 50) {
         Ok(slice) => slice.pairs.first().copied(),
         Err(_) => None,

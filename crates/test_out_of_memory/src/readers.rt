@@ -10,13 +10,13 @@ use crate::workers::judge;
 use bw_keys::Config;
 use bw_snap::{Announcements, Naming, ReadTree, Reader, ScanFault};
 use bw_step::{Receipt, Step};
-use test_kit::SMALL;
 use bw_tree::{Blanks, Share};
 use bw_work::{Act, Hand, Open, Steps};
 use std::alloc::Global;
 use std::marker::Brand;
 use std::sync::Wait;
 use std::sync::ledger::Ledger;
+use test_kit::SMALL;
 
 /// Puts of keys, each with itself as value.
 macro_rules! puts {
@@ -154,7 +154,12 @@ fn published_over<R: Wait + Copy, N: Naming, D: Ledger>(
     requires ledgers { OpensFor N.Ledger N.config D.Ledger config blanks }
 {
     let Ok((tree, mut shares, mut readers)) = ReadTree::<R, N, D>::with_readers(
-        rt, machine, config, blanks, announcements, 1,
+        rt,
+        machine,
+        config,
+        blanks,
+        announcements,
+        1,
     ) else {
         return Err(Stop::Memory);
     };

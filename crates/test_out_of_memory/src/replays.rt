@@ -7,8 +7,8 @@ use bw_audit::{Deed, Event, ReplayFault, Replayed, Verdict, audit, is_ascending,
 use bw_delta::Spare;
 use bw_keys::{Key, Pid, Version};
 use bw_step::{Insert, Receipt, Step};
-use test_kit::{SMALL, receipt};
 use std::alloc::Global;
+use test_kit::{SMALL, receipt};
 
 fn insert(worker: u32, key: Key, spare: Spare<Global>) -> Event
     ensures { result.worker ≡ worker }

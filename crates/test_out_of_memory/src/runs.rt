@@ -4,12 +4,12 @@ use crate::ending::{Ending, Stop, hold};
 use crate::plain::Plain;
 use bw_run::{Act, Finished, Reply, Row, RunFault, is_trace_for, run};
 use bw_step::Kind;
-use test_kit::SMALL;
 use bw_work::{Fault, Gate};
 use std::alloc::Global;
 use std::sync::Wait;
 use std::sync::atomic::{AtomicU64, Ordering};
 use std::thread::Threads;
+use test_kit::SMALL;
 
 /// Puts of the first worker, each of a key with itself as value, and a get.
 macro_rules! rows {

@@ -10,13 +10,13 @@ use bw_audit::{Verdict, audit, is_ascending};
 use bw_keys::Config;
 use bw_step::{Receipt, Survey};
 use bw_table::Table;
-use test_kit::{SMALL, partition_the_keys};
 use bw_tree::{Blanks, MadeBy, Share, Tree};
 use bw_work::{Alone, Hand, Open};
 use std::alloc::Global;
 use std::marker::Brand;
 use std::sync::Wait;
 use std::sync::ledger::Ledger;
+use test_kit::{SMALL, partition_the_keys};
 
 /// Whether the table has the map's pairs, in leaves that partition the keys and by its book, and the
 /// audit explains the trail.

@@ -6,7 +6,6 @@ use bw_audit::Verdict;
 use bw_keys::Fence;
 use bw_snap::{Naming, ReadTree, Reader};
 use bw_step::{Book, Receipt};
-use test_kit::{LARGE, Meeting, Told, Worked};
 use bw_tree::Share;
 use bw_work::{Act, Fault, Hand, Open, do_act};
 use rand_core::{Rng, SeedableRng};
@@ -17,6 +16,7 @@ use std::sync::atomic::{AtomicU64, Ordering};
 use std::sync::ledger::Ledger;
 use std::test::Fail;
 use std::thread;
+use test_kit::{LARGE, Meeting, Told, Worked};
 
 const RUNS: u64 = 20;
 

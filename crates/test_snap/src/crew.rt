@@ -6,7 +6,6 @@ ghost use Rattle.bw_tree.specs.Trees.{OpensFor};
 use crate::seen::{Left, Seen};
 use bw_keys::Config;
 use bw_snap::{Announcements, Naming, ReadTree, Reader};
-use test_kit::{Told, Worked};
 use bw_tree::{Blanks, Share};
 use std::alloc::Global;
 use std::marker::Brand;
@@ -14,6 +13,7 @@ use std::sync::Wait;
 use std::sync::ledger::Ledger;
 use std::test::Fail;
 use std::thread::{Threads, join};
+use test_kit::{Told, Worked};
 
 /// What the threads do, and what each tells.
 pub(crate) trait Crew {
@@ -84,7 +84,12 @@ fn work_over<
     requires ledgers { OpensFor N.Ledger N.config D.Ledger config blanks }
 {
     let (tree, mut shares, mut readers) = ReadTree::<R, N, D>::with_readers(
-        rt, machine, config, blanks, announcements, 1,
+        rt,
+        machine,
+        config,
+        blanks,
+        announcements,
+        1,
     )?;
     let (Some(one), Some(zero), Some(reader)) = (shares.pop(), shares.pop(), readers.pop()) else {
         return Err("there are too few shares or readers".into());

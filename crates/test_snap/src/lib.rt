@@ -2,12 +2,11 @@
 //! is held, and while both write and publish all the time; and of the room for stamps.
 #![tactic(auto)]
 
-pub mod reads;
-
 #[cfg(test)]
 mod beside;
 #[cfg(test)]
 mod crew;
+pub mod reads;
 #[cfg(test)]
 mod seen;
 #[cfg(test)]

@@ -5,9 +5,9 @@ use bw_keys::Key;
 use bw_snap::{Naming, Reader};
 use bw_step::Receipt;
 use bw_table::Table;
-use test_kit::Told;
 use std::alloc::Global;
 use std::test::Fail;
+use test_kit::Told;
 
 /// What a reader saw.
 #[derive(Debug, Drop)]

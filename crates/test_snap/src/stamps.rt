@@ -6,7 +6,6 @@ ghost use Rattle.bw_tree.specs.Trees.{OpensFor};
 use bw_keys::{Config, Key};
 use bw_snap::{Announcements, MAX_READERS, MAX_STAMPS, Naming, ReadTree, Reader, Stamp};
 use bw_step::Step;
-use test_kit::LARGE;
 use bw_tree::Blanks;
 use bw_work::{Calls, Hand, Open, Steps};
 use std::alloc::Global;
@@ -14,6 +13,7 @@ use std::marker::Brand;
 use std::sync::Wait;
 use std::sync::ledger::Ledger;
 use std::test::Fail;
+use test_kit::LARGE;
 
 /// The key that is put when there is no room for a stamp.
 const PAST: Key = MAX_STAMPS as Key;

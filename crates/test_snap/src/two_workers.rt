@@ -7,10 +7,6 @@ use bw_audit::Verdict;
 use bw_keys::{Fence, Key};
 use bw_snap::{Naming, ReadTree, Reader};
 use bw_step::{Kind, Receipt};
-use test_kit::{
-    BESIDE_CALLS, Call, HELD_CALLS, HOLDS, HeldAfter, Reply, SMALL, Task, Told, Worked,
-    are_both_done, are_own_pairs, leaves_of, receipt, work_by_hand,
-};
 use bw_tree::Share;
 use bw_work::{Fault, Put};
 use std::alloc::Global;
@@ -18,6 +14,10 @@ use std::sync::Wait;
 use std::sync::ledger::Ledger;
 use std::test::Fail;
 use std::thread::Threads;
+use test_kit::{
+    BESIDE_CALLS, Call, HELD_CALLS, HOLDS, HeldAfter, Reply, SMALL, Task, Told, Worked,
+    are_both_done, are_own_pairs, leaves_of, receipt, work_by_hand,
+};
 
 /// Each worker does a task, worker 1 while worker 0 is held.
 #[derive(Drop)]

@@ -4,11 +4,11 @@ use bw_delta::{NoMemory, Spare};
 use bw_keys::{Config, Key, Pid, Version};
 use bw_step::{Insert, Look, Receipt, Refused, Step};
 use bw_table::{CopyFault, Table};
-use test_kit::{SMALL, receipt};
 use bw_tree::Denied;
 use bw_work::{Alone, Ends, Keep, Steps};
 use std::alloc::Global;
 use std::test::Fail;
+use test_kit::{SMALL, receipt};
 
 /// What the worker is asked, of the first page or of this one, as of version 0.
 #[derive(Clone, Copy, Debug, PartialEq, Eq)]

@@ -5,15 +5,15 @@
 use bw_keys::{Config, Fence};
 use bw_step::{Receipt, Step};
 use bw_table::Table;
-use test_kit::{
-    Call, LARGE, Pages, Play, Reply, SMALL, Task, Turns, Worked, play_on_new_tree, work,
-};
 use bw_tree::{Share, Shared};
 use bw_work::{Alone, Ends, Fault, Hand, Open, Steps};
 use rand_core::{Rng, SeedableRng};
 use rand_pcg::Pcg32;
 use std::alloc::{AllocError, Global};
 use std::test::Fail;
+use test_kit::{
+    Call, LARGE, Pages, Play, Reply, SMALL, Task, Turns, Worked, play_on_new_tree, work,
+};
 
 /// How many calls a worker makes, at most.
 const CALLS: u32 = 400;

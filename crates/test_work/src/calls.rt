@@ -3,11 +3,11 @@
 use bw_keys::Pid;
 use bw_step::{Step, Todo};
 use bw_table::Table;
-use test_kit::{Pages, Play, SMALL, Turns, Worked, play_on_new_tree};
 use bw_tree::{Share, Shared};
 use bw_work::{Alone, Calls, Fault, Hand, Open, Steps};
 use std::alloc::Global;
 use std::test::Fail;
+use test_kit::{Pages, Play, SMALL, Turns, Worked, play_on_new_tree};
 
 /// Calls of a hand where nobody is in the way, and no page is to be consolidated, split or helped.
 #[derive(Drop)]

@@ -4,14 +4,14 @@ use bw_audit::{Verdict, audit, is_ascending};
 use bw_keys::{Fence, Key};
 use bw_step::{Kind, Receipt, Step};
 use bw_table::Table;
-use test_kit::{
-    BESIDE_CALLS, Call, Ended, HELD_CALLS, HOLDS, HeldAfter, Pages, Play, Reply, SMALL, Task, Told,
-    Turns, Worked, are_both_done, leaves_of, play_on_new_tree, receipt,
-};
 use bw_tree::{Share, Shared};
 use bw_work::{Del, Put};
 use std::alloc::Global;
 use std::test::Fail;
+use test_kit::{
+    BESIDE_CALLS, Call, Ended, HELD_CALLS, HOLDS, HeldAfter, Pages, Play, Reply, SMALL, Task, Told,
+    Turns, Worked, are_both_done, leaves_of, play_on_new_tree, receipt,
+};
 
 /// Each worker does a task, worker 1 while worker 0 is held.
 #[derive(Drop)]

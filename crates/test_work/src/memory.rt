@@ -3,11 +3,11 @@
 
 use bw_keys::{Fence, Key};
 use bw_table::Table;
-use test_kit::{Call, Rooms, SMALL};
 use bw_work::{Alone, Calls, Fault, Put};
 use linked_list_allocator::LocalHeap;
 use std::alloc::{Allocator, Global};
 use std::test::Fail;
+use test_kit::{Call, Rooms, SMALL};
 
 /// A heap of 4,096 bytes has no room for so many pairs.
 const MOST: Key = 300;

@@ -3,8 +3,8 @@
 
 use bw_keys::{Config, Fence, Key};
 use bw_step::Receipt;
-use test_kit::{Call, Change, Reply, SMALL, receipt};
 use bw_work::{Del, Fault, Put, Set};
+use test_kit::{Call, Change, Reply, SMALL, receipt};
 
 pub(crate) struct Row {
     pub(crate) name: &'static str,

@@ -4,10 +4,6 @@ use crate::rows::{ROWS, Row};
 use bw_delta::NoMemory;
 use bw_step::{Book, Kind, Receipt, Step};
 use bw_table::Table;
-use test_kit::{
-    Change, Ended, Hook, Hooked, Pages, Play, Task, Told, Turns, Worked, leaves_of,
-    play_on_new_tree, step_of, take, work, work_by_hand,
-};
 use bw_tree::{Denied, Share, Shared};
 use bw_work::{Alone, Fault, Gate};
 use std::alloc::Global;
@@ -16,6 +12,10 @@ use std::sync::Wait;
 use std::sync::atomic::{AtomicU64, Ordering};
 use std::sync::ledger::Ledger;
 use std::test::Fail;
+use test_kit::{
+    Change, Ended, Hook, Hooked, Pages, Play, Task, Told, Turns, Worked, leaves_of,
+    play_on_new_tree, step_of, take, work, work_by_hand,
+};
 
 /// Takes steps one by one. None where one of them wasn't taken.
 fn leave<S: Shared<Global, Step<Global>> + Pages<Global>>(
