@@ -8,7 +8,7 @@ ghost use Rattle.bw_run.specs.Reads.{IsReadBy, IsReadByOwn};
 ghost use Rattle.bw_run.specs.Stops.{MayStop};
 
 use crate::answers::Stop;
-use crate::looks::{Looks, look_by};
+use crate::looks::Looks;
 use bw_delta::NoMemory;
 use bw_keys::Key;
 use bw_procedures::{Act, Reply, do_act};
@@ -51,7 +51,7 @@ fn do_row<W: Notes, L: Looks>(hand: &mut W, reader: &mut Option<L>, act: Act) ->
 {
     let machine = hand.alloc();
     match act {
-        Act::Get { key } => match look_by(reader, key)? {
+        Act::Get { key } => match L::look_by(reader, key)? {
             Some(look) => Ok(keep(hand, key, look)?),
             None => Ok(do_act(hand, machine, act)?),
         },

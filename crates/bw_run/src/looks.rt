@@ -1,10 +1,8 @@
 //! What answers a worker's get rows without the tree's lock.
 
-ghost use Rattle.std.specs.Prelude.{◌≡◌, IfOk, IfErr};
+ghost use Rattle.std.specs.Prelude.{◌≡◌, IfOk};
 ghost use Rattle.bw_snap.specs.Answers.{IsLookIn};
 ghost use Rattle.bw_snap.specs.Snapshots.{BeginsWith};
-ghost use Rattle.bw_run.specs.Reads.{IsFoundBy};
-ghost use Rattle.bw_run.specs.Stops.{MayStop};
 
 use crate::answers::Stop;
 use bw_keys::Key;
@@ -16,8 +14,9 @@ use std::sync::Wait;
 use std::sync::ledger::Ledger;
 
 /// A reader of a run's tree.
-pub(crate) trait Looks {
+pub(crate) trait Looks: Sized {
     ghost use Rattle.std.specs.Prelude.{◌≡◌, ℕ, Bool, IfOk, IfErr};
+    ghost use Rattle.bw_run.specs.Reads.{IsFoundBy};
     ghost use Rattle.bw_step.specs.declared.view.Look.{Look};
     ghost use Rattle.bw_run.specs.Stops.{MayStop};
 
@@ -27,9 +26,9 @@ pub(crate) trait Looks {
     // the reader may find nothing to read
     ghost may_close: { Bool };
 
-    /// Looks the key up, after all that the calling thread has changed.
-    fn look(&mut self, key: Key) -> Result<Look, Stop>
-        ensures found { IfOk result (finds self.new key) }
+    /// Looks the key up by the reader, if there is one, after all that the calling thread has changed.
+    fn look_by(reader: &mut Option<Self>, key: Key) -> Result<Option<Look>, Stop>
+        ensures found { IfOk result (IsFoundBy finds reader.new key) }
         ensures stop { IfErr result (MayStop may_close) };
 }
 
@@ -41,8 +40,11 @@ impl Looks for Infallible {
 
     ghost may_close = { false };
 
-    fn look(&mut self, _key: Key) -> Result<Look, Stop> {
-        match *self {}
+    fn look_by(reader: &mut Option<Infallible>, _key: Key) -> Result<Option<Look>, Stop> {
+        match reader {
+            Some(never) => match *never {},
+            None => Ok(None),
+        }
     }
 }
 
@@ -55,10 +57,13 @@ impl<'t, R: Wait + Copy, N: Naming, D: Ledger> Looks for Reading<'t, R, N, D> {
 
     ghost may_close = { true };
 
-    fn look(&mut self, key: Key) -> Result<Look, Stop> {
-        let stamp = self.tree.publish()?;
-        match look_after(&mut self.reader, stamp, key) {
-            Ok(look) => Ok(look),
+    fn look_by(reading: &mut Option<Reading<'t, R, N, D>>, key: Key) -> Result<Option<Look>, Stop> {
+        let Some(reading) = reading else {
+            return Ok(None);
+        };
+        let stamp = reading.tree.publish()?;
+        match look_after(&mut reading.reader, stamp, key) {
+            Ok(look) => Ok(Some(look)),
             Err(Closed) => Err(Stop::Closed),
         }
     }
@@ -71,15 +76,4 @@ fn look_after<N: Naming>(reader: &mut Reader<N>, stamp: Stamp<N>, key: Key) -> R
 {
     reader.learn(stamp);
     reader.look(key)
-}
-
-/// Looks the key up by the reader, if there is one.
-pub(crate) fn look_by<L: Looks>(reader: &mut Option<L>, key: Key) -> Result<Option<Look>, Stop>
-    ensures found { IfOk result (IsFoundBy L.finds reader.new key) }
-    ensures stop { IfErr result (MayStop L.may_close) }
-{
-    match reader {
-        Some(reader) => Ok(Some(reader.look(key)?)),
-        None => Ok(None),
-    }
 }
