@@ -1,8 +1,9 @@
 //! What answers a worker's get rows without the tree's lock.
 
-ghost use Rattle.std.specs.Prelude.{◌≡◌, IfOk};
+ghost use Rattle.std.specs.Prelude.{◌≡◌, true, IfOk, IfErr};
 ghost use Rattle.bw_snap.specs.Answers.{IsLookIn};
 ghost use Rattle.bw_snap.specs.Snapshots.{BeginsWith};
+ghost use Rattle.bw_run.specs.Stops.{MayStop};
 
 use crate::answers::Stop;
 use bw_keys::Key;
@@ -58,14 +59,25 @@ impl<'t, R: Wait + Copy, N: Naming, D: Ledger> Looks for Reading<'t, R, N, D> {
     ghost may_close = { true };
 
     fn look_by(reading: &mut Option<Reading<'t, R, N, D>>, key: Key) -> Result<Option<Look>, Stop> {
-        let Some(reading) = reading else {
-            return Ok(None);
-        };
-        let stamp = reading.tree.publish()?;
-        match look_after(&mut reading.reader, stamp, key) {
-            Ok(look) => Ok(Some(look)),
-            Err(Closed) => Err(Stop::Closed),
+        match reading {
+            Some(reading) => Ok(Some(publish_and_look(reading, key)?)),
+            None => Ok(None),
         }
+    }
+}
+
+/// Publishes what the calling thread has changed, has the reader learn of that, and looks the key up.
+fn publish_and_look<R: Wait + Copy, N: Naming, D: Ledger>(
+    reading: &mut Reading<'_, R, N, D>,
+    key: Key,
+) -> Result<Look, Stop>
+    ensures found { IfOk result (IsLookIn N.config key reading.new.reader) }
+    ensures stop { IfErr result (MayStop true) }
+{
+    let stamp = reading.tree.publish()?;
+    match look_after(&mut reading.reader, stamp, key) {
+        Ok(look) => Ok(look),
+        Err(Closed) => Err(Stop::Closed),
     }
 }
 
