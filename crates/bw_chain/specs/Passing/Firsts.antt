@@ -1,25 +1,27 @@
--- A list that takes entries from a fence on, as they come, until it has as many as a limit.
+-- A list that takes pairs from a fence on, as they come, until it has as many as a limit.
+use Rattle.std.specs.Prelude.{vec_capacity}
 use Rattle.std.proofs.Common.{◌≡◌, ℕ, zero, suc, ◌-◌, ◌<◌, ◌≤◌, List, [], ◌∷◌, ◌++◌, length, take, length-append, length-take, append_assoc, append-nil, refl, ap, sym, ◌∙◌, arith}
 use Rattle.std.proofs.lemmas.List.{take_all}
 use Rattle.bw_keys.specs.declared.range.Fence.{Fence}
 use Rattle.bw_keys.specs.Ranges.{end_of}
 use Rattle.bw_delta.specs.Entries.{from}
+use Rattle.bw_chain.specs.declared.pass.first.FirstPairs.{FirstPairs}
 use Rattle.bw_chain.specs.Passing.Rests.{from-append}
 
 -- the items, and behind them the first of the entries from the fence on, as many as the limit leaves
 abbrev pub with_first : {X : Type 0} → ℕ → Fence → List (ℕ × X) → List (ℕ × X) → List (ℕ × X)
 with_first limit fence items es = items ++ take (limit - length items) (from (end_of fence) es)
 
--- a list with a limit, a fence and room took the entries
-pub record Takes {X : Type 0} (limit : ℕ) (fence : Fence) (room : ℕ) (items es : List (ℕ × X)) (limit' : ℕ) (fence' : Fence) (room' : ℕ) (items' : List (ℕ × X)) : Type 0 where
-  pub limit_kept : limit' ≡ limit
-  pub fence_kept : fence' ≡ fence
-  pub room_kept : room ≤ room'
-  pub taken : items' ≡ with_first limit fence items es
+-- the list took the pairs, and has no less room than it had
+pub record Takes {B : Type 0} (old : FirstPairs B) (es : List (ℕ × ℕ)) (new : FirstPairs B) : Type 0 where
+  pub limit_kept : new.limit ≡ old.limit
+  pub fence_kept : new.from ≡ old.from
+  pub room_kept : vec_capacity old.list ≤ vec_capacity new.list
+  pub taken : new.list.items ≡ with_first old.limit old.from old.list.items es
 
 -- it has no room for them
-abbrev pub HasNoRoom : {X : Type 0} → ℕ → Fence → ℕ → List (ℕ × X) → List (ℕ × X) → Type 0
-HasNoRoom limit fence room items es = room < length (with_first limit fence items es)
+abbrev pub HasNoRoom : {B : Type 0} → FirstPairs B → List (ℕ × ℕ) → Type 0
+HasNoRoom first es = vec_capacity first.list < length (with_first first.limit first.from first.list.items es)
 
 take-both : {Y : Type 0} → (n : ℕ) (xs ys : List Y) → take n (xs ++ ys) ≡ take n xs ++ take (n - length xs) ys
 take-both zero [] ys = refl
@@ -65,22 +67,22 @@ module _ {X : Type 0} where
       let some = with_first limit fence items es in
       omega (arith, ap length (first_joined limit fence items es fs), length-append some (take (limit - length some) (from (end_of fence) fs)))
 
-  pub takes_joined : (limit limit' limit'' : ℕ) (fence fence' fence'' : Fence) (room room' room'' : ℕ) (items items' items'' es fs : List (ℕ × X))
-      → Takes limit fence room items es limit' fence' room' items' → Takes limit' fence' room' items' fs limit'' fence'' room'' items'' → Takes limit fence room items (es ++ fs) limit'' fence'' room'' items''
-  takes_joined limit limit' limit'' fence fence' fence'' room room' room'' items items' items'' es fs first second =
-      let begun : with_first limit' fence' items' fs ≡ with_first limit fence (with_first limit fence items es) fs = rw (first.limit_kept, first.fence_kept, first.taken) refl in
+module _ {B : Type 0} where
+  begun : (s t : FirstPairs B) (es fs : List (ℕ × ℕ)) → Takes s es t → with_first t.limit t.from t.list.items fs ≡ with_first s.limit s.from s.list.items (es ++ fs)
+  begun s t es fs first =
+      rw (first.limit_kept, first.fence_kept, first.taken) (first_joined s.limit s.from s.list.items es fs)
+
+  pub takes_joined : (s t u : FirstPairs B) (es fs : List (ℕ × ℕ)) → Takes s es t → Takes t fs u → Takes s (es ++ fs) u
+  takes_joined s t u es fs first second =
       record {
         limit_kept = second.limit_kept ∙ first.limit_kept;
         fence_kept = second.fence_kept ∙ first.fence_kept;
         room_kept = omega (arith, first.room_kept, second.room_kept);
-        taken = second.taken ∙ begun ∙ first_joined limit fence items es fs;
+        taken = second.taken ∙ begun s t es fs first;
       }
 
-  pub no_room_for_more : (limit : ℕ) (fence : Fence) (room : ℕ) (items es fs : List (ℕ × X)) → HasNoRoom limit fence room items es → HasNoRoom limit fence room items (es ++ fs)
-  no_room_for_more limit fence room items es fs none = omega (arith, none, longer limit fence items es fs)
+  pub no_room_for_more : (s : FirstPairs B) (es fs : List (ℕ × ℕ)) → HasNoRoom s es → HasNoRoom s (es ++ fs)
+  no_room_for_more s es fs none = omega (arith, none, longer s.limit s.from s.list.items es fs)
 
-  pub no_room_later : (limit limit' : ℕ) (fence fence' : Fence) (room room' : ℕ) (items items' es fs : List (ℕ × X))
-      → Takes limit fence room items es limit' fence' room' items' → HasNoRoom limit' fence' room' items' fs → HasNoRoom limit fence room items (es ++ fs)
-  no_room_later limit limit' fence fence' room room' items items' es fs first none =
-      let begun : with_first limit' fence' items' fs ≡ with_first limit fence (with_first limit fence items es) fs = rw (first.limit_kept, first.fence_kept, first.taken) refl in
-      omega (arith, first.room_kept, none, ap length begun, ap length (first_joined limit fence items es fs))
+  pub no_room_later : (s t : FirstPairs B) (es fs : List (ℕ × ℕ)) → Takes s es t → HasNoRoom t fs → HasNoRoom s (es ++ fs)
+  no_room_later s t es fs first none = omega (arith, first.room_kept, none, ap length (begun s t es fs first))

@@ -31,7 +31,8 @@ pub fn append_first_pairs<A: Allocator + Copy, B: Allocator>(
 ) -> Vec<(Key, u64), B>
     requires sound { IsSound chain.now }
     requires few { length list.items ≤ limit }
-    requires room { length (take limit (list.items ++ from low (pairs chain.now))) ≤ vec_capacity list }
+    requires room {
+        length (take limit (list.items ++ from low (pairs chain.now))) ≤ vec_capacity list }
     ensures items { result.items ≡ take limit (list.items ++ from low (pairs chain.now)) }
     ensures capacity { vec_capacity list ≤ vec_capacity result }
 {
@@ -54,14 +55,13 @@ struct FirstPairs<B: Allocator> {
 }
 
 impl<B: Allocator> Sink<u64> for FirstPairs<B> {
-    ghost use Rattle.std.specs.Prelude.{vec_capacity};
     ghost use Rattle.bw_chain.specs.Passing.Firsts.{Takes, HasNoRoom, takes_joined, no_room_for_more, no_room_later};
 
     type Stop = NoMemory;
 
-    ghost takes = { λ s es t. Takes s.limit s.from (vec_capacity s.list) s.list.items es t.limit t.from (vec_capacity t.list) t.list.items };
+    ghost takes = { λ s es t. Takes s es t };
 
-    ghost refuses = { λ s es. HasNoRoom s.limit s.from (vec_capacity s.list) s.list.items es };
+    ghost refuses = { λ s es. HasNoRoom s es };
 
     fn take_edited(
         &mut self,
@@ -71,11 +71,11 @@ impl<B: Allocator> Sink<u64> for FirstPairs<B> {
         take_first(self, entries, edits)
     }
 
-    ghost takes_joined = { λ s t u es fs first second. takes_joined s.limit t.limit u.limit s.from t.from u.from (vec_capacity s.list) (vec_capacity t.list) (vec_capacity u.list) s.list.items t.list.items u.list.items es fs first second };
+    ghost takes_joined = { λ s t u es fs first second. takes_joined s t u es fs first second };
 
-    ghost refuses_more = { λ s es fs refused. no_room_for_more s.limit s.from (vec_capacity s.list) s.list.items es fs refused };
+    ghost refuses_more = { λ s es fs refused. no_room_for_more s es fs refused };
 
-    ghost refuses_later = { λ s t es fs first refused. no_room_later s.limit t.limit s.from t.from (vec_capacity s.list) (vec_capacity t.list) s.list.items t.list.items es fs first refused };
+    ghost refuses_later = { λ s t es fs first refused. no_room_later s t es fs first refused };
 }
 
 /// Takes the entries with the edits, which come with the greatest key first.
@@ -86,8 +86,8 @@ fn take_first<B: Allocator>(
 ) -> Result<(), NoMemory>
     requires ascending { IsAscending entries.now }
     requires falling { falls 0 key_count edits.now ≡ true }
-    ensures taken { OnOk result (Takes first.old.limit first.old.from (vec_capacity first.old.list) first.old.list.items (edited edits.now entries.now) first.new.limit first.new.from (vec_capacity first.new.list) first.new.list.items) }
-    ensures refused { OnErr result (HasNoRoom first.old.limit first.old.from (vec_capacity first.old.list) first.old.list.items (edited edits.now entries.now)) }
+    ensures taken { OnOk result (Takes first.old (edited edits.now entries.now) first.new) }
+    ensures refused { OnErr result (HasNoRoom first.old (edited edits.now entries.now)) }
 {
     let (mut rest, mut left) = (entries, edits);
     'edits: while let Some((edit, greater)) = left.split_last() {
@@ -105,8 +105,8 @@ fn take_first<B: Allocator>(
 #[inline(always)]
 fn take_run<B: Allocator>(first: &mut FirstPairs<B>, run: &[(Key, u64)]) -> Result<(), NoMemory>
     requires ascending { IsAscending run.now }
-    ensures taken { OnOk result (Takes first.old.limit first.old.from (vec_capacity first.old.list) first.old.list.items run.now first.new.limit first.new.from (vec_capacity first.new.list) first.new.list.items) }
-    ensures refused { OnErr result (HasNoRoom first.old.limit first.old.from (vec_capacity first.old.list) first.old.list.items run.now) }
+    ensures taken { OnOk result (Takes first.old run.now first.new) }
+    ensures refused { OnErr result (HasNoRoom first.old run.now) }
 {
     let listed = entries_from(run, first.from);
     let room = first.limit.saturating_sub(first.list.len());
@@ -122,8 +122,8 @@ fn take_edit<B: Allocator>(
     key: Key,
     edit: Option<u64>,
 ) -> Result<(), NoMemory>
-    ensures taken { OnOk result (Takes first.old.limit first.old.from (vec_capacity first.old.list) first.old.list.items (entry_of key edit) first.new.limit first.new.from (vec_capacity first.new.list) first.new.list.items) }
-    ensures refused { OnErr result (HasNoRoom first.old.limit first.old.from (vec_capacity first.old.list) first.old.list.items (entry_of key edit)) }
+    ensures taken { OnOk result (Takes first.old (entry_of key edit) first.new) }
+    ensures refused { OnErr result (HasNoRoom first.old (entry_of key edit)) }
 {
     match edit {
         Some(value) => take_run(first, &[(key, value)]),

@@ -1,5 +1,4 @@
 use Rattle.std.proofs.Common.{rules, ◌≡◌, ◌∙◌, ◌+◌, ◌++◌, append_assoc, ap}
-use Rattle.std.specs.Prelude.{vec_capacity}
 use Rattle.std.proofs.lemmas.Result.{on_ok_weaker}
 use Rattle.bw_keys.specs.Ranges.{key_count}
 use Rattle.bw_delta.specs.Entries.{below, from}
@@ -13,8 +12,7 @@ use Rattle.bw_chain.proofs.pass.first.take_first.Goals as goal
 
 pub edits-init : goal.edits-init
 edits-init g c =
-    let first = c.args.first.now in
-    record { taken = none_taken first.limit first.from (vec_capacity first.list) first.list.items _; ascending = c.requires.ascending; falling = c.requires.falling }
+    record { taken = none_taken c.args.first.now _; ascending = c.requires.ascending; falling = c.requires.falling }
 
 pub take_run-requires : goal.take_run-requires
 take_run-requires g c = record { ascending = rw c.split_around.ensures.before (rises-kept 0 key_count c.in-Some.edit.now.0 c.edits.rest.now c.edits.invariant.ascending) }
@@ -28,8 +26,8 @@ returns-in_err-take_run-clause-refused g c =
     let parts = edited-last c.edits.left.now c.in-Some.greater.now edit rest c.in-Some.ensures.cases.0 c.edits.invariant.falling c.edits.invariant.ascending in
     let behind = edited c.in-Some.greater.now (from (edit.0 + 1) rest) in
     let none = rw c.split_around.ensures.before at c.in_err-take_run.ensures.refused in
-    let all : HasNoRoom old.limit old.from (vec_capacity old.list) old.list.items (edited c.args.edits.now c.args.entries.now) =
-    not_taken old.limit old.from (vec_capacity old.list) old.list.items _ _ now.limit now.from (vec_capacity now.list) now.list.items c.edits.invariant.taken
+    let all : HasNoRoom old (edited c.args.edits.now c.args.entries.now) =
+    not_taken old now _ _ c.edits.invariant.taken
     (below edit.0 rest) (entry_of edit.0 edit.1 ++ behind) none (parts ∙ append_assoc (below edit.0 rest) (entry_of edit.0 edit.1) behind) in
     search rules
 
@@ -43,9 +41,9 @@ returns-in_err-take_edit-clause-refused g c =
     let parts = edited-last c.edits.left.now c.in-Some.greater.now edit rest c.in-Some.ensures.cases.0 c.edits.invariant.falling c.edits.invariant.ascending in
     let behind = edited c.in-Some.greater.now (from (edit.0 + 1) rest) in
     let first = rw c.split_around.ensures.before at c.in_ok-take_run.ensures.taken in
-    let none = no_room_later now.limit run.limit now.from run.from (vec_capacity now.list) (vec_capacity run.list) now.list.items run.list.items (below edit.0 rest) (entry_of edit.0 edit.1) first c.in_err-take_edit.ensures.refused in
-    let all : HasNoRoom old.limit old.from (vec_capacity old.list) old.list.items (edited c.args.edits.now c.args.entries.now) =
-    not_taken old.limit old.from (vec_capacity old.list) old.list.items _ _ now.limit now.from (vec_capacity now.list) now.list.items c.edits.invariant.taken
+    let none = no_room_later now run (below edit.0 rest) (entry_of edit.0 edit.1) first c.in_err-take_edit.ensures.refused in
+    let all : HasNoRoom old (edited c.args.edits.now c.args.entries.now) =
+    not_taken old now _ _ c.edits.invariant.taken
     (below edit.0 rest ++ entry_of edit.0 edit.1) behind none parts in
     search rules
 
@@ -60,10 +58,10 @@ edits-preserved g c =
     let parts = edited-last c.edits.left.now c.in-Some.greater.now edit rest c.in-Some.ensures.cases.0 c.edits.invariant.falling c.edits.invariant.ascending in
     let behind = edited c.in-Some.greater.now (from (edit.0 + 1) rest) in
     let first = rw c.split_around.ensures.before at c.in_ok-take_run.ensures.taken in
-    let both = takes_joined now.limit run.limit put.limit now.from run.from put.from (vec_capacity now.list) (vec_capacity run.list) (vec_capacity put.list) now.list.items run.list.items put.list.items (below edit.0 rest) (entry_of edit.0 edit.1) first c.in_ok-take_edit.ensures.taken in
+    let both = takes_joined now run put (below edit.0 rest) (entry_of edit.0 edit.1) first c.in_ok-take_edit.ensures.taken in
     rw c.split_around.ensures.after (record {
-      taken = more_taken old.limit old.from (vec_capacity old.list) old.list.items _ _ now.limit now.from (vec_capacity now.list) now.list.items c.edits.invariant.taken
-          (below edit.0 rest ++ entry_of edit.0 edit.1) behind put.limit put.from (vec_capacity put.list) put.list.items both parts;
+      taken = more_taken old now _ _ c.edits.invariant.taken
+          (below edit.0 rest ++ entry_of edit.0 edit.1) behind put both parts;
       ascending = ascending-from (edit.0 + 1) rest c.edits.invariant.ascending;
       falling = falls-front 0 key_count c.in-Some.greater.now edit (rw c.in-Some.ensures.cases.0 at c.edits.invariant.falling);
     })
@@ -77,6 +75,6 @@ returns-clause-taken g c =
     let none = no_items c.edits.left.now c.in_default.ensures.cases in
     let all : edited c.edits.left.now rest ≡ rest = ap (λ edits. edited edits rest) none in
     on_ok_weaker c.take_run-2.result
-    (λ taken. all_taken old.limit old.from (vec_capacity old.list) old.list.items _ _ now.limit now.from (vec_capacity now.list) now.list.items c.edits.invariant.taken
-    last.limit last.from (vec_capacity last.list) last.list.items (rw all taken))
+    (λ taken. all_taken old now _ _ c.edits.invariant.taken
+    last (rw all taken))
     c.take_run-2.ensures.taken

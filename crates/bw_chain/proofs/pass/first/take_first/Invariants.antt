@@ -1,5 +1,4 @@
 use Rattle.std.proofs.Common.{◌≡◌, true, length}
-use Rattle.std.specs.Prelude.{vec_capacity}
 use Rattle.bw_keys.specs.Ranges.{key_count}
 use Rattle.bw_chain.specs.Ascends.{IsAscending}
 use Rattle.bw_chain.specs.Passing.Edited.{edited, falls}
@@ -9,7 +8,7 @@ use Rattle.bw_chain.proofs.pass.first.take_first.Given as goal
 abbrev pub invariant-edits : goal.invariant-edits
 invariant-edits g l =
     record {
-      taken : IsTaken l.fn.first.limit l.fn.first.from (vec_capacity l.fn.first.list) l.fn.first.list.items (edited l.edits l.entries) (edited l.left l.rest) l.first.limit l.first.from (vec_capacity l.first.list) l.first.list.items;
+      taken : IsTaken l.fn.first (edited l.edits l.entries) (edited l.left l.rest) l.first;
       ascending : IsAscending l.rest;
       falling : falls 0 key_count l.left ≡ true;
     }
