@@ -31,18 +31,22 @@ abbrev pub chain_with : Option Delta → Records → Records
 chain_with None chain = chain
 chain_with (Some delta) chain = bare (page_for (above delta chain))
 
+-- the chain of a base page and the record of its split
+abbrev pub split_page : ℕ → Pid → Page → Records
+split_page separator right page = above (deltas.Split separator right) (bare page)
+
 -- the base page that a split ended, with the record that stands over the split's taken in, if there is one
 abbrev pub page_behind_split : ℕ → Pid → Option Delta → Page → Page
 page_behind_split separator right None page = page
-page_behind_split separator right (Some delta) page = page_for (above delta (above (deltas.Split separator right) (bare page)))
+page_behind_split separator right (Some delta) page = page_for (above delta (split_page separator right page))
 
 -- the record of a split stands over a base page, which became another
 pub record IsBehindSplit (delta : Option Delta) (old new : Records) : Type 0 where
   pub separator : ℕ
   pub right : Pid
   pub page : Page
-  pub before : old ≡ above (deltas.Split separator right) (bare page)
-  pub changed : new ≡ above (deltas.Split separator right) (bare (page_behind_split separator right delta page))
+  pub before : old ≡ split_page separator right page
+  pub changed : new ≡ split_page separator right (page_behind_split separator right delta page)
 
 -- the chain without its newest record
 abbrev pub uncovered : Records → Records

@@ -1,16 +1,12 @@
 -- The entries of each kind are the pairs and the routes. What holds of both: the laws of `EntryValue`.
-use Rattle.std.proofs.Common.{◌≡◌, true, refl, ap, arith}
-use Rattle.bw_keys.specs.Ranges.{end_of}
-use Rattle.bw_delta.specs.declared.chain.Delta.{Delta}
+use Rattle.std.proofs.Common.{◌≡◌, refl, ap, arith}
 use Rattle.bw_delta.specs.declared.chain.Delta.TheVariants.{Insert, Modify, Delete, Split, Remove, TermAdd, TermDelete}
-use Rattle.bw_delta.specs.Entries.{below, put, without, rises}
-use Rattle.bw_delta.specs.Fence.{fences}
+use Rattle.bw_delta.specs.Entries.{below, put, without}
 use Rattle.bw_delta.specs.Pairs.{pairs, pairs_listed, routes, routes_listed}
 use Rattle.bw_delta.specs.Records.{Records, bare, above, merged}
-use Rattle.bw_delta.specs.Sound.{IsWellBuilt}
 use Rattle.bw_delta.proofs.Stands.{pairs_rise, routes_rise}
 use Rattle.bw_chain.specs.Changes.{entries_by, pair_change, route_change}
-use Rattle.bw_chain.specs.Passing.Cuts.{IsUncut}
+use Rattle.bw_chain.specs.Laws.{RiseInRange, AreCutAtHigh}
 
 pub pairs_are : (chain : Records) → entries_by pairs_listed pair_change chain ≡ pairs chain
 pairs_are (bare page) = refl
@@ -34,14 +30,14 @@ routes_are (above (TermAdd separator child) chain) = ap (put separator child) (r
 routes_are (above (TermDelete separator) chain) = ap (without separator) (routes_are chain)
 routes_are (merged merging left right) = rw (routes_are left, routes_are right) refl
 
-pub pairs_rise_in_range : (chain : Records) → IsWellBuilt chain → rises (fences chain).low (end_of (fences chain).high) (entries_by pairs_listed pair_change chain) ≡ true
+pub pairs_rise_in_range : RiseInRange pairs_listed pair_change
 pairs_rise_in_range chain built = rw (pairs_are chain) (pairs_rise chain built)
 
-pub routes_rise_in_range : (chain : Records) → IsWellBuilt chain → rises (fences chain).low (end_of (fences chain).high) (entries_by routes_listed route_change chain) ≡ true
+pub routes_rise_in_range : RiseInRange routes_listed route_change
 routes_rise_in_range chain built = rw (routes_are chain) (routes_rise chain built)
 
 -- a split cuts them off where the range ends
-pub pairs_cut_at_high : (delta : Delta) (chain : Records) → IsUncut (end_of (fences (above delta chain)).high) (pair_change delta)
+pub pairs_cut_at_high : AreCutAtHigh pair_change
 pairs_cut_at_high (Insert key value) chain = tt
 pairs_cut_at_high (Modify key value) chain = tt
 pairs_cut_at_high (Delete key) chain = tt
@@ -50,7 +46,7 @@ pairs_cut_at_high Remove chain = tt
 pairs_cut_at_high (TermAdd separator child) chain = tt
 pairs_cut_at_high (TermDelete separator) chain = tt
 
-pub routes_cut_at_high : (delta : Delta) (chain : Records) → IsUncut (end_of (fences (above delta chain)).high) (route_change delta)
+pub routes_cut_at_high : AreCutAtHigh route_change
 routes_cut_at_high (Insert key value) chain = tt
 routes_cut_at_high (Modify key value) chain = tt
 routes_cut_at_high (Delete key) chain = tt

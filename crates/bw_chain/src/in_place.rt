@@ -10,7 +10,7 @@ ghost use Rattle.bw_delta.specs.Records.{bare, above};
 ghost use Rattle.bw_delta.specs.Sound.{LiesIn, page_for};
 ghost use Rattle.bw_chain.specs.Ascends.{IsAscending};
 ghost use Rattle.bw_chain.specs.Pages.Halves.{listed_key_at};
-ghost use Rattle.bw_chain.specs.InPlaces.{IsRouted, IsBehindSplit, delta_for, pairs_with, chain_with, page_behind_split, uncovered};
+ghost use Rattle.bw_chain.specs.InPlaces.{IsRouted, IsBehindSplit, delta_for, pairs_with, chain_with, split_page, page_behind_split, uncovered};
 
 use crate::entries::sorted::count_below_key;
 use crate::page::part_from;
@@ -114,10 +114,12 @@ fn change_and_cut<A: Allocator + Copy>(
     key: Key,
     wished: Wished,
 ) -> Option<InPlace>
-    requires within { LiesIn key (fences (above (deltas.Split separator right) (bare base.old))) }
-    ensures had { IfSome result (λ done. done.had ≡ at key (pairs (above (deltas.Split separator right) (bare base.old)))) }
+    requires within { LiesIn key (fences (split_page separator right base.old)) }
+    ensures had { IfSome result
+        (λ done. done.had ≡ at key (pairs (split_page separator right base.old))) }
     ensures delta { IfSome result (λ done. done.delta ≡ delta_for wished key done.had) }
-    ensures changed { IfSome result (λ done. base.new ≡ page_behind_split separator right done.delta base.old) }
+    ensures changed { IfSome result
+        (λ done. base.new ≡ page_behind_split separator right done.delta base.old) }
     ensures unchanged { IfNone result (base.new ≡ base.old) }
 {
     if separator <= base.low || !base.high.is_above(separator) {
@@ -153,7 +155,8 @@ fn change_on_base<A: Allocator + Copy>(
     requires within { LiesIn key (fences (bare base.old)) }
     ensures had { IfSome result (λ done. done.had ≡ at key (pairs_listed base.old.listed)) }
     ensures delta { IfSome result (λ done. done.delta ≡ delta_for wished key done.had) }
-    ensures changed { IfSome result (λ done. bare base.new ≡ chain_with done.delta (bare base.old)) }
+    ensures changed { IfSome result
+        (λ done. bare base.new ≡ chain_with done.delta (bare base.old)) }
     ensures unchanged { IfNone result (base.new ≡ base.old) }
 {
     match &mut base.entries {
@@ -171,7 +174,8 @@ fn change_listed<A: Allocator + Copy>(
     requires ascending { IsAscending pairs.old.items }
     ensures had { IfSome result (λ done. done.had ≡ at key pairs.old.items) }
     ensures delta { IfSome result (λ done. done.delta ≡ delta_for wished key done.had) }
-    ensures changed { IfSome result (λ done. pairs.new.items ≡ pairs_with done.delta pairs.old.items) }
+    ensures changed { IfSome result
+        (λ done. pairs.new.items ≡ pairs_with done.delta pairs.old.items) }
     ensures unchanged { IfNone result (pairs.new.items ≡ pairs.old.items) }
 {
     let place = count_below_key(pairs, key);
@@ -209,7 +213,8 @@ fn insert_at<A: Allocator + Copy>(
     requires absent { at key pairs.old.items ≡ None }
     ensures had { IfSome result (λ done. done.had ≡ None) }
     ensures delta { IfSome result (λ done. done.delta ≡ Some (deltas.Insert key value)) }
-    ensures changed { IfSome result (λ done. pairs.new.items ≡ pairs_with done.delta pairs.old.items) }
+    ensures changed { IfSome result
+        (λ done. pairs.new.items ≡ pairs_with done.delta pairs.old.items) }
     ensures unchanged { IfNone result (pairs.new.items ≡ pairs.old.items) }
 {
     match pairs.insert(place, (key, value)) {
@@ -291,7 +296,8 @@ pub fn upper_part_of<A: Allocator + Copy>(
     number: usize,
     room: usize,
 ) -> Option<(Key, Base<A>)>
-    ensures separator { IfSome result (λ part. listed_key_at number (page_for chain.now).listed ≡ Some part.0) }
+    ensures separator { IfSome result
+        (λ part. listed_key_at number (page_for chain.now).listed ≡ Some part.0) }
     ensures page { IfSome result (λ part. part.1 ≡ upper_part part.0 (page_for chain.now)) }
 {
     match &chain.node {
@@ -308,7 +314,8 @@ pub fn upper_part_of<A: Allocator + Copy>(
 pub fn cut_in_place<A: Allocator + Copy>(chain: &mut Chain<A>, separator: Key, right: Pid) -> bool
     requires within { LiesIn separator (fences chain.old) }
     requires later { (fences chain.old).low < separator }
-    ensures cut { result ≡ true → chain.new ≡ bare (page_for (above (deltas.Split separator right) chain.old)) }
+    ensures cut { result ≡ true →
+        chain.new ≡ bare (page_for (above (deltas.Split separator right) chain.old)) }
     ensures unchanged { result ≡ false → chain.new ≡ chain.old }
 {
     match &mut chain.node {
@@ -323,7 +330,7 @@ pub fn cut_in_place<A: Allocator + Copy>(chain: &mut Chain<A>, separator: Key, r
 fn cut_base<A: Allocator + Copy>(base: &mut Base<A>, separator: Key, right: Pid)
     requires within { LiesIn separator (fences (bare base.old)) }
     requires later { (fences (bare base.old)).low < separator }
-    ensures { base.new ≡ page_for (above (deltas.Split separator right) (bare base.old)) }
+    ensures { base.new ≡ page_for (split_page separator right base.old) }
 {
     match &mut base.entries {
         Entries::Pairs(pairs) => cut_listed(pairs, separator),

@@ -13,7 +13,7 @@ mod sink;
 mod stripping;
 mod writing;
 
-ghost use Rattle.std.specs.Prelude.{◌≡◌, ◌≤◌, ◌+◌, true, length, take, OnOk, OnErr};
+ghost use Rattle.std.specs.Prelude.{◌≡◌, ◌≤◌, ◌+◌, length, take, OnOk, OnErr};
 ghost use Rattle.bw_keys.specs.Ranges.{end_of, key_count};
 ghost use Rattle.bw_delta.specs.Entries.{below, from};
 ghost use Rattle.bw_delta.specs.Fence.{fences};
@@ -21,7 +21,7 @@ ghost use Rattle.bw_delta.specs.Records.{depth};
 ghost use Rattle.bw_delta.specs.Sound.{IsWellBuilt};
 ghost use Rattle.bw_chain.specs.Ascends.{IsAscending};
 ghost use Rattle.bw_chain.specs.Changes.{entries_by};
-ghost use Rattle.bw_chain.specs.Passing.Edited.{edited_below, falls};
+ghost use Rattle.bw_chain.specs.Passing.Edited.{IsFalling, edited_below};
 ghost use Rattle.bw_chain.specs.Passing.Heads.{BeginsWith};
 
 use crate::entries::bounds::at_most;
@@ -49,10 +49,12 @@ pub(crate) fn pass<A: Allocator + Copy, X: EntryValue, S: Sink<X>>(
 ) -> Result<(), S::Stop>
     requires built { IsWellBuilt chain.now }
     requires within { end_of end ≤ end_of (fences chain.now).high }
-    requires falling { falls 0 key_count (take count edits.old) ≡ true }
+    requires falling { IsFalling (take count edits.old) }
     requires room { count + depth chain.now ≤ length edits.old }
-    ensures taken { OnOk result (S.takes sink.old (edited_below (end_of end) (take count edits.old) (entries_by X.own_entries X.own_change chain.now)) sink.new) }
-    ensures refused { OnErr result (S.refuses sink.old (edited_below (end_of end) (take count edits.old) (entries_by X.own_entries X.own_change chain.now))) }
+    ensures taken { let es = entries_by X.own_entries X.own_change chain.now in OnOk result
+        (S.takes sink.old (edited_below (end_of end) (take count edits.old) es) sink.new) }
+    ensures refused { let es = entries_by X.own_entries X.own_change chain.now in OnErr result
+        (S.refuses sink.old (edited_below (end_of end) (take count edits.old) es)) }
     ensures left { OnOk result (BeginsWith edits.new (from (end_of end) (take count edits.old))) }
     ensures as_many { length edits.new ≡ length edits.old }
 {
@@ -89,9 +91,11 @@ fn pass_base<X: EntryValue, S: Sink<X>>(
 ) -> Result<(), S::Stop>
     requires ascending { IsAscending entries.now }
     requires among { end_of end ≤ key_count }
-    requires falling { falls 0 key_count edits.now ≡ true }
-    ensures taken { OnOk result (S.takes sink.old (edited_below (end_of end) edits.now entries.now) sink.new) }
-    ensures refused { OnErr result (S.refuses sink.old (edited_below (end_of end) edits.now entries.now)) }
+    requires falling { IsFalling edits.now }
+    ensures taken { OnOk result
+        (S.takes sink.old (edited_below (end_of end) edits.now entries.now) sink.new) }
+    ensures refused { OnErr result
+        (S.refuses sink.old (edited_below (end_of end) edits.now entries.now)) }
 {
     let (_, here) = edits.split_at(count_from(edits, end));
     sink.take_edited(below_end(entries, end), here)

@@ -15,8 +15,9 @@ use Rattle.bw_delta.proofs.Rises.{rises-lower, below_all}
 use Rattle.bw_delta.proofs.Stands.{range_not_empty, end_among_keys}
 use Rattle.bw_chain.specs.Ascends.{IsAscending}
 use Rattle.bw_chain.specs.Changes.{entries_by}
+use Rattle.bw_chain.specs.Laws.{RiseInRange, AreCutAtHigh}
 use Rattle.bw_chain.specs.Passing.Cuts.{IsUncut}
-use Rattle.bw_chain.specs.Passing.Edited.{edited_below, falls}
+use Rattle.bw_chain.specs.Passing.Edited.{IsFalling, edited_below}
 use Rattle.bw_chain.specs.declared.entries.change.Change.{Change}
 use Rattle.bw_chain.specs.declared.entries.change.Change.TheVariants.{Put, Without, Below, Nothing}
 use Rattle.bw_chain.proofs.Ascending.{ascend_from_rise}
@@ -30,8 +31,7 @@ IsUncut-lower end past (Below bound) le uncut = omega (arith, uncut)
 IsUncut-lower end past Nothing le uncut = tt
 
 module _ {X : Type 0} (own : Listed → List (ℕ × X)) (change : Delta → Change X)
-    (rise : (chain : Records) → IsWellBuilt chain → rises (fences chain).low (end_of (fences chain).high) (entries_by own change chain) ≡ true)
-    (cut : (delta : Delta) (chain : Records) → IsUncut (end_of (fences (above delta chain)).high) (change delta)) where
+    (rise : RiseInRange own change) (cut : AreCutAtHigh change) where
   pub built_ascends : (chain : Records) → IsWellBuilt chain → IsAscending (entries_by own change chain)
   built_ascends chain built = ascend_from_rise (fences chain).low (end_of (fences chain).high) (entries_by own change chain) (end_among_keys chain built) (rise chain built)
 
@@ -67,7 +67,7 @@ module _ {X : Type 0} (own : Listed → List (ℕ × X)) (change : Delta → Cha
         ≡ edited_below (min end merging.separator) edits (entries_by own change left) ++ edited_below end (from (min end merging.separator) edits) (entries_by own change right)
     pub begins : (rest : List (ℕ × X)) × (edited_below end edits (entries_by own change (merged merging left right)) ≡ edited_below (min end merging.separator) edits (entries_by own change left) ++ rest)
 
-  pub sideward : (end : ℕ) (merging : Merging) (left right : Records) (edits : List (ℕ × Option X)) → IsWellBuilt (merged merging left right) → end ≤ end_of merging.high → falls 0 key_count edits ≡ true → Sideward end merging left right edits
+  pub sideward : (end : ℕ) (merging : Merging) (left right : Records) (edits : List (ℕ × Option X)) → IsWellBuilt (merged merging left right) → end ≤ end_of merging.high → IsFalling edits → Sideward end merging left right edits
   sideward end merging left right edits built within f =
       let joins : Joins merging (fences left) (fences right) = built.3 in
       let separator = merging.separator in
@@ -97,7 +97,7 @@ module _ {X : Type 0} (own : Listed → List (ℕ × X)) (change : Delta → Cha
           rw least (edited_below-same end edits _ _ (edited_below-left end merging.separator edits (entries_by own change left) (entries_by own change right) le))
 
       joined : (end low : ℕ) (merging : Merging) (left right : Records) (edits : List (ℕ × Option X)) → rises low merging.separator (entries_by own change left) ≡ true → rises merging.separator (end_of merging.high) (entries_by own change right) ≡ true
-          → end_of merging.high ≤ key_count → end ≤ end_of merging.high → falls 0 key_count edits ≡ true → merging.separator < end
+          → end_of merging.high ≤ key_count → end ≤ end_of merging.high → IsFalling edits → merging.separator < end
           → edited_below end edits (entries_by own change (merged merging left right))
           ≡ edited_below (min end merging.separator) edits (entries_by own change left) ++ edited_below end (from (min end merging.separator) edits) (entries_by own change right)
       joined end low merging left right edits lower upper among within f inside =

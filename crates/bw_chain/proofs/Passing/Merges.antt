@@ -7,7 +7,7 @@ use Rattle.bw_keys.specs.Ranges.{key_count}
 use Rattle.bw_delta.specs.Entries.{rises, below, from}
 use Rattle.bw_delta.proofs.Rises.{rises-lower}
 use Rattle.bw_chain.specs.Ascends.{IsAscending}
-use Rattle.bw_chain.specs.Passing.Edited.{edited, entry_of, falls, put_count, puts}
+use Rattle.bw_chain.specs.Passing.Edited.{IsFalling, edited, entry_of, falls, put_count, puts}
 use Rattle.bw_chain.proofs.Passing.Passes.{falls-snoc, edited-snoc, edited_at-parts, edited-append, before_rises, from-both, length-from}
 
 module _ {X : Type 0} where
@@ -25,7 +25,7 @@ module _ {X : Type 0} where
   puts-few None = omega arith
 
   -- the edit is made at its place, and those of greater keys behind it
-  pub edited-last : (edits greater : List (ℕ × Option X)) (e : ℕ × Option X) (es : List (ℕ × X)) → edits ≡ greater ++ e ∷ [] → falls 0 key_count edits ≡ true → IsAscending es
+  pub edited-last : (edits greater : List (ℕ × Option X)) (e : ℕ × Option X) (es : List (ℕ × X)) → edits ≡ greater ++ e ∷ [] → IsFalling edits → IsAscending es
       → edited edits es ≡ (below e.0 es ++ entry_of e.0 e.1) ++ edited greater (from (e.0 + 1) es)
   edited-last edits greater e es is f h =
       let left : falls (e.0 + 1) key_count greater ≡ true = falls-snoc 0 key_count greater e (rw is at f) in
@@ -39,14 +39,14 @@ module _ {X : Type 0} where
   length-entry_of key None = refl
 
   -- so they are as many as those before its key, behind it, and its own if it puts one
-  pub length-edited-last : (edits greater : List (ℕ × Option X)) (e : ℕ × Option X) (es : List (ℕ × X)) → edits ≡ greater ++ e ∷ [] → falls 0 key_count edits ≡ true → IsAscending es
+  pub length-edited-last : (edits greater : List (ℕ × Option X)) (e : ℕ × Option X) (es : List (ℕ × X)) → edits ≡ greater ++ e ∷ [] → IsFalling edits → IsAscending es
       → length (edited edits es) ≡ length (below e.0 es) + puts e.1 + length (edited greater (from (e.0 + 1) es))
   length-edited-last edits greater e es is f h =
       let own = entry_of e.0 e.1 in
       let rest = edited greater (from (e.0 + 1) es) in
       omega (arith, ap length (edited-last edits greater e es is f h), length-append (below e.0 es ++ own) rest, length-append (below e.0 es) own, length-entry_of e.0 e.1)
 
-  pub merge_step : (list copied : List (ℕ × X)) (end count : ℕ) (edits greater : List (ℕ × Option X)) (e : ℕ × Option X) (rest : List (ℕ × X)) → edits ≡ greater ++ e ∷ [] → falls 0 key_count edits ≡ true → IsAscending rest
+  pub merge_step : (list copied : List (ℕ × X)) (end count : ℕ) (edits greater : List (ℕ × Option X)) (e : ℕ × Option X) (rest : List (ℕ × X)) → edits ≡ greater ++ e ∷ [] → IsFalling edits → IsAscending rest
       → below e.0 rest ≡ take count rest → take (end + count) copied ≡ take end list ++ take count rest
       → (take (end + count) copied ++ entry_of e.0 e.1) ++ edited greater (from (e.0 + 1) rest) ≡ take end list ++ edited edits rest
   merge_step list copied end count edits greater e rest is f h before written =

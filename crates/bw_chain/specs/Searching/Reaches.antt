@@ -2,6 +2,7 @@
 use Rattle.std.specs.Prelude.{◌≡◌, ℕ, ◌+◌, ◌≤◌, Bool, true, ◌&&◌, nat_lt, nat_le, List, Option, Some, None}
 use Rattle.std.proofs.Common.{◌⊎◌}
 use Rattle.bw_delta.specs.Entries.{at}
+use Rattle.bw_chain.specs.declared.search.reach.Reach.{Reach}
 
 -- whether the key is greater than that of the entry, if there is one
 abbrev pub is_past : {X : Type 0} → Option (ℕ × X) → ℕ → Bool
@@ -24,3 +25,7 @@ IsHeld upto best es e = (best ≡ Some e) ⊎ ((is_open upto best e.0 ≡ true) 
 abbrev pub IsGreatest : {X : Type 0} → ℕ → Option (ℕ × X) → List (ℕ × X) → Option (ℕ × X) → Type 0
 IsGreatest upto best es None = (best ≡ None) × IsClear 0 upto best es
 IsGreatest upto best es (Some e) = IsHeld upto best es e × IsClear (e.0 + 1) upto best es
+
+-- a search comes from the upper entries to the lower ones: the greatest that it finds there is the greatest that it looked for
+abbrev pub GoesOn : {X : Type 0} → Reach X → List (ℕ × X) → Reach X → List (ℕ × X) → Type 0
+GoesOn {X} old upper new lower = (answer : Option (ℕ × X)) → IsGreatest new.upto new.best lower answer → IsGreatest old.upto old.best upper answer

@@ -51,7 +51,8 @@ fn count_quarters<X: Copy>(entries: &[(Key, X)], place: usize, quarter: usize, k
     requires from { place ≤ length (below key entries.now) }
     ensures three { result ≤ 3 * quarter }
     ensures least { place + result ≤ length (below key entries.now) }
-    ensures most { result < 3 * quarter → length (below key entries.now) < place + result + quarter }
+    ensures most { result < 3 * quarter →
+        length (below key entries.now) < place + result + quarter }
 {
     let first = one_if_below(entries, place + quarter - 1, key);
     let second = one_if_below(entries, place + 2 * quarter - 1, key);

@@ -12,14 +12,7 @@ pub trait EntryValue: Copy {
     ghost use Rattle.std.specs.Prelude.{ℕ, List};
     ghost use Rattle.bw_delta.specs.Pages.{Listed};
     ghost use Rattle.bw_delta.specs.declared.chain.Delta.{Delta};
-    ghost use Rattle.std.specs.Prelude.{true};
-    ghost use Rattle.bw_keys.specs.Ranges.{end_of};
-    ghost use Rattle.bw_delta.specs.Entries.{rises};
-    ghost use Rattle.bw_delta.specs.Fence.{fences};
-    ghost use Rattle.bw_delta.specs.Records.{Records, above};
-    ghost use Rattle.bw_delta.specs.Sound.{IsWellBuilt};
-    ghost use Rattle.bw_chain.specs.Changes.{entries_by};
-    ghost use Rattle.bw_chain.specs.Passing.Cuts.{IsUncut};
+    ghost use Rattle.bw_chain.specs.Laws.{RiseInRange, AreCutAtHigh};
     ghost use Rattle.bw_chain.specs.declared.entries.change.Change.{Change};
 
     /// The entries of this kind that a page lists.
@@ -45,10 +38,10 @@ pub trait EntryValue: Copy {
         ensures { IsTrue result ↔ (self ≡ other) };
 
     // The entries of a chain rise inside its range.
-    ghost rise: { (chain : Records) → IsWellBuilt chain → rises (fences chain).low (end_of (fences chain).high) (entries_by own_entries own_change chain) ≡ true };
+    ghost rise: { RiseInRange own_entries own_change };
 
     // A chain's range ends where its newest record cuts the entries off.
-    ghost cut: { (delta : Delta) (chain : Records) → IsUncut (end_of (fences (above delta chain)).high) (own_change delta) };
+    ghost cut: { AreCutAtHigh own_change };
 }
 
 impl EntryValue for u64 {

@@ -1,4 +1,4 @@
-ghost use Rattle.std.specs.Prelude.{◌≡◌, ◌↔◌, ◌<◌, ◌≤◌, length, drop, Some, Err, IfOk};
+ghost use Rattle.std.specs.Prelude.{◌≡◌, ◌↔◌, ◌<◌, ◌≤◌, length, drop, Some, IfOk, IsErrOf};
 ghost use Rattle.bw_delta.specs.Pages.{listed_length, upper_part};
 ghost use Rattle.bw_delta.specs.PageView.{listed};
 ghost use Rattle.bw_chain.specs.Pages.Halves.{listed_middle_key, listed_key_at, listed_behind, key_at};
@@ -23,7 +23,7 @@ pub enum HalveFault {
 /// split"). It ends where the page ends, and has its side link. `TooSmall` is answered below two
 /// entries, and `NoMemory` if there is no room for the new page.
 pub fn halve<A: Allocator + Copy>(alloc: A, base: &Base<A>) -> Result<(Key, Base<A>), HalveFault>
-    ensures small { (result ≡ Err HalveFault.TooSmall) ↔ (listed_length base.now.listed < 2) }
+    ensures small { IsErrOf result HalveFault.TooSmall ↔ (listed_length base.now.listed < 2) }
     ensures separator { IfOk result (λ half. listed_middle_key base.now.listed ≡ Some half.0) }
     ensures page { IfOk result (λ half. half.1 ≡ upper_part half.0 base.now) }
 {
@@ -43,7 +43,7 @@ pub(crate) fn part_from<A: Allocator + Copy>(
     number: usize,
     room: usize,
 ) -> Result<(Key, Base<A>), HalveFault>
-    ensures small { (result ≡ Err HalveFault.TooSmall) ↔ (listed_length base.now.listed ≤ number) }
+    ensures small { IsErrOf result HalveFault.TooSmall ↔ (listed_length base.now.listed ≤ number) }
     ensures separator { IfOk result (λ part. listed_key_at number base.now.listed ≡ Some part.0) }
     ensures page { IfOk result (λ part. part.1 ≡ upper_part part.0 base.now) }
 {
@@ -64,9 +64,12 @@ fn listed_from<A: Allocator + Copy>(
     number: usize,
     room: usize,
 ) -> Result<(Key, Entries<A>), HalveFault>
-    ensures small { (result ≡ Err HalveFault.TooSmall) ↔ (listed_length (listed entries.now) ≤ number) }
-    ensures separator { IfOk result (λ part. listed_key_at number (listed entries.now) ≡ Some part.0) }
-    ensures upper { IfOk result (λ part. listed part.1 ≡ listed_behind number (listed entries.now)) }
+    ensures small { IsErrOf result HalveFault.TooSmall ↔
+        (listed_length (listed entries.now) ≤ number) }
+    ensures separator { IfOk result
+        (λ part. listed_key_at number (listed entries.now) ≡ Some part.0) }
+    ensures upper { IfOk result
+        (λ part. listed part.1 ≡ listed_behind number (listed entries.now)) }
 {
     match entries {
         Entries::Pairs(pairs) => {
@@ -87,7 +90,7 @@ fn entries_from<A: Allocator + Copy, X: Copy>(
     number: usize,
     room: usize,
 ) -> Result<(Key, Vec<(Key, X), A>), HalveFault>
-    ensures small { (result ≡ Err HalveFault.TooSmall) ↔ (length entries.now ≤ number) }
+    ensures small { IsErrOf result HalveFault.TooSmall ↔ (length entries.now ≤ number) }
     ensures separator { IfOk result (λ part. key_at number entries.now ≡ Some part.0) }
     ensures upper { IfOk result (λ part. part.1.items ≡ drop number entries.now) }
 {

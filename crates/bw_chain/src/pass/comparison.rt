@@ -59,7 +59,8 @@ fn lists_from<A: Allocator + Copy>(
     requires sound { IsSound chain.now }
     requires fences { extent.fences ≡ fences chain.now }
     requires kind { extent.is_leaf ≡ is_leaf chain.now }
-    ensures { IsTrue result ↔ (base.now.listed ≡ listed_from (end_of fence) (listed_for (is_leaf chain.now) chain.now)) }
+    ensures { IsTrue result ↔
+        (base.now.listed ≡ listed_from (end_of fence) (listed_for (is_leaf chain.now) chain.now)) }
 {
     let high = extent.fences.high;
     match &base.entries {
@@ -98,7 +99,8 @@ fn are_entries<A: Allocator + Copy, X: EntryValue>(
     requires built { IsWellBuilt chain.now }
     requires high { high ≡ (fences chain.now).high }
     requires deep { depth chain.now ≤ length edits.old }
-    ensures { IsTrue result ↔ (list.now ≡ from (end_of fence) (entries_by X.own_entries X.own_change chain.now)) }
+    ensures { IsTrue result ↔
+        (list.now ≡ from (end_of fence) (entries_by X.own_entries X.own_change chain.now)) }
 {
     let mut compared = Compared {
         rest: list,

@@ -70,7 +70,8 @@ fn list<A: Allocator + Copy, X: EntryValue>(
     requires built { IsWellBuilt chain.now }
     requires high { high ≡ (fences chain.now).high }
     requires deep { depth chain.now ≤ length edits.old }
-    ensures { IfOk result (λ entries. entries.items ≡ entries_by X.own_entries X.own_change chain.now) }
+    ensures { IfOk result
+        (λ entries. entries.items ≡ entries_by X.own_entries X.own_change chain.now) }
 {
     let mut entries = Vec::with_capacity(alloc, room)?;
     pass(chain, high, edits, 0, &mut entries)?;

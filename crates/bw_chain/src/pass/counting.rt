@@ -1,13 +1,12 @@
 //! Counting in one pass over the records and the base pages.
 
-ghost use Rattle.std.specs.Prelude.{◌≡◌, ◌≤◌, ◌+◌, ◌-◌, ◌^◌, min, true, length};
-ghost use Rattle.bw_keys.specs.Ranges.{key_count};
+ghost use Rattle.std.specs.Prelude.{◌≡◌, ◌≤◌, ◌+◌, ◌-◌, ◌^◌, min, length};
 ghost use Rattle.bw_delta.specs.Fence.{fences};
 ghost use Rattle.bw_delta.specs.Records.{depth};
 ghost use Rattle.bw_delta.specs.Sound.{IsSound, IsWellBuilt, entry_count};
 ghost use Rattle.bw_chain.specs.Ascends.{IsAscending};
 ghost use Rattle.bw_chain.specs.Changes.{entries_by};
-ghost use Rattle.bw_chain.specs.Passing.Edited.{edited, falls};
+ghost use Rattle.bw_chain.specs.Passing.Edited.{IsFalling, edited};
 
 use crate::entries::value::EntryValue;
 use crate::page::shape::{Extent, allocator, extent_of};
@@ -86,7 +85,8 @@ impl<X: EntryValue> Sink<X> for Counted {
         Ok(())
     }
 
-    ghost takes_joined = { λ s t u es fs first second. counted_twice s.count t.count u.count es fs first second };
+    ghost takes_joined = { λ s t u es fs first second.
+        counted_twice s.count t.count u.count es fs first second };
 
     ghost refuses_more = { λ s es fs refused. tt };
 
@@ -96,7 +96,7 @@ impl<X: EntryValue> Sink<X> for Counted {
 /// The count, raised by the number of the entries with the edits.
 fn count_edited<X: Copy>(count: u64, entries: &[(Key, X)], edits: &[(Key, Option<X>)]) -> u64
     requires ascending { IsAscending entries.now }
-    requires falling { falls 0 key_count edits.now ≡ true }
+    requires falling { IsFalling edits.now }
     ensures { result ≡ min (count + length (edited edits.now entries.now)) (2 ^ 64 - 1) }
 {
     let (mut rest, mut left, mut sum) = (entries, edits, count);

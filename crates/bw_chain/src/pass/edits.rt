@@ -2,12 +2,11 @@
 //! that it has none. The greatest key comes first. So many edits in front of a slice were noted, and
 //! no memory is asked for.
 
-ghost use Rattle.std.specs.Prelude.{◌≡◌, ◌≤◌, ◌+◌, ◌-◌, ◌<◌, true, false, List, ℕ, [], ◌∷◌, ◌++◌, length, take, drop, insert};
+ghost use Rattle.std.specs.Prelude.{◌≡◌, ◌≤◌, ◌+◌, ◌-◌, ◌<◌, true, false, ◌++◌, length, take, drop, insert};
 ghost use Rattle.bw_keys.specs.Ranges.{end_of, key_count};
 ghost use Rattle.bw_delta.specs.Entries.{below, from};
-ghost use Rattle.bw_chain.specs.Ascends.{IsAscending};
 ghost use Rattle.bw_chain.specs.Changes.{changed};
-ghost use Rattle.bw_chain.specs.Passing.Edited.{edited_at, edited_below, falls, noted};
+ghost use Rattle.bw_chain.specs.Passing.Edited.{IsFalling, NotesBelow, KeepsFrom, edited_at, noted};
 ghost use Rattle.bw_chain.specs.Passing.Cuts.{IsUncut};
 
 use crate::entries::change::Change;
@@ -32,10 +31,11 @@ pub(crate) fn note_change<X: Copy>(
     requires uncut { IsUncut (end_of end) change }
     requires among { end_of end ≤ key_count }
     requires inside { count < length edits.old }
-    requires falling { falls 0 key_count (take count edits.old) ≡ true }
-    ensures noted { (es : List (ℕ × X)) → IsAscending es → edited_below (end_of end) (take result edits.new) es ≡ edited_below (end_of end) (take count edits.old) (changed change es) }
-    ensures others { from (end_of end) (take result edits.new) ≡ from (end_of end) (take count edits.old) }
-    ensures falling { falls 0 key_count (take result edits.new) ≡ true }
+    requires falling { IsFalling (take count edits.old) }
+    ensures noted { NotesBelow (end_of end) (changed change)
+        (take count edits.old) (take result edits.new) }
+    ensures others { KeepsFrom (end_of end) (take count edits.old) (take result edits.new) }
+    ensures falling { IsFalling (take result edits.new) }
     ensures one_more { result ≤ count + 1 }
     ensures as_many { length edits.new ≡ length edits.old }
 {
@@ -56,10 +56,11 @@ fn note_below<X: Copy>(
 ) -> usize
     requires among { end_of end ≤ key_count }
     requires inside { count < length edits.old }
-    requires falling { falls 0 key_count (take count edits.old) ≡ true }
-    ensures noted { (es : List (ℕ × X)) → IsAscending es → edited_below (end_of end) (take result edits.new) es ≡ edited_below (end_of end) (take count edits.old) (edited_at key edit es) }
-    ensures others { from (end_of end) (take result edits.new) ≡ from (end_of end) (take count edits.old) }
-    ensures falling { falls 0 key_count (take result edits.new) ≡ true }
+    requires falling { IsFalling (take count edits.old) }
+    ensures noted { NotesBelow (end_of end) (edited_at key edit)
+        (take count edits.old) (take result edits.new) }
+    ensures others { KeepsFrom (end_of end) (take count edits.old) (take result edits.new) }
+    ensures falling { IsFalling (take result edits.new) }
     ensures one_more { result ≤ count + 1 }
     ensures as_many { length edits.new ≡ length edits.old }
 {
@@ -75,7 +76,7 @@ fn note_below<X: Copy>(
 #[inline(always)]
 fn note_among<X: Copy>(edits: &mut [(Key, X)], count: usize, key: Key, edit: X) -> usize
     requires inside { count < length edits.old }
-    requires falling { falls 0 key_count (take count edits.old) ≡ true }
+    requires falling { IsFalling (take count edits.old) }
     ensures as_many { length edits.new ≡ length edits.old }
     ensures one_more { result ≤ count + 1 }
     ensures front { take result edits.new ≡ noted key edit (take count edits.old) }
@@ -94,13 +95,16 @@ fn note_among<X: Copy>(edits: &mut [(Key, X)], count: usize, key: Key, edit: X) 
 #[inline(always)]
 fn raise<X: Copy>(edits: &mut [(Key, X)], count: usize, key: Key) -> (usize, bool)
     requires inside { count < length edits.old }
-    requires falling { falls 0 key_count (take count edits.old) ≡ true }
+    requires falling { IsFalling (take count edits.old) }
     ensures upto { result.0 ≤ count }
     ensures as_many { length edits.new ≡ length edits.old }
     ensures before { take result.0 edits.new ≡ take result.0 edits.old }
-    ensures behind { drop (result.0 + 1) edits.new ≡ drop result.0 (take count edits.old) ++ drop (count + 1) edits.old }
-    ensures there { result.1 ≡ true → (x : X) → noted key x (take count edits.old) ≡ take count edits.old }
-    ensures missing { result.1 ≡ false → (x : X) → noted key x (take count edits.old) ≡ insert (take count edits.old) result.0 (key, x) }
+    ensures behind { drop (result.0 + 1) edits.new
+        ≡ drop result.0 (take count edits.old) ++ drop (count + 1) edits.old }
+    ensures there { result.1 ≡ true → (x : X) →
+        noted key x (take count edits.old) ≡ take count edits.old }
+    ensures missing { result.1 ≡ false → (x : X) →
+        noted key x (take count edits.old) ≡ insert (take count edits.old) result.0 (key, x) }
 {
     let mut i = count;
     'up: while 0 < i {
@@ -120,7 +124,8 @@ fn lower<T: Copy>(items: &mut [T], place: usize, last: usize)
     requires upto { place ≤ last }
     requires inside { last < length items.old }
     ensures as_many { length items.new ≡ length items.old }
-    ensures front { take last items.new ≡ take place items.old ++ take (last - place) (drop (place + 1) items.old) }
+    ensures front { take last items.new
+        ≡ take place items.old ++ take (last - place) (drop (place + 1) items.old) }
     ensures behind { drop (last + 1) items.new ≡ drop (last + 1) items.old }
 {
     for i in place..last {
@@ -130,7 +135,7 @@ fn lower<T: Copy>(items: &mut [T], place: usize, last: usize)
 
 /// How many edits have keys from the fence on. In a chain without merges none do.
 pub(crate) fn count_from<X: Copy>(edits: &[(Key, X)], fence: Fence) -> usize
-    requires falling { falls 0 key_count edits.now ≡ true }
+    requires falling { IsFalling edits.now }
     ensures within { result ≤ length edits.now }
     ensures before { from (end_of fence) edits.now ≡ take result edits.now }
     ensures after { below (end_of fence) edits.now ≡ drop result edits.now }

@@ -1,13 +1,12 @@
 //! The first pairs of a chain from a key on, until a list has as many as a limit. The entries are
 //! handed on in stretches, so a page is listed in one pass, whatever its chain.
 
-ghost use Rattle.std.specs.Prelude.{◌≡◌, ◌≤◌, ◌++◌, true, length, take, vec_capacity, OnOk, OnErr};
-ghost use Rattle.bw_keys.specs.Ranges.{key_count};
+ghost use Rattle.std.specs.Prelude.{◌≡◌, ◌≤◌, ◌++◌, length, take, vec_capacity, OnOk, OnErr};
 ghost use Rattle.bw_delta.specs.Entries.{from};
 ghost use Rattle.bw_delta.specs.Pairs.{pairs};
 ghost use Rattle.bw_delta.specs.Sound.{IsSound};
 ghost use Rattle.bw_chain.specs.Ascends.{IsAscending};
-ghost use Rattle.bw_chain.specs.Passing.Edited.{edited, entry_of, falls};
+ghost use Rattle.bw_chain.specs.Passing.Edited.{IsFalling, edited, entry_of};
 ghost use Rattle.bw_chain.specs.Passing.Firsts.{Takes, HasNoRoom};
 
 use crate::entries::sorted::entries_from;
@@ -31,8 +30,8 @@ pub fn append_first_pairs<A: Allocator + Copy, B: Allocator>(
 ) -> Vec<(Key, u64), B>
     requires sound { IsSound chain.now }
     requires few { length list.items ≤ limit }
-    requires room {
-        length (take limit (list.items ++ from low (pairs chain.now))) ≤ vec_capacity list }
+    requires room { length (take limit (list.items ++ from low (pairs chain.now)))
+        ≤ vec_capacity list }
     ensures items { result.items ≡ take limit (list.items ++ from low (pairs chain.now)) }
     ensures capacity { vec_capacity list ≤ vec_capacity result }
 {
@@ -59,9 +58,9 @@ impl<B: Allocator> Sink<u64> for FirstPairs<B> {
 
     type Stop = NoMemory;
 
-    ghost takes = { λ s es t. Takes s es t };
+    ghost takes = { Takes };
 
-    ghost refuses = { λ s es. HasNoRoom s es };
+    ghost refuses = { HasNoRoom };
 
     fn take_edited(
         &mut self,
@@ -71,11 +70,11 @@ impl<B: Allocator> Sink<u64> for FirstPairs<B> {
         take_first(self, entries, edits)
     }
 
-    ghost takes_joined = { λ s t u es fs first second. takes_joined s t u es fs first second };
+    ghost takes_joined = { takes_joined };
 
-    ghost refuses_more = { λ s es fs refused. no_room_for_more s es fs refused };
+    ghost refuses_more = { no_room_for_more };
 
-    ghost refuses_later = { λ s t es fs first refused. no_room_later s t es fs first refused };
+    ghost refuses_later = { no_room_later };
 }
 
 /// Takes the entries with the edits, which come with the greatest key first.
@@ -85,7 +84,7 @@ fn take_first<B: Allocator>(
     edits: &[(Key, Option<u64>)],
 ) -> Result<(), NoMemory>
     requires ascending { IsAscending entries.now }
-    requires falling { falls 0 key_count edits.now ≡ true }
+    requires falling { IsFalling edits.now }
     ensures taken { OnOk result (Takes first.old (edited edits.now entries.now) first.new) }
     ensures refused { OnErr result (HasNoRoom first.old (edited edits.now entries.now)) }
 {

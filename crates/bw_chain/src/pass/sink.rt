@@ -1,9 +1,8 @@
 //! What takes the entries that a pass over a chain hands on.
 
-ghost use Rattle.std.specs.Prelude.{◌≡◌, true, OnOk, OnErr};
-ghost use Rattle.bw_keys.specs.Ranges.{key_count};
+ghost use Rattle.std.specs.Prelude.{◌≡◌, OnOk, OnErr};
 ghost use Rattle.bw_chain.specs.Ascends.{IsAscending};
-ghost use Rattle.bw_chain.specs.Passing.Edited.{edited, falls};
+ghost use Rattle.bw_chain.specs.Passing.Edited.{IsFalling, edited};
 
 use crate::entries::value::EntryValue;
 use crate::pass::writing::{count_puts, write_edited};
@@ -31,15 +30,18 @@ pub(crate) trait Sink<X> {
         edits: &[(Key, Option<X>)],
     ) -> Result<(), Self::Stop>
         requires ascending { IsAscending entries.now }
-        requires falling { falls 0 key_count edits.now ≡ true }
+        requires falling { IsFalling edits.now }
         ensures taken { OnOk result (takes self.old (edited edits.now entries.now) self.new) }
         ensures refused { OnErr result (refuses self.old (edited edits.now entries.now)) };
 
-    ghost takes_joined: { (s t u : Self) (es fs : List (ℕ × X)) → takes s es t → takes t fs u → takes s (es ++ fs) u };
+    ghost takes_joined: { (s t u : Self) (es fs : List (ℕ × X)) →
+        takes s es t → takes t fs u → takes s (es ++ fs) u };
 
-    ghost refuses_more: { (s : Self) (es fs : List (ℕ × X)) → refuses s es → refuses s (es ++ fs) };
+    ghost refuses_more: { (s : Self) (es fs : List (ℕ × X)) →
+        refuses s es → refuses s (es ++ fs) };
 
-    ghost refuses_later: { (s t : Self) (es fs : List (ℕ × X)) → takes s es t → refuses t fs → refuses s (es ++ fs) };
+    ghost refuses_later: { (s t : Self) (es fs : List (ℕ × X)) →
+        takes s es t → refuses t fs → refuses s (es ++ fs) };
 }
 
 /// A list takes what it has room for. The room is filled first and then written over, as a list
@@ -73,7 +75,8 @@ impl<X: EntryValue, A: Allocator> Sink<X> for Vec<(Key, X), A> {
         Ok(())
     }
 
-    ghost takes_joined = { λ s t u es fs first second. appended_twice s.items t.items u.items es fs first second };
+    ghost takes_joined = { λ s t u es fs first second.
+        appended_twice s.items t.items u.items es fs first second };
 
     ghost refuses_more = { λ s es fs refused. tt };
 

@@ -1,10 +1,9 @@
 //! A list that is compared with the entries that a pass hands on.
 
 ghost use Rattle.std.specs.Prelude.{◌≡◌, ◌≢◌, ◌↔◌, ◌++◌, List, ℕ, length, true, IsTrue, MatchOption};
-ghost use Rattle.bw_keys.specs.Ranges.{end_of, key_count};
 ghost use Rattle.bw_delta.specs.Entries.{from};
 ghost use Rattle.bw_chain.specs.Ascends.{IsAscending};
-ghost use Rattle.bw_chain.specs.Passing.Edited.{edited, entry_of, falls};
+ghost use Rattle.bw_chain.specs.Passing.Edited.{IsFalling, edited, entry_of};
 ghost use Rattle.bw_chain.specs.Passing.Rests.{Begins, BeginsOtherwise};
 
 use crate::entries::sorted::entries_from;
@@ -48,11 +47,16 @@ impl<'a, X: EntryValue> Sink<X> for Compared<'a, X> {
         }
     }
 
-    ghost takes_joined = { λ s t u es fs first second. (begins_joined s.from t.from s.rest.now t.rest.now u.rest.now es fs first.1 first.0 second.0, second.1 ∙ first.1) };
+    ghost takes_joined = { λ s t u es fs first second. (
+      begins_joined s.from t.from s.rest.now t.rest.now u.rest.now es fs
+          first.1 first.0 second.0,
+      second.1 ∙ first.1,
+    ) };
 
     ghost refuses_more = { λ s es fs other. otherwise_more s.from s.rest.now es fs other };
 
-    ghost refuses_later = { λ s t es fs first other. otherwise_later s.from t.from s.rest.now t.rest.now es fs first.1 first.0 other };
+    ghost refuses_later = { λ s t es fs first other.
+        otherwise_later s.from t.from s.rest.now t.rest.now es fs first.1 first.0 other };
 }
 
 /// What comes behind the entries with the edits, if the list begins with those from the fence on.
@@ -63,8 +67,10 @@ fn strip_edited<'a, X: EntryValue>(
     edits: &[(Key, Option<X>)],
 ) -> Option<&'a [(Key, X)]>
     requires ascending { IsAscending entries.now }
-    requires falling { falls 0 key_count edits.now ≡ true }
-    ensures { MatchOption result (BeginsOtherwise fence list.now (edited edits.now entries.now)) (λ rest. Begins fence list.now (edited edits.now entries.now) rest.now) }
+    requires falling { IsFalling edits.now }
+    ensures { MatchOption result
+        (BeginsOtherwise fence list.now (edited edits.now entries.now))
+        (λ rest. Begins fence list.now (edited edits.now entries.now) rest.now) }
 {
     let (mut list, mut rest, mut left) = (list, entries, edits);
     'edits: while let Some((edit, greater)) = left.split_last() {
@@ -94,7 +100,9 @@ fn strip_edit<'a, X: EntryValue>(
     key: Key,
     edit: Option<X>,
 ) -> Option<&'a [(Key, X)]>
-    ensures { MatchOption result (BeginsOtherwise fence list.now (entry_of key edit)) (λ rest. Begins fence list.now (entry_of key edit) rest.now) }
+    ensures { MatchOption result
+        (BeginsOtherwise fence list.now (entry_of key edit))
+        (λ rest. Begins fence list.now (entry_of key edit) rest.now) }
 {
     match edit {
         Some(value) if !fence.is_above(key) => match list.split_first() {

@@ -1,10 +1,9 @@
 //! The entries of a base page with the edits, written one after the other.
 
-ghost use Rattle.std.specs.Prelude.{◌≡◌, ◌≤◌, ◌<◌, ◌+◌, ◌++◌, true, length, take, drop, slice_set};
-ghost use Rattle.bw_keys.specs.Ranges.{key_count};
+ghost use Rattle.std.specs.Prelude.{◌≡◌, ◌≤◌, ◌<◌, ◌+◌, ◌++◌, length, take, drop, slice_set};
 ghost use Rattle.bw_delta.specs.Entries.{below, from};
 ghost use Rattle.bw_chain.specs.Ascends.{IsAscending};
-ghost use Rattle.bw_chain.specs.Passing.Edited.{edited, falls, put_count, puts};
+ghost use Rattle.bw_chain.specs.Passing.Edited.{IsFalling, edited, put_count, puts};
 
 use crate::pass::around::behind;
 use bw_keys::Key;
@@ -40,11 +39,12 @@ pub(crate) fn write_edited<'a, X: Copy>(
     start: usize,
 ) -> (usize, &'a [(Key, X)])
     requires ascending { IsAscending entries.now }
-    requires falling { falls 0 key_count edits.now ≡ true }
+    requires falling { IsFalling edits.now }
     requires room { start + length entries.now + put_count edits.now ≤ length list.old }
     ensures within { result.0 + length result.1.now ≤ length list.new }
     ensures as_many { length list.new ≡ length list.old }
-    ensures written { take result.0 list.new ++ result.1.now ≡ take start list.old ++ edited edits.now entries.now }
+    ensures written { take result.0 list.new ++ result.1.now
+        ≡ take start list.old ++ edited edits.now entries.now }
 {
     let (mut rest, mut left, mut end) = (entries, edits, start);
     'edits: while let Some((edit, greater)) = left.split_last() {
@@ -79,7 +79,8 @@ fn copy_before<X: Copy>(
     ensures before { below key entries.now ≡ take result entries.now }
     ensures after { from key entries.now ≡ drop result entries.now }
     ensures as_many { length list.new ≡ length list.old }
-    ensures written { take (place + result) list.new ≡ take place list.old ++ take result entries.now }
+    ensures written { take (place + result) list.new
+        ≡ take place list.old ++ take result entries.now }
 {
     let count = copy_by_twos(entries, key, list, place);
     if count == entries.len() {
@@ -104,11 +105,13 @@ fn copy_by_twos<X: Copy>(
     requires ascending { IsAscending entries.now }
     requires room { place + length entries.now ≤ length list.old }
     ensures within { result ≤ length entries.now }
-    ensures before { below key entries.now ≡ take result entries.now ++ below key (drop result entries.now) }
+    ensures before { below key entries.now
+        ≡ take result entries.now ++ below key (drop result entries.now) }
     ensures after { from key entries.now ≡ from key (drop result entries.now) }
     ensures last { length (below key (drop result entries.now)) ≤ 1 }
     ensures as_many { length list.new ≡ length list.old }
-    ensures written { take (place + result) list.new ≡ take place list.old ++ take result entries.now }
+    ensures written { take (place + result) list.new
+        ≡ take place list.old ++ take result entries.now }
 {
     let mut i = 0;
     'twos: while 2 <= entries.len() - i {

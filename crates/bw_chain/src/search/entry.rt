@@ -39,7 +39,8 @@ fn deciding_part<'a, A: Allocator + Copy, X: EntryValue>(
     chain: &'a Chain<A>,
     key: Key,
 ) -> &'a Chain<A>
-    ensures same { at key (entries_by X.own_entries X.own_change result.now) ≡ at key (entries_by X.own_entries X.own_change chain.now) }
+    ensures same { at key (entries_by X.own_entries X.own_change result.now)
+        ≡ at key (entries_by X.own_entries X.own_change chain.now) }
     ensures ends { ends_search key X.own_change result.now ≡ true }
 {
     match &chain.node {

@@ -1,12 +1,12 @@
 //! The greatest entry up to a key.
 
-ghost use Rattle.std.specs.Prelude.{◌≡◌, ℕ, ◌≤◌, List, Option};
+ghost use Rattle.std.specs.Prelude.{◌≡◌, ℕ, ◌≤◌, List};
 ghost use Rattle.bw_keys.specs.Ranges.{end_of};
 ghost use Rattle.bw_delta.specs.Entries.{last_below, last_upto};
 ghost use Rattle.bw_chain.specs.Ascends.{IsAscending};
 ghost use Rattle.bw_chain.specs.Changes.{changed, entries_by};
 ghost use Rattle.bw_chain.specs.Searching.Gaps.{HasGap, end_under};
-ghost use Rattle.bw_chain.specs.Searching.Reaches.{IsGreatest};
+ghost use Rattle.bw_chain.specs.Searching.Reaches.{GoesOn};
 
 use crate::entries::bounds::{at_most, last_key_below, later, past};
 use crate::entries::change::Change;
@@ -41,9 +41,8 @@ fn under_passed<'a, A: Allocator + Copy, X: EntryValue>(
     chain: &'a Chain<A>,
     reach: &mut Reach<X>,
 ) -> &'a Chain<A>
-    ensures { (answer : Option (ℕ × X)) →
-        IsGreatest reach.new.upto reach.new.best (entries_by X.own_entries X.own_change result.now) answer →
-        IsGreatest reach.old.upto reach.old.best (entries_by X.own_entries X.own_change chain.now) answer }
+    ensures { GoesOn reach.old (entries_by X.own_entries X.own_change chain.now)
+        reach.new (entries_by X.own_entries X.own_change result.now) }
 {
     match &chain.node {
         Node::Bare(_) => chain,
@@ -85,7 +84,8 @@ fn last_below<A: Allocator + Copy, X: EntryValue>(
 /// The fence right above the greatest candidate below the fence, or 0 where there is none.
 fn past_last_candidate<A: Allocator + Copy, X: EntryValue>(chain: &Chain<A>, to: Fence) -> Fence
     ensures earlier { end_of result ≤ end_of to }
-    ensures gap { HasGap (end_of result) (end_of to) (entries_by X.own_entries X.own_change chain.now) }
+    ensures gap { HasGap (end_of result) (end_of to)
+        (entries_by X.own_entries X.own_change chain.now) }
 {
     match &chain.node {
         Node::Bare(base) => past_last_on_base::<A, X>(base, to),

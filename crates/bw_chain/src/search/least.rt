@@ -38,7 +38,8 @@ pub(crate) fn first_from<A: Allocator + Copy, X: EntryValue>(
 /// The least candidate from the fence on, or `Top` where there is none.
 fn first_candidate<A: Allocator + Copy, X: EntryValue>(chain: &Chain<A>, from: Fence) -> Fence
     ensures later { end_of from ≤ end_of result }
-    ensures gap { HasGap (end_of from) (end_of result) (entries_by X.own_entries X.own_change chain.now) }
+    ensures gap { HasGap (end_of from) (end_of result)
+        (entries_by X.own_entries X.own_change chain.now) }
 {
     match &chain.node {
         Node::Bare(base) => first_on_base::<A, X>(base, from),

@@ -1,7 +1,7 @@
-ghost use Rattle.std.specs.Prelude.{◌≡◌, ℕ, List, Option, None, true, false};
+ghost use Rattle.std.specs.Prelude.{◌≡◌, ℕ, List, None, true, false};
 ghost use Rattle.bw_chain.specs.Ascends.{IsAscending};
 ghost use Rattle.bw_chain.specs.Changes.{changed};
-ghost use Rattle.bw_chain.specs.Searching.Reaches.{is_open, IsGreatest};
+ghost use Rattle.bw_chain.specs.Searching.Reaches.{is_open, GoesOn, IsGreatest};
 
 use crate::entries::bounds::past;
 use crate::entries::change::Change;
@@ -43,9 +43,8 @@ impl<X: Copy> Reach<X> {
     /// deletion that could hide what it finds.
     #[inline(always)]
     pub(crate) fn passes(&mut self, change: Change<X>) -> bool
-        ensures passed { result ≡ true → (es : List (ℕ × X)) → (answer : Option (ℕ × X)) →
-            IsGreatest self.new.upto self.new.best es answer →
-            IsGreatest self.old.upto self.old.best (changed change es) answer }
+        ensures passed { result ≡ true → (es : List (ℕ × X)) →
+            GoesOn self.old (changed change es) self.new es }
         ensures stopped { result ≡ false → self.new ≡ self.old }
     {
         match change {

@@ -28,7 +28,8 @@ pub fn is_later_key<A: Allocator + Copy>(chain: &Chain<A>, key: Key) -> bool
 
 fn is_later_entry<A: Allocator + Copy, X: EntryValue>(chain: &Chain<A>, key: Key) -> bool
     requires ascending { IsAscending (entries_by X.own_entries X.own_change chain.now) }
-    ensures { let es = entries_by X.own_entries X.own_change chain.now in result ≡ (is_some (at key es) && not (starts_at key es)) }
+    ensures { let es = entries_by X.own_entries X.own_change chain.now in
+        result ≡ (is_some (at key es) && not (starts_at key es)) }
 {
     if find_entry::<A, X>(chain, key).is_none() {
         return false;

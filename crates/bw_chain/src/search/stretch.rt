@@ -58,7 +58,8 @@ pub fn pairs_upto<A: Allocator + Copy>(chain: &Chain<A>, key: Key) -> &[(Key, u6
 /// The stretch round the key, or one that ends there where a record names the key.
 fn stretch_around<A: Allocator + Copy>(chain: &Chain<A>, key: Key) -> Stretch<'_>
     ensures begins { result.low ≤ key }
-    ensures same { AreSameWithin result.low (end_of result.end) result.pairs.now (entries_by pairs_listed pair_change chain.now) }
+    ensures same { AreSameWithin result.low (end_of result.end) result.pairs.now
+        (entries_by pairs_listed pair_change chain.now) }
     ensures ascending { IsAscending result.pairs.now }
 {
     match &chain.node {
@@ -86,7 +87,9 @@ fn stretch_under(change: Change<u64>, key: Key, stretch: Stretch<'_>) -> Stretch
     requires begins { stretch.low ≤ key }
     ensures begins { result.low ≤ key }
     ensures pairs { result.pairs ≡ stretch.entry.pairs }
-    ensures same { (es : List (ℕ × ℕ)) → AreSameWithin stretch.entry.low (end_of stretch.entry.end) stretch.entry.pairs.now es → AreSameWithin result.low (end_of result.end) stretch.entry.pairs.now (changed change es) }
+    ensures same { (es : List (ℕ × ℕ)) →
+        AreSameWithin stretch.entry.low (end_of stretch.entry.end) stretch.entry.pairs.now es →
+        AreSameWithin result.low (end_of result.end) stretch.entry.pairs.now (changed change es) }
 {
     match change {
         Change::Put(named, _) => beside(stretch, named, key),
@@ -102,7 +105,8 @@ fn beside(stretch: Stretch<'_>, named: Key, key: Key) -> Stretch<'_>
     requires begins { stretch.low ≤ key }
     ensures begins { result.low ≤ key }
     ensures pairs { result.pairs ≡ stretch.entry.pairs }
-    ensures inside { (q : ℕ) → result.low ≤ q → q < end_of result.end → (stretch.entry.low ≤ q) × (q < end_of stretch.entry.end) }
+    ensures inside { (q : ℕ) → result.low ≤ q → q < end_of result.end →
+        (stretch.entry.low ≤ q) × (q < end_of stretch.entry.end) }
     ensures others { (q : ℕ) → result.low ≤ q → q < end_of result.end → named ≢ q }
 {
     match named.checked_add(1) {

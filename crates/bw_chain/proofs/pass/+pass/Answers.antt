@@ -3,7 +3,7 @@ use Rattle.std.proofs.lemmas.Result.{on_ok_weaker, on_err_weaker}
 use Rattle.bw_keys.specs.Ranges.{key_count, end_of}
 use Rattle.bw_delta.specs.Entries.{from}
 use Rattle.bw_chain.specs.Changes.{entries_by}
-use Rattle.bw_chain.specs.Passing.Edited.{falls}
+use Rattle.bw_chain.specs.Passing.Edited.{IsFalling}
 use Rattle.bw_chain.specs.Passing.Heads.{BeginsWith}
 use Rattle.bw_chain.proofs.Passing.Descents.{downward, sideward}
 use Rattle.bw_chain.proofs.Passing.Heads.{begins-more, begins-take}
@@ -76,7 +76,7 @@ pass-requires-then-is_above g t c κs within-lives =
     let few : kept.result ≤ length noted = rw c.split_at-in-Merged.ensures.front at kept.ensures.within in
     let left : BeginsWith c.pass-in-Merged.new.edits (from end noted) = rw c.at_most-left_end.ensures at c.in_ok-pass-in-Merged.ensures.left in
     let still = begins-take kept.result noted (from end noted) c.pass-in-Merged.new.edits upper few left in
-    let falling : falls 0 key_count (from end noted) ≡ true = falls-lower 0 end key_count _ (omega arith) (falls-from 0 key_count end noted c.requires.falling) in
+    let falling : IsFalling (from end noted) = falls-lower 0 end key_count _ (omega arith) (falls-from 0 key_count end noted c.requires.falling) in
     let long = length-take-le c.args.count c.args.edits.now (omega (arith, room)) in
     (search rules, (search rules, (search rules, (search rules, (search rules, (rw c.deref-then-is_above.ensures side.built_right, (rw c.deref-then-is_above.ensures side.within_right, (rw still falling, rw (c.deref-then-is_above.ensures) (omega (arith, room, few, long, c.in_ok-pass-in-Merged.ensures.as_many))))))))))
 

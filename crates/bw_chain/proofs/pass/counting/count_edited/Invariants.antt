@@ -1,7 +1,6 @@
-use Rattle.std.proofs.Common.{◌≡◌, ◌+◌, ◌-◌, ◌^◌, ◌≤◌, min, true, length}
-use Rattle.bw_keys.specs.Ranges.{key_count}
+use Rattle.std.proofs.Common.{◌≡◌, ◌+◌, ◌-◌, ◌^◌, ◌≤◌, min, length}
 use Rattle.bw_chain.specs.Ascends.{IsAscending}
-use Rattle.bw_chain.specs.Passing.Edited.{edited, falls}
+use Rattle.bw_chain.specs.Passing.Edited.{IsFalling, edited}
 use Rattle.bw_chain.proofs.pass.counting.count_edited.Given as goal
 
 abbrev pub invariant-edits : goal.invariant-edits
@@ -10,7 +9,7 @@ invariant-edits g l =
       fits : l.sum ≤ 2 ^ 64 - 1;
       counted : min (l.sum + length (edited l.left l.rest)) (2 ^ 64 - 1) ≡ min (l.count + length (edited l.edits l.entries)) (2 ^ 64 - 1);
       ascending : IsAscending l.rest;
-      falling : falls 0 key_count l.left ≡ true;
+      falling : IsFalling l.left;
     }
 
 abbrev pub decreases-edits : goal.decreases-edits

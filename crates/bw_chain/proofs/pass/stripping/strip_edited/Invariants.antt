@@ -1,7 +1,6 @@
-use Rattle.std.proofs.Common.{◌≡◌, true, length}
-use Rattle.bw_keys.specs.Ranges.{key_count}
+use Rattle.std.proofs.Common.{length}
 use Rattle.bw_chain.specs.Ascends.{IsAscending}
-use Rattle.bw_chain.specs.Passing.Edited.{edited, falls}
+use Rattle.bw_chain.specs.Passing.Edited.{IsFalling, edited}
 use Rattle.bw_chain.proofs.Passing.Fronts.{IsFront}
 use Rattle.bw_chain.proofs.pass.stripping.strip_edited.Given as goal
 
@@ -10,7 +9,7 @@ invariant-edits g l =
     record {
       front : IsFront l.fence l.fn.list (edited l.edits l.entries) (edited l.left l.rest) l.list;
       ascending : IsAscending l.rest;
-      falling : falls 0 key_count l.left ≡ true;
+      falling : IsFalling l.left;
     }
 
 abbrev pub decreases-edits : goal.decreases-edits

@@ -1,7 +1,6 @@
-use Rattle.std.proofs.Common.{◌≡◌, ◌≤◌, ◌+◌, ◌++◌, true, length, take}
-use Rattle.bw_keys.specs.Ranges.{key_count}
+use Rattle.std.proofs.Common.{◌≡◌, ◌≤◌, ◌+◌, ◌++◌, length, take}
 use Rattle.bw_chain.specs.Ascends.{IsAscending}
-use Rattle.bw_chain.specs.Passing.Edited.{edited, falls, put_count}
+use Rattle.bw_chain.specs.Passing.Edited.{IsFalling, edited, put_count}
 use Rattle.bw_chain.proofs.pass.writing.write_edited.Given as goal
 
 abbrev pub invariant-edits : goal.invariant-edits
@@ -11,7 +10,7 @@ invariant-edits g l =
       room : l.end + length l.rest + put_count l.left ≤ length l.list;
       as_many : length l.list ≡ length l.fn.list;
       ascending : IsAscending l.rest;
-      falling : falls 0 key_count l.left ≡ true;
+      falling : IsFalling l.left;
     }
 
 abbrev pub decreases-edits : goal.decreases-edits

@@ -1,9 +1,8 @@
-use Rattle.std.proofs.Common.{ℕ, List, ◌≡◌, ◌+◌, ◌<◌, ◌≤◌, ◌∙◌, refl, sym, subst, ap, arith, append-nil}
+use Rattle.std.proofs.Common.{◌+◌, ◌<◌, ◌≤◌, sym, arith, append-nil}
 use Rattle.bw_keys.specs.Ranges.{key_count, end_of}
-use Rattle.bw_delta.specs.Entries.{below, from}
+use Rattle.bw_delta.specs.Entries.{below}
 use Rattle.bw_delta.specs.Pairs.{pairs}
 use Rattle.bw_delta.proofs.Rises.{rises-below}
-use Rattle.bw_chain.specs.Ascends.{IsAscending}
 use Rattle.bw_chain.specs.Kinds.{pairs_are}
 use Rattle.bw_chain.proofs.Ascending.{ascend_from_rise}
 use Rattle.bw_chain.proofs.Bridges.{own_pairs_ascend}
