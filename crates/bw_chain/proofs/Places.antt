@@ -1,4 +1,4 @@
--- The place of a key among rising entries, which is how many lie below it: what stands there, and what a change there makes.
+-- The place of a key among rising entries, which is the number of those below it: what stands there, and what a change there makes.
 use Rattle.std.proofs.Common.{◌≡◌, ◌≢◌, ℕ, ◌+◌, ◌<◌, ◌≤◌, true, List, [], ◌∷◌, length, get_or, set, refl, ap, sym, ◌∙◌, arith, inl, inr}
 use Rattle.std.specs.List.{insert, remove}
 use Rattle.std.specs.Prelude.{Some, None}
@@ -40,7 +40,7 @@ module _ {X : Type 0} where
         | inr first ↦ grind (arith, nat_tests, first.1, at-no_place (e.0 + 1) end key es rest)
       ]
 
-  -- what an entry read at the place tells
+  -- what an entry read at the place says
   pub at-read : (key place : ℕ) (e : ℕ × X) (es : List (ℕ × X)) → IsAscending es → place ≡ length (below key es) → place < length es → e ≡ get_or es place e → e.0 ≡ key → Some e.1 ≡ at key es
   at-read key place e es h is inside read here =
       let there : e ≡ get_or es (length (below key es)) e = rw (← is) read in

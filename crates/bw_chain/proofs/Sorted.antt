@@ -1,4 +1,4 @@
--- How many of rising entries lie below a key: what one entry tells of it, and which entries they are.
+-- The number of rising entries below a key: what one entry says of it, and which entries they are.
 use Rattle.std.proofs.Common.{◌≡◌, ℕ, zero, suc, ◌+◌, ◌<◌, ◌≤◌, true, List, [], ◌∷◌, length, take, drop, get_or, refl, arith, inl, inr}
 use Rattle.std.proofs.lemmas.Bool.Decides.{nat_tests, leb_tells}
 use Rattle.bw_delta.specs.Entries.{rises, below, from}

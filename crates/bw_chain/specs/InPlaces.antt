@@ -1,4 +1,4 @@
--- What a change in place makes of a chain, and which record it is one with.
+-- What a change in place makes of a chain, and the record with the same effect.
 use Rattle.std.specs.Prelude.{◌≡◌, ℕ, false, List, Option, Some, None}
 use Rattle.bw_keys.specs.declared.page.Pid.{Pid}
 use Rattle.bw_delta.specs.declared.chain.Delta.{Delta}
@@ -12,7 +12,7 @@ use Rattle.bw_delta.specs.Sound.{page_for}
 use Rattle.bw_chain.specs.declared.in_place.Wished.{Wished}
 use Rattle.bw_chain.specs.declared.in_place.Wished.TheVariants as wishes
 
--- the record by which the wish comes true for a key that had the value, or none: no record where it is true already
+-- the record that makes the change of a key with this value, or with none: no record where nothing has to change
 abbrev pub delta_for : Wished → ℕ → Option ℕ → Option Delta
 delta_for (wishes.Put value) key None = Some (deltas.Insert key value)
 delta_for (wishes.Put value) key (Some had) = None

@@ -1,5 +1,5 @@
-//! The entries of a chain or a page, be they pairs or routes: what a record changes of them, and
-//! where they stand in a page's list.
+//! The entries of a chain or a page, pairs or routes: what a record changes of them, and where they
+//! stand in a page's list.
 
 pub(crate) mod bounds;
 pub(crate) mod change;

@@ -1,4 +1,4 @@
-//! A change of one key, made in the list of a base page over which no record stands.
+//! Changes of one key that are made in the list of a base page, in place of a record over it.
 
 ghost use Rattle.std.specs.Prelude.{◌≡◌, ◌<◌, None, Some, true, false, length, IfSome, IfNone};
 ghost use Rattle.bw_delta.specs.declared.chain.Delta.TheVariants as deltas;
@@ -20,28 +20,29 @@ use bw_keys::{Fence, Key, Pid};
 use std::alloc::Allocator;
 use std::mem;
 
-/// What is wished of a key.
+/// A change of one key's value.
 #[derive(Clone, Copy, Debug, PartialEq, Eq, Hash)]
 pub enum Wished {
-    /// That it gets the value, unless it has one.
+    /// Adds the value, unless the key has one.
     Put(u64),
-    /// That it has the value.
+    /// Adds the value, or overwrites the one there.
     Set(u64),
-    /// That it has none.
+    /// Deletes the value, if there is one.
     Delete,
 }
 
-/// What a change in place did.
+/// What a change in place found and did.
 #[derive(Clone, Copy, Debug, PartialEq, Eq)]
 pub struct InPlace {
-    /// What the key had.
+    /// The value that the key had.
     pub had: Option<u64>,
-    /// The record that would have done the same; none where nothing was to be done.
+    /// The record with the same effect, or `None` if nothing had to change.
     pub delta: Option<Delta>,
 }
 
-/// Makes the wish come true on the base page, if no record stands over it, or that of its split alone,
-/// which a change takes in. None, and nothing changed, where another does or memory is short.
+/// Makes the change in the list of the base page, which may stand under the record of its split: a
+/// change takes that in. Returns `None`, and changes nothing, if another record stands there or
+/// memory is short.
 #[inline(always)]
 pub fn change_in_place<A: Allocator + Copy>(
     chain: &mut Chain<A>,
@@ -61,7 +62,7 @@ pub fn change_in_place<A: Allocator + Copy>(
     }
 }
 
-/// The same where the record of a split stands over the base page: a look leaves it there.
+/// Makes the change under the record of a split, and takes that in unless nothing had to change.
 fn change_behind_split<A: Allocator + Copy>(
     chain: &mut Chain<A>,
     key: Key,
@@ -105,8 +106,8 @@ fn change_below_split<A: Allocator + Copy>(
     }
 }
 
-/// Makes the wish come true on a base page that a split has ended before the separator, and ends it
-/// there if something is changed.
+/// Makes the change in a base page that a split ends before the separator, and ends the page there
+/// if anything changed.
 fn change_and_cut<A: Allocator + Copy>(
     base: &mut Base<A>,
     separator: Key,
@@ -200,7 +201,7 @@ fn change_listed<A: Allocator + Copy>(
     }
 }
 
-/// Puts a new pair in the place of its key.
+/// Inserts a new pair at its place.
 #[inline(always)]
 fn insert_at<A: Allocator + Copy>(
     pairs: &mut Vec<(Key, u64), A>,
@@ -226,7 +227,7 @@ fn insert_at<A: Allocator + Copy>(
     }
 }
 
-/// What stands at the key, whose place it is.
+/// Returns what stands at the key, given its place.
 #[inline(always)]
 fn entry_at<X: Copy>(entries: &[(Key, X)], key: Key, place: usize) -> Option<X>
     requires ascending { IsAscending entries.now }
@@ -243,8 +244,8 @@ fn entry_at<X: Copy>(entries: &[(Key, X)], key: Key, place: usize) -> Option<X>
     None
 }
 
-/// Adds a route on the base page of an inner page, if no record stands over it and it has no route
-/// at the separator. False, and nothing changed, where that isn't so or memory is short.
+/// Adds a route to the list of an inner page's base page. Returns false, and changes nothing, if a
+/// record stands over the page, if a route is at the separator already, or if memory is short.
 #[inline(always)]
 pub fn route_in_place<A: Allocator + Copy>(chain: &mut Chain<A>, separator: Key, child: Pid) -> bool
     requires within { LiesIn separator (fences chain.old) }
@@ -287,10 +288,10 @@ fn route_listed<A: Allocator + Copy>(
     }
 }
 
-/// The part of a base page over which no record stands from the entry with the number on, counted
-/// from 0, with the separator at which it begins. It has room for so many entries before it asks for
-/// memory again. None where a record stands there, where there is no such entry, and where memory is
-/// short.
+/// Returns the part of a base page from the entry with the number on, counted from 0, and the
+/// separator at which it begins. The part has room for `room` entries before it asks for memory
+/// again. Returns `None` if a record stands over the page, if there is no such entry, or if memory
+/// is short.
 pub fn upper_part_of<A: Allocator + Copy>(
     chain: &Chain<A>,
     number: usize,
@@ -309,8 +310,8 @@ pub fn upper_part_of<A: Allocator + Copy>(
     }
 }
 
-/// Ends a base page before the separator, with a link to the page there, if no record stands over
-/// it. False, and nothing changed, where one does.
+/// Ends a base page before the separator, with a link to the page there. Returns false, and changes
+/// nothing, if a record stands over the page.
 pub fn cut_in_place<A: Allocator + Copy>(chain: &mut Chain<A>, separator: Key, right: Pid) -> bool
     requires within { LiesIn separator (fences chain.old) }
     requires later { (fences chain.old).low < separator }

@@ -1,11 +1,12 @@
 //! What one delta chain says: search, consolidation, halving and comparison.
 //!
-//! A chain is read from its newest record down to a base page (Levandoski et al., ICDE 2013;
-//! Wang et al., "Building a Bw-Tree Takes More Than Just Buzz Words", SIGMOD 2018). Only calls that
-//! may answer a want of it take memory.
+//! A chain is read from its newest record down to a base page (Levandoski et al., ICDE 2013; Wang
+//! et al., "Building a Bw-Tree Takes More Than Just Buzz Words", SIGMOD 2018). Only calls that can
+//! report a lack of memory take any.
 //!
-//! `search` answers for one key, `pass` goes over all of a chain's entries, and `page` tells of the
-//! page that a chain stands for. Each of them is written once for pairs and for routes, by `entries`.
+//! `search` looks up single keys, `pass` goes over all of a chain's entries, and `page` describes
+//! the page that a chain stands for. `entries` has what differs between pairs and routes, so each
+//! of the others is written once for both.
 #![tactic(auto)]
 
 mod entries;

@@ -1,5 +1,4 @@
-//! The page that a chain stands for: its fences, its kind and its depth; and the upper half of a
-//! base page.
+//! The page that a chain stands for: its fences, kind and depth, and the upper half of a base page.
 
 mod halving;
 pub(crate) mod shape;

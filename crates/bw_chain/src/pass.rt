@@ -1,6 +1,6 @@
-//! One pass over a chain. The records above a base page are gathered, the newest of each key,
-//! and the page's entries are handed on in stretches between them. Under a merge the left half
-//! is done so, and then the right one.
+//! One pass over a chain. On the way down it gathers the newest record for each key, and at a base
+//! page it hands on the entries in stretches between these. Under a merge it goes down the left
+//! half first, and then the right one.
 
 mod around;
 mod comparison;
@@ -38,8 +38,8 @@ pub use first::append_first_pairs;
 pub use listing::append_pairs;
 use std::alloc::Allocator;
 
-/// Hands on the chain's entries below the end, under so many edits. Those from the end on stay in
-/// front. It is a loop down to a base page or a merge once it is built.
+/// Hands on the chain's entries below the end, under the first `count` edits. Of these, the ones
+/// from the end on stay in front. The walk down to a base page or a merge is built as a loop.
 pub(crate) fn pass<A: Allocator + Copy, X: EntryValue, S: Sink<X>>(
     chain: &Chain<A>,
     end: Fence,
@@ -101,7 +101,8 @@ fn pass_base<X: EntryValue, S: Sink<X>>(
     sink.take_edited(below_end(entries, end), here)
 }
 
-/// The entries below the end, which mostly all of them are.
+/// Returns the entries below the end. Most often it is all of them, so the last is looked at before
+/// any search.
 #[inline(always)]
 pub(crate) fn below_end<X: Copy>(entries: &[(Key, X)], end: Fence) -> &[(Key, X)]
     requires ascending { IsAscending entries.now }

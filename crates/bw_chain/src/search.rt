@@ -1,8 +1,8 @@
 //! Searches for one key down a chain: for what stands there, for the next entry, and for the last one.
 //!
-//! Each key that a base page or a record names is a candidate for the next entry, even one that a
-//! newer record deletes; keys that a split or a merge cuts off are none. So one walk over the chain
-//! finds a candidate, and a search for it tells whether it holds.
+//! Each key that a base page or a record names is a candidate for the next entry, even if a newer
+//! record deletes it, but not if a split or a merge cuts it off. So one walk down the chain finds a
+//! candidate, and a search for its key decides whether it is an entry.
 
 mod entry;
 mod greatest;
@@ -25,9 +25,9 @@ pub use separator::is_later_key;
 use std::alloc::Allocator;
 pub use stretch::{pairs_from, pairs_upto};
 
-/// The value at the key: that of the newest record which names the key, and the base page's where
-/// none does (Levandoski et al., ICDE 2013, "page search"). The base page is searched by quarters.
-/// An inner page has no values.
+/// Returns the value at the key: that of the newest record which names the key, or else the base
+/// page's (Levandoski et al., ICDE 2013, "page search"). The base page is searched by quarters. An
+/// inner page has no values.
 #[tactic(auto, using(crate::proofs::Bridges::both_kinds))]
 #[inline(always)]
 pub fn find<A: Allocator + Copy>(chain: &Chain<A>, key: Key) -> Option<u64>
@@ -36,8 +36,8 @@ pub fn find<A: Allocator + Copy>(chain: &Chain<A>, key: Key) -> Option<u64>
     find_entry(chain, key)
 }
 
-/// The pair with the least key at or above the key, if there is one. It takes one walk over the
-/// chain, and another for each deleted key on the way.
+/// Returns the pair with the least key at or above the key. It takes one walk down the chain, and
+/// another for each deleted key on the way.
 #[tactic(auto, using(crate::proofs::Bridges::both_kinds))]
 pub fn next_at<A: Allocator + Copy>(chain: &Chain<A>, key: Key) -> Option<(Key, u64)>
     requires sound { IsSound chain.now }
@@ -46,8 +46,8 @@ pub fn next_at<A: Allocator + Copy>(chain: &Chain<A>, key: Key) -> Option<(Key, 
     first_from(chain, Fence::Key(key))
 }
 
-/// The pair with the greatest key at or below the key, if there is one. Where no deletion and no
-/// merge is in the way it takes one walk over the records and one search of the base page.
+/// Returns the pair with the greatest key at or below the key. Where no deletion and no merge is in
+/// the way, it takes one walk down the records and one search of the base page.
 #[tactic(auto, using(crate::proofs::Bridges::both_kinds))]
 pub fn previous_at<A: Allocator + Copy>(chain: &Chain<A>, key: Key) -> Option<(Key, u64)>
     requires sound { IsSound chain.now }
@@ -56,7 +56,7 @@ pub fn previous_at<A: Allocator + Copy>(chain: &Chain<A>, key: Key) -> Option<(K
     last_upto::<A, u64>(chain, key)
 }
 
-/// The page that is routed at this very separator, if one is.
+/// Returns the page that is routed at exactly this separator.
 #[tactic(auto, using(crate::proofs::Bridges::both_kinds))]
 pub fn route_at<A: Allocator + Copy>(chain: &Chain<A>, separator: Key) -> Option<Pid>
     ensures { result ≡ at separator (routes chain.now) }
@@ -64,8 +64,8 @@ pub fn route_at<A: Allocator + Copy>(chain: &Chain<A>, separator: Key) -> Option
     find_entry(chain, separator)
 }
 
-/// The route with the greatest separator at or below the key: the page that a search for the key
-/// goes down to. There is none below the least separator, and none on a leaf.
+/// Returns the route with the greatest separator at or below the key: its page is where a search
+/// for the key goes down. There is none below the least separator, and none on a leaf.
 #[tactic(auto, using(crate::proofs::Bridges::both_kinds))]
 #[inline(always)]
 pub fn child<A: Allocator + Copy>(chain: &Chain<A>, key: Key) -> Option<(Key, Pid)>
@@ -75,7 +75,7 @@ pub fn child<A: Allocator + Copy>(chain: &Chain<A>, key: Key) -> Option<(Key, Pi
     last_upto(chain, key)
 }
 
-/// The route with the greatest separator strictly below the key.
+/// Returns the route with the greatest separator strictly below the key.
 #[tactic(auto, using(crate::proofs::Bridges::both_kinds))]
 pub fn route_before<A: Allocator + Copy>(chain: &Chain<A>, key: Key) -> Option<(Key, Pid)>
     requires sound { IsSound chain.now }

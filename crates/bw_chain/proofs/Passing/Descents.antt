@@ -1,4 +1,4 @@
--- What a pass owes and gets where it goes down from a record to the chain below, or to the halves of a merge.
+-- What a pass requires and ensures where it goes down from a record to the chain below, or to the halves of a merge.
 use Rattle.std.proofs.Common.{◌≡◌, ℕ, ◌<◌, ◌≤◌, min, true, List, [], ◌++◌, append-nil, ⊎_elim, ap, sym, ◌∙◌, arith}
 use Rattle.std.specs.Prelude.{Option}
 use Rattle.std.proofs.lemmas.Bool.{cases_lt}

@@ -13,7 +13,7 @@ module _ {Y : Type 0} where
       let rest : BeginsWith (take n list) front = cc in
       ap (λ l. y ∷ l) (begins-more n list front rest) ∙ ap (λ z. z ∷ front) first
 
-  -- so many items of a list that begins with the first of another
+  -- the first n items of a list that begins with those of another
   pub begins-take : (n : ℕ) (items front list : List Y) → front ≡ take n items → n ≤ length items → BeginsWith list front → take n list ≡ front
   begins-take n items front list is le begins =
       let long : length front ≡ n = ap length is ∙ length-take-le n items le in

@@ -111,7 +111,7 @@ module _ {X : Type 0} where
     ],
   )
 
-  -- the best one that was found is the answer where no open key has an entry
+  -- the best one that was found is the greatest where no open key has an entry
   pub greatest_found : (upto : ℕ) (best : Option (ℕ × X)) (es : List (ℕ × X)) → IsClear 0 upto best es → IsGreatest upto best es best
   greatest_found upto None es clear = (refl, clear)
   greatest_found upto (Some e) es clear = (inl refl, λ q low inside. clear q (omega arith) inside)
@@ -143,7 +143,7 @@ module _ {X : Type 0} where
   pub clear_none : (upto : ℕ) (best : Option (ℕ × X)) (es : List (ℕ × X)) → last_upto upto es ≡ None → IsClear 0 upto best es
   clear_none upto best es none q low inside = HasGap-no_last (upto + 1) es none q low (omega (arith, open_upto upto q best inside))
 
-  -- the answer of a search that begins with all keys up to one
+  -- what a search finds that begins with all keys up to one
   pub greatest_is_last : (key : ℕ) (es : List (ℕ × X)) (answer : Option (ℕ × X)) → IsAscending es → IsGreatest key None es answer → last_upto key es ≡ answer
   greatest_is_last key es None ascending h =
       last_below-none_left es (key + 1) (key + 1) 0 refl (omega arith) (λ q low inside. h.1 q low (grind (arith, nat_tests))) refl

@@ -1,4 +1,4 @@
--- A list to whose end others are put.
+-- A list to which others are appended.
 use Rattle.std.proofs.Common.{◌≡◌, List, ◌++◌, append_assoc, ap, ◌∙◌}
 
 module _ {Y : Type 0} where

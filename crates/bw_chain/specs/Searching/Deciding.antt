@@ -5,14 +5,14 @@ use Rattle.bw_delta.specs.Records.{Records, bare, above, merged}
 use Rattle.bw_chain.specs.declared.entries.change.Change.{Change}
 use Rattle.bw_chain.specs.declared.entries.change.Change.TheVariants.{Put, Without, Below, Nothing}
 
--- whether the change tells what stands at the key
+-- whether the change alone decides what stands at the key
 abbrev pub decides : {X : Type 0} → ℕ → Change X → Bool
 decides q (Put key x) = key == q
 decides q (Without key) = key == q
 decides q (Below bound) = nat_le bound q
 decides q Nothing = false
 
--- whether the newest record of the chain, or the page with none above it, tells what stands at the key
+-- whether the newest record of the chain, or the page with none above it, decides what stands at the key
 abbrev pub ends_search : {X : Type 0} → ℕ → (Delta → Change X) → Records → Bool
 ends_search q change (bare page) = true
 ends_search q change (above delta chain) = decides q (change delta)

@@ -8,7 +8,7 @@ use Rattle.bw_chain.specs.declared.entries.change.Change.TheVariants.{Put, Witho
 abbrev pub HasGap : {X : Type 0} → ℕ → ℕ → List (ℕ × X) → Type 0
 HasGap low end es = (q : ℕ) → low ≤ q → q < end → at q es ≡ None
 
--- where the keys below an end stop that a change leaves
+-- where those keys below an end stop that a change leaves
 abbrev pub end_under : {X : Type 0} → Change X → ℕ → ℕ
 end_under (Put key x) end = end
 end_under (Without key) end = end

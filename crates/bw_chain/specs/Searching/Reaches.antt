@@ -1,4 +1,4 @@
--- How far a search for the greatest entry has come, and what its answer is.
+-- How far a search for the greatest entry has come, and what it finds.
 use Rattle.std.specs.Prelude.{◌≡◌, ℕ, ◌+◌, ◌≤◌, Bool, true, ◌&&◌, nat_lt, nat_le, List, Option, Some, None}
 use Rattle.std.proofs.Common.{◌⊎◌}
 use Rattle.bw_delta.specs.Entries.{at}
@@ -26,6 +26,6 @@ abbrev pub IsGreatest : {X : Type 0} → ℕ → Option (ℕ × X) → List (ℕ
 IsGreatest upto best es None = (best ≡ None) × IsClear 0 upto best es
 IsGreatest upto best es (Some e) = IsHeld upto best es e × IsClear (e.0 + 1) upto best es
 
--- a search comes from the upper entries to the lower ones: the greatest that it finds there is the greatest that it looked for
+-- a search goes on from the upper entries to the lower ones: the greatest that it finds there is the one that it looked for
 abbrev pub GoesOn : {X : Type 0} → Reach X → List (ℕ × X) → Reach X → List (ℕ × X) → Type 0
 GoesOn {X} old upper new lower = (answer : Option (ℕ × X)) → IsGreatest new.upto new.best lower answer → IsGreatest old.upto old.best upper answer

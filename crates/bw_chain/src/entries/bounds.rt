@@ -3,7 +3,7 @@ ghost use Rattle.bw_keys.specs.Ranges.{end_of};
 
 use bw_keys::{Fence, Key};
 
-/// The fence right above the key.
+/// Returns the fence right above the key.
 pub fn past(key: Key) -> Fence
     ensures { end_of result ≡ key + 1 }
 {
@@ -13,7 +13,7 @@ pub fn past(key: Key) -> Fence
     }
 }
 
-/// The greatest key below the fence. No key lies below 0.
+/// Returns the greatest key below the fence, or `None` if the fence is 0.
 pub(crate) fn last_key_below(fence: Fence) -> Option<Key>
     ensures { MatchOption result (end_of fence ≡ 0) (λ key. end_of fence ≡ key + 1) }
 {
@@ -23,7 +23,7 @@ pub(crate) fn last_key_below(fence: Fence) -> Option<Key>
     }
 }
 
-/// Whether the fence comes before the key.
+/// Reports whether the fence comes before the key.
 pub(crate) fn is_before(fence: Fence, key: Key) -> bool
     ensures { IsTrue result ↔ (end_of fence < key) }
 {
@@ -33,7 +33,7 @@ pub(crate) fn is_before(fence: Fence, key: Key) -> bool
     }
 }
 
-/// The fence, or the key where that is less.
+/// Returns the lesser of the fence and the key.
 pub(crate) fn at_most(fence: Fence, key: Key) -> Fence
     ensures { end_of result ≡ min (end_of fence) key }
 {
@@ -44,7 +44,7 @@ pub(crate) fn at_most(fence: Fence, key: Key) -> Fence
     }
 }
 
-/// The fence, or the key where that is greater.
+/// Returns the greater of the fence and the key.
 pub(crate) fn at_least(fence: Fence, key: Key) -> Fence
     ensures { end_of result ≡ max (end_of fence) key }
 {
@@ -55,7 +55,7 @@ pub(crate) fn at_least(fence: Fence, key: Key) -> Fence
     }
 }
 
-/// The fence that comes later.
+/// Returns the later of the fences.
 pub(crate) fn later(one: Fence, other: Fence) -> Fence
     ensures { end_of result ≡ max (end_of one) (end_of other) }
 {

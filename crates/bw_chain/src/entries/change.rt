@@ -18,7 +18,7 @@ pub enum Change<X> {
 }
 
 impl<X: Copy> Change<X> {
-    /// Whether it tells what stands at the key, whatever stood there.
+    /// Reports whether this alone decides what stands at the key.
     pub(crate) fn decides(self, key: Key) -> bool
         ensures { result ≡ decides key self }
     {
@@ -30,7 +30,8 @@ impl<X: Copy> Change<X> {
         }
     }
 
-    /// What it says of one key: the value there, or that there is none.
+    /// Returns the edit of a single key that this is, if it is one: the key's value, or that it has
+    /// none.
     pub(crate) fn edit(self) -> Option<(Key, Option<X>)>
         ensures { result ≡ edit_of self }
     {

@@ -7,7 +7,7 @@ ghost use Rattle.bw_chain.specs.Ascends.{IsAscending};
 
 use bw_keys::{Fence, Key};
 
-/// How many of the entries lie below the fence.
+/// Counts the entries below the fence.
 fn count_below<X: Copy>(entries: &[(Key, X)], fence: Fence) -> usize
     requires ascending { IsAscending entries.now }
     ensures within { result ≤ length entries.now }
@@ -20,9 +20,9 @@ fn count_below<X: Copy>(entries: &[(Key, X)], fence: Fence) -> usize
     }
 }
 
-/// How many of the entries lie below the key: those that were passed, and at most `left` more. Each
-/// step compares the entries at the ends of three quarters of what is left, and adds up what it
-/// finds. It takes no branch on an entry: no processor can guess the way that a search takes.
+/// Counts the entries below the key: `passed` of them are found, and at most `left` more are to
+/// come. Each step compares the entries at the ends of three quarters of those left, and adds up
+/// the results without a branch, as no processor can predict the way that a search takes.
 pub(crate) fn count_below_key<X: Copy>(entries: &[(Key, X)], key: Key) -> usize
     requires ascending { IsAscending entries.now }
     ensures { result ≡ length (below key entries.now) }
@@ -41,8 +41,8 @@ pub(crate) fn count_below_key<X: Copy>(entries: &[(Key, X)], key: Key) -> usize
     }
 }
 
-/// How many of the entries from the place on lie below the key, counted in whole quarters of which
-/// three are looked at.
+/// Counts the entries from the place on that lie below the key, in whole quarters, of which it
+/// looks at three.
 #[inline(always)]
 fn count_quarters<X: Copy>(entries: &[(Key, X)], place: usize, quarter: usize, key: Key) -> usize
     requires ascending { IsAscending entries.now }
@@ -60,7 +60,7 @@ fn count_quarters<X: Copy>(entries: &[(Key, X)], place: usize, quarter: usize, k
     (first + second + third) * quarter
 }
 
-/// 1 where the entry at the place lies below the key, and 0 where it doesn't.
+/// Returns 1 if the entry at the place lies below the key, and 0 if not.
 #[inline(always)]
 fn one_if_below<X: Copy>(entries: &[(Key, X)], place: usize, key: Key) -> usize
     requires ascending { IsAscending entries.now }
@@ -72,7 +72,7 @@ fn one_if_below<X: Copy>(entries: &[(Key, X)], place: usize, key: Key) -> usize
     usize::from(entries[place].0 < key)
 }
 
-/// The entries below the fence.
+/// Returns the entries below the fence.
 #[inline(always)]
 pub(crate) fn below_fence<X: Copy>(entries: &[(Key, X)], fence: Fence) -> &[(Key, X)]
     requires ascending { IsAscending entries.now }
@@ -81,7 +81,7 @@ pub(crate) fn below_fence<X: Copy>(entries: &[(Key, X)], fence: Fence) -> &[(Key
     &entries[..count_below(entries, fence)]
 }
 
-/// The entries from the fence on.
+/// Returns the entries from the fence on.
 fn from_fence<X: Copy>(entries: &[(Key, X)], fence: Fence) -> &[(Key, X)]
     requires ascending { IsAscending entries.now }
     ensures { result.now ≡ from (end_of fence) entries.now }
@@ -89,7 +89,8 @@ fn from_fence<X: Copy>(entries: &[(Key, X)], fence: Fence) -> &[(Key, X)]
     &entries[count_below(entries, fence)..]
 }
 
-/// The entries from the fence on, which mostly all of them are.
+/// Returns the entries from the fence on. Most often it is all of them, so the first is looked at
+/// before any search.
 #[inline(always)]
 pub(crate) fn entries_from<X: Copy>(entries: &[(Key, X)], fence: Fence) -> &[(Key, X)]
     requires ascending { IsAscending entries.now }
@@ -105,7 +106,7 @@ pub(crate) fn entries_from<X: Copy>(entries: &[(Key, X)], fence: Fence) -> &[(Ke
     }
 }
 
-/// The first entry from the fence on.
+/// Returns the first entry from the fence on.
 pub(crate) fn first_listed<X: Copy>(entries: &[(Key, X)], fence: Fence) -> Option<(Key, X)>
     requires ascending { IsAscending entries.now }
     ensures { result ≡ first_from (end_of fence) entries.now }
@@ -113,7 +114,7 @@ pub(crate) fn first_listed<X: Copy>(entries: &[(Key, X)], fence: Fence) -> Optio
     from_fence(entries, fence).first().copied()
 }
 
-/// The last entry below the fence.
+/// Returns the last entry below the fence.
 #[inline(always)]
 pub(crate) fn last_listed<X: Copy>(entries: &[(Key, X)], fence: Fence) -> Option<(Key, X)>
     requires ascending { IsAscending entries.now }
@@ -122,7 +123,7 @@ pub(crate) fn last_listed<X: Copy>(entries: &[(Key, X)], fence: Fence) -> Option
     below_fence(entries, fence).last().copied()
 }
 
-/// What stands at the key.
+/// Returns what stands at the key.
 #[tactic(auto, using(crate::proofs::Firsts::stands_at))]
 #[inline(always)]
 pub(crate) fn value_at<X: Copy>(entries: &[(Key, X)], key: Key) -> Option<X>

@@ -6,8 +6,8 @@ use bw_delta::{Base, Delta, Entries};
 use bw_keys::{Key, Pid};
 use std::alloc::Allocator;
 
-/// What an entry has beside its key: the number of a pair, or the page of a route. What a chain
-/// says is worked out once for both.
+/// The part of an entry that is not its key: the value of a pair, or the page of a route. Chains
+/// are read alike for both.
 pub trait EntryValue: Copy {
     ghost use Rattle.std.specs.Prelude.{ℕ, List};
     ghost use Rattle.bw_delta.specs.Pages.{Listed};
@@ -21,19 +21,19 @@ pub trait EntryValue: Copy {
     /// What a record changes of them.
     ghost own_change: { Delta → Change Self };
 
-    /// The entries of this kind on a base page: none, if the page is of the other kind.
+    /// Returns the base page's entries of this kind: none, if the page is of the other kind.
     fn entries_on<A: Allocator>(base: &Base<A>) -> &[(Key, Self)]
         ensures listed { result.now ≡ own_entries base.now.listed }
         ensures ascending { IsAscending result.now };
 
-    /// What the record changes of the entries below it.
+    /// Returns what the record changes of the entries below it.
     fn change_by(delta: Delta) -> Change<Self>
         ensures { result ≡ own_change delta };
 
-    /// A value that holds a place until one is written there.
+    /// Returns a value that fills a place until another is written there.
     fn blank() -> Self;
 
-    /// Whether the values are equal.
+    /// Reports whether the values are equal.
     fn is_same(self, other: Self) -> bool
         ensures { IsTrue result ↔ (self ≡ other) };
 

@@ -14,14 +14,14 @@ pub enum HalveFault {
     /// The page has fewer than two entries.
     #[error("too few entries to halve")]
     TooSmall,
+    /// There is no memory for the new page.
     #[error("out of memory")]
     NoMemory,
 }
 
-/// The upper half of a base page, with the separator at which it begins: of n entries the one
-/// with number n / 2, counted from 0, and all after it (Levandoski et al., ICDE 2013, "child
-/// split"). It ends where the page ends, and has its side link. `TooSmall` is answered below two
-/// entries, and `NoMemory` if there is no room for the new page.
+/// Returns the upper half of a base page, and the separator at which it begins: of n entries, the
+/// half has the one with number n / 2, counted from 0, and all after it (Levandoski et al., ICDE
+/// 2013, "child split"). It ends where the page ends, and has the page's side link.
 pub fn halve<A: Allocator + Copy>(alloc: A, base: &Base<A>) -> Result<(Key, Base<A>), HalveFault>
     ensures small { IsErrOf result HalveFault.TooSmall ↔ (listed_length base.now.listed < 2) }
     ensures separator { IfOk result (λ half. listed_middle_key base.now.listed ≡ Some half.0) }
@@ -34,9 +34,9 @@ pub fn halve<A: Allocator + Copy>(alloc: A, base: &Base<A>) -> Result<(Key, Base
     part_from(alloc, base, middle, 0)
 }
 
-/// The part of a base page from the entry with the number on, counted from 0, with the separator at
-/// which it begins. The part has room for so many entries before it asks for memory again. `TooSmall`
-/// is answered where there is no such entry.
+/// Returns the part of a base page from the entry with the number on, counted from 0, and the
+/// separator at which it begins. The part has room for `room` entries before it asks for memory
+/// again. Fails with `TooSmall` if there is no such entry.
 pub(crate) fn part_from<A: Allocator + Copy>(
     alloc: A,
     base: &Base<A>,
@@ -57,7 +57,7 @@ pub(crate) fn part_from<A: Allocator + Copy>(
     Ok((separator, upper))
 }
 
-/// The key of the entry with the number, and the entries from it on, of whichever kind.
+/// Returns the key of the entry with the number, and the entries from it on, of either kind.
 fn listed_from<A: Allocator + Copy>(
     alloc: A,
     entries: &Entries<A>,
@@ -83,7 +83,7 @@ fn listed_from<A: Allocator + Copy>(
     }
 }
 
-/// The key of the entry with the number, and the entries from it on.
+/// Returns the key of the entry with the number, and the entries from it on.
 fn entries_from<A: Allocator + Copy, X: Copy>(
     alloc: A,
     entries: &[(Key, X)],
@@ -104,7 +104,7 @@ fn entries_from<A: Allocator + Copy, X: Copy>(
     }
 }
 
-/// A copy of the entries, with room for so many, or for all of them if that is more.
+/// Copies the entries. The copy has room for `room` of them, or for all if that is more.
 fn with_room<A: Allocator + Copy, X: Copy>(
     alloc: A,
     entries: &[(Key, X)],

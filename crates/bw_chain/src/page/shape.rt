@@ -8,17 +8,17 @@ use bw_delta::{Base, Chain, Delta, Entries, Fences, Node};
 use bw_keys::{Fence, Pid};
 use std::alloc::Allocator;
 
-/// What one walk down a chain finds.
+/// What one walk down a chain finds out about its page.
 #[derive(Clone, Copy)]
 pub(crate) struct Extent {
     pub(crate) fences: Fences,
     pub(crate) is_leaf: bool,
-    /// No fewer than the chain has entries: those of its base pages, and one for each record that
-    /// puts one.
+    /// At least the number of the chain's entries: that of its base pages, and one for each record
+    /// that puts one.
     pub(crate) room: usize,
 }
 
-/// The fence keys, the kind and the room of the page that the chain stands for.
+/// Returns the fence keys, the kind and the room of the page that the chain stands for.
 pub(crate) fn extent_of<A: Allocator + Copy>(chain: &Chain<A>) -> Extent
     ensures fences { result.fences ≡ fences chain.now }
     ensures kind { result.is_leaf ≡ is_leaf chain.now }
@@ -38,15 +38,15 @@ pub(crate) fn extent_of<A: Allocator + Copy>(chain: &Chain<A>) -> Extent
     }
 }
 
-/// The fence keys and the side link of the page that the chain stands for: a split ends the range
-/// before its separator, and a merge ends it where the right page ended.
+/// Returns the fence keys and the side link of the page that the chain stands for. A split ends the
+/// range before its separator, and a merge ends it where the right page ended.
 pub fn fences<A: Allocator + Copy>(chain: &Chain<A>) -> Fences
     ensures { result ≡ fences chain.now }
 {
     extent_of(chain).fences
 }
 
-/// Where the range ends, and the side link there, as the newest of the chain says.
+/// Returns where the range ends, and the side link there, by the newest link of the chain.
 fn range_end<A: Allocator + Copy>(end: &Chain<A>) -> (Fence, Option<Pid>)
     requires ends { ends_range end.now ≡ true }
     ensures high { result.0 ≡ (fences end.now).high }
@@ -62,9 +62,9 @@ fn range_end<A: Allocator + Copy>(end: &Chain<A>) -> (Fence, Option<Pid>)
     }
 }
 
-/// The part of the chain from the newest record on that says where the range ends. What the records
-/// above it put makes the room greater. Both walks are loops once they are built, as they call
-/// themselves last and answer a reference.
+/// Returns the part of the chain from the newest record that ends the range, and adds to the room
+/// what the records above it put. This walk and the next are built as loops, as each calls itself
+/// last and returns a reference.
 fn newest_end<'a, A: Allocator + Copy>(chain: &'a Chain<A>, room: &mut usize) -> &'a Chain<A>
     ensures low { (fences result.now).low ≡ (fences chain.now).low }
     ensures high { (fences result.now).high ≡ (fences chain.now).high }
@@ -85,7 +85,8 @@ fn newest_end<'a, A: Allocator + Copy>(chain: &'a Chain<A>, room: &mut usize) ->
     }
 }
 
-/// The base page at the low end of the chain's range. The chain's entries make the room greater.
+/// Returns the base page at the low end of the chain's range, and adds the chain's entries to the
+/// room.
 fn first_base<'a, A: Allocator + Copy>(chain: &'a Chain<A>, room: &mut usize) -> &'a Base<A>
     ensures low { result.now.low ≡ (fences chain.now).low }
     ensures kind { lists_pairs result.now.listed ≡ is_leaf chain.now }
@@ -111,21 +112,21 @@ fn first_base<'a, A: Allocator + Copy>(chain: &'a Chain<A>, room: &mut usize) ->
     }
 }
 
-/// Whether the chain is that of a leaf: it lists pairs, and no routes.
+/// Reports whether the chain is that of a leaf, which lists pairs and no routes.
 pub fn is_leaf<A: Allocator + Copy>(chain: &Chain<A>) -> bool
     ensures { result ≡ is_leaf chain.now }
 {
     first_base(chain, &mut 0).is_leaf()
 }
 
-/// How many records stand above a base page, along the deepest path: 0 to 64.
+/// Returns the number of records above a base page along the deepest path, 0 to 64.
 pub fn depth<A: Allocator + Copy>(chain: &Chain<A>) -> u8
     ensures { result ≡ depth chain.now }
 {
     chain.depth()
 }
 
-/// The allocator that the chain lies in.
+/// Returns the allocator of the chain.
 pub(crate) fn allocator<A: Allocator + Copy>(chain: &Chain<A>) -> &A {
     match &chain.node {
         Node::Bare(base) => match &base.entries {

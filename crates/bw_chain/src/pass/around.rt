@@ -1,5 +1,5 @@
-//! The entries round a key. A pass over a page looks for keys that lie close together, so it counts
-//! the entries between them one by one.
+//! The entries round a key. The keys of a pass lie close together, so the entries between them are
+//! counted one by one.
 
 ghost use Rattle.std.specs.Prelude.{◌≡◌, ◌≤◌, ◌+◌, length, take, drop};
 ghost use Rattle.bw_delta.specs.Entries.{below, from};
@@ -7,7 +7,7 @@ ghost use Rattle.bw_chain.specs.Ascends.{IsAscending};
 
 use bw_keys::Key;
 
-/// The entries before the key, and those behind it.
+/// Returns the entries before the key, and those behind it.
 pub(crate) fn split_around<X: Copy>(entries: &[(Key, X)], key: Key) -> (&[(Key, X)], &[(Key, X)])
     requires ascending { IsAscending entries.now }
     ensures before { result.0.now ≡ below key entries.now }
@@ -18,7 +18,7 @@ pub(crate) fn split_around<X: Copy>(entries: &[(Key, X)], key: Key) -> (&[(Key, 
     (front, behind(entries, count, key))
 }
 
-/// The entries behind the key, of which so many lie before it.
+/// Returns the entries behind the key, given the number of those before it.
 #[inline(always)]
 pub(crate) fn behind<X: Copy>(entries: &[(Key, X)], count: usize, key: Key) -> &[(Key, X)]
     requires ascending { IsAscending entries.now }
@@ -33,7 +33,7 @@ pub(crate) fn behind<X: Copy>(entries: &[(Key, X)], count: usize, key: Key) -> &
     }
 }
 
-/// How many of the entries lie before the key, counted one by one.
+/// Counts the entries before the key, one by one.
 fn count_before<X: Copy>(entries: &[(Key, X)], key: Key) -> usize
     requires ascending { IsAscending entries.now }
     ensures within { result ≤ length entries.now }

@@ -18,9 +18,9 @@ use bw_delta::{Base, Chain, Entries, Fences};
 use bw_keys::{Fence, Key, Pid};
 use std::alloc::Allocator;
 
-/// Whether the base page is the one that the chain stands for: it has the chain's range, its
-/// side link and its entries, and no others. It takes no memory, so that a consolidated page can
-/// be checked while the mapping table is held.
+/// Reports whether the base page is the one that the chain stands for: it has the chain's range,
+/// side link and entries. It takes no memory, so a consolidated page can be checked while the
+/// mapping table is held.
 #[tactic(auto, using(crate::proofs::Passing::Listing::listed_from_zero))]
 pub fn same<A: Allocator + Copy>(base: &Base<A>, chain: &Chain<A>) -> bool
     requires sound { IsSound chain.now }
@@ -34,8 +34,8 @@ pub fn same<A: Allocator + Copy>(base: &Base<A>, chain: &Chain<A>) -> bool
         && lists_from(base, chain, Fence::Key(0), extent)
 }
 
-/// Whether the base page is the part from the separator on of the page that the chain stands for.
-/// It takes no memory.
+/// Reports whether the base page is the part, from the separator on, of the page that the chain
+/// stands for. It takes no memory.
 pub fn is_upper_part<A: Allocator + Copy>(base: &Base<A>, chain: &Chain<A>, separator: Key) -> bool
     requires sound { IsSound chain.now }
     ensures { IsTrue result ↔ (base.now ≡ upper_part separator (page_for chain.now)) }
@@ -48,7 +48,7 @@ pub fn is_upper_part<A: Allocator + Copy>(base: &Base<A>, chain: &Chain<A>, sepa
         && lists_from(base, chain, Fence::Key(separator), extent)
 }
 
-/// Whether the base page lists what the chain does from the fence on.
+/// Reports whether the base page lists what the chain does from the fence on.
 #[tactic(auto, using(crate::proofs::Bridges::both_kinds))]
 fn lists_from<A: Allocator + Copy>(
     base: &Base<A>,
@@ -87,8 +87,8 @@ fn lists_from<A: Allocator + Copy>(
     }
 }
 
-/// Whether these are the chain's entries from the fence on. There is room for as many edits as the
-/// chain is deep.
+/// Reports whether the list has the chain's entries from the fence on, and no others. There is room
+/// for as many edits as the chain is deep.
 fn are_entries<A: Allocator + Copy, X: EntryValue>(
     list: &[(Key, X)],
     chain: &Chain<A>,

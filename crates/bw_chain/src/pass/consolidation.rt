@@ -15,8 +15,8 @@ use bw_delta::{Base, Chain, Entries, Fences, NoMemory};
 use bw_keys::{Fence, Key, Pid};
 use std::alloc::Allocator;
 
-/// The base page that has all of the chain's effects: its entries, its range and its side link
-/// (Levandoski et al., ICDE 2013, "page consolidation"). Fails only for want of memory.
+/// Returns the base page with all of the chain's effects: its entries, its range and its side link
+/// (Levandoski et al., ICDE 2013, "page consolidation"). Fails only if memory is short.
 #[tactic(auto, using(bw_delta::proofs::Stands::page_for_is_page))]
 pub fn consolidate<A: Allocator + Copy>(alloc: A, chain: &Chain<A>) -> Result<Base<A>, NoMemory>
     requires sound { IsSound chain.now }
@@ -36,7 +36,7 @@ pub fn consolidate<A: Allocator + Copy>(alloc: A, chain: &Chain<A>) -> Result<Ba
     })
 }
 
-/// What the chain lists: pairs or routes.
+/// Lists the chain's entries: pairs or routes.
 #[tactic(auto, using(crate::proofs::Bridges::both_kinds))]
 fn entries_of<A: Allocator + Copy>(
     alloc: A,
@@ -59,7 +59,7 @@ fn entries_of<A: Allocator + Copy>(
     }
 }
 
-/// The entries of one kind, listed. There is room for as many edits as the chain is deep.
+/// Lists the chain's entries of one kind. There is room for as many edits as the chain is deep.
 fn list<A: Allocator + Copy, X: EntryValue>(
     alloc: A,
     chain: &Chain<A>,

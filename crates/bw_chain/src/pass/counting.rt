@@ -20,8 +20,9 @@ use bw_keys::{Fence, Key, Pid};
 use std::alloc::Allocator;
 use std::convert::Infallible;
 
-/// How many pairs a leaf chain has, or how many routes an inner one. A leaf could have a pair at
-/// each key, one more than the answer can say: then it is the greatest number. It takes no memory.
+/// Counts the pairs of a leaf's chain, or the routes of an inner page's. A leaf can have a pair at
+/// each key, one more than a `u64` can count, and the result is then `u64::MAX`. It takes no
+/// memory.
 pub fn count<A: Allocator + Copy>(chain: &Chain<A>) -> u64
     requires sound { IsSound chain.now }
     ensures { result ≡ min (entry_count chain.now) (2 ^ 64 - 1) }
@@ -42,7 +43,7 @@ pub fn count<A: Allocator + Copy>(chain: &Chain<A>) -> u64
     }
 }
 
-/// How many entries of one kind there are. There is room for as many edits as the chain is deep.
+/// Counts the entries of one kind. There is room for as many edits as the chain is deep.
 fn count_entries<A: Allocator + Copy, X: EntryValue>(
     chain: &Chain<A>,
     high: Fence,
@@ -60,7 +61,7 @@ fn count_entries<A: Allocator + Copy, X: EntryValue>(
     }
 }
 
-/// How many entries came, or the greatest number if there were more.
+/// The number of entries handed on, or `u64::MAX` if there were more.
 #[derive(Drop)]
 struct Counted {
     count: u64,
@@ -93,7 +94,7 @@ impl<X: EntryValue> Sink<X> for Counted {
     ghost refuses_later = { λ s t es fs first refused. tt };
 }
 
-/// The count, raised by the number of the entries with the edits.
+/// Returns the count raised by the number of the entries with the edits.
 fn count_edited<X: Copy>(count: u64, entries: &[(Key, X)], edits: &[(Key, Option<X>)]) -> u64
     requires ascending { IsAscending entries.now }
     requires falling { IsFalling edits.now }

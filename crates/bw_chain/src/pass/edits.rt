@@ -1,6 +1,6 @@
-//! What the newest record for each key says, gathered on the way down a chain: the key's value, or
-//! that it has none. The greatest key comes first. So many edits in front of a slice were noted, and
-//! no memory is asked for.
+//! The edits that a pass notes on its way down a chain: what the newest record for each key says, a
+//! value or that there is none. They fill the front of a slice, with the greatest key first, and
+//! take no memory.
 
 ghost use Rattle.std.specs.Prelude.{◌≡◌, ◌≤◌, ◌+◌, ◌-◌, ◌<◌, true, false, ◌++◌, length, take, drop, insert};
 ghost use Rattle.bw_keys.specs.Ranges.{end_of, key_count};
@@ -13,14 +13,14 @@ use crate::entries::change::Change;
 use bw_keys::{Fence, Key};
 use smallvec::SmallVec;
 
-/// As many edits as can be noted: no path of a chain has more records.
+/// The number of edits that can be noted: no path of a chain has more records.
 pub(crate) const MOST_EDITS: usize = 64;
 
-/// The places of edits. All of them lie inline, so the allocator is never asked.
+/// Places for edits. All lie inline, so the allocator is never asked.
 pub(crate) type Edits<'a, X, A> = SmallVec<(Key, Option<X>), MOST_EDITS, &'a A>;
 
-/// Notes what a record changes below the end among so many edits in front, and answers how many
-/// there are then.
+/// Notes below the end what a record changes, among the first `count` edits, and returns the new
+/// number of edits.
 #[inline(always)]
 pub(crate) fn note_change<X: Copy>(
     edits: &mut [(Key, Option<X>)],
@@ -45,7 +45,7 @@ pub(crate) fn note_change<X: Copy>(
     }
 }
 
-/// Notes an edit of the key, if it lies below the end.
+/// Notes an edit of the key, if the key lies below the end.
 #[inline(always)]
 fn note_below<X: Copy>(
     edits: &mut [(Key, Option<X>)],
@@ -71,8 +71,8 @@ fn note_below<X: Copy>(
     }
 }
 
-/// Notes an edit of the key among so many in front, unless a newer one was noted, and answers how
-/// many there are then.
+/// Notes an edit of the key among the first `count`, unless a newer one is there, and returns the
+/// new number of edits.
 #[inline(always)]
 fn note_among<X: Copy>(edits: &mut [(Key, X)], count: usize, key: Key, edit: X) -> usize
     requires inside { count < length edits.old }
@@ -90,8 +90,8 @@ fn note_among<X: Copy>(edits: &mut [(Key, X)], count: usize, key: Key, edit: X) 
     count + 1
 }
 
-/// Moves those of so many in front that have smaller keys up by one. It answers where they began,
-/// and whether the edit before them is one of the key.
+/// Moves those of the first `count` edits that have smaller keys up by one. Returns the place where
+/// they began, and whether the edit before it is one of the key.
 #[inline(always)]
 fn raise<X: Copy>(edits: &mut [(Key, X)], count: usize, key: Key) -> (usize, bool)
     requires inside { count < length edits.old }
@@ -133,7 +133,7 @@ fn lower<T: Copy>(items: &mut [T], place: usize, last: usize)
     }
 }
 
-/// How many edits have keys from the fence on. In a chain without merges none do.
+/// Counts the edits with keys from the fence on. In a chain without merges there are none.
 pub(crate) fn count_from<X: Copy>(edits: &[(Key, X)], fence: Fence) -> usize
     requires falling { IsFalling edits.now }
     ensures within { result ≤ length edits.now }

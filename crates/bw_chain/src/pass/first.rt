@@ -1,5 +1,5 @@
-//! The first pairs of a chain from a key on, until a list has as many as a limit. The entries are
-//! handed on in stretches, so a page is listed in one pass, whatever its chain.
+//! The first pairs of a chain from a key on, until a list has as many as a limit. A pass hands the
+//! entries on in stretches, so a page is listed in one pass, whatever its chain.
 
 ghost use Rattle.std.specs.Prelude.{◌≡◌, ◌≤◌, ◌++◌, length, take, vec_capacity, OnOk, OnErr};
 ghost use Rattle.bw_delta.specs.Entries.{from};
@@ -19,8 +19,8 @@ use bw_delta::{Chain, Fences, NoMemory};
 use bw_keys::{Fence, Key};
 use std::alloc::Allocator;
 
-/// Appends the chain's pairs from the key on to the list, in the order of their keys, until it has
-/// as many as the limit. It has room for them, so no memory is asked for.
+/// Appends the chain's pairs from the key on to the list, in the order of their keys, until the
+/// list has as many as the limit. It has room for them, so no memory is asked for.
 #[tactic(auto, using(crate::proofs::Bridges::both_kinds))]
 pub fn append_first_pairs<A: Allocator + Copy, B: Allocator>(
     chain: &Chain<A>,
@@ -45,7 +45,7 @@ pub fn append_first_pairs<A: Allocator + Copy, B: Allocator>(
     }
 }
 
-/// A list that takes pairs from the fence on, until it has as many as the limit.
+/// A list that takes pairs from the fence on, up to the limit.
 #[derive(Drop)]
 struct FirstPairs<B: Allocator> {
     list: Vec<(Key, u64), B>,

@@ -9,8 +9,8 @@ use bw_delta::{Chain, Fences, NoMemory};
 use bw_keys::Key;
 use std::alloc::Allocator;
 
-/// Appends the pairs of the chain to the list, in the order of their keys. It asks for memory at
-/// most once.
+/// Appends the chain's pairs to the list, in the order of their keys. It asks for memory at most
+/// once.
 #[tactic(auto, using(crate::proofs::Bridges::both_kinds))]
 pub fn append_pairs<A: Allocator + Copy, B: Allocator>(
     chain: &Chain<A>,

@@ -10,17 +10,17 @@ use bw_delta::NoMemory;
 use bw_keys::Key;
 use std::alloc::Allocator;
 
-/// Takes entries as they come in the order of their keys, those of one base page at a time.
+/// Takes the entries of a chain in the order of their keys, those of one base page at a time.
 pub(crate) trait Sink<X> {
     ghost use Rattle.std.specs.Prelude.{ℕ, List, ◌++◌};
 
     /// Why it takes no more of them.
     type Stop;
 
-    /// The first is the second once it has taken the entries.
+    /// From the first state it comes to the second by taking the entries.
     ghost takes: { Self → List (ℕ × X) → Self → Type 0 };
 
-    /// It doesn't take the entries, nor any that begin so.
+    /// It takes neither these entries nor any that begin with them.
     ghost refuses: { Self → List (ℕ × X) → Type 0 };
 
     /// Takes the entries with the edits, which come with the greatest key first.
@@ -44,8 +44,8 @@ pub(crate) trait Sink<X> {
         takes s es t → refuses t fs → refuses s (es ++ fs) };
 }
 
-/// A list takes what it has room for. The room is filled first and then written over, as a list
-/// that grows by one entry after the other would count them in memory.
+/// A list takes the entries that it has room for. The room is filled first and then written over,
+/// as a list that grew entry by entry would keep its length in memory.
 impl<X: EntryValue, A: Allocator> Sink<X> for Vec<(Key, X), A> {
     ghost use Rattle.std.specs.Prelude.{◌≡◌, ◌++◌};
     ghost use Rattle.bw_chain.specs.Passing.Appends.{appended_twice};

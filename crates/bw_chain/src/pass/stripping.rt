@@ -12,7 +12,7 @@ use crate::pass::around::split_around;
 use crate::pass::sink::Sink;
 use bw_keys::{Fence, Key};
 
-/// What is left of the list. Entries below the fence are passed over.
+/// The rest of the list. Entries below the fence are passed over.
 #[derive(Drop)]
 pub(crate) struct Compared<'a, X> {
     pub(crate) rest: &'a [(Key, X)],
@@ -59,7 +59,8 @@ impl<'a, X: EntryValue> Sink<X> for Compared<'a, X> {
         otherwise_later s.from t.from s.rest.now t.rest.now es fs first.1 first.0 other };
 }
 
-/// What comes behind the entries with the edits, if the list begins with those from the fence on.
+/// Returns what comes behind the entries with the edits, if the list begins with those from the
+/// fence on.
 fn strip_edited<'a, X: EntryValue>(
     list: &'a [(Key, X)],
     fence: Fence,
@@ -92,8 +93,8 @@ fn strip_edited<'a, X: EntryValue>(
     }
 }
 
-/// What comes behind the entry that the edit puts, if the list begins with it or it lies below
-/// the fence.
+/// Returns what comes behind the entry that the edit puts, if the list begins with that entry or it
+/// lies below the fence.
 fn strip_edit<'a, X: EntryValue>(
     list: &'a [(Key, X)],
     fence: Fence,
@@ -113,7 +114,7 @@ fn strip_edit<'a, X: EntryValue>(
     }
 }
 
-/// What comes behind the front, if the list begins so.
+/// Returns what comes behind the front, if the list begins with it.
 fn strip_front<'a, X: EntryValue>(
     list: &'a [(Key, X)],
     front: &[(Key, X)],
@@ -133,7 +134,7 @@ fn strip_front<'a, X: EntryValue>(
     }
 }
 
-/// Whether the entries are the same, one by one.
+/// Reports whether the entries are the same, one by one.
 fn are_same<X: EntryValue>(one: &[(Key, X)], other: &[(Key, X)]) -> bool
     requires as_many { length one.now ≡ length other.now }
     ensures { IsTrue result ↔ (one.now ≡ other.now) }

@@ -8,7 +8,7 @@ ghost use Rattle.bw_chain.specs.Passing.Edited.{IsFalling, edited, put_count, pu
 use crate::pass::around::behind;
 use bw_keys::Key;
 
-/// How many of the edits put an entry.
+/// Counts the edits that put an entry.
 pub(crate) fn count_puts<X: Copy>(edits: &[(Key, Option<X>)]) -> usize
     ensures { result ≡ put_count edits.now }
 {
@@ -19,7 +19,7 @@ pub(crate) fn count_puts<X: Copy>(edits: &[(Key, Option<X>)]) -> usize
     count
 }
 
-/// 1 for an edit that puts an entry.
+/// Returns 1 for an edit that puts an entry, and 0 for another.
 pub(crate) fn puts<X: Copy>(edit: Option<X>) -> usize
     ensures { result ≡ puts edit }
 {
@@ -29,8 +29,8 @@ pub(crate) fn puts<X: Copy>(edit: Option<X>) -> usize
     }
 }
 
-/// Writes the entries with the edits from the start on, up to those behind the last edit, which
-/// it answers with the place where they go.
+/// Writes the entries with the edits from the start on, but for the entries behind the last edit.
+/// Returns the place for these, and the entries themselves.
 #[inline(always)]
 pub(crate) fn write_edited<'a, X: Copy>(
     entries: &'a [(Key, X)],
@@ -64,8 +64,8 @@ pub(crate) fn write_edited<'a, X: Copy>(
     (end, rest)
 }
 
-/// Writes the entries before the key from the place on, and counts them: two by two, and then the
-/// one that is left, if one is.
+/// Writes the entries before the key from the place on, and returns their number. It writes them
+/// two by two, and then the one that is left, if there is one.
 #[inline(always)]
 fn copy_before<X: Copy>(
     entries: &[(Key, X)],
@@ -93,8 +93,8 @@ fn copy_before<X: Copy>(
     count + 1
 }
 
-/// Writes the entries before the key from the place on, and counts them. Where they are odd in
-/// number the last one is left.
+/// Writes the entries before the key two by two from the place on, and returns the number written.
+/// An odd one is left out.
 #[inline(always)]
 fn copy_by_twos<X: Copy>(
     entries: &[(Key, X)],

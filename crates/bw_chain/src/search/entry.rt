@@ -12,7 +12,7 @@ use bw_delta::{Chain, Node};
 use bw_keys::Key;
 use std::alloc::Allocator;
 
-/// What stands at the key: the newest record for it decides, and the search stops there.
+/// Returns what stands at the key. The newest record that decides it ends the search.
 #[tactic(auto, using(bw_delta::proofs::At::ats))]
 #[inline(always)]
 pub(crate) fn find_entry<A: Allocator + Copy, X: EntryValue>(
@@ -32,8 +32,8 @@ pub(crate) fn find_entry<A: Allocator + Copy, X: EntryValue>(
     }
 }
 
-/// The part of the chain from the newest record on that tells what stands at the key, or the base
-/// page. This walk is a loop once it is built, as it calls itself last and answers a reference.
+/// Returns the part of the chain from the newest record that decides what stands at the key, or the
+/// base page. This walk is built as a loop, as it calls itself last and returns a reference.
 #[tactic(auto, using(bw_delta::proofs::At::ats))]
 fn deciding_part<'a, A: Allocator + Copy, X: EntryValue>(
     chain: &'a Chain<A>,

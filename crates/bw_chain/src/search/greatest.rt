@@ -18,8 +18,8 @@ use bw_delta::{Base, Chain, Node};
 use bw_keys::{Fence, Key};
 use std::alloc::Allocator;
 
-/// The greatest entry up to the key. Where no deletion and no merge is in the way it takes one walk
-/// over the records and one search of the base page.
+/// Returns the greatest entry up to the key. Where no deletion and no merge is in the way, it takes
+/// one walk down the records and one search of the base page.
 #[inline(always)]
 pub(crate) fn last_upto<A: Allocator + Copy, X: EntryValue>(
     chain: &Chain<A>,
@@ -35,8 +35,8 @@ pub(crate) fn last_upto<A: Allocator + Copy, X: EntryValue>(
     }
 }
 
-/// The part of the chain under the records that the search for the greatest entry can pass. This
-/// walk is a loop once it is built, too.
+/// Returns the part of the chain under the records that the search can pass. This walk is built as
+/// a loop, too.
 fn under_passed<'a, A: Allocator + Copy, X: EntryValue>(
     chain: &'a Chain<A>,
     reach: &mut Reach<X>,
@@ -63,7 +63,7 @@ fn under_passed<'a, A: Allocator + Copy, X: EntryValue>(
     }
 }
 
-/// The greatest entry below the fence: candidates are tried in turn, as for the least one.
+/// Returns the greatest entry below the fence. Candidates are tried in turn, as for the least one.
 fn last_below<A: Allocator + Copy, X: EntryValue>(
     chain: &Chain<A>,
     fence: Fence,
@@ -81,7 +81,7 @@ fn last_below<A: Allocator + Copy, X: EntryValue>(
     None
 }
 
-/// The fence right above the greatest candidate below the fence, or 0 where there is none.
+/// Returns the fence right above the greatest candidate below the fence, or 0 if there is none.
 fn past_last_candidate<A: Allocator + Copy, X: EntryValue>(chain: &Chain<A>, to: Fence) -> Fence
     ensures earlier { end_of result ≤ end_of to }
     ensures gap { HasGap (end_of result) (end_of to)
@@ -115,7 +115,7 @@ fn past_last_on_base<A: Allocator + Copy, X: EntryValue>(base: &Base<A>, to: Fen
     }
 }
 
-/// Where the keys below the fence end that the change leaves.
+/// Returns where those keys below the fence end that the change leaves.
 fn end_under<X: Copy>(change: Change<X>, to: Fence) -> Fence
     ensures { end_of result ≡ end_under change (end_of to) }
 {
@@ -125,8 +125,8 @@ fn end_under<X: Copy>(change: Change<X>, to: Fence) -> Fence
     }
 }
 
-/// The fence right above the greatest candidate once the change stands above those that were
-/// found.
+/// Returns the fence right above the greatest candidate once the change stands above those that
+/// were found.
 fn past_last_under<X: Copy>(change: Change<X>, to: Fence, found: Fence) -> Fence
     requires earlier { end_of found ≤ end_under change (end_of to) }
     ensures earlier { end_of result ≤ end_of to }

@@ -16,8 +16,8 @@ use bw_delta::{Base, Chain, Node};
 use bw_keys::{Fence, Key};
 use std::alloc::Allocator;
 
-/// The least entry from the fence on: candidates are tried in turn until one holds. Each that
-/// doesn't is a deleted key.
+/// Returns the least entry from the fence on. Candidates are tried in turn until one is an entry:
+/// each before it is a deleted key.
 pub(crate) fn first_from<A: Allocator + Copy, X: EntryValue>(
     chain: &Chain<A>,
     fence: Fence,
@@ -35,7 +35,7 @@ pub(crate) fn first_from<A: Allocator + Copy, X: EntryValue>(
     None
 }
 
-/// The least candidate from the fence on, or `Top` where there is none.
+/// Returns the least candidate from the fence on, or `Top` if there is none.
 fn first_candidate<A: Allocator + Copy, X: EntryValue>(chain: &Chain<A>, from: Fence) -> Fence
     ensures later { end_of from ≤ end_of result }
     ensures gap { HasGap (end_of from) (end_of result)
@@ -68,7 +68,7 @@ fn first_on_base<A: Allocator + Copy, X: EntryValue>(base: &Base<A>, from: Fence
     }
 }
 
-/// The least candidate once the change stands above those that were found.
+/// Returns the least candidate once the change stands above those that were found.
 fn first_under<X: Copy>(change: Change<X>, from: Fence, found: Fence) -> Fence
     requires later { end_of from ≤ end_of found }
     ensures later { end_of from ≤ end_of result }

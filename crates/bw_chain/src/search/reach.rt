@@ -18,7 +18,7 @@ pub(crate) struct Reach<X> {
 }
 
 impl<X: Copy> Reach<X> {
-    /// A search that has found nothing yet.
+    /// Begins a search that has found nothing yet.
     #[inline(always)]
     pub(crate) fn new(upto: Key) -> Reach<X>
         ensures upto { result.upto ≡ upto }
@@ -27,7 +27,7 @@ impl<X: Copy> Reach<X> {
         Reach { upto, best: None }
     }
 
-    /// Whether an entry at the key would be better than the best one.
+    /// Reports whether an entry at the key would be better than the best one.
     #[inline(always)]
     fn is_open(self, key: Key) -> bool
         ensures { result ≡ is_open self.upto self.best key }
@@ -39,8 +39,8 @@ impl<X: Copy> Reach<X> {
             }
     }
 
-    /// Takes account of a change, and tells whether the search may go on below it. It may not below a
-    /// deletion that could hide what it finds.
+    /// Takes account of a change, and reports whether the search may go on below it. It may not go
+    /// on below a deletion that could hide what it finds.
     #[inline(always)]
     pub(crate) fn passes(&mut self, change: Change<X>) -> bool
         ensures passed { result ≡ true → (es : List (ℕ × X)) →
@@ -66,7 +66,7 @@ impl<X: Copy> Reach<X> {
         }
     }
 
-    /// The greatest entry, where only those of a base page are left.
+    /// Returns the greatest entry, where only those of a base page are left.
     #[inline(always)]
     pub(crate) fn greatest(self, entries: &[(Key, X)]) -> Option<(Key, X)>
         requires ascending { IsAscending entries.now }

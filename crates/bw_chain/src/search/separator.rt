@@ -12,7 +12,7 @@ use bw_delta::Chain;
 use bw_keys::{Fence, Key, Pid};
 use std::alloc::Allocator;
 
-/// Whether the key is that of an entry, but not of the first one: there a page can be split, and
+/// Reports whether the key is that of an entry other than the first. A page can be split there, as
 /// both parts have entries.
 #[tactic(auto, using(crate::proofs::Bridges::both_kinds))]
 pub fn is_later_key<A: Allocator + Copy>(chain: &Chain<A>, key: Key) -> bool

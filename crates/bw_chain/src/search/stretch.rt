@@ -1,6 +1,6 @@
-//! Pairs of a chain that lie side by side on a base page, lent as they lie there. No record above the
-//! page speaks of a key among them, so that they are the chain's: a page without records is one
-//! stretch, and one on which only its split stands is another.
+//! Pairs of a chain that lie side by side on a base page, borrowed in place. No record above the
+//! page names a key among them, so they are the chain's: a page with no records is one stretch, and
+//! so is one with only its split above it.
 
 ghost use Rattle.std.specs.Prelude.{◌≡◌, ◌≢◌, ℕ, ◌+◌, ◌<◌, ◌≤◌, min, max, List};
 ghost use Rattle.bw_keys.specs.Ranges.{end_of};
@@ -21,7 +21,8 @@ use bw_delta::{Chain, Node};
 use bw_keys::{Fence, Key};
 use std::alloc::Allocator;
 
-/// The pairs of a base page, which say what the chain does at each key below the end, from some key on.
+/// The pairs of a base page, and the stretch of keys, from the low to the end, at which they say
+/// what the chain does.
 #[derive(Clone, Copy)]
 struct Stretch<'a> {
     pairs: &'a [(Key, u64)],
@@ -29,8 +30,8 @@ struct Stretch<'a> {
     end: Fence,
 }
 
-/// Pairs of the chain from the key on, side by side, up to the first key from there on that a record
-/// names: all of them where none does. It takes one walk over the records, and no memory.
+/// Returns the chain's pairs from the key on that lie side by side, up to the first key that a
+/// record names: all of them if none does. It takes one walk down the records, and no memory.
 #[tactic(auto, using(crate::proofs::Bridges::both_kinds))]
 pub fn pairs_from<A: Allocator + Copy>(chain: &Chain<A>, key: Key) -> &[(Key, u64)]
     requires sound { IsSound chain.now }
@@ -40,8 +41,8 @@ pub fn pairs_from<A: Allocator + Copy>(chain: &Chain<A>, key: Key) -> &[(Key, u6
     below_end(entries_from(stretch.pairs, Fence::Key(key)), stretch.end)
 }
 
-/// Pairs of the chain up to the key, side by side, from behind the last key up to there that a record
-/// names: all of them where none does. It takes one walk over the records, and no memory.
+/// Returns the chain's pairs up to the key that lie side by side, from behind the last key that a
+/// record names: all of them if none does. It takes one walk down the records, and no memory.
 #[tactic(auto, using(crate::proofs::Bridges::both_kinds))]
 pub fn pairs_upto<A: Allocator + Copy>(chain: &Chain<A>, key: Key) -> &[(Key, u64)]
     requires sound { IsSound chain.now }
@@ -55,7 +56,7 @@ pub fn pairs_upto<A: Allocator + Copy>(chain: &Chain<A>, key: Key) -> &[(Key, u6
     entries_from(upto, Fence::Key(stretch.low))
 }
 
-/// The stretch round the key, or one that ends there where a record names the key.
+/// Returns the stretch round the key, or one that ends there if a record names the key.
 fn stretch_around<A: Allocator + Copy>(chain: &Chain<A>, key: Key) -> Stretch<'_>
     ensures begins { result.low ≤ key }
     ensures same { AreSameWithin result.low (end_of result.end) result.pairs.now
@@ -82,7 +83,7 @@ fn stretch_around<A: Allocator + Copy>(chain: &Chain<A>, key: Key) -> Stretch<'_
     }
 }
 
-/// What a change leaves of a stretch round the key.
+/// Returns what a change leaves of a stretch round the key.
 fn stretch_under(change: Change<u64>, key: Key, stretch: Stretch<'_>) -> Stretch<'_>
     requires begins { stretch.low ≤ key }
     ensures begins { result.low ≤ key }
@@ -99,8 +100,8 @@ fn stretch_under(change: Change<u64>, key: Key, stretch: Stretch<'_>) -> Stretch
     }
 }
 
-/// The part of a stretch round the key that lies on its side of a named key, or before that one where
-/// the key itself is named.
+/// Returns the part of a stretch round the key that lies on its side of a named key, or before the
+/// named key if that is the key itself.
 fn beside(stretch: Stretch<'_>, named: Key, key: Key) -> Stretch<'_>
     requires begins { stretch.low ≤ key }
     ensures begins { result.low ≤ key }
@@ -115,7 +116,7 @@ fn beside(stretch: Stretch<'_>, named: Key, key: Key) -> Stretch<'_>
     }
 }
 
-/// The part of a stretch before the key.
+/// Returns the part of a stretch before the key.
 fn part_before(stretch: Stretch<'_>, key: Key) -> Stretch<'_>
     ensures low { result.low ≡ stretch.entry.low }
     ensures end { end_of result.end ≡ min (end_of stretch.entry.end) key }
@@ -127,7 +128,7 @@ fn part_before(stretch: Stretch<'_>, key: Key) -> Stretch<'_>
     }
 }
 
-/// The part of a stretch from the key on.
+/// Returns the part of a stretch from the key on.
 fn part_behind(stretch: Stretch<'_>, key: Key) -> Stretch<'_>
     ensures low { result.low ≡ max stretch.entry.low key }
     ensures end { result.end ≡ stretch.entry.end }
