@@ -1,5 +1,5 @@
-//! Pages and chains that are built from constant data. Each chain is sound, as a record that may not stand
-//! where it is put is refused.
+//! Pages and chains built from constant data. Each chain is sound, as no record is put where it may
+//! not stand.
 
 ghost use Rattle.std.specs.Prelude.{◌≡◌, true, IfOk};
 ghost use Rattle.bw_delta.specs.Sound.{IsSound, MayStandOver};
@@ -45,7 +45,7 @@ pub(crate) fn base<A: Allocator + Copy>(
     }
 }
 
-/// Whether these are the page's entries.
+/// Reports whether the page has these entries.
 pub(crate) fn lists<A: Allocator>(base: &Base<A>, listed: Listed) -> bool {
     match (&base.entries, listed) {
         (_, Listed::Pairs(pairs)) => lists_pairs(base, pairs),
@@ -82,7 +82,7 @@ fn built_part<A: Allocator + Copy>(alloc: A, part: Part) -> Result<Chain<A>, Bas
     with_records(alloc, Chain::bare(base), part.records)
 }
 
-/// The chain with the records on top, the oldest first.
+/// Puts the records on the chain, the oldest first.
 fn with_records<A: Allocator + Copy>(
     alloc: A,
     chain: Chain<A>,
@@ -117,7 +117,7 @@ pub(crate) fn add_record<A: Allocator + Copy>(
     Ok(())
 }
 
-/// Whether the record may stand on the chain.
+/// Reports whether the record may stand on the chain.
 fn may_stand<A: Allocator + Copy>(delta: Delta, chain: &Chain<A>) -> bool
     ensures { result ≡ true → MayStandOver delta chain.now }
 {
@@ -134,7 +134,7 @@ fn may_stand<A: Allocator + Copy>(delta: Delta, chain: &Chain<A>) -> bool
     }
 }
 
-/// The chain of a page that has taken in its right neighbour.
+/// Returns the chain of a page that has taken in its right neighbour.
 pub(crate) fn joined<A: Allocator + Copy>(
     alloc: A,
     left: Chain<A>,

@@ -1,4 +1,4 @@
-//! Chains drawn at random, each beside a map that its records make.
+//! Chains drawn at random, each beside a map that follows its records.
 
 ghost use Rattle.std.specs.Prelude.{IfOk};
 ghost use Rattle.bw_delta.specs.Sound.{IsSound};
@@ -15,10 +15,10 @@ use std::test::Fail;
 
 const KEYS: u32 = 40;
 
-/// How many records a leaf is given at a time, at most. A chain that is deeper has taken in another one.
+/// The most records that a leaf gets at a time. A deeper chain has taken in another one.
 const RECORDS: u32 = 24;
 
-/// One of few keys, so that records meet: the last four, and 0 to 35.
+/// Returns one of a few keys, so that records meet: the last four, and 0 to 35.
 fn key_numbered(number: u32) -> Key {
     u64::from(number).wrapping_sub(4)
 }
@@ -35,7 +35,7 @@ fn drawn_record(rng: &mut Pcg32) -> Delta {
     }
 }
 
-/// What the record makes of the map.
+/// Makes the record's change in the map.
 fn follow(map: &mut BTreeMap<Key, u64>, delta: Delta) -> Result<(), Fail> {
     match delta {
         Delta::Insert(key, value) | Delta::Modify(key, value) => {
@@ -52,7 +52,8 @@ fn follow(map: &mut BTreeMap<Key, u64>, delta: Delta) -> Result<(), Fail> {
     Ok(())
 }
 
-/// The chain under some more records, which the map follows. A record that may not stand is left out.
+/// Puts some more records on the chain, and makes their changes in the map. Records that may not
+/// stand are left out.
 fn under_records(
     alloc: Global,
     rng: &mut Pcg32,
@@ -74,7 +75,7 @@ fn under_records(
     Ok(chain)
 }
 
-/// A leaf from the key on: records over the page that others made.
+/// Draws a leaf from the key on: records over a page that others made.
 fn drawn_leaf(
     alloc: Global,
     rng: &mut Pcg32,
@@ -89,7 +90,7 @@ fn drawn_leaf(
     under_records(alloc, rng, Chain::bare(page), map)
 }
 
-/// A leaf, which takes its right neighbour in if it was split.
+/// Draws a leaf, which takes its right neighbour in if it was split.
 fn drawn_chain(
     alloc: Global,
     rng: &mut Pcg32,
@@ -106,7 +107,7 @@ fn drawn_chain(
     under_records(alloc, rng, chain, map)
 }
 
-/// Whether the searches find what stands in the map.
+/// Reports whether the searches find what stands in the map.
 fn searches_agree(chain: &Chain<Global>, map: &BTreeMap<Key, u64>) -> bool
     requires { IsSound chain.now }
 {
@@ -123,7 +124,7 @@ fn searches_agree(chain: &Chain<Global>, map: &BTreeMap<Key, u64>) -> bool
     true
 }
 
-/// The map's pairs from the key on, so many at most.
+/// Lists the map's pairs from the key on, up to the limit.
 fn listed(
     alloc: Global,
     map: &BTreeMap<Key, u64>,
@@ -140,7 +141,7 @@ fn listed(
     Ok(list)
 }
 
-/// Whether the chain stands for the page of the map's pairs.
+/// Reports whether the chain stands for the page of the map's pairs.
 fn page_agrees(alloc: Global, chain: &Chain<Global>, map: &BTreeMap<Key, u64>) -> Result<bool, Fail>
     requires { IsSound chain.now }
 {
@@ -152,7 +153,7 @@ fn page_agrees(alloc: Global, chain: &Chain<Global>, map: &BTreeMap<Key, u64>) -
     Ok(same(&page, chain) && lists_pairs(&whole, pairs.as_slice()) && is_counted)
 }
 
-/// Whether the first pairs from the key on, so many at most, are the map's.
+/// Reports whether the chain's first pairs from a key on, up to a limit, are the map's.
 fn first_pairs_agree(
     alloc: Global,
     chain: &Chain<Global>,

@@ -1,4 +1,4 @@
-//! The room of a part that is made for a new page.
+//! The room of a part that becomes a new page.
 
 use crate::builders::lists_pairs;
 use bw_chain::upper_part_of;
@@ -9,7 +9,7 @@ use std::test::Fail;
 
 const PAIRS: [(Key, u64); 5] = [(1, 10), (2, 20), (3, 30), (5, 50), (6, 60)];
 
-/// How many entries a page has room for.
+/// Returns the number of entries that the page has room for.
 fn room<A: Allocator>(page: &Base<A>) -> usize {
     match &page.entries {
         Entries::Pairs(pairs) => pairs.capacity(),

@@ -1,5 +1,5 @@
-//! Tests of keys, pages and one delta chain: worked chains, drawn ones beside a `BTreeMap`, which calls take
-//! memory, and what they do where there is none.
+//! Tests of keys, pages and single delta chains: worked chains, drawn ones beside a `BTreeMap`, and
+//! chains in a heap that runs out of memory.
 #![tactic(auto)]
 
 #[cfg(test)]

@@ -1,4 +1,4 @@
-//! Chains in a heap of their own: what is built is let go, and what is refused is said.
+//! Chains in a heap of their own: all of it is freed in the end, and a refused request is reported.
 
 ghost use Rattle.std.specs.Prelude.{IfOk};
 ghost use Rattle.bw_delta.specs.Sound.{IsSound};
@@ -26,7 +26,8 @@ static MERGED: Plan = Plan {
     records: &[],
 };
 
-/// Copies the leaf, consolidates and halves the copy, and lists its pairs. Whether all is right.
+/// Copies the leaf, consolidates and halves the copy, and lists its pairs. Reports whether all
+/// results are right.
 fn is_right<A: Allocator + Copy>(alloc: A) -> Result<bool, HalveFault> {
     let Ok(chain) = built(alloc, &MERGED) else {
         return Err(HalveFault::NoMemory);
@@ -69,8 +70,8 @@ fn each_request_may_be_refused(rt: HostRuntime) -> Result<(), Fail> {
     Ok(())
 }
 
-/// A leaf with 100 to 199 under as many records as a chain may have: each fourth key deleted, the
-/// next one modified, and smaller ones inserted.
+/// Builds a leaf with 100 to 199 under as many records as a chain may have: each fourth key
+/// deleted, the next one modified, and smaller ones inserted.
 fn deepest_leaf<A: Allocator + Copy>(alloc: A) -> Result<Chain<A>, BaseFault>
     ensures { IfOk result IsSound }
 {

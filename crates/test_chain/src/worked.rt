@@ -1,4 +1,4 @@
-//! Chains whose answers were worked out by hand.
+//! Chains whose contents were worked out by hand.
 
 ghost use Rattle.bw_delta.specs.Sound.{IsSound};
 
@@ -17,7 +17,7 @@ type Pair = (Key, Option<u64>, Option<(Key, u64)>);
 /// A key, the route at or below it, and the one below it.
 type Route = (Key, Option<(Key, Pid)>, Option<(Key, Pid)>);
 
-/// Where the pages of a row end that isn't split.
+/// The ends of a page that isn't split.
 const TO_TOP: Fences = Fences {
     low: 0,
     high: Fence::Top,
@@ -33,7 +33,7 @@ struct Row {
     ends: Fences,
     /// The entries of the page that the chain stands for.
     whole: Listed,
-    /// Pages for which it doesn't stand.
+    /// Pages for which the chain doesn't stand.
     others: &'static [(Fences, Listed)],
     /// How the page is halved, where it has two entries.
     half: Option<(Key, Listed)>,
@@ -280,7 +280,7 @@ fn page(alloc: Global, ends: Fences, listed: Listed) -> Result<Base<Global>, Fai
     Ok(base(alloc, ends.low, ends.high, ends.right, listed)?)
 }
 
-/// Whether the chain stands for one of the pages.
+/// Reports whether the chain stands for one of the pages.
 fn is_one_of(alloc: Global, chain: &Chain<Global>, pages: &[(Fences, Listed)]) -> Result<bool, Fail>
     requires { IsSound chain.now }
 {
@@ -303,7 +303,7 @@ fn is_halved(alloc: Global, page: &Base<Global>, half: Option<(Key, Listed)>) ->
     }
 }
 
-/// What the chain of the row answers otherwise than it is to.
+/// Returns what is wrong with the row's chain, if anything is.
 fn wrong(alloc: Global, row: &Row) -> Result<Option<&'static str>, Fail> {
     let chain = built(alloc, &row.plan)?;
     if !finds_pairs(&chain, row.pairs) || !finds_routes(&chain, row.routes) {
