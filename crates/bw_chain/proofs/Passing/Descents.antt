@@ -1,5 +1,5 @@
 -- What a pass requires and ensures where it goes down from a record to the chain below, or to the halves of a merge.
-use Rattle.std.proofs.Common.{◌≡◌, ℕ, ◌<◌, ◌≤◌, min, true, List, [], ◌++◌, append-nil, ⊎_elim, ap, sym, ◌∙◌, arith}
+use Rattle.std.proofs.Common.{◌≡◌, ℕ, ◌<◌, ◌≤◌, min, true, List, [], ◌++◌, append-nil, ⊎_elim, ap, sym, subst, ◌∙◌, arith}
 use Rattle.std.specs.Prelude.{Option}
 use Rattle.std.proofs.lemmas.Bool.{cases_lt}
 use Rattle.bw_keys.specs.declared.range.Fence.{Fence}
@@ -47,8 +47,8 @@ module _ {X : Type 0} (own : Listed → List (ℕ × X)) (change : Delta → Cha
     pub within : end ≤ end_of (fences chain).high
     pub ascending : IsAscending (entries_by own change chain)
 
-  pub downward : (end : ℕ) (delta : Delta) (chain : Records) → IsWellBuilt (above delta chain) → end ≤ end_of (fences (above delta chain)).high → Downward end delta chain
-  downward end delta chain built within =
+  under_record : (end : ℕ) (delta : Delta) (chain : Records) → IsWellBuilt (above delta chain) → end ≤ end_of (fences (above delta chain)).high → Downward end delta chain
+  under_record end delta chain built within =
       record {
         uncut = IsUncut-lower end (end_of (fences (above delta chain)).high) (change delta) within (cut delta chain);
         among = omega (arith, within, end_among_keys (above delta chain) built);
@@ -57,18 +57,21 @@ module _ {X : Type 0} (own : Listed → List (ℕ × X)) (change : Delta → Cha
         ascending = built_ascends chain built.0;
       }
 
-  pub record Sideward (end : ℕ) (merging : Merging) (left right : Records) (edits : List (ℕ × Option X)) : Type 0 where
+  pub downward : (end : ℕ) (delta : Delta) (whole chain : Records) → whole ≡ above delta chain → IsWellBuilt whole → end ≤ end_of (fences whole).high → Downward end delta chain
+  downward end delta whole chain is built within = under_record end delta chain (rw is at built) (rw is at within)
+
+  pub record Sideward (end : ℕ) (whole : Records) (merging : Merging) (left right : Records) (edits : List (ℕ × Option X)) : Type 0 where
     pub built_left : IsWellBuilt left
     pub within_left : min end merging.separator ≤ end_of (fences left).high
     pub built_right : IsWellBuilt right
     pub within_right : end ≤ end_of (fences right).high
-    pub left_alone : end ≤ merging.separator → edited_below end edits (entries_by own change (merged merging left right)) ≡ edited_below (min end merging.separator) edits (entries_by own change left)
-    pub both : merging.separator < end → edited_below end edits (entries_by own change (merged merging left right))
+    pub left_alone : end ≤ merging.separator → edited_below end edits (entries_by own change whole) ≡ edited_below (min end merging.separator) edits (entries_by own change left)
+    pub both : merging.separator < end → edited_below end edits (entries_by own change whole)
         ≡ edited_below (min end merging.separator) edits (entries_by own change left) ++ edited_below end (from (min end merging.separator) edits) (entries_by own change right)
-    pub begins : (rest : List (ℕ × X)) × (edited_below end edits (entries_by own change (merged merging left right)) ≡ edited_below (min end merging.separator) edits (entries_by own change left) ++ rest)
+    pub begins : (rest : List (ℕ × X)) × (edited_below end edits (entries_by own change whole) ≡ edited_below (min end merging.separator) edits (entries_by own change left) ++ rest)
 
-  pub sideward : (end : ℕ) (merging : Merging) (left right : Records) (edits : List (ℕ × Option X)) → IsWellBuilt (merged merging left right) → end ≤ end_of merging.high → IsFalling edits → Sideward end merging left right edits
-  sideward end merging left right edits built within f =
+  under_merge : (end : ℕ) (merging : Merging) (left right : Records) (edits : List (ℕ × Option X)) → IsWellBuilt (merged merging left right) → end ≤ end_of merging.high → IsFalling edits → Sideward end (merged merging left right) merging left right edits
+  under_merge end merging left right edits built within f =
       let joins : Joins merging (fences left) (fences right) = built.3 in
       let separator = merging.separator in
       let lower : rises (fences left).low separator (entries_by own change left) ≡ true = rw (ap end_of joins.left_ends) at (rise left built.0) in
@@ -104,3 +107,8 @@ module _ {X : Type 0} (own : Listed → List (ℕ × X)) (change : Delta → Cha
           let least : min end merging.separator ≡ merging.separator = omega (arith, inside) in
           rw least (edited_below-joined 0 (end_of merging.high) end merging.separator edits (entries_by own change left) (entries_by own change right) (omega arith) inside within among f
           (rises-lower merging.separator 0 low _ (omega arith) lower) upper)
+
+  pub sideward : (end : ℕ) (whole : Records) (merging : Merging) (left right : Records) (edits : List (ℕ × Option X)) → whole ≡ merged merging left right → IsWellBuilt whole → end ≤ end_of (fences whole).high → IsFalling edits
+      → Sideward end whole merging left right edits
+  sideward end whole merging left right edits is built within f =
+      subst (λ whole. Sideward end whole merging left right edits) (sym is) (under_merge end merging left right edits (rw is at built) (rw is at within) f)

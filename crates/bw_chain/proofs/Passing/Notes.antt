@@ -1,5 +1,5 @@
 -- Where an edit is noted among falling ones.
-use Rattle.std.proofs.Common.{◌≡◌, ℕ, zero, suc, ◌+◌, ◌<◌, ◌≤◌, true, List, [], ◌∷◌, length, drop, get_or, refl, arith}
+use Rattle.std.proofs.Common.{◌≡◌, ℕ, zero, suc, ◌+◌, ◌<◌, ◌≤◌, true, List, [], ◌∷◌, length, take, drop, get_or, refl, arith}
 use Rattle.std.specs.Prelude.{Some, nat_le, slice_get}
 use Rattle.std.specs.List.{insert}
 use Rattle.std.specs.List.Sorted.{IsPartitionedBy}
@@ -7,6 +7,7 @@ use Rattle.std.proofs.lemmas.Bool.Decides.{nat_tests}
 use Rattle.bw_delta.specs.Entries.{from}
 use Rattle.bw_chain.specs.Passing.Edited.{falls, noted}
 use Rattle.bw_chain.specs.Passing.Heads.{BeginsWith}
+use Rattle.bw_chain.proofs.Passing.Heads.{begins-take}
 
 module _ {X : Type 0} where
   pub length-noted : (key : ℕ) (x : X) (es : List (ℕ × X)) → length (noted key x es) ≤ length es + 1
@@ -85,3 +86,8 @@ module _ {X : Type 0} where
   pub from-begins : (low end bound : ℕ) (es : List (ℕ × X)) → falls low end es ≡ true → BeginsWith es (from bound es)
   from-begins low end bound [] f = refl
   from-begins low end bound (e ∷ es) f = grind (arith, nat_tests, from-begins low e.0 bound es, none-from low e.0 bound es)
+
+  -- the edits from an end on, which were counted, are still in front
+  pub front-kept : (end end' count : ℕ) (noted front edits : List (ℕ × X)) → front ≡ noted → end' ≡ end → from end' front ≡ take count front → count ≤ length front → BeginsWith edits (from end' noted) → take count edits ≡ from end noted
+  front-kept end end' count noted front edits same ends counted few begins =
+      begins-take count noted (from end noted) edits (rw (same, ends) at counted) (rw same at few) (rw ends at begins)

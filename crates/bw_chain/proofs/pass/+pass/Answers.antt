@@ -1,4 +1,4 @@
-use Rattle.std.proofs.Common.{rules, ◌≡◌, ◌≤◌, ◌<◌, ◌∙◌, min, true, length, length-take-le, take, ap, subst, arith}
+use Rattle.std.proofs.Common.{rules, ◌≤◌, ◌<◌, ◌∙◌, min, true, length, length-take-le, take, refl, ap, subst, arith}
 use Rattle.std.proofs.lemmas.Result.{on_ok_weaker, on_err_weaker}
 use Rattle.bw_keys.specs.Ranges.{key_count, end_of}
 use Rattle.bw_delta.specs.Entries.{from}
@@ -6,8 +6,8 @@ use Rattle.bw_chain.specs.Changes.{entries_by}
 use Rattle.bw_chain.specs.Passing.Edited.{IsFalling}
 use Rattle.bw_chain.specs.Passing.Heads.{BeginsWith}
 use Rattle.bw_chain.proofs.Passing.Descents.{downward, sideward}
-use Rattle.bw_chain.proofs.Passing.Heads.{begins-more, begins-take}
-use Rattle.bw_chain.proofs.Passing.Notes.{from-begins}
+use Rattle.bw_chain.proofs.Passing.Heads.{begins-more}
+use Rattle.bw_chain.proofs.Passing.Notes.{from-begins, front-kept}
 use Rattle.bw_chain.proofs.Overlays.{falls-from, falls-lower}
 use Rattle.bw_chain.proofs.Passing.Passes.{from-both}
 use Rattle.bw_chain.proofs.pass.+pass.Goals as goal
@@ -21,20 +21,14 @@ returns-in-Bare-clause-left g t c =
 
 pub note_change-count-requires-clause-uncut : goal.note_change-count-requires-clause-uncut
 note_change-count-requires-clause-uncut g t c =
-    let entry = g.X.EntryValue in
     let laws = g.met.X.EntryValue in
-    let built = rw (← c.chain.view_is, c.in-Above.is) at c.requires.built in
-    let within = rw (← c.chain.view_is, c.in-Above.is) at c.requires.within in
-    let down = downward entry.own_entries entry.own_change laws.rise laws.cut (end_of c.args.end) c.in-Above.delta c.in-Above.below.value built within in
+    let down = downward _ _ laws.rise laws.cut (end_of c.args.end) c.in-Above.delta c.args.chain.now c.in-Above.below.value (rw (← c.chain.view_is, c.in-Above.is) refl) c.requires.built c.requires.within in
     rw c.change_by.ensures down.uncut
 
 pub pass-requires : goal.pass-requires
 pass-requires g t c κs within-lives =
-    let entry = g.X.EntryValue in
     let laws = g.met.X.EntryValue in
-    let built = rw (← c.chain.view_is, c.in-Above.is) at c.requires.built in
-    let within = rw (← c.chain.view_is, c.in-Above.is) at c.requires.within in
-    let down = downward entry.own_entries entry.own_change laws.rise laws.cut (end_of c.args.end) c.in-Above.delta c.in-Above.below.value built within in
+    let down = downward _ _ laws.rise laws.cut (end_of c.args.end) c.in-Above.delta c.args.chain.now c.in-Above.below.value (rw (← c.chain.view_is, c.in-Above.is) refl) c.requires.built c.requires.within in
     let room = rw (← c.chain.view_is, c.in-Above.is) at c.requires.room in
     let noted = c.note_change-count.ensures in
     (search rules, (search rules, (search rules, (search rules, (search rules, (rw c.deref.ensures down.built, (rw c.deref.ensures down.within, (noted.falling, rw c.deref.ensures (omega (arith, room, noted.one_more, noted.as_many))))))))))
@@ -43,9 +37,7 @@ pub returns-in-Above-clause-taken : goal.returns-in-Above-clause-taken
 returns-in-Above-clause-taken g t c =
     let entry = g.X.EntryValue in
     let laws = g.met.X.EntryValue in
-    let built = rw (← c.chain.view_is, c.in-Above.is) at c.requires.built in
-    let within = rw (← c.chain.view_is, c.in-Above.is) at c.requires.within in
-    let down = downward entry.own_entries entry.own_change laws.rise laws.cut (end_of c.args.end) c.in-Above.delta c.in-Above.below.value built within in
+    let down = downward _ _ laws.rise laws.cut (end_of c.args.end) c.in-Above.delta c.args.chain.now c.in-Above.below.value (rw (← c.chain.view_is, c.in-Above.is) refl) c.requires.built c.requires.within in
     let noted = c.note_change-count.ensures.noted (entries_by entry.own_entries entry.own_change c.in-Above.below.value) down.ascending in
     let all = rw c.change_by.ensures at noted in
     on_ok_weaker c.pass.result (λ taken. rw (← c.chain.view_is, c.in-Above.is, ← all) (rw c.deref.ensures at taken)) c.pass.ensures.taken
@@ -54,105 +46,71 @@ pub returns-in-Above-clause-refused : goal.returns-in-Above-clause-refused
 returns-in-Above-clause-refused g t c =
     let entry = g.X.EntryValue in
     let laws = g.met.X.EntryValue in
-    let built = rw (← c.chain.view_is, c.in-Above.is) at c.requires.built in
-    let within = rw (← c.chain.view_is, c.in-Above.is) at c.requires.within in
-    let down = downward entry.own_entries entry.own_change laws.rise laws.cut (end_of c.args.end) c.in-Above.delta c.in-Above.below.value built within in
+    let down = downward _ _ laws.rise laws.cut (end_of c.args.end) c.in-Above.delta c.args.chain.now c.in-Above.below.value (rw (← c.chain.view_is, c.in-Above.is) refl) c.requires.built c.requires.within in
     let noted = c.note_change-count.ensures.noted (entries_by entry.own_entries entry.own_change c.in-Above.below.value) down.ascending in
     let all = rw c.change_by.ensures at noted in
     on_err_weaker c.pass.result (λ refused. rw (← c.chain.view_is, c.in-Above.is, ← all) (rw c.deref.ensures at refused)) c.pass.ensures.refused
 
 pub pass-requires-then-is_above : goal.pass-requires-then-is_above
 pass-requires-then-is_above g t c κs within-lives =
-    let entry = g.X.EntryValue in
     let laws = g.met.X.EntryValue in
     let noted = take c.args.count c.args.edits.now in
-    let built = rw (← c.chain.view_is, c.in-Merged.is) at c.requires.built in
-    let within = rw (← c.chain.view_is, c.in-Merged.is) at c.requires.within in
-    let side = sideward entry.own_entries entry.own_change laws.rise laws.cut (end_of c.args.end) c.in-Merged.merging c.in-Merged.left.value c.in-Merged.right.value noted built within c.requires.falling in
+    let side = sideward _ _ laws.rise laws.cut (end_of c.args.end) c.args.chain.now c.in-Merged.merging c.in-Merged.left.value c.in-Merged.right.value noted (rw (← c.chain.view_is, c.in-Merged.is) refl) c.requires.built c.requires.within c.requires.falling in
     let room = rw (← c.chain.view_is, c.in-Merged.is) at c.requires.room in
     let end = min (end_of c.args.end) c.in-Merged.merging.separator in
     let kept = c.count_from-kept in
-    let upper : from end noted ≡ take kept.result noted = rw (c.split_at-in-Merged.ensures.front, c.at_most-left_end.ensures) at kept.ensures.before in
     let few : kept.result ≤ length noted = rw c.split_at-in-Merged.ensures.front at kept.ensures.within in
-    let left : BeginsWith c.pass-in-Merged.new.edits (from end noted) = rw c.at_most-left_end.ensures at c.in_ok-pass-in-Merged.ensures.left in
-    let still = begins-take kept.result noted (from end noted) c.pass-in-Merged.new.edits upper few left in
+    let still = front-kept _ _ c.count_from-kept.result _ _ c.pass-in-Merged.new.edits c.split_at-in-Merged.ensures.front c.at_most-left_end.ensures c.count_from-kept.ensures.before c.count_from-kept.ensures.within c.in_ok-pass-in-Merged.ensures.left in
     let falling : IsFalling (from end noted) = falls-lower 0 end key_count _ (omega arith) (falls-from 0 key_count end noted c.requires.falling) in
     let long = length-take-le c.args.count c.args.edits.now (omega (arith, room)) in
     (search rules, (search rules, (search rules, (search rules, (search rules, (rw c.deref-then-is_above.ensures side.built_right, (rw c.deref-then-is_above.ensures side.within_right, (rw still falling, rw (c.deref-then-is_above.ensures) (omega (arith, room, few, long, c.in_ok-pass-in-Merged.ensures.as_many))))))))))
 
 pub returns-in_err-pass-in-Merged-clause-refused : goal.returns-in_err-pass-in-Merged-clause-refused
 returns-in_err-pass-in-Merged-clause-refused g t c =
-    let entry = g.X.EntryValue in
     let laws = g.met.X.EntryValue in
-    let built = rw (← c.chain.view_is, c.in-Merged.is) at c.requires.built in
-    let within = rw (← c.chain.view_is, c.in-Merged.is) at c.requires.within in
-    let side = sideward entry.own_entries entry.own_change laws.rise laws.cut (end_of c.args.end) c.in-Merged.merging c.in-Merged.left.value c.in-Merged.right.value (take c.args.count c.args.edits.now) built within c.requires.falling in
+    let side = sideward _ _ laws.rise laws.cut (end_of c.args.end) c.args.chain.now c.in-Merged.merging c.in-Merged.left.value c.in-Merged.right.value (take c.args.count c.args.edits.now) (rw (← c.chain.view_is, c.in-Merged.is) refl) c.requires.built c.requires.within c.requires.falling in
     let refused = rw (c.at_most-left_end.ensures, c.deref-in-Merged.ensures) at c.in_err-pass-in-Merged.ensures.refused in
     let all = g.met.S.Sink.refuses_more c.args.sink.now _ side.begins.0 refused in
     let same = rw (← side.begins.1) at all in
-    rw (← c.chain.view_is, c.in-Merged.is) (search rules)
+    search rules
 
 pub returns-then-is_above-clause-taken : goal.returns-then-is_above-clause-taken
 returns-then-is_above-clause-taken g t c =
-    let entry = g.X.EntryValue in
     let laws = g.met.X.EntryValue in
     let noted = take c.args.count c.args.edits.now in
-    let built = rw (← c.chain.view_is, c.in-Merged.is) at c.requires.built in
-    let within = rw (← c.chain.view_is, c.in-Merged.is) at c.requires.within in
-    let side = sideward entry.own_entries entry.own_change laws.rise laws.cut (end_of c.args.end) c.in-Merged.merging c.in-Merged.left.value c.in-Merged.right.value noted built within c.requires.falling in
+    let side = sideward _ _ laws.rise laws.cut (end_of c.args.end) c.args.chain.now c.in-Merged.merging c.in-Merged.left.value c.in-Merged.right.value noted (rw (← c.chain.view_is, c.in-Merged.is) refl) c.requires.built c.requires.within c.requires.falling in
     let taken = rw (c.at_most-left_end.ensures, c.deref-in-Merged.ensures) at c.in_ok-pass-in-Merged.ensures.taken in
-    let end = min (end_of c.args.end) c.in-Merged.merging.separator in
-    let kept = c.count_from-kept in
-    let upper : from end noted ≡ take kept.result noted = rw (c.split_at-in-Merged.ensures.front, c.at_most-left_end.ensures) at kept.ensures.before in
-    let few : kept.result ≤ length noted = rw c.split_at-in-Merged.ensures.front at kept.ensures.within in
-    let left : BeginsWith c.pass-in-Merged.new.edits (from end noted) = rw c.at_most-left_end.ensures at c.in_ok-pass-in-Merged.ensures.left in
-    let still = begins-take kept.result noted (from end noted) c.pass-in-Merged.new.edits upper few left in
+    let still = front-kept _ _ c.count_from-kept.result _ _ c.pass-in-Merged.new.edits c.split_at-in-Merged.ensures.front c.at_most-left_end.ensures c.count_from-kept.ensures.before c.count_from-kept.ensures.within c.in_ok-pass-in-Merged.ensures.left in
     let inside : c.in-Merged.merging.separator < end_of c.args.end = c.is_above.ensures.0 c.if-is_above.true in
     on_ok_weaker c.pass-then-is_above.result
-    (λ more. rw (← c.chain.view_is, c.in-Merged.is, side.both inside) (g.met.S.Sink.takes_joined c.args.sink.now c.pass-in-Merged.new.sink c.pass-then-is_above.new.sink _ _ taken (rw (c.deref-then-is_above.ensures, still) at more)))
+    (λ more. rw (side.both inside) (g.met.S.Sink.takes_joined c.args.sink.now c.pass-in-Merged.new.sink c.pass-then-is_above.new.sink _ _ taken (rw (c.deref-then-is_above.ensures, still) at more)))
     c.pass-then-is_above.ensures.taken
 
 pub returns-then-is_above-clause-refused : goal.returns-then-is_above-clause-refused
 returns-then-is_above-clause-refused g t c =
-    let entry = g.X.EntryValue in
     let laws = g.met.X.EntryValue in
     let noted = take c.args.count c.args.edits.now in
-    let built = rw (← c.chain.view_is, c.in-Merged.is) at c.requires.built in
-    let within = rw (← c.chain.view_is, c.in-Merged.is) at c.requires.within in
-    let side = sideward entry.own_entries entry.own_change laws.rise laws.cut (end_of c.args.end) c.in-Merged.merging c.in-Merged.left.value c.in-Merged.right.value noted built within c.requires.falling in
+    let side = sideward _ _ laws.rise laws.cut (end_of c.args.end) c.args.chain.now c.in-Merged.merging c.in-Merged.left.value c.in-Merged.right.value noted (rw (← c.chain.view_is, c.in-Merged.is) refl) c.requires.built c.requires.within c.requires.falling in
     let taken = rw (c.at_most-left_end.ensures, c.deref-in-Merged.ensures) at c.in_ok-pass-in-Merged.ensures.taken in
-    let end = min (end_of c.args.end) c.in-Merged.merging.separator in
-    let kept = c.count_from-kept in
-    let upper : from end noted ≡ take kept.result noted = rw (c.split_at-in-Merged.ensures.front, c.at_most-left_end.ensures) at kept.ensures.before in
-    let few : kept.result ≤ length noted = rw c.split_at-in-Merged.ensures.front at kept.ensures.within in
-    let left : BeginsWith c.pass-in-Merged.new.edits (from end noted) = rw c.at_most-left_end.ensures at c.in_ok-pass-in-Merged.ensures.left in
-    let still = begins-take kept.result noted (from end noted) c.pass-in-Merged.new.edits upper few left in
+    let still = front-kept _ _ c.count_from-kept.result _ _ c.pass-in-Merged.new.edits c.split_at-in-Merged.ensures.front c.at_most-left_end.ensures c.count_from-kept.ensures.before c.count_from-kept.ensures.within c.in_ok-pass-in-Merged.ensures.left in
     let inside : c.in-Merged.merging.separator < end_of c.args.end = c.is_above.ensures.0 c.if-is_above.true in
     on_err_weaker c.pass-then-is_above.result
-    (λ refused. rw (← c.chain.view_is, c.in-Merged.is, side.both inside) (g.met.S.Sink.refuses_later c.args.sink.now c.pass-in-Merged.new.sink _ _ taken (rw (c.deref-then-is_above.ensures, still) at refused)))
+    (λ refused. rw (side.both inside) (g.met.S.Sink.refuses_later c.args.sink.now c.pass-in-Merged.new.sink _ _ taken (rw (c.deref-then-is_above.ensures, still) at refused)))
     c.pass-then-is_above.ensures.refused
 
 pub returns-then-is_above-clause-left : goal.returns-then-is_above-clause-left
 returns-then-is_above-clause-left g t c =
     let noted = take c.args.count c.args.edits.now in
-    let end = min (end_of c.args.end) c.in-Merged.merging.separator in
-    let kept = c.count_from-kept in
-    let upper : from end noted ≡ take kept.result noted = rw (c.split_at-in-Merged.ensures.front, c.at_most-left_end.ensures) at kept.ensures.before in
-    let few : kept.result ≤ length noted = rw c.split_at-in-Merged.ensures.front at kept.ensures.within in
-    let left : BeginsWith c.pass-in-Merged.new.edits (from end noted) = rw c.at_most-left_end.ensures at c.in_ok-pass-in-Merged.ensures.left in
-    let still = begins-take kept.result noted (from end noted) c.pass-in-Merged.new.edits upper few left in
-    let same = ap (from (end_of c.args.end)) still ∙ from-both end (end_of c.args.end) noted (omega arith) in
+    let still = front-kept _ _ c.count_from-kept.result _ _ c.pass-in-Merged.new.edits c.split_at-in-Merged.ensures.front c.at_most-left_end.ensures c.count_from-kept.ensures.before c.count_from-kept.ensures.within c.in_ok-pass-in-Merged.ensures.left in
+    let same = ap (from (end_of c.args.end)) still ∙ from-both (min (end_of c.args.end) c.in-Merged.merging.separator) (end_of c.args.end) noted (omega arith) in
     on_ok_weaker c.pass-then-is_above.result
     (λ begins. subst (BeginsWith c.pass-then-is_above.new.edits) same begins)
     c.pass-then-is_above.ensures.left
 
 pub returns-else-is_above-clause-taken : goal.returns-else-is_above-clause-taken
 returns-else-is_above-clause-taken g t c =
-    let entry = g.X.EntryValue in
     let laws = g.met.X.EntryValue in
-    let built = rw (← c.chain.view_is, c.in-Merged.is) at c.requires.built in
-    let within = rw (← c.chain.view_is, c.in-Merged.is) at c.requires.within in
-    let side = sideward entry.own_entries entry.own_change laws.rise laws.cut (end_of c.args.end) c.in-Merged.merging c.in-Merged.left.value c.in-Merged.right.value (take c.args.count c.args.edits.now) built within c.requires.falling in
+    let side = sideward _ _ laws.rise laws.cut (end_of c.args.end) c.args.chain.now c.in-Merged.merging c.in-Merged.left.value c.in-Merged.right.value (take c.args.count c.args.edits.now) (rw (← c.chain.view_is, c.in-Merged.is) refl) c.requires.built c.requires.within c.requires.falling in
     let taken = rw (c.at_most-left_end.ensures, c.deref-in-Merged.ensures) at c.in_ok-pass-in-Merged.ensures.taken in
     let past : end_of c.args.end ≤ c.in-Merged.merging.separator = grind (arith, c.is_above.ensures, c.if-is_above.false) in
-    rw (← c.chain.view_is, c.in-Merged.is, side.left_alone past) taken
+    rw (side.left_alone past) taken
