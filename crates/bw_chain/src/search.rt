@@ -1,4 +1,4 @@
-//! Searches for one key down a chain: for what stands there, for the next entry, and for the last one.
+//! Searches for one key down a chain: for what stands there, the next entry and the last one.
 //!
 //! Each key that a base page or a record names is a candidate for the next entry, even if a newer
 //! record deletes it, but not if a split or a merge cuts it off. So one walk down the chain finds a

@@ -46,7 +46,7 @@ pub fn fences<A: Allocator + Copy>(chain: &Chain<A>) -> Fences
     extent_of(chain).fences
 }
 
-/// Returns where the range ends, and the side link there, by the newest link of the chain.
+/// Returns where the range ends, and the side link there, as the newest node of the chain says.
 fn range_end<A: Allocator + Copy>(end: &Chain<A>) -> (Fence, Option<Pid>)
     requires ends { ends_range end.now ≡ true }
     ensures high { result.0 ≡ (fences end.now).high }

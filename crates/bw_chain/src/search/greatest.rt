@@ -36,7 +36,7 @@ pub(crate) fn last_upto<A: Allocator + Copy, X: EntryValue>(
 }
 
 /// Returns the part of the chain under the records that the search can pass. This walk is built as
-/// a loop, too.
+/// a loop, as it calls itself last and returns a reference.
 fn under_passed<'a, A: Allocator + Copy, X: EntryValue>(
     chain: &'a Chain<A>,
     reach: &mut Reach<X>,
