@@ -16,6 +16,14 @@ pub record Page : Type 0 where
   pub right : Option Pid
   pub listed : Listed
 
+-- a leaf with these pairs
+abbrev pub leaf_page : ℕ → Fence → Option Pid → List (ℕ × ℕ) → Page
+leaf_page low high right pairs = record { low = low; high = high; right = right; listed = pairs_of pairs }
+
+-- an inner page with these routes
+abbrev pub inner_page : ℕ → Fence → Option Pid → List (ℕ × Pid) → Page
+inner_page low high right routes = record { low = low; high = high; right = right; listed = routes_of routes }
+
 abbrev pub listed_rises : ℕ → ℕ → Listed → Bool
 listed_rises low end (pairs_of es) = rises low end es
 listed_rises low end (routes_of es) = rises low end es

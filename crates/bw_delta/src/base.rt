@@ -2,7 +2,8 @@ ghost use Rattle.std.specs.Prelude.{◌≡◌, ◌↔◌, [], Err, None, IfOk, I
 ghost use Rattle.bw_keys.specs.declared.range.Fence.TheVariants.{Top};
 ghost use Rattle.bw_keys.specs.Ranges.{end_of};
 ghost use Rattle.bw_delta.specs.Entries.{rises};
-ghost use Rattle.bw_delta.specs.Pages.{pairs_of, routes_of, is_page, lists_pairs, listed_length};
+ghost use Rattle.bw_delta.specs.declared.fault.BaseFault.TheVariants.{BadEntries};
+ghost use Rattle.bw_delta.specs.Pages.{leaf_page, inner_page, is_page, lists_pairs, listed_length};
 
 use crate::fault::{BaseFault, NoMemory};
 use bw_keys::{Fence, Key, Pid};
@@ -47,9 +48,9 @@ impl<A: Allocator> Model for Base<A> {
 }
 
 impl<A: Allocator + Copy> Base<A> {
-    /// The leaf for all keys that has no pairs. It takes no memory.
+    /// Makes the leaf of all keys that has no pairs. It takes no memory.
     pub fn empty(alloc: A) -> Base<A>
-        ensures { result ≡ record { low = 0; high = Top; right = None; listed = pairs_of [] } }
+        ensures { result ≡ leaf_page 0 Top None [] }
     {
         Base {
             low: 0,
@@ -59,7 +60,7 @@ impl<A: Allocator + Copy> Base<A> {
         }
     }
 
-    /// A leaf with these pairs.
+    /// Makes a leaf of these pairs.
     pub fn leaf(
         alloc: A,
         low: Key,
@@ -67,8 +68,9 @@ impl<A: Allocator + Copy> Base<A> {
         right: Option<Pid>,
         entries: &[(Key, u64)],
     ) -> Result<Base<A>, BaseFault>
-        ensures ok { IfOk result (λ base. base ≡ record { low = low; high = high; right = right; listed = pairs_of entries.now }) }
-        ensures bad { (result ≡ Err BaseFault.BadEntries) ↔ (is_page (record { low = low; high = high; right = right; listed = pairs_of entries.now }) ≡ false) }
+        ensures ok { IfOk result (λ base. base ≡ leaf_page low high right entries.now) }
+        ensures bad { (result ≡ Err BadEntries)
+            ↔ (is_page (leaf_page low high right entries.now) ≡ false) }
     {
         if !high.is_above(low) || !rises_inside(low, high, entries) {
             return Err(BaseFault::BadEntries);
@@ -84,7 +86,7 @@ impl<A: Allocator + Copy> Base<A> {
         })
     }
 
-    /// An inner page with these routes.
+    /// Makes an inner page of these routes.
     pub fn inner(
         alloc: A,
         low: Key,
@@ -92,8 +94,9 @@ impl<A: Allocator + Copy> Base<A> {
         right: Option<Pid>,
         entries: &[(Key, Pid)],
     ) -> Result<Base<A>, BaseFault>
-        ensures ok { IfOk result (λ base. base ≡ record { low = low; high = high; right = right; listed = routes_of entries.now }) }
-        ensures bad { (result ≡ Err BaseFault.BadEntries) ↔ (is_page (record { low = low; high = high; right = right; listed = routes_of entries.now }) ≡ false) }
+        ensures ok { IfOk result (λ base. base ≡ inner_page low high right entries.now) }
+        ensures bad { (result ≡ Err BadEntries)
+            ↔ (is_page (inner_page low high right entries.now) ≡ false) }
     {
         if !high.is_above(low) || !rises_inside(low, high, entries) {
             return Err(BaseFault::BadEntries);
@@ -109,7 +112,7 @@ impl<A: Allocator + Copy> Base<A> {
         })
     }
 
-    /// Whether this is a leaf's base.
+    /// Reports whether this is a leaf's base.
     pub fn is_leaf(&self) -> bool
         ensures { result ≡ lists_pairs self.now.listed }
     {
@@ -119,7 +122,7 @@ impl<A: Allocator + Copy> Base<A> {
         }
     }
 
-    /// How many entries the base has.
+    /// Returns the number of entries.
     pub fn len(&self) -> usize
         ensures { result ≡ listed_length self.now.listed }
     {
@@ -129,14 +132,14 @@ impl<A: Allocator + Copy> Base<A> {
         }
     }
 
-    /// Whether the base has no entries.
+    /// Reports whether the base has no entries.
     pub fn is_empty(&self) -> bool
         ensures { IsTrue result ↔ (listed_length self.now.listed ≡ 0) }
     {
         self.len() == 0
     }
 
-    /// An equal base with memory of its own.
+    /// Returns an equal base with memory of its own.
     pub fn copy_in(&self, alloc: A) -> Result<Base<A>, NoMemory>
         ensures { IfOk result (λ copy. copy ≡ self.now) }
     {
@@ -153,7 +156,7 @@ impl<A: Allocator + Copy> Base<A> {
     }
 }
 
-/// Whether the keys rise strictly from `low` on, and stay below `high`.
+/// Reports whether the keys rise strictly from `low` on, and stay below `high`.
 fn rises_inside<X>(low: Key, high: Fence, entries: &[(Key, X)]) -> bool
     ensures { result ≡ rises low (end_of high) entries.now }
 {

@@ -1,6 +1,6 @@
 ghost use Rattle.std.specs.Prelude.{◌≡◌, ◌<◌, IfOk};
 ghost use Rattle.bw_keys.specs.declared.page.TheConstants.{MAX_DEPTH};
-ghost use Rattle.bw_delta.specs.Records.{bare, above, merged, depth};
+ghost use Rattle.bw_delta.specs.Records.{bare, above, merged, merging_at, depth};
 
 use crate::base::Base;
 use crate::fault::NoMemory;
@@ -87,7 +87,7 @@ impl<A: Allocator> Model for Chain<A> {
 }
 
 impl<A: Allocator + Copy> Chain<A> {
-    /// The chain that is its base alone. It takes no memory.
+    /// Makes the chain of a base alone. It takes no memory.
     pub fn bare(base: Base<A>) -> Chain<A>
         ensures { result ≡ bare base }
     {
@@ -96,7 +96,7 @@ impl<A: Allocator + Copy> Chain<A> {
         }
     }
 
-    /// How many records stand above a base, along the deepest path: 0 for a base, and at most
+    /// Returns the number of records above a base, along the deepest path: 0 for a base, and at most
     /// [`MAX_DEPTH`].
     pub fn depth(&self) -> u8
         ensures { result ≡ depth self.now }
@@ -137,7 +137,7 @@ impl<A: Allocator + Copy> Chain<A> {
     )
         requires left_shallow { depth self.old < MAX_DEPTH }
         requires right_shallow { depth right < MAX_DEPTH }
-        ensures { self.new ≡ merged (record { separator = separator; high = high; right = right_link }) self.old right }
+        ensures { self.new ≡ merged (merging_at separator high right_link) self.old right }
     {
         let Spare {
             below: mut left_below,
@@ -157,7 +157,7 @@ impl<A: Allocator + Copy> Chain<A> {
         };
     }
 
-    /// An equal chain with memory of its own.
+    /// Returns an equal chain with memory of its own.
     pub fn copy_in(&self, alloc: A) -> Result<Chain<A>, NoMemory>
         ensures { IfOk result (λ copy. copy ≡ self.now) }
     {

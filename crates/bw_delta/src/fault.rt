@@ -18,7 +18,7 @@ impl<T: Drop> From<AllocFailed<T>> for NoMemory {
     }
 }
 
-/// Why there is no base page of the entries that were given.
+/// Why the given entries make no base page.
 #[derive(Clone, Copy, Debug, PartialEq, Eq, Error)]
 pub enum BaseFault {
     /// The range is empty, the keys don't rise strictly, or a key lies outside the range.

@@ -23,3 +23,7 @@ first_bad_field config = first_reason (field_reasons config)
 
 abbrev pub usual_config : Config
 usual_config = record { fanout = 64; chain = 1; pages = 16384; tries = 1000; first_version = 0 }
+
+-- the usual configuration, but for that number of pages
+abbrev pub usual_with : ℕ → Config
+usual_with pages = record usual_config { pages = pages }

@@ -2,17 +2,17 @@
 use Rattle.std.specs.Prelude.{◌≡◌, ℕ, ◌+◌, ◌-◌, ◌*◌, ◌<◌, ◌≤◌, List, [], ◌∷◌, sum}
 use Rattle.bw_keys.specs.declared.config.Config.{Config}
 
--- what a split leaves at least to either page, if pages may have 64 entries
+-- the least that a split leaves to either page, if pages may have 64 entries
 abbrev pub half : ℕ
 half = 32
 
--- So many pages of a level, and the numbers of pages of the levels above it up to the root, where on each level above all
--- pages but one have half of their entries, and that one has some.
+-- The number of pages of a level, and those of the levels above it up to the root, where on each level above all pages but
+-- one have half of their entries, and that one has some.
 abbrev pub AreLevels : ℕ → List ℕ → Type 0
 AreLevels below [] = below ≡ 1
 AreLevels below (pages ∷ above) = (1 < below) × (half * (pages - 1) < below) × AreLevels pages above
 
--- there are pages enough for each tree with so many pairs in which all leaves but one have half of their pairs
+-- there are pages enough for each tree with that number of pairs in which all leaves but one have half of their pairs
 abbrev pub HasRoomFor : ℕ → Config → Type 0
 HasRoomFor pairs config = (leaves : ℕ) (above : List ℕ) → half * (leaves - 1) ≤ pairs → AreLevels leaves above → leaves + sum above ≤ config.pages
 

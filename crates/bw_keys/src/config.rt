@@ -1,5 +1,5 @@
 ghost use Rattle.std.specs.Prelude.{◌≡◌, ◌↔◌, ◌+◌, ◌-◌, ◌/◌, ◌<◌, ◌≤◌, None, Some, IsOk, IfErr, IfSome, IfNone};
-ghost use Rattle.bw_keys.specs.Limits.{first_bad_field, usual_config};
+ghost use Rattle.bw_keys.specs.Limits.{first_bad_field, usual_config, usual_with};
 ghost use Rattle.bw_keys.specs.Rooms.{half, HasRoomFor, most_pairs};
 
 use std::fmt;
@@ -36,7 +36,7 @@ pub enum Field {
 pub struct BadConfig(pub Field);
 
 impl Config {
-    /// Answers the first field that is out of its range, in the order in which they are written.
+    /// Reports the first field that is out of its range, in the order in which they are written.
     pub fn check(&self) -> Result<(), BadConfig>
         ensures fine { IsOk result ↔ (first_bad_field self.now ≡ None) }
         ensures first { IfErr result (λ bad. first_bad_field self.now ≡ Some bad.0) }
@@ -56,18 +56,18 @@ impl Config {
         Ok(())
     }
 
-    /// The usual configuration with as many pages as so many pairs may need, in whatever order they are
-    /// put. None where they may need more than 65,536: from 2,031,492 pairs on.
+    /// Returns the usual configuration with as many pages as that number of pairs may need, whatever
+    /// the order of insertion, or `None` if they may need more than 65,536: from 2,031,492 pairs on.
     ///
-    /// This is arithmetic on what splits leave. A page is split where it has 65 entries or more, and
-    /// either part has 32 of them at least, but for the last page of a level, which may be split off
-    /// with fewer. So in a tree that was made by insertions alone all pages but one of a level have 32
-    /// entries, and there are pages for each such tree. Deletes may leave pages with as few as 16 entries:
-    /// where they come in between, ask for twice the pairs.
+    /// A page is split where it has 65 entries or more, and either part has at least 32 of them, but
+    /// for the last page of a level, which may be split off with fewer. So in a tree that insertions
+    /// alone made, all pages but one of a level have 32 entries, and there are pages for each such
+    /// tree. Deletes may leave pages with as few as 16 entries: where they come in between, ask for
+    /// twice the pairs.
     pub fn for_pairs(pairs: u64) -> Option<Config>
         ensures room { IfSome result (HasRoomFor pairs) }
         ensures few { IfSome result (λ config. config.pages ≤ pairs / (half - 1) + 8) }
-        ensures usual { IfSome result (λ config. config ≡ record usual_config { pages = config.pages }) }
+        ensures usual { IfSome result (λ config. config ≡ usual_with config.pages) }
         ensures fine { IfSome result (λ config. first_bad_field config ≡ None) }
         ensures none { IfNone result (most_pairs < pairs) }
     {
@@ -82,14 +82,14 @@ impl Config {
     }
 }
 
-/// What a split leaves at least to either page, where pages may have 64 entries.
+/// The least that a split leaves to either page, where pages may have 64 entries.
 const HALF: u64 = 32;
 
-/// How many levels 65,536 such pages make at most.
+/// The most levels that 65,536 such pages make.
 const MOST_LEVELS: u64 = 5;
 
-/// The usual configuration of a map: pages of 64 entries, consolidated after each change, and 16,384 of
-/// them, for which some 2.7 MB are taken at once. They have room for 507,000 pairs in any order of
+/// The usual configuration of a map: 16,384 pages of 64 entries, consolidated after each change. A
+/// table takes some 2.7 MB for them at once, and they have room for 507,000 pairs in any order of
 /// insertion (see [`Config::for_pairs`]).
 impl Default for Config {
     ghost is_default = { λ config. config ≡ usual_config };

@@ -16,7 +16,7 @@ pub enum Fence {
 }
 
 impl Fence {
-    /// Whether the key lies below the fence. Every key lies below `Top`.
+    /// Reports whether the key lies below the fence. Every key lies below `Top`.
     pub fn is_above(self, key: Key) -> bool
         ensures { IsTrue result ↔ (key < end_of self) }
     {
@@ -46,7 +46,7 @@ pub struct Range {
 }
 
 impl Range {
-    /// Whether the key is one of the range.
+    /// Reports whether the range holds the key.
     pub fn holds(self, key: Key) -> bool
         ensures { IsTrue result ↔ Holds self key }
     {

@@ -111,9 +111,9 @@ pub record MayMark (table : TableValue) (page seen parent : ℕ) : Type 0 where
   pub not_first : (slot_at table page).low ≢ (slot_at table parent).low
   pub shallow : (slot_at table page).depth ≤ MAX_DEPTH - 2
 
-pub record MayMerge (table : TableValue) (left left_seen page seen : ℕ) : Type 0 where
+pub record MayMerge (table : TableValue) (left left_seen page page_seen : ℕ) : Type 0 where
   pub open_left : IsOpen (slot_at table left) left_seen
-  pub fresh : (slot_at table page).version ≡ seen
+  pub fresh : (slot_at table page).version ≡ page_seen
   pub rises : (slot_at table page).version ≢ last_number
   pub marked : (slot_at table page).stage ≡ Marked
   pub beside : (slot_at table left).level ≡ (slot_at table page).level
@@ -238,9 +238,9 @@ mark_accepted table page seen parent none =
       shallow = grind (arith, nat_tests);
     }
 
-pub merge_accepted : (table : TableValue) (left left_seen page seen : ℕ) → refusal table (merge left left_seen page seen) ≡ None → MayMerge table left left_seen page seen
-merge_accepted table left left_seen page seen none =
-    let (absent, (stale, (frozen, (kind, (stage, (neighbours, (deep, (worn, _)))))))) = all_none (reasons table (merge left left_seen page seen)) none in
+pub merge_accepted : (table : TableValue) (left left_seen page page_seen : ℕ) → refusal table (merge left left_seen page page_seen) ≡ None → MayMerge table left left_seen page page_seen
+merge_accepted table left left_seen page page_seen none =
+    let (absent, (stale, (frozen, (kind, (stage, (neighbours, (deep, (worn, _)))))))) = all_none (reasons table (merge left left_seen page page_seen)) none in
     record {
       open_left = record { in_row = grind arith; staying = λ marked. grind arith; fresh = grind (arith, nat_tests); rises = λ last. grind (arith, nat_tests) };
       fresh = grind (arith, nat_tests);

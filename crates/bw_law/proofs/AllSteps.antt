@@ -29,7 +29,7 @@ step_law table (split page seen separator base) law booked none = split_keeps ta
 step_law table (term_add parent parent_seen child child_seen) law booked none = term_add_keeps table parent parent_seen child child_seen law (term_add_accepted table parent parent_seen child child_seen none) booked
 step_law table (grow child seen base) law booked none = grow_keeps table child seen base law (grow_accepted table child seen base none) booked
 step_law table (mark page seen parent) law booked none = mark_keeps table page seen parent law (mark_accepted table page seen parent none) booked
-step_law table (merge left left_seen page seen) law booked none = merge_keeps table left left_seen page seen law (merge_accepted table left left_seen page seen none) booked
+step_law table (merge left left_seen page page_seen) law booked none = merge_keeps table left left_seen page page_seen law (merge_accepted table left left_seen page page_seen none) booked
 step_law table (term_delete parent parent_seen child child_seen) law booked none = term_delete_keeps table parent parent_seen child child_seen law (term_delete_accepted table parent parent_seen child child_seen none) booked
 
 -- a proposed step keeps the law and the book, accepted or refused

@@ -43,7 +43,7 @@ numbered table (grow child seen base) =
     (given _ Absent, (given _ Stale, (given _ WrongKind, (given _ NotSame, (given _ WrongStage, (given _ WrongParent, (given _ TooTall, (given _ TableFull, (given _ Worn, tt)))))))))
 numbered table (mark page seen parent) =
     (given _ Absent, (given _ Stale, (given _ Frozen, (given _ WrongKind, (given _ WrongStage, (given _ WrongParent, (given _ Leftmost, (given _ Deep, (given _ Worn, tt)))))))))
-numbered table (merge left left_seen page seen) =
+numbered table (merge left left_seen page page_seen) =
     (given _ Absent, (given _ Stale, (given _ Frozen, (given _ WrongKind, (given _ WrongStage, (given _ NotNeighbours, (given _ Deep, (given _ Worn, tt))))))))
 numbered table (term_delete parent parent_seen child child_seen) =
     (given _ Absent, (given _ Stale, (given _ Frozen, (given _ WrongKind, (given _ WrongStage, (given _ WrongParent, (given _ Deep, (given _ Worn, tt))))))))
@@ -63,7 +63,7 @@ refusals_rise (split page seen separator base) = refl
 refusals_rise (term_add parent parent_seen child child_seen) = refl
 refusals_rise (grow child seen base) = refl
 refusals_rise (mark page seen parent) = refl
-refusals_rise (merge left left_seen page seen) = refl
+refusals_rise (merge left left_seen page page_seen) = refl
 refusals_rise (term_delete parent parent_seen child child_seen) = refl
 
 -- the first reason is one of the list

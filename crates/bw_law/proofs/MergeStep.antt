@@ -39,7 +39,7 @@ both : {X : Type 0} (b : Bool) (xs ys : List X) → cond b (xs ++ ys) [] ≡ con
 both true xs ys = refl
 both false xs ys = refl
 
-module _ (table : TableValue) (left left_seen page seen : ℕ) (law : Lawful table) (may : MayMerge table left left_seen page seen) where
+module _ (table : TableValue) (left left_seen page page_seen : ℕ) (law : Lawful table) (may : MayMerge table left left_seen page page_seen) where
   abbrev into : SlotValue
   into = slot_at table left
 
@@ -153,7 +153,7 @@ module _ (table : TableValue) (left left_seen page seen : ℕ) (law : Lawful tab
       ∙ chosen_routes (below slot.low (routes_in into) ++ from slot.low (routes_in slot)) (λ k. ltb k slot.low) (λ k. at k (routes_in into)) (λ k. at k (routes_in slot)) (λ k. at-halves slot.low k (routes_in into) (routes_in slot))
 
   -- what the slots show then
-  rows_now : outlines (after table (merge left left_seen page seen)).slots ≡ write (write (outlines table.slots) left (outlined.joined (outline into) (outline slot))) page (outlined.gone Merged key_count slot.low slot.level)
+  rows_now : outlines (after table (merge left left_seen page page_seen)).slots ≡ write (write (outlines table.slots) left (outlined.joined (outline into) (outline slot))) page (outlined.gone Merged key_count slot.low slot.level)
   rows_now =
       outlines_of_two table.slots left page wide taken left_inside page_inside
       ∙ (λ i. write (write (outlines table.slots) left (record (outline wide) { routes = wide_routes i })) page (outline taken))
@@ -197,14 +197,14 @@ module _ (table : TableValue) (left left_seen page seen : ℕ) (law : Lawful tab
   keeps_pairs = shares_moved table.slots left page wide taken left_inside page_inside apart same_keys
       (omega (arith, ap length wide_share, length-append (leaf_pairs into) (leaf_pairs slot)))
 
-  pub merge_keeps : Booked table → KeptBy table (merge left left_seen page seen)
+  pub merge_keeps : Booked table → KeptBy table (merge left left_seen page page_seen)
   merge_keeps booked = record {
-    lawful = lawful_with table (after table (merge left left_seen page seen)) law refl refl
+    lawful = lawful_with table (after table (merge left left_seen page page_seen)) law refl refl
         (subst (λ at. Rows key_count at table.root) (sym rows_now) (merge_keeps_rows key_count (outlines table.slots) table.root left page law.rows left_in may.marked link))
         (good_two table.slots table.config.pages left page wide taken left_inside page_inside wide_page taken_page (in_row_emptied wide may.open_left.in_row) (λ merged. record { open_end = refl; no_link = refl; no_entries = refl; no_records = refl })
         (omega (arith, may.open_left.rises, law.bounds.versions left)) (omega (arith, may.rises, law.bounds.versions page)) (good_slots table law))
         (free-set (set table.slots left wide) table.free page taken (in_row_not_free table.slots table.free page law.free_list page_in)
         (free-set table.slots table.free left wide (in_row_not_free table.slots table.free left law.free_list left_in) law.free_list));
-    booked = booked_with table (after table (merge left left_seen page seen)) refl keeps_pairs booked;
+    booked = booked_with table (after table (merge left left_seen page page_seen)) refl keeps_pairs booked;
     map = keeps_pairs.map;
   }

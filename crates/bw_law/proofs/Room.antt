@@ -149,21 +149,21 @@ module _ (table : TableValue) (law : Lawful table) (booked : Booked table) where
   mark_room page seen parent may = rises_here page (ap is_in_row may.posted) may.rises
 
   -- the left page has room for the entries of both
-  pub merge_room : (left left_seen page seen : ℕ) → MayMerge table left left_seen page seen → MergeRoom table left page
-  merge_room left left_seen page seen may = record {
+  pub merge_room : (left left_seen page page_seen : ℕ) → MayMerge table left left_seen page page_seen → MergeRoom table left page
+  merge_room left left_seen page page_seen may = record {
     left_raised = rises_here left may.open_left.in_row may.open_left.rises;
     raised = rises_here page (ap is_in_row may.marked) may.rises;
     apart = apart;
-    count = omega (arith, ap (λ (s : SlotValue). s.count) now, count_fits (after table (merge left left_seen page seen)) kept.lawful left kept.booked (ap (λ (s : SlotValue). is_in_row s.stage) now ∙ may.open_left.in_row));
+    count = omega (arith, ap (λ (s : SlotValue). s.count) now, count_fits (after table (merge left left_seen page page_seen)) kept.lawful left kept.booked (ap (λ (s : SlotValue). is_in_row s.stage) now ∙ may.open_left.in_row));
   }
     where
       apart : page ≢ left
       apart same = may.open_left.staying (ap (λ x. (slot_at table x).stage) (sym same) ∙ may.marked)
 
-      kept : KeptBy table (merge left left_seen page seen)
-      kept = merge_keeps table left left_seen page seen law may booked
+      kept : KeptBy table (merge left left_seen page page_seen)
+      kept = merge_keeps table left left_seen page page_seen law may booked
 
-      now : slot_at (after table (merge left left_seen page seen)) left ≡ joined (slot_at table left) (slot_at table page)
+      now : slot_at (after table (merge left left_seen page page_seen)) left ≡ joined (slot_at table left) (slot_at table page)
       now =
           slot_kept (set table.slots left (joined (slot_at table left) (slot_at table page))) page (taken_in (slot_at table page)) left (λ same. apart (sym same))
           ∙ slot_written table.slots left (joined (slot_at table left) (slot_at table page)) (here_is_inside table law left may.open_left.in_row)

@@ -112,7 +112,7 @@ slots_after table (grow child seen base) =
     slice_set (slice_set table.slots child (with_stage Posted (slot_at table child))) new
     (grown_root (slot_at table new).version (slot_at table table.root).level base)
 slots_after table (mark page seen parent) = slice_set table.slots page (marked (slot_at table page))
-slots_after table (merge left left_seen page seen) =
+slots_after table (merge left left_seen page page_seen) =
     let into = slot_at table left in
     let slot = slot_at table page in
     slice_set (slice_set table.slots left (joined into slot)) page (taken_in slot)
@@ -143,7 +143,7 @@ receipt_of table (split page seen separator base) = Shaped kinds.Split (pid page
 receipt_of table (term_add parent parent_seen child child_seen) = Shaped kinds.TermAdd (pid parent) (Some (pid child))
 receipt_of table (grow child seen base) = Shaped kinds.Grow (pid (new_id table)) (Some (pid child))
 receipt_of table (mark page seen parent) = Shaped kinds.Mark (pid page) None
-receipt_of table (merge left left_seen page seen) = Shaped kinds.Merge (pid left) (Some (pid page))
+receipt_of table (merge left left_seen page page_seen) = Shaped kinds.Merge (pid left) (Some (pid page))
 receipt_of table (term_delete parent parent_seen child child_seen) = Shaped kinds.TermDelete (pid parent) (Some (pid child))
 
 -- the table after an accepted step: its book counts what the receipt tells, and its configuration stays

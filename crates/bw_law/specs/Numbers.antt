@@ -37,7 +37,7 @@ refusals_of (split page seen separator base) = 1 ∷ 2 ∷ 3 ∷ 4 ∷ 5 ∷ 7 �
 refusals_of (term_add parent parent_seen child child_seen) = 1 ∷ 2 ∷ 3 ∷ 4 ∷ 10 ∷ 11 ∷ 12 ∷ 15 ∷ 18 ∷ []
 refusals_of (grow child seen base) = 1 ∷ 2 ∷ 4 ∷ 9 ∷ 10 ∷ 11 ∷ 16 ∷ 17 ∷ 18 ∷ []
 refusals_of (mark page seen parent) = 1 ∷ 2 ∷ 3 ∷ 4 ∷ 10 ∷ 11 ∷ 13 ∷ 15 ∷ 18 ∷ []
-refusals_of (merge left left_seen page seen) = 1 ∷ 2 ∷ 3 ∷ 4 ∷ 10 ∷ 14 ∷ 15 ∷ 18 ∷ []
+refusals_of (merge left left_seen page page_seen) = 1 ∷ 2 ∷ 3 ∷ 4 ∷ 10 ∷ 14 ∷ 15 ∷ 18 ∷ []
 refusals_of (term_delete parent parent_seen child child_seen) = 1 ∷ 2 ∷ 3 ∷ 4 ∷ 10 ∷ 11 ∷ 15 ∷ 18 ∷ []
 
 abbrev pub HasNumber : ℕ → Option Refused → Type 0

@@ -135,8 +135,8 @@ mark_reasons slot over seen =
     ∷ when (nat_lt (MAX_DEPTH - 2) slot.depth) Deep ∷ worn (slot ∷ []) ∷ []
 
 abbrev pub merge_reasons : SlotValue → SlotValue → ℕ → ℕ → ℕ → List (Option Refused)
-merge_reasons into slot left_seen seen page =
-    absent (into ∷ slot ∷ []) ∷ stale ((into, left_seen) ∷ (slot, seen) ∷ []) ∷ frozen into ∷ when (not (into.level == slot.level)) WrongKind
+merge_reasons into slot left_seen page_seen page =
+    absent (into ∷ slot ∷ []) ∷ stale ((into, left_seen) ∷ (slot, page_seen) ∷ []) ∷ frozen into ∷ when (not (into.level == slot.level)) WrongKind
     ∷ when (not (is_marked slot.stage)) WrongStage ∷ when (not (is_same_link into.right (Some (record { 0 = page })))) NotNeighbours
     ∷ when (nat_le MAX_DEPTH (max into.depth slot.depth)) Deep ∷ worn (into ∷ slot ∷ []) ∷ []
 
@@ -159,7 +159,7 @@ reasons table (grow child seen base) =
     grow_reasons (slot_at table child) (slot_at table table.root) (slot_at table (new_id table)) (is_none (last_id table.free)) seen base
     (root_page table.root (slot_at table child).low child)
 reasons table (mark page seen parent) = mark_reasons (slot_at table page) (slot_at table parent) seen
-reasons table (merge left left_seen page seen) = merge_reasons (slot_at table left) (slot_at table page) left_seen seen page
+reasons table (merge left left_seen page page_seen) = merge_reasons (slot_at table left) (slot_at table page) left_seen page_seen page
 reasons table (term_delete parent parent_seen child child_seen) = term_delete_reasons (slot_at table parent) (slot_at table child) parent_seen child_seen
 
 -- the first reason to refuse the step

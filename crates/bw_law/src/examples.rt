@@ -1,19 +1,18 @@
 //! Small tables on which the definitions compute. Each key has ten times itself as its value.
 
-ghost use Rattle.std.specs.Prelude.{◌≡◌, [], ◌∷◌, take};
+ghost use Rattle.std.specs.Prelude.{◌≡◌, [], ◌∷◌};
 ghost use Rattle.bw_keys.specs.declared.range.Fence.TheVariants.{Key, Top};
-ghost use Rattle.bw_delta.specs.Pages.{Page};
 ghost use Rattle.bw_delta.specs.Fence.{fences};
 ghost use Rattle.bw_step.specs.declared.receipt.Receipt.TheVariants.{Inserted, Deleted};
 ghost use Rattle.bw_step.specs.declared.refused.Refused.TheVariants.{Present, NoKey, BadSeparator, NotSame, TermStands, Leftmost, Worn};
 ghost use Rattle.bw_step.specs.declared.view.Stage.TheVariants.{Free, Unposted};
 ghost use Rattle.bw_step.specs.Proposals.{insert, delete, consolidate, split, mark};
 ghost use Rattle.bw_law.specs.Slots.{chain_in, routes_in, pairs_in, last_number};
-ghost use Rattle.bw_law.specs.Tables.{slot_at, slot_fences, joined_pairs, pair_count, new_table};
+ghost use Rattle.bw_law.specs.Tables.{slot_at, slot_fences, joined_pairs, pair_count};
 ghost use Rattle.bw_law.specs.Refusals.{refusal};
 ghost use Rattle.bw_law.specs.Effects.{after, receipt_of, pid};
-ghost use Rattle.bw_law.specs.Runs.{run, answers};
-ghost use Rattle.bw_law.specs.Examples.{small_config, two_leaves, three_leaves, leaf, inner, tens, leads, removal, growth};
+ghost use Rattle.bw_law.specs.Runs.{answers};
+ghost use Rattle.bw_law.specs.Examples.{two_leaves, three_leaves, leaf, tens, leads, fence, seven_pairs, removal, removing, removed, split_at_leaving, small_table, worn_table, growth, grown};
 
 /// A base that leaves out a key of the page doesn't stand for it.
 pub fn a_base_that_lacks_a_key_is_refused()
@@ -40,54 +39,54 @@ pub fn the_first_page_is_not_marked()
 
 /// A term isn't added over the term of a page that was merged: that one goes first.
 pub fn a_standing_term_goes_first()
-    ensures { answers three_leaves removal ≡ None ∷ None ∷ None ∷ None ∷ Some (TermStands (pid 1)) ∷ None ∷ None ∷ [] }
+    ensures { answers three_leaves removal
+        ≡ None ∷ None ∷ None ∷ None ∷ Some (TermStands (pid 1)) ∷ None ∷ None ∷ [] }
 {}
 
 /// Once its term is taken out, the page that was merged is free, and its id is given again.
 pub fn a_removed_page_is_free()
-    ensures stage { (slot_at (run three_leaves removal) 1).stage ≡ Free }
-    ensures listed { (run three_leaves removal).free ≡ 1 ∷ [] }
-    ensures terms { routes_in (slot_at (run three_leaves removal) 2) ≡ leads ((0, 0) ∷ (3, 4) ∷ (5, 3) ∷ []) }
+    ensures stage { (slot_at removed 1).stage ≡ Free }
+    ensures listed { removed.free ≡ 1 ∷ [] }
+    ensures terms { routes_in (slot_at removed 2) ≡ leads ((0, 0) ∷ (3, 4) ∷ (5, 3) ∷ []) }
 {}
 
 /// The page that takes in another ends where that one ended.
 pub fn a_merge_takes_the_right_link()
-    ensures fence { slot_fences (slot_at (run three_leaves (take 2 removal)) 0) ≡ record { low = 0; high = Key 5; right = Some (pid 3) } }
-    ensures chain { fences (chain_in (slot_at (run three_leaves (take 2 removal)) 0)) ≡ record { low = 0; high = Key 5; right = Some (pid 3) } }
+    ensures fence { slot_fences (slot_at (removing 2) 0) ≡ fence 0 (Key 5) (Some 3) }
+    ensures chain { fences (chain_in (slot_at (removing 2) 0)) ≡ fence 0 (Key 5) (Some 3) }
 {}
 
 /// The new page of a split begins at the separator, and ends where the page ended.
 pub fn a_split_ends_the_page_at_the_separator()
-    ensures lower { slot_fences (slot_at (run three_leaves (take 4 removal)) 0) ≡ record { low = 0; high = Key 3; right = Some (pid 4) } }
-    ensures upper { slot_fences (slot_at (run three_leaves (take 4 removal)) 4) ≡ record { low = 3; high = Key 5; right = Some (pid 3) } }
-    ensures stage { (slot_at (run three_leaves (take 4 removal)) 4).stage ≡ Unposted }
+    ensures lower { slot_fences (slot_at (removing 4) 0) ≡ fence 0 (Key 3) (Some 4) }
+    ensures upper { slot_fences (slot_at (removing 4) 4) ≡ fence 3 (Key 5) (Some 3) }
+    ensures stage { (slot_at (removing 4) 4).stage ≡ Unposted }
 {}
 
 /// The leaves have the same pairs throughout.
 pub fn a_removal_keeps_the_pairs()
-    ensures before { joined_pairs three_leaves.slots (0 ∷ 1 ∷ 3 ∷ []) ≡ tens (1 ∷ 2 ∷ 3 ∷ 4 ∷ 5 ∷ 6 ∷ 7 ∷ []) }
-    ensures marked { joined_pairs (run three_leaves (take 1 removal)).slots (0 ∷ 1 ∷ 3 ∷ []) ≡ tens (1 ∷ 2 ∷ 3 ∷ 4 ∷ 5 ∷ 6 ∷ 7 ∷ []) }
-    ensures merged { joined_pairs (run three_leaves (take 2 removal)).slots (0 ∷ 3 ∷ []) ≡ tens (1 ∷ 2 ∷ 3 ∷ 4 ∷ 5 ∷ 6 ∷ 7 ∷ []) }
-    ensures split { joined_pairs (run three_leaves (take 4 removal)).slots (0 ∷ 4 ∷ 3 ∷ []) ≡ tens (1 ∷ 2 ∷ 3 ∷ 4 ∷ 5 ∷ 6 ∷ 7 ∷ []) }
-    ensures counted { pair_count (run three_leaves removal).slots ≡ 7 }
+    ensures before { joined_pairs three_leaves.slots (0 ∷ 1 ∷ 3 ∷ []) ≡ seven_pairs }
+    ensures marked { joined_pairs (removing 1).slots (0 ∷ 1 ∷ 3 ∷ []) ≡ seven_pairs }
+    ensures merged { joined_pairs (removing 2).slots (0 ∷ 3 ∷ []) ≡ seven_pairs }
+    ensures split { joined_pairs (removing 4).slots (0 ∷ 4 ∷ 3 ∷ []) ≡ seven_pairs }
+    ensures counted { pair_count removed.slots ≡ 7 }
 {}
 
 /// An inner page isn't split at the low of a child that is being removed: that child would be the
 /// first below the new page.
 pub fn an_inner_page_is_not_split_at_a_leaving_child()
-    ensures { answers three_leaves (consolidate 2 0 (inner 0 Top None ((0, 0) ∷ (3, 1) ∷ (5, 3) ∷ [])) ∷ mark 1 0 2 ∷ split 2 1 3 (inner 3 Top None ((3, 1) ∷ (5, 3) ∷ [])) ∷ [])
-        ≡ None ∷ None ∷ Some BadSeparator ∷ [] }
+    ensures { answers three_leaves split_at_leaving ≡ None ∷ None ∷ Some BadSeparator ∷ [] }
 {}
 
 /// A table that grew from one leaf to two under a root.
 pub fn a_table_grows_a_root()
-    ensures accepted { answers (new_table small_config) growth ≡ None ∷ None ∷ None ∷ None ∷ None ∷ [] }
-    ensures root { (run (new_table small_config) growth).root ≡ 2 }
-    ensures level { (slot_at (run (new_table small_config) growth) 2).level ≡ 1 }
-    ensures pairs { joined_pairs (run (new_table small_config) growth).slots (0 ∷ 1 ∷ []) ≡ tens (1 ∷ 4 ∷ []) }
+    ensures accepted { answers small_table growth ≡ None ∷ None ∷ None ∷ None ∷ None ∷ [] }
+    ensures root { grown.root ≡ 2 }
+    ensures level { (slot_at grown 2).level ≡ 1 }
+    ensures pairs { joined_pairs grown.slots (0 ∷ 1 ∷ []) ≡ tens (1 ∷ 4 ∷ []) }
 {}
 
 /// A slot whose version is used up takes no more steps.
 pub fn a_worn_slot_takes_no_step()
-    ensures { refusal (new_table (record small_config { first_version = last_number })) (insert 0 last_number 1 10) ≡ Some Worn }
+    ensures { refusal worn_table (insert 0 last_number 1 10) ≡ Some Worn }
 {}

@@ -127,7 +127,7 @@ ChangesShape (split page seen separator base) = Unit {0}
 ChangesShape (term_add parent parent_seen child child_seen) = Unit {0}
 ChangesShape (grow child seen base) = Unit {0}
 ChangesShape (mark page seen parent) = Unit {0}
-ChangesShape (merge left left_seen page seen) = Unit {0}
+ChangesShape (merge left left_seen page page_seen) = Unit {0}
 ChangesShape (term_delete parent parent_seen child child_seen) = Unit {0}
 
 -- the count of a refusal that ends a call rose

@@ -260,7 +260,7 @@ fn merge_under<A: Allocator + Copy, S: Steps<A, Step<A>>>(
         left: left.pid,
         left_seen: left.version,
         page: view.pid,
-        seen: view.version,
+        page_seen: view.version,
         left_spare,
         page_spare,
     });

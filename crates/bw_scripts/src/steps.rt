@@ -109,14 +109,14 @@ fn mark(alloc: Global, words: &[&str]) -> Result<Step<Global>, Unread> {
 }
 
 fn merge(alloc: Global, words: &[&str]) -> Result<Step<Global>, Unread> {
-    let [left, left_seen, pid, seen] = words else {
+    let [left, left_seen, pid, page_seen] = words else {
         return Err(Unread::Words);
     };
     Ok(Step::Merge(Merge {
         left: page(left)?,
         left_seen: version(left_seen)?,
         page: page(pid)?,
-        seen: version(seen)?,
+        page_seen: version(page_seen)?,
         left_spare: Spare::new(alloc)?,
         page_spare: Spare::new(alloc)?,
     }))

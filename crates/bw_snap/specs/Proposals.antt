@@ -23,7 +23,7 @@ parts_of (split page seen separator base) = inr (inr (inr (inl ((page, (seen, se
 parts_of (term_add parent parent_seen child child_seen) = inr (inr (inr (inr (inl (parent, (parent_seen, (child, child_seen)))))))
 parts_of (grow child seen base) = inr (inr (inr (inr (inr (inl (child, (seen, base)))))))
 parts_of (mark page seen parent) = inr (inr (inr (inr (inr (inr (inl (page, (seen, parent))))))))
-parts_of (merge left left_seen page seen) = inr (inr (inr (inr (inr (inr (inr (inl (left, (left_seen, (page, seen))))))))))
+parts_of (merge left left_seen page page_seen) = inr (inr (inr (inr (inr (inr (inr (inl (left, (left_seen, (page, page_seen))))))))))
 parts_of (term_delete parent parent_seen child child_seen) = inr (inr (inr (inr (inr (inr (inr (inr (inl (parent, (parent_seen, (child, child_seen)))))))))))
 parts_of (modify page seen key value) = inr (inr (inr (inr (inr (inr (inr (inr (inr (page, (seen, (key, value)))))))))))
 
@@ -47,7 +47,7 @@ proposal_again-parts_of (split page seen separator base) = refl
 proposal_again-parts_of (term_add parent parent_seen child child_seen) = refl
 proposal_again-parts_of (grow child seen base) = refl
 proposal_again-parts_of (mark page seen parent) = refl
-proposal_again-parts_of (merge left left_seen page seen) = refl
+proposal_again-parts_of (merge left left_seen page page_seen) = refl
 proposal_again-parts_of (term_delete parent parent_seen child child_seen) = refl
 proposal_again-parts_of (modify page seen key value) = refl
 

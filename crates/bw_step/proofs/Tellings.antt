@@ -1,9 +1,9 @@
--- What is told of lists of receipts.
+-- What lists of receipts report.
 use Rattle.std.proofs.Common.{◌≡◌, List, [], ◌∷◌, ◌++◌, refl, ap, sym, ◌∙◌, append_assoc}
 use Rattle.bw_step.specs.declared.receipt.Receipt.{Receipt}
 use Rattle.bw_step.specs.Tellings.{Telling, change, look, shape, telling_of, Told, told_by, told_in, unless_shape, without_shapes}
 
--- two lists tell what the one tells and then what the other does
+-- two lists report what the one does and then what the other does
 pub told_in-append : (xs ys : List Receipt) → told_in (xs ++ ys) ≡ told_in xs ++ told_in ys
 told_in-append [] ys = refl
 told_in-append (x ∷ xs) ys =
@@ -20,7 +20,7 @@ told_unless_shape x (change number key before after) xs is = ap (λ t. told_by t
 told_unless_shape x (look at key found) xs is = ap (λ t. told_by t ++ told_in xs) is
 told_unless_shape x shape xs is = refl
 
--- receipts of changed shape tell nothing
+-- receipts of a changed shape report nothing
 pub told_in-without_shapes : (xs : List Receipt) → told_in (without_shapes xs) ≡ told_in xs
 told_in-without_shapes [] = refl
 told_in-without_shapes (x ∷ xs) =

@@ -38,7 +38,7 @@ abbrev pub mark_of : {A : Type 0} → Mark A → Proposal
 mark_of step = mark step.page.0 step.seen.0 step.parent.0
 
 abbrev pub merge_of : {A : Type 0} → Merge A → Proposal
-merge_of step = merge step.left.0 step.left_seen.0 step.page.0 step.seen.0
+merge_of step = merge step.left.0 step.left_seen.0 step.page.0 step.page_seen.0
 
 abbrev pub term_delete_of : {A : Type 0} → TermDelete A → Proposal
 term_delete_of step = term_delete step.parent.0 step.parent_seen.0 step.child.0 step.child_seen.0

@@ -11,5 +11,5 @@ pub data Proposal : Type 0 where
   term_add : (parent parent_seen child child_seen : ℕ) → Proposal
   grow : (child seen : ℕ) (base : Page) → Proposal
   mark : (page seen parent : ℕ) → Proposal
-  merge : (left left_seen page seen : ℕ) → Proposal
+  merge : (left left_seen page page_seen : ℕ) → Proposal
   term_delete : (parent parent_seen child child_seen : ℕ) → Proposal

@@ -30,7 +30,7 @@ IsNext place key goal (Right next) = (next.level ≡ place.level) × (place.from
 IsNext place key goal (Down next) = (next.level + 1 ≡ place.level) × (goal ≤ next.level) × (next.from ≤ key)
 IsNext place key goal (Here view) = IsViewAt place key goal view
 
--- the receipt of the step: it tells the step's kind, pages, key and value
+-- the receipt of the step: it reports the step's kind, pages, key and value
 abbrev pub IsReceiptOf : Proposal → Receipt → Type 0
 IsReceiptOf (insert page seen key value) (Inserted number k v) = (k ≡ key) × (v ≡ value)
 IsReceiptOf (delete page seen key) (Deleted number k v) = k ≡ key
@@ -40,7 +40,7 @@ IsReceiptOf (split page seen separator base) (Shaped kind at other) = (kind ≡ 
 IsReceiptOf (term_add parent parent_seen child child_seen) (Shaped kind at other) = (kind ≡ kinds.TermAdd) × (at.0 ≡ parent) × (other ≡ Some (record { 0 = child }))
 IsReceiptOf (grow child seen base) (Shaped kind at other) = (kind ≡ kinds.Grow) × (other ≡ Some (record { 0 = child }))
 IsReceiptOf (mark page seen parent) (Shaped kind at other) = (kind ≡ kinds.Mark) × (at.0 ≡ page) × (other ≡ None)
-IsReceiptOf (merge left left_seen page seen) (Shaped kind at other) = (kind ≡ kinds.Merge) × (at.0 ≡ left) × (other ≡ Some (record { 0 = page }))
+IsReceiptOf (merge left left_seen page page_seen) (Shaped kind at other) = (kind ≡ kinds.Merge) × (at.0 ≡ left) × (other ≡ Some (record { 0 = page }))
 IsReceiptOf (term_delete parent parent_seen child child_seen) (Shaped kind at other) = (kind ≡ kinds.TermDelete) × (at.0 ≡ parent) × (other ≡ Some (record { 0 = child }))
 IsReceiptOf _ _ = ⊥
 

@@ -1,10 +1,10 @@
--- What a receipt tells, by which trails, shares, histories and runs have it.
+-- What a receipt reports. Trails, shares, histories and runs go by it.
 use Rattle.std.specs.Prelude.{ℕ, List, [], ◌∷◌, ◌++◌, Option, Some, None}
 use Rattle.bw_step.specs.declared.receipt.Receipt.{Receipt}
 use Rattle.bw_step.specs.declared.receipt.Receipt.TheVariants.{Inserted, Deleted, Modified, Looked, Shaped}
 
--- A receipt tells of the change of a key, with its number and with what the key had before it and has after it; or of a look, with the
--- number of the changes that it saw and with what it found; or of a step of the tree's shape.
+-- A receipt reports the change of a key, with its number and with what the key had before it and has after it; or a look, with the number
+-- of the changes that it saw and with what it found; or a step of the tree's shape.
 pub data Telling : Type 0 where
   change : (number key : ℕ) (before after : Option ℕ) → Telling
   look : (at key : ℕ) (found : Option ℕ) → Telling
@@ -17,18 +17,18 @@ telling_of (Modified number key old value) = change number key (Some old) (Some 
 telling_of (Looked at key found) = look at key found
 telling_of (Shaped kind page other) = shape
 
--- what a caller is told: how a key changed, or what it was found to have
+-- what is reported to a caller: how a key changed, or what it was found to have
 pub data Told : Type 0 where
   changed : (key : ℕ) (before after : Option ℕ) → Told
   looked : (key : ℕ) (value : Option ℕ) → Told
 
--- a change of the shape tells a caller nothing
+-- a change of the shape is reported to no caller
 abbrev pub told_by : Telling → List Told
 told_by (change number key before after) = changed key before after ∷ []
 told_by (look at key found) = looked key found ∷ []
 told_by shape = []
 
--- what callers are told by the receipts, in their order
+-- what the receipts report to callers, in their order
 abbrev pub told_in : List Receipt → List Told
 told_in [] = []
 told_in (receipt ∷ rest) = told_by (telling_of receipt) ++ told_in rest
@@ -39,7 +39,7 @@ unless_shape receipt (change number key before after) = receipt ∷ []
 unless_shape receipt (look at key found) = receipt ∷ []
 unless_shape receipt shape = []
 
--- the receipts that tell of more than the tree's shape, in their order
+-- the receipts that report more than the tree's shape, in their order
 abbrev pub without_shapes : List Receipt → List Receipt
 without_shapes [] = []
 without_shapes (receipt ∷ rest) = unless_shape receipt (telling_of receipt) ++ without_shapes rest

@@ -1,5 +1,5 @@
-//! The plain types that a mapping table is asked and answers with: places and views of pages,
-//! proposed steps, receipts of accepted ones, and the reasons why a step is not taken.
+//! The plain types of a mapping table's calls: places and views of pages, proposed steps, receipts
+//! of accepted ones, and the reasons to refuse a step.
 #![tactic(auto)]
 
 mod at_once;

@@ -23,7 +23,7 @@ pub enum Step<A: Allocator> {
 }
 
 impl<A: Allocator + Copy> Step<A> {
-    /// An equal step with memory of its own.
+    /// Returns an equal step with memory of its own.
     pub fn twin(&self, alloc: A) -> Result<Step<A>, NoMemory>
         ensures { IfOk result (λ twin. twin ≡ self.now) }
     {

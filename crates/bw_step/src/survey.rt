@@ -54,8 +54,8 @@ pub struct Survey {
     pub book: Book,
 }
 
-/// A line for each leaf, and one that says how many pairs were inserted, were removed and are there.
-/// No line feed ends the last one.
+/// A line for each leaf, and one with the numbers of pairs that were inserted, were removed and are
+/// there. No line feed ends the last one.
 impl fmt::Display for Survey {
     fn fmt<W: fmt::Write>(&self, f: &mut fmt::Formatter<W>) -> fmt::Result {
         let mut pairs = 0u64;

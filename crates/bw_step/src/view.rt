@@ -19,7 +19,7 @@ pub enum Stage {
 }
 
 impl Stage {
-    /// Whether a page at this stage is one of the row of its level: Unposted, Posted or Marked.
+    /// Reports whether a page at this stage is in the row of its level: Unposted, Posted or Marked.
     pub fn is_in_row(self) -> bool
         ensures { result ≡ is_in_row self }
     {
@@ -29,7 +29,7 @@ impl Stage {
         }
     }
 
-    /// Whether the level above has a term for a page at this stage: Posted, Marked or Merged.
+    /// Reports whether the level above has a term for a page at this stage: Posted, Marked or Merged.
     pub fn has_term(self) -> bool
         ensures { result ≡ has_term self }
     {
@@ -39,7 +39,7 @@ impl Stage {
         }
     }
 
-    /// Whether the removal of a page at this stage has begun: Marked or Merged.
+    /// Reports whether the removal of a page at this stage has begun: Marked or Merged.
     pub fn is_leaving(self) -> bool
         ensures { result ≡ is_leaving self }
     {

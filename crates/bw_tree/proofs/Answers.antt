@@ -16,7 +16,7 @@ is_receipt table (split page seen separator base) = (refl, refl, pid (new_id tab
 is_receipt table (term_add parent parent_seen child child_seen) = (refl, refl, refl)
 is_receipt table (grow child seen base) = (refl, refl)
 is_receipt table (mark page seen parent) = (refl, refl, refl)
-is_receipt table (merge left left_seen page seen) = (refl, refl, refl)
+is_receipt table (merge left left_seen page page_seen) = (refl, refl, refl)
 is_receipt table (term_delete parent parent_seen child child_seen) = (refl, refl, refl)
 
 pub is_told : (old new : TableValue) (step : Proposal) (receipt : Receipt) → TakesStep old step receipt new → IsReceiptOf step receipt

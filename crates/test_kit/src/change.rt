@@ -134,7 +134,7 @@ fn growth<A: Allocator + Copy, S: Pages<A>>(
 fn merge<A: Allocator + Copy>(
     alloc: A,
     (left, left_seen): (u32, Version),
-    (page, seen): (u32, Version),
+    (page, page_seen): (u32, Version),
 ) -> Result<Step<A>, NoMemory> {
     let left_spare = Spare::new(alloc)?;
     let page_spare = Spare::new(alloc)?;
@@ -142,7 +142,7 @@ fn merge<A: Allocator + Copy>(
         left: Pid(left),
         left_seen,
         page: Pid(page),
-        seen,
+        page_seen,
         left_spare,
         page_spare,
     }))

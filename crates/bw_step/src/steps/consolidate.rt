@@ -4,7 +4,7 @@ use bw_delta::{Base, NoMemory};
 use bw_keys::{Pid, Version};
 use std::alloc::Allocator;
 
-/// Puts the base, which lists what the chain does, in the chain's place.
+/// Replaces the chain by the base, which lists the same.
 #[derive(Drop)]
 pub struct Consolidate<A: Allocator> {
     pub page: Pid,
@@ -13,7 +13,7 @@ pub struct Consolidate<A: Allocator> {
 }
 
 impl<A: Allocator + Copy> Consolidate<A> {
-    /// An equal step with memory of its own.
+    /// Returns an equal step with memory of its own.
     pub fn twin(&self, alloc: A) -> Result<Consolidate<A>, NoMemory>
         ensures { IfOk result (λ twin. twin ≡ self.now) }
     {

@@ -4,7 +4,7 @@ use bw_delta::{NoMemory, Spare};
 use bw_keys::{Key, Pid, Version};
 use std::alloc::Allocator;
 
-/// Takes the key out.
+/// Removes the key.
 #[derive(Drop)]
 pub struct Delete<A: Allocator> {
     pub page: Pid,
@@ -14,7 +14,7 @@ pub struct Delete<A: Allocator> {
 }
 
 impl<A: Allocator + Copy> Delete<A> {
-    /// An equal step with memory of its own.
+    /// Returns an equal step with memory of its own.
     pub fn twin(&self, alloc: A) -> Result<Delete<A>, NoMemory>
         ensures { IfOk result (λ twin. twin ≡ self.now) }
     {

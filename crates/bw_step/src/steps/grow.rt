@@ -13,7 +13,7 @@ pub struct Grow<A: Allocator> {
 }
 
 impl<A: Allocator + Copy> Grow<A> {
-    /// An equal step with memory of its own.
+    /// Returns an equal step with memory of its own.
     pub fn twin(&self, alloc: A) -> Result<Grow<A>, NoMemory>
         ensures { IfOk result (λ twin. twin ≡ self.now) }
     {

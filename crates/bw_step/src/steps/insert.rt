@@ -4,7 +4,7 @@ use bw_delta::{NoMemory, Spare};
 use bw_keys::{Key, Pid, Version};
 use std::alloc::Allocator;
 
-/// Gives the key the value.
+/// Inserts the key, which the leaf doesn't have, with the value.
 #[derive(Drop)]
 pub struct Insert<A: Allocator> {
     pub page: Pid,
@@ -15,7 +15,7 @@ pub struct Insert<A: Allocator> {
 }
 
 impl<A: Allocator + Copy> Insert<A> {
-    /// An equal step with memory of its own.
+    /// Returns an equal step with memory of its own.
     pub fn twin(&self, alloc: A) -> Result<Insert<A>, NoMemory>
         ensures { IfOk result (λ twin. twin ≡ self.now) }
     {

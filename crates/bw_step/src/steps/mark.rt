@@ -15,7 +15,7 @@ pub struct Mark<A: Allocator> {
 }
 
 impl<A: Allocator + Copy> Mark<A> {
-    /// An equal step with memory of its own.
+    /// Returns an equal step with memory of its own.
     pub fn twin(&self, alloc: A) -> Result<Mark<A>, NoMemory>
         ensures { IfOk result (λ twin. twin ≡ self.now) }
     {

@@ -4,19 +4,19 @@ use bw_delta::{NoMemory, Spare};
 use bw_keys::{Pid, Version};
 use std::alloc::Allocator;
 
-/// Takes the marked page in to its left neighbour.
+/// Merges the marked page into its left neighbour.
 #[derive(Drop)]
 pub struct Merge<A: Allocator> {
     pub left: Pid,
     pub left_seen: Version,
     pub page: Pid,
-    pub seen: Version,
+    pub page_seen: Version,
     pub left_spare: Spare<A>,
     pub page_spare: Spare<A>,
 }
 
 impl<A: Allocator + Copy> Merge<A> {
-    /// An equal step with memory of its own.
+    /// Returns an equal step with memory of its own.
     pub fn twin(&self, alloc: A) -> Result<Merge<A>, NoMemory>
         ensures { IfOk result (λ twin. twin ≡ self.now) }
     {
@@ -24,7 +24,7 @@ impl<A: Allocator + Copy> Merge<A> {
             left: self.left,
             left_seen: self.left_seen,
             page: self.page,
-            seen: self.seen,
+            page_seen: self.page_seen,
             left_spare: Spare::new(alloc)?,
             page_spare: Spare::new(alloc)?,
         })

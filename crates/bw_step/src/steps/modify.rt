@@ -4,7 +4,7 @@ use bw_delta::{NoMemory, Spare};
 use bw_keys::{Key, Pid, Version};
 use std::alloc::Allocator;
 
-/// Gives the key, which the leaf has, another value.
+/// Changes the value of the key, which the leaf has.
 #[derive(Drop)]
 pub struct Modify<A: Allocator> {
     pub page: Pid,
@@ -15,7 +15,7 @@ pub struct Modify<A: Allocator> {
 }
 
 impl<A: Allocator + Copy> Modify<A> {
-    /// An equal step with memory of its own.
+    /// Returns an equal step with memory of its own.
     pub fn twin(&self, alloc: A) -> Result<Modify<A>, NoMemory>
         ensures { IfOk result (λ twin. twin ≡ self.now) }
     {

@@ -4,7 +4,7 @@ use bw_delta::{Base, NoMemory, Spare};
 use bw_keys::{Key, Pid, Version};
 use std::alloc::Allocator;
 
-/// Gives the entries from the separator on, which the base lists, to a new page on the right.
+/// Moves the entries from the separator on, which the base lists, to a new page on the right.
 #[derive(Drop)]
 pub struct Split<A: Allocator> {
     pub page: Pid,
@@ -15,7 +15,7 @@ pub struct Split<A: Allocator> {
 }
 
 impl<A: Allocator + Copy> Split<A> {
-    /// An equal step with memory of its own.
+    /// Returns an equal step with memory of its own.
     pub fn twin(&self, alloc: A) -> Result<Split<A>, NoMemory>
         ensures { IfOk result (λ twin. twin ≡ self.now) }
     {

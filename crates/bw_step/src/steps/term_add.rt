@@ -15,7 +15,7 @@ pub struct TermAdd<A: Allocator> {
 }
 
 impl<A: Allocator + Copy> TermAdd<A> {
-    /// An equal step with memory of its own.
+    /// Returns an equal step with memory of its own.
     pub fn twin(&self, alloc: A) -> Result<TermAdd<A>, NoMemory>
         ensures { IfOk result (λ twin. twin ≡ self.now) }
     {

@@ -4,7 +4,7 @@ use bw_delta::{NoMemory, Spare};
 use bw_keys::{Pid, Version};
 use std::alloc::Allocator;
 
-/// Takes the term of the merged child out of its parent, and frees the child's slot.
+/// Removes the term of the merged child from its parent, and frees the child's slot.
 #[derive(Drop)]
 pub struct TermDelete<A: Allocator> {
     pub parent: Pid,
@@ -15,7 +15,7 @@ pub struct TermDelete<A: Allocator> {
 }
 
 impl<A: Allocator + Copy> TermDelete<A> {
-    /// An equal step with memory of its own.
+    /// Returns an equal step with memory of its own.
     pub fn twin(&self, alloc: A) -> Result<TermDelete<A>, NoMemory>
         ensures { IfOk result (λ twin. twin ≡ self.now) }
     {

@@ -58,12 +58,12 @@ fn may_merge<A: Allocator + Copy>(
     slot: &Slot<A>,
     step: &Merge<A>,
 ) -> Result<(), Refused>
-    ensures { result ≡ fine_unless (first_reason (merge_reasons into.now slot.now step.now.left_seen.0 step.now.seen.0 step.now.page.0)) }
+    ensures { result ≡ fine_unless (first_reason (merge_reasons into.now slot.now step.now.left_seen.0 step.now.page_seen.0 step.now.page.0)) }
 {
     if !into.stage.is_in_row() || !slot.stage.is_in_row() {
         return Err(Refused::Absent);
     }
-    if into.version != step.left_seen.0 || slot.version != step.seen.0 {
+    if into.version != step.left_seen.0 || slot.version != step.page_seen.0 {
         return Err(Refused::Stale);
     }
     if into.stage == Stage::Marked {
