@@ -32,7 +32,12 @@ impl<'t, A: Allocator> Model for LeafRef<'t, A> {
 
     ghost coded = { leaf_code };
 
-    ghost view = { λ l. record { pid = l.pid; low = l.slot.now.low; high = l.slot.now.high; pairs = pairs_in l.slot.now } };
+    ghost view = { λ l. record {
+      pid = l.pid;
+      low = l.slot.now.low;
+      high = l.slot.now.high;
+      pairs = pairs_in l.slot.now;
+    } };
 
     ghost invariant = { λ l. (is_in_row l.slot.now.stage ≡ true) × HasSoundChain l.slot.now };
 }

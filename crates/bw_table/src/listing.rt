@@ -4,7 +4,7 @@ ghost use Rattle.std.specs.Prelude.{◌≡◌, ◌+◌, ◌≤◌, ◌++◌, [],
 ghost use Rattle.bw_delta.specs.Entries.{from};
 ghost use Rattle.bw_step.specs.Stages.{is_in_row};
 ghost use Rattle.bw_law.specs.Slots.{pairs_in};
-ghost use Rattle.bw_law.specs.Tables.{Lawful, pair_count, slot_at};
+ghost use Rattle.bw_law.specs.Tables.{pair_count};
 ghost use Rattle.bw_table.specs.SlotFacts.{HasSoundChain};
 ghost use Rattle.bw_table.specs.Gets.{IsListing};
 
@@ -70,7 +70,8 @@ impl<A: Allocator + Copy> Slot<A> {
         requires in_row { is_in_row self.now.stage ≡ true }
         requires sound { HasSoundChain self.now }
         requires few { length list.items ≤ limit }
-        requires room { length (take limit (list.items ++ from low (pairs_in self.now))) ≤ vec_capacity list }
+        requires room { length (take limit (list.items ++ from low (pairs_in self.now)))
+            ≤ vec_capacity list }
         ensures items { result.items ≡ take limit (list.items ++ from low (pairs_in self.now)) }
         ensures capacity { vec_capacity list ≤ vec_capacity result }
     {

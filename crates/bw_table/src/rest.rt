@@ -24,7 +24,8 @@ impl<A: Allocator + Copy> Table<A> {
     /// or a merge. It takes no memory.
     #[inline(always)]
     pub fn leaf_at_rest(&self, key: Key) -> Option<View>
-        ensures view { IfSome result (λ view. view ≡ view_of view.pid (slot_at self.now view.pid.0)) }
+        ensures view { IfSome result (λ view.
+            view ≡ view_of view.pid (slot_at self.now view.pid.0)) }
         ensures leaf { IfSome result (λ view. IsLeafOf self.now key view.pid.0) }
         ensures posted { IfSome result (λ view. view.stage ≡ Stage.Posted) }
         ensures unfinished { IfNone result (HasUnfinished self.now) }

@@ -50,8 +50,10 @@ impl<A: Allocator + Copy> Table<A> {
     #[inline(always)]
     pub fn install(&mut self, step: Step<A>) -> Result<Receipt, Refused>
         ensures accepted { IsOk result ↔ (refusal self.old (proposal_of step) ≡ None) }
-        ensures taken { IfOk result (λ receipt. TakesStep self.old (proposal_of step) receipt self.new) }
-        ensures refused { IfErr result (λ reason. refusal self.old (proposal_of step) ≡ Some reason) }
+        ensures taken { IfOk result (λ receipt.
+            TakesStep self.old (proposal_of step) receipt self.new) }
+        ensures refused { IfErr result (λ reason.
+            refusal self.old (proposal_of step) ≡ Some reason) }
         ensures unchanged { OnErr result (self.new ≡ self.old) }
     {
         self.check(&step)?;

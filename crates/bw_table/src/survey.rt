@@ -69,7 +69,8 @@ impl<A: Allocator + Copy> Table<A> {
     fn first_child(&self, page: Pid) -> Option<Pid>
         requires { IsRowStart self.now page.0 }
         ensures first { IfSome result (λ child. IsRowStart self.now child.0) }
-        ensures down { IfSome result (λ child. (slot_at self.now page.0).level ≡ (slot_at self.now child.0).level + 1) }
+        ensures down { IfSome result (λ child.
+            (slot_at self.now page.0).level ≡ (slot_at self.now child.0).level + 1) }
         ensures leaf { IfNone result ((slot_at self.now page.0).level ≡ 0) }
     {
         self.page(page).route_at(0)
