@@ -83,7 +83,7 @@ joined into slot = record into {
 abbrev pub taken_in : SlotValue → SlotValue
 taken_in slot = record (free_slot (suc slot.version)) { stage = Merged; low = slot.low; level = slot.level }
 
--- a page whose version is used up isn't given again
+-- the id of a page whose version is used up isn't taken again
 abbrev pub freed : List ℕ → ℕ → ℕ → List ℕ
 freed free page version = if version == last_number then free else free ++ page ∷ []
 
@@ -163,7 +163,7 @@ slots_after table (mark page seen parent) = slots_marked page table.slots
 slots_after table (merge left left_seen page seen) = slots_merged left page table.slots
 slots_after table (term_delete parent parent_seen child child_seen) = slots_unposted parent child table.slots
 
--- a split and a grow take a free id, and a page whose term is taken out gives its own back
+-- a split and a grow take a free id, and the id of a page whose term is taken out is free again
 abbrev pub free_after : TableValue → Proposal → List ℕ
 free_after table (split page seen separator base) = all_but_last table.free
 free_after table (grow child seen base) = all_but_last table.free
@@ -188,7 +188,7 @@ receipt_of table (mark page seen parent) = Shaped kinds.Mark (pid page) None
 receipt_of table (merge left left_seen page seen) = Shaped kinds.Merge (pid left) (Some (pid page))
 receipt_of table (term_delete parent parent_seen child child_seen) = Shaped kinds.TermDelete (pid parent) (Some (pid child))
 
--- the table after an accepted step: its book counts what the receipt tells, and its configuration stays
+-- the table after an accepted step: its book counts what the receipt reports, and its configuration stays
 abbrev pub after : TableValue → Proposal → TableValue
 after table step = record {
   slots = slots_after table step;

@@ -108,7 +108,7 @@ receipt_for number key had (Some deltas.Remove) = Looked number key had
 receipt_for number key had (Some (deltas.TermAdd separator child)) = Looked number key had
 receipt_for number key had (Some (deltas.TermDelete separator)) = Looked number key had
 
--- the step by which the wish comes true on a page of the version, for a key that had the value, or none: no step where it is true already
+-- the step that carries out the wish on a page of the version, for a key that had the value, or none: no step where there is nothing to do
 abbrev pub step_for : ℕ → ℕ → ℕ → Wished → Option ℕ → Option Proposal
 step_for page seen key (wishes.Put value) None = Some (insert page seen key value)
 step_for page seen key (wishes.Put value) (Some had) = None
@@ -132,7 +132,7 @@ abbrev pub LooksOrTakes : TableValue → ℕ → Receipt → Receipt → TableVa
 LooksOrTakes old page look receipt new None = (receipt ≡ look) × (new ≡ old)
 LooksOrTakes old page look receipt new (Some step) = TakesBoth old step receipt page new
 
--- the wish came true on the page
+-- the wish was carried out on the page
 abbrev pub IsDoneAtOnce : TableValue → ℕ → ℕ → Wished → Receipt → TableValue → Type 0
 IsDoneAtOnce old page key wished receipt new =
     let slot = slot_at old page in

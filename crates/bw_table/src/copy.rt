@@ -16,8 +16,8 @@ use bw_step::CopyFault;
 use std::alloc::Allocator;
 
 impl<A: Allocator + Copy> Table<A> {
-    /// A copy of the page's chain in `alloc`, if the page is in a row and still has the version
-    /// that was seen.
+    /// Copies the page's chain into `alloc`, if the page is in a row and still has the version that
+    /// was seen.
     #[inline(always)]
     pub fn copy_page(&self, alloc: A, pid: Pid, seen: Version) -> Result<Chain<A>, CopyFault>
         ensures absent { (result ≡ Err CopyFault.Absent) ↔ IsAbsent self.now pid }
@@ -34,8 +34,8 @@ impl<A: Allocator + Copy> Table<A> {
         }
     }
 
-    /// The page that the chain stands for, made anew in `alloc`, if the page is in a row and still
-    /// has the version that was seen. The chain itself isn't copied.
+    /// Makes anew in `alloc` the page that the chain stands for, if the page is in a row and still has
+    /// the version that was seen. The chain itself isn't copied.
     #[inline(always)]
     pub fn consolidated_page(&self, alloc: A, pid: Pid, seen: Version) -> Result<Base<A>, CopyFault>
         ensures absent { (result ≡ Err CopyFault.Absent) ↔ IsAbsent self.now pid }

@@ -17,9 +17,9 @@ use std::alloc::Allocator;
 use std::mem::replace;
 
 impl<A: Allocator + Copy> Table<A> {
-    /// Makes the list the first pairs of the map from the key on, in the order of their keys, and no
-    /// more than the limit. Room for them is made first, and all the memory that is taken; where it
-    /// is refused the list is as it was.
+    /// Replaces the list by the first pairs of the map from the key on, in the order of their keys,
+    /// and no more than the limit. All memory is taken first, as room for them; where it is refused
+    /// the list stays as it was.
     pub fn list_from(
         &self,
         low: Key,

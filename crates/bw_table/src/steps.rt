@@ -26,7 +26,7 @@ use bw_step::{Receipt, Refused, Step};
 use std::alloc::Allocator;
 
 impl<A: Allocator + Copy> Table<A> {
-    /// What `install` would answer. It changes nothing.
+    /// Returns what `install` would, and changes nothing.
     #[inline(always)]
     pub fn check(&self, step: &Step<A>) -> Result<(), Refused>
         ensures { result ≡ fine_unless (refusal self.now (proposal_of step.now)) }
@@ -45,8 +45,8 @@ impl<A: Allocator + Copy> Table<A> {
         }
     }
 
-    /// Takes the step, or answers the first reason to refuse it and gives its memory up. It takes
-    /// no memory.
+    /// Takes the step and returns its receipt, or drops the step and returns the first reason to
+    /// refuse it. It takes no memory.
     #[inline(always)]
     pub fn install(&mut self, step: Step<A>) -> Result<Receipt, Refused>
         ensures accepted { IsOk result ↔ (refusal self.old (proposal_of step) ≡ None) }

@@ -47,7 +47,7 @@ impl<A: Allocator> Model for Table<A> {
 }
 
 impl<A: Allocator + Copy> Table<A> {
-    /// A table without pairs: page 0 is an empty leaf for all keys, and every other slot is free.
+    /// Makes a table without pairs: page 0 is an empty leaf for all keys, and every other slot is free.
     /// The chains will lie in `alloc`, all else in the machine's memory.
     pub fn new(machine: Global, alloc: A, config: Config) -> Result<Table<A>, NewFault>
         ensures ok { IfOk result (λ table. table ≡ new_table config) }
@@ -82,8 +82,8 @@ impl<A: Allocator + Copy> Table<A> {
         })
     }
 
-    /// Does nothing. Its contract states the law that holds of every table at every moment, for a caller
-    /// whose proof needs it without a call that has another use.
+    /// Does nothing. The contract states the law that every table keeps, for a caller whose proof
+    /// needs it.
     #[inline(always)]
     pub fn law(&self)
         ensures lawful { Lawful self.now }
@@ -103,7 +103,7 @@ impl<A: Allocator + Copy> Table<A> {
         self.config
     }
 
-    /// Where every search begins.
+    /// Returns the place where every search begins.
     #[inline(always)]
     pub fn root(&self) -> Place
         ensures place { result ≡ root_place self.now }
@@ -117,7 +117,7 @@ impl<A: Allocator + Copy> Table<A> {
         }
     }
 
-    /// The page with the id, if the id isn't past the end and its slot isn't free.
+    /// Returns the page with the id, if the id isn't past the end and its slot isn't free.
     #[inline(always)]
     pub fn peek(&self, pid: Pid) -> Option<View>
         ensures view { result ≡ view_at self.now pid }
@@ -131,7 +131,7 @@ impl<A: Allocator + Copy> Table<A> {
         Some(slot.view(pid))
     }
 
-    /// What is kept of the page beside its chain, where `peek` sees it.
+    /// Returns what is kept of the page beside its chain, where `peek` sees it.
     pub fn summary(&self, pid: Pid) -> Option<&Summary>
         ensures summary { option_copied result ≡ summary_at self.now pid }
         ensures merged { (slot_at self.now pid.0).stage ≡ Merged
@@ -145,7 +145,8 @@ impl<A: Allocator + Copy> Table<A> {
         Some(&slot.summary)
     }
 
-    /// What the map has at the key, if the page is a leaf in its row whose range holds the key.
+    /// Returns what the map has at the key, if the page is a leaf in its row whose range holds the
+    /// key.
     #[inline(always)]
     pub fn look(&self, pid: Pid, key: Key) -> Option<Look>
         ensures look { result ≡ look_at self.now pid.0 key }

@@ -27,9 +27,9 @@ use bw_step::{AtOnce, Book, Receipt, Stage, Summary};
 use std::alloc::Allocator;
 
 impl<A: Allocator + Copy> Table<A> {
-    /// Makes the wish come true for a key and consolidates its leaf, as a change and a consolidation
-    /// one behind the other do. None, and nothing changed, where a page on the way to the leaf is in
-    /// the middle of a split or a merge, where more than the record of its split stands on the leaf,
+    /// Carries out the wish for a key and consolidates its leaf, as a change and a consolidation one
+    /// behind the other do. Returns `None` and changes nothing where a page on the way to the leaf is
+    /// in the middle of a split or a merge, where more than the record of its split stands on the leaf,
     /// where a number is used up, and where memory is short.
     #[inline(always)]
     pub fn change_at_once(&mut self, key: Key, wished: Wished) -> Option<AtOnce>
@@ -91,9 +91,9 @@ impl<A: Allocator + Copy> Table<A> {
 
 impl<A: Allocator + Copy> Table<A> {
     /// Names a page that no parent names yet in its parent, and consolidates the parent, as the two
-    /// steps one behind the other do. False, and nothing changed, where the one isn't a posted page
-    /// without records whose range holds the low of the other, where a number is used up, and where
-    /// memory is short.
+    /// steps one behind the other do. Returns false and changes nothing where the parent isn't a posted
+    /// page without records whose range holds the low of the child, where a number is used up, and
+    /// where memory is short.
     pub fn post_at_once(&mut self, parent: Pid, child: Pid) -> bool
         ensures { IsPosted self.old parent.0 child result self.new }
     {
@@ -173,9 +173,9 @@ impl<A: Allocator + Copy> Slot<A> {
 impl<A: Allocator + Copy> Table<A> {
     /// Splits a page before the entry with the number, counted from 0, and consolidates it, as the two
     /// steps one behind the other do. The new page has room for as many entries as it may get before it
-    /// is split. None, and nothing changed, where it isn't a posted page without records, where that
-    /// entry is its first or isn't there or leads to a page that is leaving, where no slot is free,
-    /// where a number is used up, and where memory is short.
+    /// is split. Returns the new page, or returns `None` and changes nothing where the page isn't a
+    /// posted one without records, where that entry is its first or isn't there or leads to a page that
+    /// is leaving, where no slot is free, where a number is used up, and where memory is short.
     pub fn split_at_once(&mut self, page: Pid, number: usize) -> Option<Pid>
         ensures done { IfSome result (λ new.
             IsSplitAtOnce self.old page.0 number (Shaped kinds.Split page (Some new)) self.new) }
@@ -194,9 +194,9 @@ impl<A: Allocator + Copy> Table<A> {
         Some(new)
     }
 
-    /// Splits a page, consolidates it, names the new page in the parent and consolidates that. Where the
-    /// parent doesn't take the new page so, the page is split all the same, and the new one stays
-    /// Unposted: false is told beside it.
+    /// Splits a page as [`Table::split_at_once`] does, then names the new page in the parent as
+    /// [`Table::post_at_once`] does. Returns the new page, and whether it is posted: where the parent
+    /// doesn't take it, the page is split all the same.
     pub fn split_under(&mut self, parent: Pid, page: Pid, number: usize) -> Option<(Pid, bool)>
         ensures done { IfSome result (λ done.
             IsSplitUnder self.old parent.0 page.0 number done.0 done.1 self.new) }
@@ -217,7 +217,7 @@ impl<A: Allocator + Copy> Table<A> {
     }
 }
 
-/// Ends the page before the separator, and gives its upper part to the new one.
+/// Ends the page before the separator, and moves its upper part to the new one.
 fn cut_at<A: Allocator + Copy>(
     slots: &mut Vec<Slot<A>>,
     page: Pid,
@@ -270,7 +270,7 @@ impl<A: Allocator + Copy> Slot<A> {
             && self.is_later_key(separator)
     }
 
-    /// Ends the page before the separator, and answers the summary of the part from it on.
+    /// Ends the page before the separator, and returns the summary of the part from it on.
     fn cut_in_place(&mut self, separator: Key, new: Pid, count: u64) -> Option<Summary>
         requires takes { TakesCut self.old separator }
         ensures upper { IfSome result (λ upper. upper ≡ upper_summary separator count self.old) }
@@ -298,7 +298,7 @@ impl<A: Allocator + Copy> Slot<A> {
     }
 }
 
-/// Makes the wish come true in the slot of a leaf.
+/// Carries out the wish in the slot of a leaf.
 #[inline(always)]
 fn change_at<A: Allocator + Copy>(
     slots: &mut Vec<Slot<A>>,
@@ -318,7 +318,7 @@ fn change_at<A: Allocator + Copy>(
     slots[page.0 as usize].change_in_place(key, wished)
 }
 
-/// Counts what was done in the book, and tells it.
+/// Counts what was done in the book, and returns its receipt.
 #[inline(always)]
 fn note(book: &mut Book, key: Key, done: InPlace) -> Receipt
     requires number { number_of book.old + 1 < 2 ^ 64 }
@@ -374,7 +374,7 @@ impl<A: Allocator + Copy> Slot<A> {
             && self.holds(key)
     }
 
-    /// Makes the wish come true in the base page's own list.
+    /// Carries out the wish in the base page's own list.
     #[inline(always)]
     fn change_in_place(&mut self, key: Key, wished: Wished) -> Option<InPlace>
         requires { TakesInPlace self.old key }

@@ -53,7 +53,7 @@ impl<A: Allocator + Copy> Table<A> {
     }
 }
 
-/// Deletes a key that the leaf has, and answers its value.
+/// Deletes a key that the leaf has, and returns its value.
 #[inline(always)]
 fn delete_at<A: Allocator + Copy>(
     slots: &mut Vec<Slot<A>>,

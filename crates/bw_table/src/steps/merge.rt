@@ -108,7 +108,7 @@ fn merge_at<A: Allocator + Copy>(
     slots[left.0 as usize].take_in(given, left_spare, page_spare);
 }
 
-/// What a page that is merged gives to its left neighbour.
+/// What a page that is merged leaves to its left neighbour.
 #[derive(Drop)]
 struct Given<A: Allocator> {
     summary: Summary,

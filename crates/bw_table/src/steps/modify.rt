@@ -53,7 +53,7 @@ impl<A: Allocator + Copy> Table<A> {
     }
 }
 
-/// Gives a key that the leaf has another value, and answers the old one.
+/// Replaces the value of a key that the leaf has, and returns the old one.
 fn modify_at<A: Allocator + Copy>(
     slots: &mut Vec<Slot<A>>,
     page: Pid,

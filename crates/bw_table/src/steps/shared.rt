@@ -106,7 +106,7 @@ impl<A: Allocator + Copy> Slot<A> {
         self.summary.low
     }
 
-    /// Puts a record on top of the chain, by which the page has so many entries.
+    /// Puts a record on top of the chain, by which the page has `count` entries.
     #[inline(always)]
     pub(super) fn record(&mut self, delta: Delta, count: u64, spare: Spare<A>)
         requires deeper { MayGrowDeeper self.old }

@@ -98,7 +98,7 @@ fn may_split<A: Allocator + Copy>(
     check_room(slot, new)
 }
 
-/// Gives the upper part of a page to a new one.
+/// Moves the upper part of a page to a new one.
 fn split_at<A: Allocator + Copy>(
     slots: &mut Vec<Slot<A>>,
     page: Pid,
@@ -120,7 +120,7 @@ fn split_at<A: Allocator + Copy>(
 }
 
 impl<A: Allocator + Copy> Slot<A> {
-    /// Ends the page before the separator, and answers the summary of the part from it on.
+    /// Ends the page before the separator, and returns the summary of the part from it on.
     fn split_off(&mut self, separator: Key, new: Pid, count: u64, spare: Spare<A>) -> Summary
         requires deeper { MayGrowDeeper self.old }
         requires count { count ≤ self.old.count }

@@ -85,7 +85,7 @@ fn may_delete_term<A: Allocator + Copy>(
     Ok(())
 }
 
-/// Takes the term of a merged child out of its parent, and frees the child's slot. Answers the
+/// Takes the term of a merged child out of its parent, and frees the child's slot. Returns the
 /// version of the free slot.
 fn term_delete_at<A: Allocator + Copy>(
     slots: &mut Vec<Slot<A>>,
@@ -117,7 +117,7 @@ impl<A: Allocator + Copy> Slot<A> {
         self.record(Delta::TermDelete(low), count, spare);
     }
 
-    /// Frees the slot, and answers its version.
+    /// Frees the slot, and returns its version.
     fn free_up(&mut self) -> u64
         requires version { self.old.version + 1 < 2 ^ 64 }
         ensures version { result ≡ suc self.old.version }
