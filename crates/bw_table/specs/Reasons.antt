@@ -1,5 +1,5 @@
 -- Reasons to refuse a step that several steps try together.
-use Rattle.std.specs.Prelude.{ℕ, Bool, nat_lt, List, [], ◌∷◌, Option}
+use Rattle.std.specs.Prelude.{ℕ, Bool, nat_lt, List, [], ◌∷◌, ◌++◌, Option}
 use Rattle.bw_keys.specs.Reasons.{when}
 use Rattle.bw_step.specs.declared.refused.Refused.{Refused}
 use Rattle.bw_step.specs.declared.refused.Refused.TheVariants.{WrongKind, OutOfRange, Deep, TableFull}
@@ -12,8 +12,7 @@ open_reasons slot seen = absent (slot ∷ []) ∷ stale ((slot, seen) ∷ []) �
 
 -- the page isn't open, or is no leaf, or its range doesn't hold the key
 abbrev pub leaf_reasons : SlotValue → ℕ → ℕ → List (Option Refused)
-leaf_reasons slot seen key =
-    absent (slot ∷ []) ∷ stale ((slot, seen) ∷ []) ∷ frozen slot ∷ when (nat_lt 0 slot.level) WrongKind ∷ when (is_outside slot key) OutOfRange ∷ []
+leaf_reasons slot seen key = open_reasons slot seen ++ when (nat_lt 0 slot.level) WrongKind ∷ when (is_outside slot key) OutOfRange ∷ []
 
 -- no further record may stand on the chain, or the version or the book's number is used up
 abbrev pub change_reasons : SlotValue → ℕ → List (Option Refused)
