@@ -1,5 +1,5 @@
-//! Every change of a tree is a step. Each kind of step has a room of its own: why it is refused, what it
-//! does to the slots, and its receipt.
+//! Every change of a tree is a step. Each kind of step has a module of its own: why it is refused, what
+//! it does to the slots, and its receipt.
 
 ghost use Rattle.std.specs.Prelude.{◌≡◌, ◌↔◌, None, Some, IsOk, IfOk, IfErr, OnErr};
 ghost use Rattle.bw_step.specs.ProposalView.{proposal_of};

@@ -38,8 +38,6 @@ impl<A: Allocator + Copy> Table<A> {
         ensures nearer { ComesNearer place result.go }
         ensures found { FindsPage self.now place key goal result.go }
     {
-        // The law of the table is known where one of its fields is read.
-        let _ = &self.slots;
         match self.slot(place.pid) {
             Some(slot) if slot.is_there(place, key, goal) => self.next(place.pid, slot, key, goal),
             _ => GONE,
@@ -135,8 +133,7 @@ impl<A: Allocator + Copy> Table<A> {
         ensures walk { EachWalkEndsAt self.now key result.0 }
         ensures one_walk { OneWalkEndsAt self.now key result.0 }
     {
-        // The law of the table is known where one of its fields is read.
-        let _ = &self.slots;
+        self.law();
         let mut place = self.root();
         'walk: loop {
             match self.visit(place, key, 0).go {
