@@ -1,4 +1,4 @@
--- What an accepted step tells of the slots that it names, one record for each kind of step.
+-- What holds of the slots that an accepted step names, one record for each kind of step.
 use Rattle.std.proofs.Common.{◌≡◌, ◌≢◌, ℕ, ◌+◌, ◌-◌, ◌<◌, ◌≤◌, Bool, true, false, max, eqb, List, [], ◌∷◌, Option, Some, None, is_none, refl, arith}
 use Rattle.std.specs.Prelude.{option_map, unwrap_or}
 use Rattle.std.proofs.lemmas.Bool.Decides.{nat_tests}
@@ -130,7 +130,7 @@ present_value : (o : Option ℕ) → is_none o ≡ false → (value : ℕ) × (o
 present_value None some = cc
 present_value (Some value) some = (value, refl)
 
--- what is there is what `unwrap_or` gives
+-- what is there is what `unwrap_or` returns
 given_id : (o : Option ℕ) → is_none o ≡ false → o ≡ Some (unwrap_or o 0)
 given_id None some = cc
 given_id (Some id) some = refl

@@ -52,7 +52,7 @@ module _ (table : TableValue) (page seen key value : ℕ) (law : Lawful table) (
   others : (k v : ℕ) → k ≢ key → Maps (set table.slots page new) k v ↔ Maps table.slots k v
   others k v other = change.elsewhere k v (here k ∙ ap (λ b. cond b (Some value) (at k (leaf_pairs slot))) (ne_eqb k key other))
 
-  -- the key had the value that is told, and no other
+  -- the key had the value that is reported, and no other
   given : at key (leaf_pairs slot) ≡ Some (unwrap_or (at key (pairs_in slot)) 0)
   given = ap (at key) change.was ∙ may.present ∙ ap (λ o. Some (unwrap_or o 0)) (sym may.present)
 

@@ -37,7 +37,7 @@ pub record FoundRoom (table : TableValue) (page : ℕ) : Type 0 where
   pub count : 0 < (slot_at table page).count
   pub number : number_of table.book + 1 < 2 ^ 64
 
--- a page gives a part of its entries to a new page
+-- a part of a page's entries goes to a new page
 pub record SplitRoom (table : TableValue) (page : ℕ) (base : Page) : Type 0 where
   pub raised : CanRise table page
   pub new_raised : CanRise table (new_id table)

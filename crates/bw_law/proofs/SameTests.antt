@@ -1,4 +1,4 @@
--- The tests of equality tell it.
+-- The tests of equality hold just where there is equality.
 use Rattle.std.proofs.Common.{◌≡◌, ℕ, Bool, true, ◌&&◌, eqb, List, [], ◌∷◌, Option, Some, None, refl, ap, subst}
 use Rattle.std.proofs.lemmas.Bool.{eqb-true, eq-eqb, and_parts}
 use Rattle.bw_keys.specs.declared.range.Fence.{Fence}

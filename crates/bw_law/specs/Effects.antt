@@ -15,7 +15,7 @@ use Rattle.bw_step.specs.declared.view.Stage.{Stage}
 use Rattle.bw_step.specs.declared.view.Stage.TheVariants.{Unposted, Posted, Marked, Merged}
 use Rattle.bw_step.specs.Proposals.{Proposal, insert, delete, modify, consolidate, split, term_add, grow, mark, merge, term_delete}
 use Rattle.bw_step.specs.Tellings.{telling_of}
-use Rattle.bw_law.specs.Slots.{SlotValue, free_slot, pairs_in, last_number}
+use Rattle.bw_law.specs.Slots.{SlotValue, slot_in, free_slot, pairs_in, last_number}
 use Rattle.bw_law.specs.Tables.{TableValue, slot_at, number_of, book_with}
 use Rattle.bw_law.specs.Refusals.{new_id, all_but_last}
 
@@ -30,10 +30,13 @@ with_stage stage slot = record slot { version = suc slot.version; stage = stage 
 abbrev pub consolidated : Page → SlotValue → SlotValue
 consolidated base slot = record slot { version = suc slot.version; depth = 0; chain = Some (bare base) }
 
+-- the page that ends before the separator and links to the new one, where this many of its entries go
+abbrev pub cut_before : ℕ → Pid → ℕ → SlotValue → SlotValue
+cut_before separator new moved slot = record (with_record (Split separator new) (slot.count - moved) slot) { high = Key separator; right = Some new }
+
 -- the page below the separator, when the base goes to the new page
 abbrev pub lower_half : ℕ → Pid → Page → SlotValue → SlotValue
-lower_half separator new base slot =
-    record (with_record (Split separator new) (slot.count - listed_length base.listed) slot) { high = Key separator; right = Some new }
+lower_half separator new base slot = cut_before separator new (listed_length base.listed) slot
 
 -- the new page, in a slot that had the version
 abbrev pub upper_half : ℕ → ℕ → Page → SlotValue → SlotValue
@@ -80,48 +83,87 @@ joined into slot = record into {
 abbrev pub taken_in : SlotValue → SlotValue
 taken_in slot = record (free_slot (suc slot.version)) { stage = Merged; low = slot.low; level = slot.level }
 
--- a page whose version is used up isn't given again
+-- the id of a page whose version is used up isn't taken again
 abbrev pub freed : List ℕ → ℕ → ℕ → List ℕ
 freed free page version = if version == last_number then free else free ++ page ∷ []
 
 abbrev pub pid : ℕ → Pid
 pid page = record { 0 = page }
 
+-- The slots after each step, by the pages that it changes.
+
+-- the page has a pair more
+abbrev pub slots_inserted : ℕ → ℕ → ℕ → List SlotValue → List SlotValue
+slots_inserted page key value slots =
+    let slot = slot_in slots page in
+    slice_set slots page (with_record (Insert key value) (suc slot.count) slot)
+
+-- the page has a pair less
+abbrev pub slots_deleted : ℕ → ℕ → List SlotValue → List SlotValue
+slots_deleted page key slots =
+    let slot = slot_in slots page in
+    slice_set slots page (with_record (Delete key) (slot.count - 1) slot)
+
+-- the page has another value at the key
+abbrev pub slots_modified : ℕ → ℕ → ℕ → List SlotValue → List SlotValue
+slots_modified page key value slots =
+    let slot = slot_in slots page in
+    slice_set slots page (with_record (Modify key value) slot.count slot)
+
+-- the base is the page's chain
+abbrev pub slots_consolidated : ℕ → Page → List SlotValue → List SlotValue
+slots_consolidated page base slots = slice_set slots page (consolidated base (slot_in slots page))
+
+-- the page ends before the separator, and the new one has the rest
+abbrev pub slots_split : ℕ → Pid → ℕ → Page → List SlotValue → List SlotValue
+slots_split page new separator base slots =
+    let slot = slot_in slots page in
+    slice_set (slice_set slots page (lower_half separator new base slot)) new.0 (upper_half (slot_in slots new.0).version separator base slot)
+
+-- the parent has a term of the child, which is posted
+abbrev pub slots_posted : ℕ → Pid → List SlotValue → List SlotValue
+slots_posted parent child slots =
+    let over = slot_in slots parent in
+    let under = slot_in slots child.0 in
+    slice_set (slice_set slots parent (with_record (TermAdd under.low child) (suc over.count) over)) child.0 (with_stage Posted under)
+
+-- the child is posted, and the new page is the root, one level above the old one's
+abbrev pub slots_grown : ℕ → ℕ → ℕ → Page → List SlotValue → List SlotValue
+slots_grown child new level base slots =
+    slice_set (slice_set slots child (with_stage Posted (slot_in slots child))) new (grown_root (slot_in slots new).version level base)
+
+-- the page is being removed
+abbrev pub slots_marked : ℕ → List SlotValue → List SlotValue
+slots_marked page slots = slice_set slots page (marked (slot_in slots page))
+
+-- the left page has taken in the other
+abbrev pub slots_merged : ℕ → ℕ → List SlotValue → List SlotValue
+slots_merged left page slots =
+    let into = slot_in slots left in
+    let slot = slot_in slots page in
+    slice_set (slice_set slots left (joined into slot)) page (taken_in slot)
+
+-- the parent has no term of the child any more, whose slot is free
+abbrev pub slots_unposted : ℕ → ℕ → List SlotValue → List SlotValue
+slots_unposted parent child slots =
+    let over = slot_in slots parent in
+    let under = slot_in slots child in
+    slice_set (slice_set slots parent (with_record (TermDelete under.low) (over.count - 1) over)) child (free_slot (suc under.version))
+
 -- the slots after an accepted step
 abbrev pub slots_after : TableValue → Proposal → List SlotValue
-slots_after table (insert page seen key value) =
-    let slot = slot_at table page in
-    slice_set table.slots page (with_record (Insert key value) (suc slot.count) slot)
-slots_after table (delete page seen key) =
-    let slot = slot_at table page in
-    slice_set table.slots page (with_record (Delete key) (slot.count - 1) slot)
-slots_after table (modify page seen key value) =
-    let slot = slot_at table page in
-    slice_set table.slots page (with_record (Modify key value) slot.count slot)
-slots_after table (consolidate page seen base) = slice_set table.slots page (consolidated base (slot_at table page))
-slots_after table (split page seen separator base) =
-    let slot = slot_at table page in
-    let new = new_id table in
-    slice_set (slice_set table.slots page (lower_half separator (pid new) base slot)) new (upper_half (slot_at table new).version separator base slot)
-slots_after table (term_add parent parent_seen child child_seen) =
-    let over = slot_at table parent in
-    let under = slot_at table child in
-    slice_set (slice_set table.slots parent (with_record (TermAdd under.low (pid child)) (suc over.count) over)) child (with_stage Posted under)
-slots_after table (grow child seen base) =
-    let new = new_id table in
-    slice_set (slice_set table.slots child (with_stage Posted (slot_at table child))) new
-    (grown_root (slot_at table new).version (slot_at table table.root).level base)
-slots_after table (mark page seen parent) = slice_set table.slots page (marked (slot_at table page))
-slots_after table (merge left left_seen page page_seen) =
-    let into = slot_at table left in
-    let slot = slot_at table page in
-    slice_set (slice_set table.slots left (joined into slot)) page (taken_in slot)
-slots_after table (term_delete parent parent_seen child child_seen) =
-    let over = slot_at table parent in
-    let under = slot_at table child in
-    slice_set (slice_set table.slots parent (with_record (TermDelete under.low) (over.count - 1) over)) child (free_slot (suc under.version))
+slots_after table (insert page seen key value) = slots_inserted page key value table.slots
+slots_after table (delete page seen key) = slots_deleted page key table.slots
+slots_after table (modify page seen key value) = slots_modified page key value table.slots
+slots_after table (consolidate page seen base) = slots_consolidated page base table.slots
+slots_after table (split page seen separator base) = slots_split page (pid (new_id table)) separator base table.slots
+slots_after table (term_add parent parent_seen child child_seen) = slots_posted parent (pid child) table.slots
+slots_after table (grow child seen base) = slots_grown child (new_id table) (slot_at table table.root).level base table.slots
+slots_after table (mark page seen parent) = slots_marked page table.slots
+slots_after table (merge left left_seen page page_seen) = slots_merged left page table.slots
+slots_after table (term_delete parent parent_seen child child_seen) = slots_unposted parent child table.slots
 
--- a split and a grow take a free id, and a page whose term is taken out gives its own back
+-- a split and a grow take a free id, and the id of a page whose term is taken out is free again
 abbrev pub free_after : TableValue → Proposal → List ℕ
 free_after table (split page seen separator base) = all_but_last table.free
 free_after table (grow child seen base) = all_but_last table.free
@@ -146,7 +188,7 @@ receipt_of table (mark page seen parent) = Shaped kinds.Mark (pid page) None
 receipt_of table (merge left left_seen page page_seen) = Shaped kinds.Merge (pid left) (Some (pid page))
 receipt_of table (term_delete parent parent_seen child child_seen) = Shaped kinds.TermDelete (pid parent) (Some (pid child))
 
--- the table after an accepted step: its book counts what the receipt tells, and its configuration stays
+-- the table after an accepted step: its book counts what the receipt reports, and its configuration stays
 abbrev pub after : TableValue → Proposal → TableValue
 after table step = record {
   slots = slots_after table step;

@@ -69,7 +69,7 @@ pub fn numbers_fit()
     ensures { FitLaw }
 {}
 
-/// The test of two pages tells whether they are equal.
+/// The test of two pages holds just where they are equal.
 pub fn the_same_page_is_equal()
     ensures { SameLaw }
 {}

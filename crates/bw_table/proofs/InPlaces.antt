@@ -232,7 +232,7 @@ pub whole_at_once : (table : TableValue) (room page : ℕ) (seen receipt : Recei
 whole_at_once table room page seen receipt new None whole looks = let Whole : TableValue → Type 0 = λ t. IsWhole t room in subst Whole (sym looks.1) whole
 whole_at_once table room page seen receipt new (Some step) whole takes = whole_both table room page receipt new step whole takes
 
--- what is told of two maps is told of the second's like
+-- what is reported of two maps holds of the second's like
 tells_then_same : (told : Telling) (old between new : List SlotValue) → TellsMap told old between → SameMap between new → TellsMap told old new
 tells_then_same (change number key before after) old between new tells same = record {
   had = tells.had;
@@ -243,7 +243,7 @@ tells_then_same (look number key found) old between new tells same =
     (tells.0, λ k value. (λ maps. (tells.1 k value).0 ((same k value).0 maps), λ maps. (same k value).1 ((tells.1 k value).1 maps)))
 tells_then_same shape old between new tells same = λ k value. (λ maps. (tells k value).0 ((same k value).0 maps), λ maps. (same k value).1 ((tells k value).1 maps))
 
--- what is told of it is what it makes of the map
+-- what is reported of it is what it makes of the map
 pub tells_at_once : (table : TableValue) (room page key number : ℕ) (receipt : Receipt) (new : TableValue) (step : Option Proposal) → IsWhole table room → IsShallowLeaf (slot_at table page) key
     → LooksOrTakes table page (Looked number key (at key (pairs_in (slot_at table page)))) receipt new step → TellsMap (telling_of receipt) table.slots new.slots
 tells_at_once table room page key number receipt new None whole leaf looks =

@@ -25,14 +25,14 @@ use Rattle.bw_table.specs.Views.{view_of}
 use Rattle.bw_table.specs.Visits.{is_there, is_live, live_routes, right_to, down_by, way_on, next_by, IsOnTheWay, IsFound, TellsWhetherOnTheWay, StaysOnTheWay, ComesNearer, FindsPage, EachWalkEndsAt, OneWalkEndsAt}
 use Rattle.bw_table.proofs.LiveRoutes.{at-passes, last_stands, last_tested, some_stands}
 
--- what an answer is to tell of its place, and of the way on
+-- what an answer is to report of its place, and of the way on
 pub record IsProper (table : TableValue) (place : Place) (key goal : ℕ) (go : Go) : Type 0 where
   pub gone : TellsWhetherOnTheWay table place key goal go
   pub stays : StaysOnTheWay table key goal go
   pub nearer : ComesNearer place go
   pub found : FindsPage table place key goal go
 
--- the test of a place tells whether it is on the way
+-- the test of a place holds just where it is on the way
 there_is_on_the_way : (table : TableValue) (place : Place) (key goal : ℕ) → is_there (slot_at table place.pid.0) place key goal ≡ true → IsOnTheWay table place key goal
 there_is_on_the_way table place key goal there = record {
   in_row = grind (arith, nat_tests);

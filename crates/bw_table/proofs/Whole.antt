@@ -1,4 +1,4 @@
--- What is true of each table gives the code what it asks for.
+-- What the code asks for holds of each table.
 use Rattle.std.proofs.Common.{◌≡◌, ℕ, ◌<◌, ◌≤◌, ◌^◌, Bool, true, Option, Some, None, unwrap_or, refl, ◌∙◌, ap, arith}
 use Rattle.std.specs.Prelude.{option_map, is_none}
 use Rattle.std.proofs.lemmas.Bool.Decides.{nat_tests}

@@ -1,4 +1,4 @@
--- How the logic tells slots and tables apart.
+-- The codes of slots and of tables, no two of which have the same one.
 use Rattle.std.specs.Prelude.{ℕ, List, Option, refl}
 use Rattle.std.specs.Coded.{Coded, code_by, coded×, coded_ℕ, coded_list, coded_option}
 use Rattle.bw_keys.specs.declared.range.Fence.{Fence}

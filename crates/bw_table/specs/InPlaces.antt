@@ -1,7 +1,6 @@
 -- A change of a key and the consolidation of its page, one behind the other, as one call does them.
 use Rattle.std.specs.Prelude.{◌≡◌, ℕ, suc, ◌+◌, ◌-◌, ◌<◌, ◌≤◌, ◌^◌, Bool, true, false, List, [], ◌∷◌, slice_set, Option, Some, None, unwrap_or}
 use Rattle.bw_keys.specs.declared.page.Pid.{Pid}
-use Rattle.bw_keys.specs.declared.range.Fence.TheVariants.{Key}
 use Rattle.bw_keys.specs.Ranges.{is_within}
 use Rattle.bw_delta.specs.declared.chain.Delta.{Delta}
 use Rattle.bw_delta.specs.declared.chain.Delta.TheVariants as deltas
@@ -18,7 +17,7 @@ use Rattle.bw_step.specs.declared.receipt.Receipt.{Receipt}
 use Rattle.bw_step.specs.declared.receipt.Receipt.TheVariants.{Inserted, Deleted, Modified, Looked, Shaped}
 use Rattle.bw_step.specs.declared.view.Stage.TheVariants.{Posted, Unposted}
 use Rattle.bw_step.specs.Proposals.{Proposal, insert, delete, modify, consolidate, split, term_add}
-use Rattle.bw_law.specs.Effects.{with_record, with_stage, upper_half, consolidated, pid}
+use Rattle.bw_law.specs.Effects.{with_record, with_stage, cut_before, upper_half, consolidated, pid}
 use Rattle.bw_law.specs.Refusals.{is_bad_key, is_leaving_at, last_id, new_id}
 use Rattle.bw_law.specs.Runs.{TakesInTurn}
 use Rattle.bw_law.specs.Slots.{SlotValue, slot_in, chain_in, pairs_in, routes_in}
@@ -52,6 +51,14 @@ pub record MayPostAtOnce (over under : SlotValue) : Type 0 where
   pub within : is_within over.low over.high under.low ≡ true
   pub version : over.version + 2 < 2 ^ 64
   pub under_version : under.version + 1 < 2 ^ 64
+
+-- the numbers of the parent's slot can rise, and its chain takes a term of the child
+abbrev pub TakesTerm : List SlotValue → ℕ → ℕ → Type 0
+TakesTerm slots parent child = TakesInPlace (slot_in slots parent) (slot_in slots child).low
+
+-- no term of the parent begins where the child does
+abbrev pub HasNoTerm : List SlotValue → ℕ → ℕ → Type 0
+HasNoTerm slots parent child = at (slot_in slots child).low (routes_in (slot_in slots parent)) ≡ None
 
 -- a posted page without records has the separator as a later key, and its version can rise twice
 pub record MayCut (slot : SlotValue) (separator : ℕ) : Type 0 where
@@ -90,7 +97,7 @@ abbrev pub slot_with : Option Delta → SlotValue → SlotValue
 slot_with None slot = slot
 slot_with (Some delta) slot = consolidated (page_for (above delta (chain_in slot))) (with_record delta (count_after delta slot.count) slot)
 
--- what is told of a record on a page, before which there were so many changes, and of a look where there is no record
+-- the receipt of a record on a page after n changes, and of a look where there is no record
 abbrev pub receipt_for : ℕ → ℕ → Option ℕ → Option Delta → Receipt
 receipt_for number key had None = Looked number key had
 receipt_for number key had (Some (deltas.Insert k value)) = Inserted (suc number) k value
@@ -101,7 +108,7 @@ receipt_for number key had (Some deltas.Remove) = Looked number key had
 receipt_for number key had (Some (deltas.TermAdd separator child)) = Looked number key had
 receipt_for number key had (Some (deltas.TermDelete separator)) = Looked number key had
 
--- the step by which the wish comes true on a page of the version, for a key that had the value, or none: no step where it is true already
+-- the step that carries out the wish on a page of the version, for a key that had the value, or none: no step where there is nothing to do
 abbrev pub step_for : ℕ → ℕ → ℕ → Wished → Option ℕ → Option Proposal
 step_for page seen key (wishes.Put value) None = Some (insert page seen key value)
 step_for page seen key (wishes.Put value) (Some had) = None
@@ -125,33 +132,32 @@ abbrev pub LooksOrTakes : TableValue → ℕ → Receipt → Receipt → TableVa
 LooksOrTakes old page look receipt new None = (receipt ≡ look) × (new ≡ old)
 LooksOrTakes old page look receipt new (Some step) = TakesBoth old step receipt page new
 
--- the wish came true on the page
+-- the wish was carried out on the page
 abbrev pub IsDoneAtOnce : TableValue → ℕ → ℕ → Wished → Receipt → TableValue → Type 0
 IsDoneAtOnce old page key wished receipt new =
     let slot = slot_at old page in
     let had = at key (pairs_in slot) in
     LooksOrTakes old page (Looked (number_of old.book) key had) receipt new (step_for page slot.version key wished had)
 
--- the page that ends before the separator, where so many entries go to the new page
+-- the page that ends before the separator, consolidated, where this many of its entries go to the new page
 abbrev pub slot_cut : ℕ → Pid → ℕ → SlotValue → SlotValue
 slot_cut separator new count slot =
-    consolidated (page_for (above (deltas.Split separator new) (chain_in slot)))
-    (record (with_record (deltas.Split separator new) (slot.count - count) slot) { high = Key separator; right = Some new })
+    consolidated (page_for (above (deltas.Split separator new) (chain_in slot))) (cut_before separator new count slot)
 
--- the slots with a record taken in on the page, if there is one
+-- the page has taken in a record, if there is one
 abbrev pub slots_with : ℕ → Option Delta → List SlotValue → List SlotValue
 slots_with page delta slots = slice_set slots page (slot_with delta (slot_in slots page))
 
--- the slots where the parent has the term of the child, which is posted
-abbrev pub slots_posted : ℕ → Pid → List SlotValue → List SlotValue
-slots_posted parent child slots =
+-- the parent has a term of the child, which is posted, and is consolidated
+abbrev pub slots_posted_at_once : ℕ → Pid → List SlotValue → List SlotValue
+slots_posted_at_once parent child slots =
     let over = slot_in slots parent in
     let under = slot_in slots child.0 in
     slice_set (slice_set slots parent (slot_with (Some (deltas.TermAdd under.low child)) over)) child.0 (with_stage Posted under)
 
--- the slots where the page ends before the separator, and the new page has the rest
-abbrev pub slots_split : ℕ → Pid → ℕ → Page → List SlotValue → List SlotValue
-slots_split page new separator base slots =
+-- the page ends before the separator and is consolidated, and the new one has the rest
+abbrev pub slots_split_at_once : ℕ → Pid → ℕ → Page → List SlotValue → List SlotValue
+slots_split_at_once page new separator base slots =
     let slot = slot_in slots page in
     slice_set (slice_set slots page (slot_cut separator new (listed_length base.listed) slot)) new.0 (upper_half (slot_in slots new.0).version separator base slot)
 

@@ -9,4 +9,5 @@ pub mod Views
 pub mod Visits
 pub mod Whole
 pub mod Gets
+pub mod Reasons
 pub mod Rests

@@ -34,9 +34,9 @@ pub record ArePairsWithin (table : TableValue) (low end : ℕ) (pairs : List (�
   pub rise : rises low end pairs ≡ true
   pub same : (key value : ℕ) → low ≤ key → key < end → (at key pairs ≡ Some value) ↔ Maps table.slots key value
 
--- the list that is the map has so many pairs
+-- the list that is the map has n pairs
 abbrev pub HasPairs : TableValue → ℕ → Type 0
-HasPairs table count = (pairs : List (ℕ × ℕ)) → IsTheMap table pairs → length pairs ≡ count
+HasPairs table n = (pairs : List (ℕ × ℕ)) → IsTheMap table pairs → length pairs ≡ n
 
 -- a leaf: its page, its range, and its pairs
 pub record LeafValue : Type 0 where

@@ -1,12 +1,15 @@
--- What the functions on single slots are told of them.
-use Rattle.std.specs.Prelude.{◌≡◌, suc, ◌+◌, ◌<◌, ◌^◌, max, true, Option, Some}
+-- What the functions on single slots take for granted of them, and what they make of them.
+use Rattle.std.specs.Prelude.{◌≡◌, ℕ, suc, ◌+◌, ◌<◌, ◌^◌, max, Bool, true, ◌&&◌, ◌||◌, not, is_some, Option, Some}
 use Rattle.bw_keys.specs.declared.page.TheConstants.{MAX_DEPTH}
-use Rattle.bw_delta.specs.Records.{Records, depth}
+use Rattle.bw_delta.specs.Entries.{at, starts_at}
+use Rattle.bw_delta.specs.Pages.{Page}
+use Rattle.bw_delta.specs.Records.{Records, bare, depth}
 use Rattle.bw_delta.specs.Sound.{IsSound}
 use Rattle.bw_step.specs.Stages.{is_in_row}
 use Rattle.bw_step.specs.declared.survey.Summary.{Summary}
+use Rattle.bw_step.specs.declared.view.Stage.{Stage}
 use Rattle.bw_law.specs.Effects.{merged_chains}
-use Rattle.bw_law.specs.Slots.{SlotValue}
+use Rattle.bw_law.specs.Slots.{SlotValue, pairs_in, routes_in}
 
 -- a page in a row has a sound chain
 abbrev pub HasSoundChain : SlotValue → Type 0
@@ -31,3 +34,27 @@ joined_with into given chain = record into {
 
 abbrev pub summary_of : SlotValue → Summary
 summary_of slot = record { low = slot.low; high = slot.high; right = slot.right; level = slot.level; count = slot.count; depth = slot.depth }
+
+-- the summary of the part from the separator on, which has this many entries
+abbrev pub upper_summary : ℕ → ℕ → SlotValue → Summary
+upper_summary separator count slot = record { low = separator; high = slot.high; right = slot.right; level = slot.level; count = count; depth = 0 }
+
+-- the slot that has taken up a page of this stage, summary and base
+abbrev pub holding : Stage → Summary → Page → SlotValue → SlotValue
+holding stage summary base slot = record {
+  version = suc slot.version;
+  stage = stage;
+  low = summary.low;
+  high = summary.high;
+  right = summary.right;
+  level = summary.level;
+  count = summary.count;
+  depth = summary.depth;
+  chain = Some (bare base);
+}
+
+-- the separator is the key of an entry that isn't the first
+abbrev pub is_later_key : SlotValue → ℕ → Bool
+is_later_key slot separator =
+    (is_some (at separator (pairs_in slot)) || is_some (at separator (routes_in slot)))
+    && not (starts_at separator (pairs_in slot) || starts_at separator (routes_in slot))

@@ -1,8 +1,9 @@
 -- What the table answers of its pages.
-use Rattle.std.specs.Prelude.{◌≡◌, ℕ, ◌+◌, ◌&&◌, if◌then◌else◌, List, Option, Some, None, map}
+use Rattle.std.specs.Prelude.{◌≡◌, ◌≢◌, ℕ, ◌+◌, true, false, ◌&&◌, if◌then◌else◌, List, Option, Some, None, map}
 use Rattle.bw_keys.specs.declared.page.Pid.{Pid}
 use Rattle.bw_keys.specs.Ranges.{is_within, key_count}
 use Rattle.bw_delta.specs.Entries.{at}
+use Rattle.bw_step.specs.Stages.{is_in_row}
 use Rattle.bw_step.specs.declared.view.View.{View}
 use Rattle.bw_step.specs.declared.view.Look.{Look}
 use Rattle.bw_step.specs.declared.place.Place.{Place}
@@ -34,6 +35,14 @@ view_at table pid = let slot = slot_at table pid.0 in if is_free slot.stage then
 -- what is kept of it beside its chain
 abbrev pub summary_at : TableValue → Pid → Option Summary
 summary_at table pid = let slot = slot_at table pid.0 in if is_free slot.stage then None else Some (summary_of slot)
+
+-- the page is in no row
+abbrev pub IsAbsent : TableValue → Pid → Type 0
+IsAbsent table pid = is_in_row (slot_at table pid.0).stage ≡ false
+
+-- the page is in a row, and has another version than was seen
+abbrev pub IsStale : TableValue → Pid → ℕ → Type 0
+IsStale table pid seen = (is_in_row (slot_at table pid.0).stage ≡ true) × ((slot_at table pid.0).version ≢ seen)
 
 -- where every search begins
 abbrev pub root_place : TableValue → Place

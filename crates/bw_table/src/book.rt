@@ -7,8 +7,8 @@ use bw_step::Book;
 use std::alloc::Allocator;
 
 impl<A: Allocator + Copy> Table<A> {
-    /// How many keys were inserted, removed and modified. The map has as many pairs as were inserted
-    /// and not removed.
+    /// Returns the numbers of keys that were inserted, removed and modified. The map has as many pairs
+    /// as were inserted and not removed.
     #[inline(always)]
     pub fn book(&self) -> Book
         ensures book { result ≡ self.now.book }

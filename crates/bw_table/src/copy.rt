@@ -5,6 +5,7 @@ ghost use Rattle.bw_delta.specs.Sound.{IsSound, page_for};
 ghost use Rattle.bw_step.specs.Stages.{is_in_row};
 ghost use Rattle.bw_law.specs.Tables.{slot_at};
 ghost use Rattle.bw_table.specs.SlotFacts.{HasSoundChain};
+ghost use Rattle.bw_table.specs.Views.{IsAbsent, IsStale};
 
 use crate::slot::Slot;
 use crate::table::Table;
@@ -15,12 +16,12 @@ use bw_step::CopyFault;
 use std::alloc::Allocator;
 
 impl<A: Allocator + Copy> Table<A> {
-    /// A copy of the page's chain in `alloc`, if the page is in a row and still has the version
-    /// that was seen.
+    /// Copies the page's chain into `alloc`, if the page is in a row and still has the version that
+    /// was seen.
     #[inline(always)]
     pub fn copy_page(&self, alloc: A, pid: Pid, seen: Version) -> Result<Chain<A>, CopyFault>
-        ensures absent { (result ≡ Err CopyFault.Absent) ↔ (is_in_row (slot_at self.now pid.0).stage ≡ false) }
-        ensures stale { (result ≡ Err CopyFault.Stale) ↔ ((is_in_row (slot_at self.now pid.0).stage ≡ true) × ((slot_at self.now pid.0).version ≢ seen.0)) }
+        ensures absent { (result ≡ Err CopyFault.Absent) ↔ IsAbsent self.now pid }
+        ensures stale { (result ≡ Err CopyFault.Stale) ↔ IsStale self.now pid seen.0 }
         ensures copied { IfOk result (λ chain. (slot_at self.now pid.0).chain ≡ Some chain) }
         ensures sound { IfOk result IsSound }
     {
@@ -33,13 +34,14 @@ impl<A: Allocator + Copy> Table<A> {
         }
     }
 
-    /// The page that the chain stands for, made anew in `alloc`, if the page is in a row and still
-    /// has the version that was seen. The chain itself isn't copied.
+    /// Makes anew in `alloc` the page that the chain stands for, if the page is in a row and still has
+    /// the version that was seen. The chain itself isn't copied.
     #[inline(always)]
     pub fn consolidated_page(&self, alloc: A, pid: Pid, seen: Version) -> Result<Base<A>, CopyFault>
-        ensures absent { (result ≡ Err CopyFault.Absent) ↔ (is_in_row (slot_at self.now pid.0).stage ≡ false) }
-        ensures stale { (result ≡ Err CopyFault.Stale) ↔ ((is_in_row (slot_at self.now pid.0).stage ≡ true) × ((slot_at self.now pid.0).version ≢ seen.0)) }
-        ensures made { IfOk result (λ base. IfSome (slot_at self.now pid.0).chain (λ chain. base ≡ page_for chain)) }
+        ensures absent { (result ≡ Err CopyFault.Absent) ↔ IsAbsent self.now pid }
+        ensures stale { (result ≡ Err CopyFault.Stale) ↔ IsStale self.now pid seen.0 }
+        ensures made { IfOk result (λ base.
+            IfSome (slot_at self.now pid.0).chain (λ chain. base ≡ page_for chain)) }
     {
         match self.chain_seen(pid, seen) {
             Ok(chain) => match consolidate(alloc, chain) {
@@ -53,8 +55,8 @@ impl<A: Allocator + Copy> Table<A> {
     /// The page's chain, if the page is in a row and still has the version that was seen.
     #[inline(always)]
     fn chain_seen(&self, pid: Pid, seen: Version) -> Result<&Chain<A>, CopyFault>
-        ensures absent { (result ≡ Err CopyFault.Absent) ↔ (is_in_row (slot_at self.now pid.0).stage ≡ false) }
-        ensures stale { (result ≡ Err CopyFault.Stale) ↔ ((is_in_row (slot_at self.now pid.0).stage ≡ true) × ((slot_at self.now pid.0).version ≢ seen.0)) }
+        ensures absent { (result ≡ Err CopyFault.Absent) ↔ IsAbsent self.now pid }
+        ensures stale { (result ≡ Err CopyFault.Stale) ↔ IsStale self.now pid seen.0 }
         ensures memory { result ≢ Err CopyFault.NoMemory }
         ensures chain { IfOk result (λ chain. (slot_at self.now pid.0).chain ≡ Some chain.now) }
         ensures sound { IfOk result (λ chain. IsSound chain.now) }

@@ -1,4 +1,4 @@
-//! The ids of free slots. The last of them is given next, and none is ever asked memory for.
+//! The ids of free slots. The last of them is taken next, and no memory is ever asked for one.
 
 ghost use Rattle.std.specs.Prelude.{◌≡◌, ◌<◌, ◌≤◌, Some, IsSome, IfOk, length};
 ghost use Rattle.bw_law.specs.Effects.{freed};

@@ -14,7 +14,8 @@ pub(crate) fn first_slots<A: Allocator + Copy>(
 ) -> Result<Vec<Slot<A>>, AllocError>
     requires { 0 < pages }
     ensures fits { version < 2 ^ 64 }
-    ensures slots { IfOk result (λ slots. slots.items ≡ first_slot version ∷ replicate (pages - 1) (free_slot version)) }
+    ensures slots { IfOk result (λ slots.
+        slots.items ≡ first_slot version ∷ replicate (pages - 1) (free_slot version)) }
 {
     let mut slots = Vec::with_capacity(machine, pages as usize)?;
     slots.push(Slot::first(alloc, version))?;

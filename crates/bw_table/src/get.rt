@@ -15,7 +15,7 @@ use bw_step::{Look, Stage};
 use std::alloc::Allocator;
 
 impl<A: Allocator + Copy> Table<A> {
-    /// The value that the map has at the key, if it has one. It takes no memory.
+    /// Returns the value that the map has at the key, if it has one. It takes no memory.
     #[inline(always)]
     pub fn get(&self, key: Key) -> Option<u64>
         ensures { IsMapAt self.now key result }
@@ -23,7 +23,8 @@ impl<A: Allocator + Copy> Table<A> {
         self.slot_in_row(self.page_for(key)).find(key)
     }
 
-    /// What the map has at the key, and how many changes of the map there were. It takes no memory.
+    /// Returns what the map has at the key, and the number of changes of the map so far. It takes no
+    /// memory.
     #[inline(always)]
     pub fn look_up(&self, key: Key) -> Look
         ensures found { IsMapAt self.now key result.found }

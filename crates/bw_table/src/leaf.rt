@@ -32,13 +32,18 @@ impl<'t, A: Allocator> Model for LeafRef<'t, A> {
 
     ghost coded = { leaf_code };
 
-    ghost view = { λ l. record { pid = l.pid; low = l.slot.now.low; high = l.slot.now.high; pairs = pairs_in l.slot.now } };
+    ghost view = { λ l. record {
+      pid = l.pid;
+      low = l.slot.now.low;
+      high = l.slot.now.high;
+      pairs = pairs_in l.slot.now;
+    } };
 
     ghost invariant = { λ l. (is_in_row l.slot.now.stage ≡ true) × HasSoundChain l.slot.now };
 }
 
 impl<'t, A: Allocator + Copy> LeafRef<'t, A> {
-    /// The page.
+    /// Returns the page.
     #[inline(always)]
     pub fn pid(&self) -> Pid
         ensures { result ≡ self.now.pid }
@@ -46,7 +51,7 @@ impl<'t, A: Allocator + Copy> LeafRef<'t, A> {
         self.pid
     }
 
-    /// The least key that the leaf may have.
+    /// Returns the least key that the leaf may have.
     #[inline(always)]
     pub fn low(&self) -> Key
         ensures { result ≡ self.now.low }
@@ -55,7 +60,7 @@ impl<'t, A: Allocator + Copy> LeafRef<'t, A> {
         slot.summary.low
     }
 
-    /// Where the keys end that the leaf may have.
+    /// Returns the end of the keys that the leaf may have.
     #[inline(always)]
     pub fn high(&self) -> Fence
         ensures { result ≡ self.now.high }
@@ -64,7 +69,8 @@ impl<'t, A: Allocator + Copy> LeafRef<'t, A> {
         slot.summary.high
     }
 
-    /// The pair with the least key at or above the key, if the leaf has one. It takes no memory.
+    /// Returns the pair with the least key at or above the key, if the leaf has one. It takes no
+    /// memory.
     #[inline(always)]
     pub fn next_at(&self, key: Key) -> Option<(Key, u64)>
         ensures { result ≡ first_from key self.now.pairs }
@@ -72,9 +78,9 @@ impl<'t, A: Allocator + Copy> LeafRef<'t, A> {
         self.slot.next_at(key)
     }
 
-    /// Pairs of the leaf from the key on, as they lie side by side: all of them, unless a record of
-    /// the leaf names one of their keys; then those before the least such key, which may be none. It
-    /// takes no memory.
+    /// Returns pairs of the leaf from the key on, as they lie side by side: all of them, unless a
+    /// record of the leaf names one of their keys; then those before the least such key, which may be
+    /// none. It takes no memory.
     #[inline(always)]
     pub fn pairs_from(&self, key: Key) -> &'t [(Key, u64)]
         ensures { BeginsWith (from key self.now.pairs) result.now }
@@ -86,9 +92,9 @@ impl<'t, A: Allocator + Copy> LeafRef<'t, A> {
         }
     }
 
-    /// Pairs of the leaf up to the key, as they lie side by side: all of them, unless a record of the
-    /// leaf names one of their keys; then those behind the greatest such key, which may be none. It takes
-    /// no memory.
+    /// Returns pairs of the leaf up to the key, as they lie side by side: all of them, unless a
+    /// record of the leaf names one of their keys; then those behind the greatest such key, which may
+    /// be none. It takes no memory.
     #[inline(always)]
     pub fn pairs_upto(&self, key: Key) -> &'t [(Key, u64)]
         ensures { EndsWith (below (key + 1) self.now.pairs) result.now }
@@ -100,7 +106,8 @@ impl<'t, A: Allocator + Copy> LeafRef<'t, A> {
         }
     }
 
-    /// The pair with the greatest key at or below the key, if the leaf has one. It takes no memory.
+    /// Returns the pair with the greatest key at or below the key, if the leaf has one. It takes no
+    /// memory.
     #[inline(always)]
     pub fn previous_at(&self, key: Key) -> Option<(Key, u64)>
         ensures { result ≡ last_upto key self.now.pairs }

@@ -1,5 +1,5 @@
-//! The mapping table: it gives each page id its delta chain, and takes each change as one checked
-//! step (Levandoski et al., ICDE 2013, "mapping table").
+//! The mapping table: it holds the delta chain of each page id, and takes each change as one checked
+//! step.
 #![tactic(auto)]
 
 mod book;

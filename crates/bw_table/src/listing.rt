@@ -4,7 +4,7 @@ ghost use Rattle.std.specs.Prelude.{◌≡◌, ◌+◌, ◌≤◌, ◌++◌, [],
 ghost use Rattle.bw_delta.specs.Entries.{from};
 ghost use Rattle.bw_step.specs.Stages.{is_in_row};
 ghost use Rattle.bw_law.specs.Slots.{pairs_in};
-ghost use Rattle.bw_law.specs.Tables.{Lawful, pair_count, slot_at};
+ghost use Rattle.bw_law.specs.Tables.{pair_count};
 ghost use Rattle.bw_table.specs.SlotFacts.{HasSoundChain};
 ghost use Rattle.bw_table.specs.Gets.{IsListing};
 
@@ -17,9 +17,9 @@ use std::alloc::Allocator;
 use std::mem::replace;
 
 impl<A: Allocator + Copy> Table<A> {
-    /// Makes the list the first pairs of the map from the key on, in the order of their keys, and no
-    /// more than the limit. Room for them is made first, and all the memory that is taken; where it
-    /// is refused the list is as it was.
+    /// Replaces the list by the first pairs of the map from the key on, in the order of their keys,
+    /// and no more than the limit. All memory is taken first, as room for them; where it is refused
+    /// the list stays as it was.
     pub fn list_from(
         &self,
         low: Key,
@@ -70,7 +70,8 @@ impl<A: Allocator + Copy> Slot<A> {
         requires in_row { is_in_row self.now.stage ≡ true }
         requires sound { HasSoundChain self.now }
         requires few { length list.items ≤ limit }
-        requires room { length (take limit (list.items ++ from low (pairs_in self.now))) ≤ vec_capacity list }
+        requires room { length (take limit (list.items ++ from low (pairs_in self.now)))
+            ≤ vec_capacity list }
         ensures items { result.items ≡ take limit (list.items ++ from low (pairs_in self.now)) }
         ensures capacity { vec_capacity list ≤ vec_capacity result }
     {

@@ -9,7 +9,7 @@ use bw_keys::{Fence, Key};
 use std::alloc::Allocator;
 
 impl<A: Allocator + Copy> Table<A> {
-    /// The pair with the least key, if the map has any. It takes no memory.
+    /// Returns the pair with the least key, if the map has any. It takes no memory.
     pub fn first(&self) -> Option<(Key, u64)>
         ensures first { IfSome result (IsNextAt self.now 0) }
         ensures none { IfNone result (HasNoKeyWithin self.now 0 key_count) }
@@ -17,7 +17,7 @@ impl<A: Allocator + Copy> Table<A> {
         self.next_at(0)
     }
 
-    /// The pair with the greatest key, if the map has any. It takes no memory.
+    /// Returns the pair with the greatest key, if the map has any. It takes no memory.
     pub fn last(&self) -> Option<(Key, u64)>
         ensures last { IfSome result (IsPreviousAt self.now last_key) }
         ensures none { IfNone result (HasNoKeyWithin self.now 0 key_count) }
@@ -25,8 +25,8 @@ impl<A: Allocator + Copy> Table<A> {
         self.previous_at(Key::MAX)
     }
 
-    /// The pair with the least key at or above the key, if the map has one. It takes no memory, and
-    /// a search for each empty leaf on the way.
+    /// Returns the pair with the least key at or above the key, if the map has one. It takes no
+    /// memory, and a search for each empty leaf on the way.
     pub fn next_at(&self, key: Key) -> Option<(Key, u64)>
         ensures next { IfSome result (IsNextAt self.now key) }
         ensures none { IfNone result (HasNoKeyWithin self.now key key_count) }
@@ -44,8 +44,8 @@ impl<A: Allocator + Copy> Table<A> {
         }
     }
 
-    /// The pair with the greatest key at or below the key, if the map has one. It takes no memory, and
-    /// a search for each empty leaf on the way.
+    /// Returns the pair with the greatest key at or below the key, if the map has one. It takes no
+    /// memory, and a search for each empty leaf on the way.
     pub fn previous_at(&self, key: Key) -> Option<(Key, u64)>
         ensures previous { IfSome result (IsPreviousAt self.now key) }
         ensures none { IfNone result (HasNoKeyWithin self.now 0 (key + 1)) }

@@ -1,5 +1,5 @@
-//! The leaf of a key, told at once while no page on the way to it is in the middle of a split or a
-//! merge: then a search has nothing to finish for others.
+//! The leaf of a key, found while no page on the way to it is in the middle of a split or a merge:
+//! then a search has nothing to finish for others.
 
 ghost use Rattle.std.specs.Prelude.{◌≡◌, true, IfOk, IfErr, IfSome, IfNone};
 ghost use Rattle.bw_step.specs.Stages.{is_in_row};
@@ -20,11 +20,12 @@ use std::alloc::Allocator;
 struct Unfinished;
 
 impl<A: Allocator + Copy> Table<A> {
-    /// The leaf whose range holds the key, if no page on the way to it is in the middle of a split
-    /// or a merge. It takes no memory.
+    /// Returns the leaf whose range holds the key, if no page on the way to it is in the middle of a
+    /// split or a merge. It takes no memory.
     #[inline(always)]
     pub fn leaf_at_rest(&self, key: Key) -> Option<View>
-        ensures view { IfSome result (λ view. view ≡ view_of view.pid (slot_at self.now view.pid.0)) }
+        ensures view { IfSome result (λ view.
+            view ≡ view_of view.pid (slot_at self.now view.pid.0)) }
         ensures leaf { IfSome result (λ view. IsLeafOf self.now key view.pid.0) }
         ensures posted { IfSome result (λ view. view.stage ≡ Stage.Posted) }
         ensures unfinished { IfNone result (HasUnfinished self.now) }

@@ -1,6 +1,6 @@
-ghost use Rattle.std.specs.Prelude.{◌≡◌, ◌+◌, ◌==◌, ◌&&◌, ◌||◌, not, is_some, true};
+ghost use Rattle.std.specs.Prelude.{◌≡◌, ◌+◌, ◌==◌, ◌&&◌, true};
 ghost use Rattle.bw_keys.specs.Ranges.{is_within};
-ghost use Rattle.bw_delta.specs.Entries.{at, starts_at, first_from, last_upto, last_below};
+ghost use Rattle.bw_delta.specs.Entries.{at, first_from, last_upto, last_below};
 ghost use Rattle.bw_delta.specs.Pages.{upper_part};
 ghost use Rattle.bw_delta.specs.Sound.{IsSound, page_for};
 ghost use Rattle.bw_step.specs.Stages.{is_in_row};
@@ -8,7 +8,7 @@ ghost use Rattle.bw_law.specs.Same.{is_same_page};
 ghost use Rattle.bw_law.specs.Slots.{free_slot, chain_in, pairs_in, routes_in};
 ghost use Rattle.bw_law.specs.Tables.{first_slot, is_leaf_in_row};
 ghost use Rattle.bw_law.specs.Refusals.{is_full, is_worn, is_other_kind};
-ghost use Rattle.bw_table.specs.SlotFacts.{HasSoundChain};
+ghost use Rattle.bw_table.specs.SlotFacts.{HasSoundChain, is_later_key};
 ghost use Rattle.bw_table.specs.Views.{view_of};
 ghost use Rattle.bw_table.specs.Visits.{is_there, own_todo};
 
@@ -38,7 +38,17 @@ impl<A: Allocator> Model for Slot<A> {
 
     ghost coded = { slot_code };
 
-    ghost view = { λ s. record { version = s.version; stage = s.stage; low = s.summary.low; high = s.summary.high; right = s.summary.right; level = s.summary.level; count = s.summary.count; depth = s.summary.depth; chain = s.chain } };
+    ghost view = { λ s. record {
+      version = s.version;
+      stage = s.stage;
+      low = s.summary.low;
+      high = s.summary.high;
+      right = s.summary.right;
+      level = s.summary.level;
+      count = s.summary.count;
+      depth = s.summary.depth;
+      chain = s.chain;
+    } };
 }
 
 /// The summary of no page.
@@ -246,7 +256,7 @@ impl<A: Allocator + Copy> Slot<A> {
     pub(crate) fn is_later_key(&self, separator: Key) -> bool
         requires in_row { is_in_row self.now.stage ≡ true }
         requires sound { HasSoundChain self.now }
-        ensures { result ≡ ((is_some (at separator (pairs_in self.now)) || is_some (at separator (routes_in self.now))) && not (starts_at separator (pairs_in self.now) || starts_at separator (routes_in self.now))) }
+        ensures { result ≡ is_later_key self.now separator }
     {
         match &self.chain {
             Some(chain) => is_later_key(chain, separator),
@@ -270,7 +280,8 @@ impl<A: Allocator + Copy> Slot<A> {
     pub(crate) fn has_upper_part(&self, base: &Base<A>, separator: Key) -> bool
         requires in_row { is_in_row self.now.stage ≡ true }
         requires sound { HasSoundChain self.now }
-        ensures { result ≡ is_same_page base.now (upper_part separator (page_for (chain_in self.now))) }
+        ensures { result
+            ≡ is_same_page base.now (upper_part separator (page_for (chain_in self.now))) }
     {
         match &self.chain {
             Some(chain) => is_split_off(base, chain, separator),

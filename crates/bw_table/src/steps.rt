@@ -1,5 +1,5 @@
-//! Every change of a tree is a step. Each kind of step has a room of its own: why it is refused, what it
-//! does to the slots, and its receipt.
+//! Every change of a tree is a step. Each kind of step has a module of its own: why it is refused, what
+//! it does to the slots, and its receipt.
 
 ghost use Rattle.std.specs.Prelude.{◌≡◌, ◌↔◌, None, Some, IsOk, IfOk, IfErr, OnErr};
 ghost use Rattle.bw_step.specs.ProposalView.{proposal_of};
@@ -26,7 +26,7 @@ use bw_step::{Receipt, Refused, Step};
 use std::alloc::Allocator;
 
 impl<A: Allocator + Copy> Table<A> {
-    /// What `install` would answer. It changes nothing.
+    /// Returns what `install` would, and changes nothing.
     #[inline(always)]
     pub fn check(&self, step: &Step<A>) -> Result<(), Refused>
         ensures { result ≡ fine_unless (refusal self.now (proposal_of step.now)) }
@@ -45,13 +45,15 @@ impl<A: Allocator + Copy> Table<A> {
         }
     }
 
-    /// Takes the step, or answers the first reason to refuse it and gives its memory up. It takes
-    /// no memory.
+    /// Takes the step and returns its receipt, or drops the step and returns the first reason to
+    /// refuse it. It takes no memory.
     #[inline(always)]
     pub fn install(&mut self, step: Step<A>) -> Result<Receipt, Refused>
         ensures accepted { IsOk result ↔ (refusal self.old (proposal_of step) ≡ None) }
-        ensures taken { IfOk result (λ receipt. TakesStep self.old (proposal_of step) receipt self.new) }
-        ensures refused { IfErr result (λ reason. refusal self.old (proposal_of step) ≡ Some reason) }
+        ensures taken { IfOk result (λ receipt.
+            TakesStep self.old (proposal_of step) receipt self.new) }
+        ensures refused { IfErr result (λ reason.
+            refusal self.old (proposal_of step) ≡ Some reason) }
         ensures unchanged { OnErr result (self.new ≡ self.old) }
     {
         self.check(&step)?;

@@ -18,8 +18,8 @@ use bw_step::{Leaf, Survey};
 use std::alloc::{Allocator, Global};
 
 impl<A: Allocator + Copy> Table<A> {
-    /// The levels, the leaves in the order of their keys, and the book. The list of leaves lies
-    /// in the machine's memory.
+    /// Returns the levels, the leaves in the order of their keys, and the book. The list of leaves
+    /// lies in the machine's memory.
     pub fn survey(&self, machine: Global) -> Result<Survey, NoMemory>
         ensures { IfOk result (IsSurveyOf self.now) }
     {
@@ -37,7 +37,7 @@ impl<A: Allocator + Copy> Table<A> {
         })
     }
 
-    /// The pairs of the map in the order of their keys, in the machine's memory.
+    /// Returns the pairs of the map in the order of their keys, in the machine's memory.
     pub fn pairs(&self, machine: Global) -> Result<Vec<(Key, u64)>, NoMemory>
         ensures joined { IfOk result (λ pairs. ArePairsOf self.now pairs.items) }
         ensures map { IfOk result (λ pairs. IsTheMap self.now pairs.items) }
@@ -69,7 +69,8 @@ impl<A: Allocator + Copy> Table<A> {
     fn first_child(&self, page: Pid) -> Option<Pid>
         requires { IsRowStart self.now page.0 }
         ensures first { IfSome result (λ child. IsRowStart self.now child.0) }
-        ensures down { IfSome result (λ child. (slot_at self.now page.0).level ≡ (slot_at self.now child.0).level + 1) }
+        ensures down { IfSome result (λ child.
+            (slot_at self.now page.0).level ≡ (slot_at self.now child.0).level + 1) }
         ensures leaf { IfNone result ((slot_at self.now page.0).level ≡ 0) }
     {
         self.page(page).route_at(0)
@@ -87,7 +88,7 @@ impl<A: Allocator + Copy> Table<A> {
 }
 
 impl<A: Allocator + Copy> Slot<A> {
-    /// The leaf as a survey tells it.
+    /// The leaf as a survey lists it.
     fn leaf(&self, pid: Pid) -> Leaf
         ensures { result ≡ leaf_of pid self.now }
     {

@@ -34,19 +34,20 @@ pub struct Table<A: Allocator> {
 impl<A: Allocator> Model for Table<A> {
     ghost use Rattle.bw_law.specs.Tables.{TableValue};
     ghost use Rattle.bw_table.specs.Codes.{table_code};
-    ghost use Rattle.bw_table.specs.Whole.{IsWhole};
+    ghost use Rattle.bw_table.specs.Whole.{IsWhole, table_of};
 
     ghost Value = { TableValue };
 
     ghost coded = { table_code };
 
-    ghost view = { λ t. record { slots = t.slots.items; free = t.free.ids; root = t.root; book = t.book; config = t.config } };
+    ghost view = { λ t. table_of t.slots.items t.free.ids t.root t.book t.config };
 
-    ghost invariant = { λ t. IsWhole (record { slots = t.slots.items; free = t.free.ids; root = t.root; book = t.book; config = t.config }) t.free.room };
+    ghost invariant = { λ t.
+        IsWhole (table_of t.slots.items t.free.ids t.root t.book t.config) t.free.room };
 }
 
 impl<A: Allocator + Copy> Table<A> {
-    /// A table without pairs: page 0 is an empty leaf for all keys, and every other slot is free.
+    /// Makes a table without pairs: page 0 is an empty leaf for all keys, and every other slot is free.
     /// The chains will lie in `alloc`, all else in the machine's memory.
     pub fn new(machine: Global, alloc: A, config: Config) -> Result<Table<A>, NewFault>
         ensures ok { IfOk result (λ table. table ≡ new_table config) }
@@ -81,7 +82,18 @@ impl<A: Allocator + Copy> Table<A> {
         })
     }
 
-    /// The configuration that the table was made by. The law of the table is told with it.
+    /// Does nothing. The contract states the law that every table keeps, for a caller whose proof
+    /// needs it.
+    #[inline(always)]
+    pub fn law(&self)
+        ensures lawful { Lawful self.now }
+        ensures booked { Booked self.now }
+    {
+        // The law of the table is known where one of its fields is read.
+        let _ = &self.slots;
+    }
+
+    /// Returns the configuration that the table was made with.
     #[inline(always)]
     pub fn config(&self) -> Config
         ensures config { result ≡ self.now.config }
@@ -91,11 +103,12 @@ impl<A: Allocator + Copy> Table<A> {
         self.config
     }
 
-    /// Where every search begins.
+    /// Returns the place where every search begins.
     #[inline(always)]
     pub fn root(&self) -> Place
         ensures place { result ≡ root_place self.now }
-        ensures on_the_way { (key goal : ℕ) → goal ≤ result.level → IsOnTheWay self.now result key goal }
+        ensures on_the_way { (key goal : ℕ) → goal ≤ result.level
+            → IsOnTheWay self.now result key goal }
     {
         Place {
             pid: Pid(self.root),
@@ -104,11 +117,12 @@ impl<A: Allocator + Copy> Table<A> {
         }
     }
 
-    /// The page with the id, if the id isn't past the end and its slot isn't free.
+    /// Returns the page with the id, if the id isn't past the end and its slot isn't free.
     #[inline(always)]
     pub fn peek(&self, pid: Pid) -> Option<View>
         ensures view { result ≡ view_at self.now pid }
-        ensures merged { IfSome result (λ view. view.stage ≡ Merged → HasNothing view.high view.right view.count view.depth) }
+        ensures merged { IfSome result (λ view.
+            view.stage ≡ Merged → HasNothing view.high view.right view.count view.depth) }
     {
         let slot = self.slot(pid)?;
         if slot.stage == Stage::Free {
@@ -117,10 +131,12 @@ impl<A: Allocator + Copy> Table<A> {
         Some(slot.view(pid))
     }
 
-    /// What is kept of the page beside its chain, where `peek` sees it.
+    /// Returns what is kept of the page beside its chain, where `peek` sees it.
     pub fn summary(&self, pid: Pid) -> Option<&Summary>
         ensures summary { option_copied result ≡ summary_at self.now pid }
-        ensures merged { (slot_at self.now pid.0).stage ≡ Merged → IfSome (option_copied result) (λ summary. HasNothing summary.high summary.right summary.count summary.depth) }
+        ensures merged { (slot_at self.now pid.0).stage ≡ Merged
+            → IfSome (option_copied result) (λ summary.
+            HasNothing summary.high summary.right summary.count summary.depth) }
     {
         let slot = self.slot(pid)?;
         if slot.stage == Stage::Free {
@@ -129,7 +145,8 @@ impl<A: Allocator + Copy> Table<A> {
         Some(&slot.summary)
     }
 
-    /// What the map has at the key, if the page is a leaf in its row whose range holds the key.
+    /// Returns what the map has at the key, if the page is a leaf in its row whose range holds the
+    /// key.
     #[inline(always)]
     pub fn look(&self, pid: Pid, key: Key) -> Option<Look>
         ensures look { result ≡ look_at self.now pid.0 key }

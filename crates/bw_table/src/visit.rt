@@ -1,5 +1,5 @@
 //! The way of a search from the root: to the right where its key is past a page, and down by the
-//! routes otherwise. A visit changes nothing, takes no memory, and tells what it meets unfinished.
+//! routes otherwise. A visit changes nothing, takes no memory, and reports what it meets unfinished.
 
 ghost use Rattle.std.specs.Prelude.{◌≡◌, ◌<◌, true, Some};
 ghost use Rattle.bw_delta.specs.Entries.{last_below, last_upto};
@@ -23,9 +23,9 @@ const GONE: Next = Next {
 };
 
 impl<A: Allocator + Copy> Table<A> {
-    /// Where a search for the key, down to the goal's level, goes from a place, and what it meets
-    /// unfinished there. Any place may be visited: one that `root` gave, or a visit of the table as
-    /// it was earlier. Where its page isn't there any more the search begins again at the root.
+    /// Returns where a search for the key, down to the goal's level, goes from a place, and what it
+    /// meets unfinished there. Any place may be visited: one from `root`, or from a visit of the table
+    /// as it was earlier. Where its page isn't there any more the search begins again at the root.
     #[inline(always)]
     pub fn visit(&self, place: Place, key: Key, goal: u8) -> Next
         ensures answer { result ≡ visit_at self.now place key goal }
@@ -38,8 +38,6 @@ impl<A: Allocator + Copy> Table<A> {
         ensures nearer { ComesNearer place result.go }
         ensures found { FindsPage self.now place key goal result.go }
     {
-        // The law of the table is known where one of its fields is read.
-        let _ = &self.slots;
         match self.slot(place.pid) {
             Some(slot) if slot.is_there(place, key, goal) => self.next(place.pid, slot, key, goal),
             _ => GONE,
@@ -129,14 +127,13 @@ impl<A: Allocator + Copy> Table<A> {
         }
     }
 
-    /// The leaf whose range holds the key: where the walk from the root ends.
+    /// Returns the leaf whose range holds the key: where the walk from the root ends.
     pub fn locate(&self, key: Key) -> Pid
         ensures leaf { IsLeafOf self.now key result.0 }
         ensures walk { EachWalkEndsAt self.now key result.0 }
         ensures one_walk { OneWalkEndsAt self.now key result.0 }
     {
-        // The law of the table is known where one of its fields is read.
-        let _ = &self.slots;
+        self.law();
         let mut place = self.root();
         'walk: loop {
             match self.visit(place, key, 0).go {

@@ -4,19 +4,18 @@ ghost use Rattle.std.specs.Prelude.{◌≡◌, ◌≢◌, ◌+◌, ◌<◌, ◌^
 ghost use Rattle.bw_delta.specs.declared.chain.Delta.TheVariants as deltas;
 ghost use Rattle.bw_delta.specs.Entries.{at};
 ghost use Rattle.bw_delta.specs.Fence.{is_leaf};
-ghost use Rattle.bw_delta.specs.Pages.{listed_length, upper_part};
+ghost use Rattle.bw_delta.specs.Pages.{upper_part};
 ghost use Rattle.bw_delta.specs.Sound.{page_for};
-ghost use Rattle.bw_table.specs.SlotFacts.{HasSoundChain};
+ghost use Rattle.bw_table.specs.SlotFacts.{HasSoundChain, upper_summary};
 ghost use Rattle.bw_chain.specs.InPlaces.{delta_for};
 ghost use Rattle.bw_chain.specs.Pages.Halves.{listed_key_at};
 ghost use Rattle.bw_step.specs.declared.view.Stage.TheVariants.{Posted};
 ghost use Rattle.bw_step.specs.declared.receipt.Kind.TheVariants as kinds;
 ghost use Rattle.bw_step.specs.declared.receipt.Receipt.TheVariants.{Shaped};
 ghost use Rattle.bw_step.specs.Tellings.{telling_of};
-ghost use Rattle.bw_law.specs.Effects.{with_stage, upper_half};
 ghost use Rattle.bw_law.specs.Slots.{slot_in, chain_in, pairs_in, routes_in};
 ghost use Rattle.bw_law.specs.Tables.{TellsMap, slot_at, number_of, book_with};
-ghost use Rattle.bw_table.specs.InPlaces.{IsShallowLeaf, MayChangeAtOnce, MayCut, MayPostAtOnce, MaySplitAtOnce, TakesCut, TakesInPlace, IsSplitAtOnce, IsSplitUnder, IsPosted, slot_cut, IsDoneAtOnce, count_after, slot_with, slots_with, slots_posted, slots_split, receipt_for};
+ghost use Rattle.bw_table.specs.InPlaces.{IsShallowLeaf, MayChangeAtOnce, MayCut, MayPostAtOnce, MaySplitAtOnce, TakesCut, TakesInPlace, IsSplitAtOnce, IsSplitUnder, IsPosted, HasNoTerm, TakesTerm, slot_cut, IsDoneAtOnce, count_after, slot_with, slots_with, slots_posted_at_once, slots_split_at_once, receipt_for};
 
 use crate::book::number_of;
 use crate::slot::Slot;
@@ -28,14 +27,16 @@ use bw_step::{AtOnce, Book, Receipt, Stage, Summary};
 use std::alloc::Allocator;
 
 impl<A: Allocator + Copy> Table<A> {
-    /// Makes the wish come true for a key and consolidates its leaf, as a change and a consolidation
-    /// one behind the other do. None, and nothing changed, where a page on the way to the leaf is in
-    /// the middle of a split or a merge, where more than the record of its split stands on the leaf,
+    /// Carries out the wish for a key and consolidates its leaf, as a change and a consolidation one
+    /// behind the other do. Returns `None` and changes nothing where a page on the way to the leaf is
+    /// in the middle of a split or a merge, where more than the record of its split stands on the leaf,
     /// where a number is used up, and where memory is short.
     #[inline(always)]
     pub fn change_at_once(&mut self, key: Key, wished: Wished) -> Option<AtOnce>
-        ensures done { IfSome result (λ done. IsDoneAtOnce self.old done.page.0 key wished done.receipt self.new) }
-        ensures map { IfSome result (λ done. TellsMap (telling_of done.receipt) self.old.slots self.new.slots) }
+        ensures done { IfSome result (λ done.
+            IsDoneAtOnce self.old done.page.0 key wished done.receipt self.new) }
+        ensures map { IfSome result (λ done.
+            TellsMap (telling_of done.receipt) self.old.slots self.new.slots) }
         ensures count { IfSome result (λ done. done.count ≡ (slot_at self.new done.page.0).count) }
         ensures unchanged { IfNone result (self.new ≡ self.old) }
     {
@@ -63,8 +64,10 @@ impl<A: Allocator + Copy> Table<A> {
     /// The same on a page: None where it isn't such a leaf, or its range doesn't hold the key.
     #[inline(always)]
     fn change_leaf(&mut self, page: Pid, key: Key, wished: Wished) -> Option<Receipt>
-        ensures done { IfSome result (λ receipt. IsDoneAtOnce self.old page.0 key wished receipt self.new) }
-        ensures map { IfSome result (λ receipt. TellsMap (telling_of receipt) self.old.slots self.new.slots) }
+        ensures done { IfSome result (λ receipt.
+            IsDoneAtOnce self.old page.0 key wished receipt self.new) }
+        ensures map { IfSome result (λ receipt.
+            TellsMap (telling_of receipt) self.old.slots self.new.slots) }
         ensures unchanged { IfNone result (self.new ≡ self.old) }
     {
         if !self.may_change_at_once(page, key) {
@@ -88,9 +91,9 @@ impl<A: Allocator + Copy> Table<A> {
 
 impl<A: Allocator + Copy> Table<A> {
     /// Names a page that no parent names yet in its parent, and consolidates the parent, as the two
-    /// steps one behind the other do. False, and nothing changed, where the one isn't a posted page
-    /// without records whose range holds the low of the other, where a number is used up, and where
-    /// memory is short.
+    /// steps one behind the other do. Returns false and changes nothing where the parent isn't a posted
+    /// page without records whose range holds the low of the child, where a number is used up, and
+    /// where memory is short.
     pub fn post_at_once(&mut self, parent: Pid, child: Pid) -> bool
         ensures { IsPosted self.old parent.0 child result self.new }
     {
@@ -101,7 +104,8 @@ impl<A: Allocator + Copy> Table<A> {
     }
 
     fn may_post_at_once(&self, parent: Pid, child: Pid) -> bool
-        ensures { IsTrue result → MayPostAtOnce (slot_at self.now parent.0) (slot_at self.now child.0) }
+        ensures { IsTrue result
+            → MayPostAtOnce (slot_at self.now parent.0) (slot_at self.now child.0) }
     {
         let (Some(over), Some(under)) = (self.slot(parent), self.slot(child)) else {
             return false;
@@ -115,11 +119,12 @@ fn post_at<A: Allocator + Copy>(slots: &mut Vec<Slot<A>>, parent: Pid, child: Pi
     requires exists { parent.0 < length slots.old.items }
     requires child_exists { child.0 < length slots.old.items }
     requires apart { child.0 ≢ parent.0 }
-    requires takes { TakesInPlace (slot_in slots.old.items parent.0) (slot_in slots.old.items child.0).low }
+    requires takes { TakesTerm slots.old.items parent.0 child.0 }
     requires version { (slot_in slots.old.items child.0).version + 1 < 2 ^ 64 }
-    ensures absent { result ≡ true → at (slot_in slots.old.items child.0).low (routes_in (slot_in slots.old.items parent.0)) ≡ None }
+    ensures absent { result ≡ true → HasNoTerm slots.old.items parent.0 child.0 }
     ensures inner { result ≡ true → is_leaf (chain_in (slot_in slots.old.items parent.0)) ≡ false }
-    ensures posted { result ≡ true → slots.new.items ≡ slots_posted parent.0 child slots.old.items }
+    ensures posted { result ≡ true
+        → slots.new.items ≡ slots_posted_at_once parent.0 child slots.old.items }
     ensures unchanged { result ≡ false → slots.new.items ≡ slots.old.items }
 {
     let low = slots[child.0 as usize].low();
@@ -148,7 +153,8 @@ impl<A: Allocator + Copy> Slot<A> {
         requires { TakesInPlace self.old separator }
         ensures absent { result ≡ true → at separator (routes_in self.old) ≡ None }
         ensures inner { result ≡ true → is_leaf (chain_in self.old) ≡ false }
-        ensures routed { result ≡ true → self.new ≡ slot_with (Some (deltas.TermAdd separator child)) self.old }
+        ensures routed { result ≡ true
+            → self.new ≡ slot_with (Some (deltas.TermAdd separator child)) self.old }
         ensures unchanged { result ≡ false → self.new ≡ self.old }
     {
         let Some(chain) = &mut self.chain else {
@@ -167,11 +173,12 @@ impl<A: Allocator + Copy> Slot<A> {
 impl<A: Allocator + Copy> Table<A> {
     /// Splits a page before the entry with the number, counted from 0, and consolidates it, as the two
     /// steps one behind the other do. The new page has room for as many entries as it may get before it
-    /// is split. None, and nothing changed, where it isn't a posted page without records, where that
-    /// entry is its first or isn't there or leads to a page that is leaving, where no slot is free,
-    /// where a number is used up, and where memory is short.
+    /// is split. Returns the new page, or returns `None` and changes nothing where the page isn't a
+    /// posted one without records, where that entry is its first or isn't there or leads to a page that
+    /// is leaving, where no slot is free, where a number is used up, and where memory is short.
     pub fn split_at_once(&mut self, page: Pid, number: usize) -> Option<Pid>
-        ensures done { IfSome result (λ new. IsSplitAtOnce self.old page.0 number (Shaped kinds.Split page (Some new)) self.new) }
+        ensures done { IfSome result (λ new.
+            IsSplitAtOnce self.old page.0 number (Shaped kinds.Split page (Some new)) self.new) }
         ensures unchanged { IfNone result (self.new ≡ self.old) }
     {
         let room = self.config.fanout as usize + 1;
@@ -187,11 +194,12 @@ impl<A: Allocator + Copy> Table<A> {
         Some(new)
     }
 
-    /// Splits a page, consolidates it, names the new page in the parent and consolidates that. Where the
-    /// parent doesn't take the new page so, the page is split all the same, and the new one stays
-    /// Unposted: false is told beside it.
+    /// Splits a page as [`Table::split_at_once`] does, then names the new page in the parent as
+    /// [`Table::post_at_once`] does. Returns the new page, and whether it is posted: where the parent
+    /// doesn't take it, the page is split all the same.
     pub fn split_under(&mut self, parent: Pid, page: Pid, number: usize) -> Option<(Pid, bool)>
-        ensures done { IfSome result (λ done. IsSplitUnder self.old parent.0 page.0 number done.0 done.1 self.new) }
+        ensures done { IfSome result (λ done.
+            IsSplitUnder self.old parent.0 page.0 number done.0 done.1 self.new) }
         ensures unchanged { IfNone result (self.new ≡ self.old) }
     {
         let new = self.split_at_once(page, number)?;
@@ -209,7 +217,7 @@ impl<A: Allocator + Copy> Table<A> {
     }
 }
 
-/// Ends the page before the separator, and gives its upper part to the new one.
+/// Ends the page before the separator, and moves its upper part to the new one.
 fn cut_at<A: Allocator + Copy>(
     slots: &mut Vec<Slot<A>>,
     page: Pid,
@@ -222,7 +230,8 @@ fn cut_at<A: Allocator + Copy>(
     requires apart { new.0 ≢ page.0 }
     requires takes { TakesCut (slot_in slots.old.items page.0) separator }
     requires new_version { (slot_in slots.old.items new.0).version + 1 < 2 ^ 64 }
-    ensures split { result ≡ true → slots.new.items ≡ slots_split page.0 new separator base slots.old.items }
+    ensures split { result ≡ true
+        → slots.new.items ≡ slots_split_at_once page.0 new separator base slots.old.items }
     ensures unchanged { result ≡ false → slots.new.items ≡ slots.old.items }
 {
     let count = base.len() as u64;
@@ -238,8 +247,10 @@ fn cut_at<A: Allocator + Copy>(
 impl<A: Allocator + Copy> Slot<A> {
     /// Its entries from the one with the number on, with the key of that.
     fn upper_part(&self, number: usize, room: usize) -> Option<(Key, Base<A>)>
-        ensures separator { IfSome result (λ part. listed_key_at number (page_for (chain_in self.now)).listed ≡ Some part.0) }
-        ensures page { IfSome result (λ part. part.1 ≡ upper_part part.0 (page_for (chain_in self.now))) }
+        ensures separator { IfSome result (λ part.
+            listed_key_at number (page_for (chain_in self.now)).listed ≡ Some part.0) }
+        ensures page { IfSome result (λ part.
+            part.1 ≡ upper_part part.0 (page_for (chain_in self.now))) }
     {
         match &self.chain {
             Some(chain) => upper_part_of(chain, number, room),
@@ -259,10 +270,10 @@ impl<A: Allocator + Copy> Slot<A> {
             && self.is_later_key(separator)
     }
 
-    /// Ends the page before the separator, and answers the summary of the part from it on.
+    /// Ends the page before the separator, and returns the summary of the part from it on.
     fn cut_in_place(&mut self, separator: Key, new: Pid, count: u64) -> Option<Summary>
         requires takes { TakesCut self.old separator }
-        ensures upper { IfSome result (λ upper. upper ≡ record { low = separator; high = self.old.high; right = self.old.right; level = self.old.level; count = count; depth = 0 }) }
+        ensures upper { IfSome result (λ upper. upper ≡ upper_summary separator count self.old) }
         ensures lower { IfSome result (λ upper. self.new ≡ slot_cut separator new count self.old) }
         ensures unchanged { IfNone result (self.new ≡ self.old) }
     {
@@ -287,7 +298,7 @@ impl<A: Allocator + Copy> Slot<A> {
     }
 }
 
-/// Makes the wish come true in the slot of a leaf.
+/// Carries out the wish in the slot of a leaf.
 #[inline(always)]
 fn change_at<A: Allocator + Copy>(
     slots: &mut Vec<Slot<A>>,
@@ -297,15 +308,17 @@ fn change_at<A: Allocator + Copy>(
 ) -> Option<InPlace>
     requires exists { page.0 < length slots.old.items }
     requires takes { TakesInPlace (slot_in slots.old.items page.0) key }
-    ensures had { IfSome result (λ done. done.had ≡ at key (pairs_in (slot_in slots.old.items page.0))) }
+    ensures had { IfSome result (λ done.
+        done.had ≡ at key (pairs_in (slot_in slots.old.items page.0))) }
     ensures delta { IfSome result (λ done. done.delta ≡ delta_for wished key done.had) }
-    ensures changed { IfSome result (λ done. slots.new.items ≡ slots_with page.0 done.delta slots.old.items) }
+    ensures changed { IfSome result (λ done.
+        slots.new.items ≡ slots_with page.0 done.delta slots.old.items) }
     ensures unchanged { IfNone result (slots.new.items ≡ slots.old.items) }
 {
     slots[page.0 as usize].change_in_place(key, wished)
 }
 
-/// Counts what was done in the book, and tells it.
+/// Counts what was done in the book, and returns its receipt.
 #[inline(always)]
 fn note(book: &mut Book, key: Key, done: InPlace) -> Receipt
     requires number { number_of book.old + 1 < 2 ^ 64 }
@@ -361,7 +374,7 @@ impl<A: Allocator + Copy> Slot<A> {
             && self.holds(key)
     }
 
-    /// Makes the wish come true in the base page's own list.
+    /// Carries out the wish in the base page's own list.
     #[inline(always)]
     fn change_in_place(&mut self, key: Key, wished: Wished) -> Option<InPlace>
         requires { TakesInPlace self.old key }

@@ -1,12 +1,11 @@
 //! consolidate: the base is the chain.
 
-ghost use Rattle.std.specs.Prelude.{◌≡◌, ◌+◌, ◌^◌, ◌<◌, None, length, slice_set};
-ghost use Rattle.bw_keys.specs.Reasons.{first_reason};
+ghost use Rattle.std.specs.Prelude.{◌≡◌, ◌+◌, ◌^◌, ◌<◌, None, length};
 ghost use Rattle.bw_step.specs.ProposalView.{consolidate_of};
-ghost use Rattle.bw_law.specs.Effects.{TakesStep, consolidated};
+ghost use Rattle.bw_law.specs.Effects.{TakesStep, slots_consolidated, consolidated};
 ghost use Rattle.bw_law.specs.Refusals.{refusal, consolidate_reasons};
 ghost use Rattle.bw_law.specs.Slots.{slot_in};
-ghost use Rattle.bw_table.specs.Answers.{fine_unless};
+ghost use Rattle.bw_table.specs.Answers.{AnswersFirst, fine_unless};
 ghost use Rattle.bw_table.specs.SlotFacts.{HasSoundChain};
 
 use crate::slot::Slot;
@@ -52,7 +51,7 @@ fn may_consolidate<A: Allocator + Copy>(
     step: &Consolidate<A>,
 ) -> Result<(), Refused>
     requires sound { HasSoundChain slot.now }
-    ensures { result ≡ fine_unless (first_reason (consolidate_reasons slot.now step.now.seen.0 step.now.base)) }
+    ensures { AnswersFirst (consolidate_reasons slot.now step.now.seen.0 step.now.base) result }
 {
     check_open(slot, step.seen)?;
     if slot.is_other_kind(&step.base) {
@@ -72,7 +71,7 @@ fn may_consolidate<A: Allocator + Copy>(
 fn consolidate_at<A: Allocator + Copy>(slots: &mut Vec<Slot<A>>, page: Pid, base: Base<A>)
     requires exists { page.0 < length slots.old.items }
     requires version { (slot_in slots.old.items page.0).version + 1 < 2 ^ 64 }
-    ensures { slots.new.items ≡ slice_set slots.old.items page.0 (consolidated base (slot_in slots.old.items page.0)) }
+    ensures { slots.new.items ≡ slots_consolidated page.0 base slots.old.items }
 {
     slots[page.0 as usize].consolidate(base);
 }

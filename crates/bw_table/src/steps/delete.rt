@@ -1,10 +1,10 @@
 //! delete: a record on the leaf; the book's removals rise.
 
-ghost use Rattle.std.specs.Prelude.{◌≡◌, ◌-◌, ◌<◌, None, length, slice_set, unwrap_or};
+ghost use Rattle.std.specs.Prelude.{◌≡◌, ◌-◌, ◌<◌, None, length, unwrap_or};
 ghost use Rattle.bw_delta.specs.Entries.{at};
 ghost use Rattle.bw_delta.specs.declared.chain.Delta.TheVariants as deltas;
 ghost use Rattle.bw_step.specs.ProposalView.{delete_of};
-ghost use Rattle.bw_law.specs.Effects.{TakesStep, with_record};
+ghost use Rattle.bw_law.specs.Effects.{TakesStep, slots_deleted, with_record};
 ghost use Rattle.bw_law.specs.Refusals.{refusal};
 ghost use Rattle.bw_law.specs.Slots.{slot_in, pairs_in};
 ghost use Rattle.bw_table.specs.Answers.{fine_unless};
@@ -53,7 +53,7 @@ impl<A: Allocator + Copy> Table<A> {
     }
 }
 
-/// Deletes a key that the leaf has, and answers its value.
+/// Deletes a key that the leaf has, and returns its value.
 #[inline(always)]
 fn delete_at<A: Allocator + Copy>(
     slots: &mut Vec<Slot<A>>,
@@ -65,7 +65,7 @@ fn delete_at<A: Allocator + Copy>(
     requires deeper { MayGrowDeeper (slot_in slots.old.items page.0) }
     requires count { 0 < (slot_in slots.old.items page.0).count }
     ensures value { result ≡ unwrap_or (at key (pairs_in (slot_in slots.old.items page.0))) 0 }
-    ensures slots { let slot = slot_in slots.old.items page.0 in slots.new.items ≡ slice_set slots.old.items page.0 (with_record (deltas.Delete key) (slot.count - 1) slot) }
+    ensures slots { slots.new.items ≡ slots_deleted page.0 key slots.old.items }
 {
     slots[page.0 as usize].delete(key, spare)
 }

@@ -1,14 +1,12 @@
 //! grow: a new page takes the base and is the root, one level higher; the child is Posted.
 
-ghost use Rattle.std.specs.Prelude.{◌≡◌, ◌≢◌, ◌+◌, ◌^◌, ◌<◌, None, [], ◌∷◌, length, slice_set, is_none, unwrap_or, option_copied};
-ghost use Rattle.bw_keys.specs.Reasons.{first_reason};
+ghost use Rattle.std.specs.Prelude.{◌≡◌, ◌≢◌, ◌+◌, ◌^◌, ◌<◌, None, [], ◌∷◌, length, is_none, unwrap_or, option_copied};
 ghost use Rattle.bw_step.specs.ProposalView.{grow_of};
-ghost use Rattle.bw_step.specs.declared.view.Stage.TheVariants.{Posted};
-ghost use Rattle.bw_law.specs.Effects.{TakesStep, with_stage, grown_root};
+ghost use Rattle.bw_law.specs.Effects.{TakesStep, slots_grown};
 ghost use Rattle.bw_law.specs.Refusals.{refusal, grow_reasons, root_page};
 ghost use Rattle.bw_law.specs.Same.{is_same_page, are_same_entries, is_same_pid};
 ghost use Rattle.bw_law.specs.Slots.{SlotValue, slot_in};
-ghost use Rattle.bw_table.specs.Answers.{fine_unless};
+ghost use Rattle.bw_table.specs.Answers.{AnswersFirst, fine_unless};
 
 use crate::slot::{NOTHING, Slot};
 use crate::steps::shared::check_room;
@@ -63,7 +61,9 @@ fn may_grow<A: Allocator + Copy>(
     step: &Grow<A>,
 ) -> Result<(), Refused>
     // Where there is no slot for the new root, any other may stand in its place.
-    ensures { (other : SlotValue) → result ≡ fine_unless (first_reason (grow_reasons under.now root.now (unwrap_or (option_copied new.entry) other) (is_none (option_copied new.entry)) step.now.seen.0 step.now.base (root_page root_id.0 under.now.low step.now.child.0))) }
+    ensures { let new = option_copied new.entry in let step = step.now in (other : SlotValue)
+        → AnswersFirst (grow_reasons under.now root.now (unwrap_or new other) (is_none new)
+        step.seen.0 step.base (root_page root_id.0 under.now.low step.child.0)) result }
 {
     if !under.stage.is_in_row() {
         return Err(Refused::Absent);
@@ -129,7 +129,7 @@ fn grow_at<A: Allocator + Copy>(
     requires child_version { (slot_in slots.old.items child.0).version + 1 < 2 ^ 64 }
     requires new_version { (slot_in slots.old.items new.0).version + 1 < 2 ^ 64 }
     requires level { level + 1 < 256 }
-    ensures { slots.new.items ≡ slice_set (slice_set slots.old.items child.0 (with_stage Posted (slot_in slots.old.items child.0))) new.0 (grown_root (slot_in slots.old.items new.0).version level base) }
+    ensures { slots.new.items ≡ slots_grown child.0 new.0 level base slots.old.items }
 {
     slots[child.0 as usize].post();
     let whole = Summary {

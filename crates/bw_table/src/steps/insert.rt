@@ -1,13 +1,12 @@
 //! insert: a record on the leaf; the book's insertions rise.
 
-ghost use Rattle.std.specs.Prelude.{◌≡◌, suc, ◌+◌, ◌^◌, ◌<◌, None, length, slice_set};
-ghost use Rattle.bw_keys.specs.Reasons.{first_reason};
+ghost use Rattle.std.specs.Prelude.{◌≡◌, suc, ◌+◌, ◌^◌, ◌<◌, None, length};
 ghost use Rattle.bw_delta.specs.declared.chain.Delta.TheVariants as deltas;
 ghost use Rattle.bw_step.specs.ProposalView.{insert_of};
-ghost use Rattle.bw_law.specs.Effects.{TakesStep, with_record};
+ghost use Rattle.bw_law.specs.Effects.{TakesStep, slots_inserted, with_record};
 ghost use Rattle.bw_law.specs.Refusals.{refusal, insert_reasons};
 ghost use Rattle.bw_law.specs.Slots.{slot_in};
-ghost use Rattle.bw_table.specs.Answers.{fine_unless};
+ghost use Rattle.bw_table.specs.Answers.{AnswersFirst, fine_unless};
 ghost use Rattle.bw_table.specs.SlotFacts.{MayGrowDeeper};
 
 use crate::book::number_of;
@@ -61,7 +60,7 @@ fn may_insert<A: Allocator + Copy>(
     number: u64,
     step: &Insert<A>,
 ) -> Result<(), Refused>
-    ensures { result ≡ fine_unless (first_reason (insert_reasons slot.now number step.now.seen.0 step.now.key)) }
+    ensures { AnswersFirst (insert_reasons slot.now number step.now.seen.0 step.now.key) result }
 {
     check_leaf(slot, step.seen, step.key)?;
     if let Some(value) = slot.find(step.key) {
@@ -82,7 +81,7 @@ fn insert_at<A: Allocator + Copy>(
     requires exists { page.0 < length slots.old.items }
     requires deeper { MayGrowDeeper (slot_in slots.old.items page.0) }
     requires count { (slot_in slots.old.items page.0).count + 1 < 2 ^ 64 }
-    ensures { let slot = slot_in slots.old.items page.0 in slots.new.items ≡ slice_set slots.old.items page.0 (with_record (deltas.Insert key value) (suc slot.count) slot) }
+    ensures { slots.new.items ≡ slots_inserted page.0 key value slots.old.items }
 {
     slots[page.0 as usize].insert(key, value, spare);
 }

@@ -1,12 +1,11 @@
 //! mark: a record on the page, which is Marked.
 
-ghost use Rattle.std.specs.Prelude.{◌≡◌, ◌<◌, None, length, slice_set};
-ghost use Rattle.bw_keys.specs.Reasons.{first_reason};
+ghost use Rattle.std.specs.Prelude.{◌≡◌, ◌<◌, None, length};
 ghost use Rattle.bw_step.specs.ProposalView.{mark_of};
-ghost use Rattle.bw_law.specs.Effects.{TakesStep, marked};
+ghost use Rattle.bw_law.specs.Effects.{TakesStep, slots_marked, marked};
 ghost use Rattle.bw_law.specs.Refusals.{refusal, mark_reasons};
 ghost use Rattle.bw_law.specs.Slots.{slot_in};
-ghost use Rattle.bw_table.specs.Answers.{fine_unless};
+ghost use Rattle.bw_table.specs.Answers.{AnswersFirst, fine_unless};
 ghost use Rattle.bw_table.specs.SlotFacts.{MayGrowDeeper};
 
 use crate::slot::Slot;
@@ -48,7 +47,7 @@ fn may_mark<A: Allocator + Copy>(
     over: &Slot<A>,
     step: &Mark<A>,
 ) -> Result<(), Refused>
-    ensures { result ≡ fine_unless (first_reason (mark_reasons slot.now over.now step.now.seen.0)) }
+    ensures { AnswersFirst (mark_reasons slot.now over.now step.now.seen.0) result }
 {
     if !slot.stage.is_in_row() || !over.stage.is_in_row() {
         return Err(Refused::Absent);
@@ -85,7 +84,7 @@ fn may_mark<A: Allocator + Copy>(
 fn mark_at<A: Allocator + Copy>(slots: &mut Vec<Slot<A>>, page: Pid, spare: Spare<A>)
     requires exists { page.0 < length slots.old.items }
     requires deeper { MayGrowDeeper (slot_in slots.old.items page.0) }
-    ensures { slots.new.items ≡ slice_set slots.old.items page.0 (marked (slot_in slots.old.items page.0)) }
+    ensures { slots.new.items ≡ slots_marked page.0 slots.old.items }
 {
     slots[page.0 as usize].mark(spare);
 }

@@ -1,16 +1,15 @@
 //! merge: the left page's chain is a merge record over both chains; it takes the page's end and side
 //! link, and the counts add up; the page is Merged and keeps its low and level.
 
-ghost use Rattle.std.specs.Prelude.{◌≡◌, ◌≢◌, ◌+◌, ◌^◌, ◌<◌, None, length, slice_set};
+ghost use Rattle.std.specs.Prelude.{◌≡◌, ◌≢◌, ◌+◌, ◌^◌, ◌<◌, None, length};
 ghost use Rattle.std.specs.Option.{ForSome};
-ghost use Rattle.bw_keys.specs.Reasons.{first_reason};
 ghost use Rattle.bw_keys.specs.declared.page.TheConstants.{MAX_DEPTH};
 ghost use Rattle.bw_delta.specs.Records.{depth};
 ghost use Rattle.bw_step.specs.ProposalView.{merge_of};
-ghost use Rattle.bw_law.specs.Effects.{TakesStep, joined, taken_in};
+ghost use Rattle.bw_law.specs.Effects.{TakesStep, slots_merged, taken_in};
 ghost use Rattle.bw_law.specs.Refusals.{refusal, merge_reasons};
 ghost use Rattle.bw_law.specs.Slots.{slot_in};
-ghost use Rattle.bw_table.specs.Answers.{fine_unless};
+ghost use Rattle.bw_table.specs.Answers.{AnswersFirst, fine_unless};
 ghost use Rattle.bw_table.specs.SlotFacts.{MayGrowDeeper, joined_with, summary_of};
 
 use crate::slot::{NOTHING, Slot};
@@ -58,7 +57,8 @@ fn may_merge<A: Allocator + Copy>(
     slot: &Slot<A>,
     step: &Merge<A>,
 ) -> Result<(), Refused>
-    ensures { result ≡ fine_unless (first_reason (merge_reasons into.now slot.now step.now.left_seen.0 step.now.page_seen.0 step.now.page.0)) }
+    ensures { let step = step.now in AnswersFirst
+        (merge_reasons into.now slot.now step.left_seen.0 step.page_seen.0 step.page.0) result }
 {
     if !into.stage.is_in_row() || !slot.stage.is_in_row() {
         return Err(Refused::Absent);
@@ -100,14 +100,15 @@ fn merge_at<A: Allocator + Copy>(
     requires apart { page.0 ≢ left.0 }
     requires deeper { MayGrowDeeper (slot_in slots.old.items left.0) }
     requires page_deeper { MayGrowDeeper (slot_in slots.old.items page.0) }
-    requires count { (slot_in slots.old.items left.0).count + (slot_in slots.old.items page.0).count < 2 ^ 64 }
-    ensures { let into = slot_in slots.old.items left.0 in let slot = slot_in slots.old.items page.0 in slots.new.items ≡ slice_set (slice_set slots.old.items left.0 (joined into slot)) page.0 (taken_in slot) }
+    requires count { (slot_in slots.old.items left.0).count
+        + (slot_in slots.old.items page.0).count < 2 ^ 64 }
+    ensures { slots.new.items ≡ slots_merged left.0 page.0 slots.old.items }
 {
     let given = slots[page.0 as usize].give_up();
     slots[left.0 as usize].take_in(given, left_spare, page_spare);
 }
 
-/// What a page that is merged gives to its left neighbour.
+/// What a page that is merged leaves to its left neighbour.
 #[derive(Drop)]
 struct Given<A: Allocator> {
     summary: Summary,

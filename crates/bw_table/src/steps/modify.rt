@@ -1,10 +1,10 @@
 //! modify: a record on the leaf, whose pairs are as many as before; the book's modifications rise.
 
-ghost use Rattle.std.specs.Prelude.{◌≡◌, ◌<◌, None, length, slice_set, unwrap_or};
+ghost use Rattle.std.specs.Prelude.{◌≡◌, ◌<◌, None, length, unwrap_or};
 ghost use Rattle.bw_delta.specs.Entries.{at};
 ghost use Rattle.bw_delta.specs.declared.chain.Delta.TheVariants as deltas;
 ghost use Rattle.bw_step.specs.ProposalView.{modify_of};
-ghost use Rattle.bw_law.specs.Effects.{TakesStep, with_record};
+ghost use Rattle.bw_law.specs.Effects.{TakesStep, slots_modified, with_record};
 ghost use Rattle.bw_law.specs.Refusals.{refusal};
 ghost use Rattle.bw_law.specs.Slots.{slot_in, pairs_in};
 ghost use Rattle.bw_table.specs.Answers.{fine_unless};
@@ -53,7 +53,7 @@ impl<A: Allocator + Copy> Table<A> {
     }
 }
 
-/// Gives a key that the leaf has another value, and answers the old one.
+/// Replaces the value of a key that the leaf has, and returns the old one.
 fn modify_at<A: Allocator + Copy>(
     slots: &mut Vec<Slot<A>>,
     page: Pid,
@@ -64,7 +64,7 @@ fn modify_at<A: Allocator + Copy>(
     requires exists { page.0 < length slots.old.items }
     requires deeper { MayGrowDeeper (slot_in slots.old.items page.0) }
     ensures value { result ≡ unwrap_or (at key (pairs_in (slot_in slots.old.items page.0))) 0 }
-    ensures slots { let slot = slot_in slots.old.items page.0 in slots.new.items ≡ slice_set slots.old.items page.0 (with_record (deltas.Modify key value) slot.count slot) }
+    ensures slots { slots.new.items ≡ slots_modified page.0 key value slots.old.items }
 {
     slots[page.0 as usize].modify(key, value, spare)
 }

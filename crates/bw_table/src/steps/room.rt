@@ -9,9 +9,9 @@ use bw_keys::{Pid, Version};
 use std::alloc::Allocator;
 
 impl<A: Allocator + Copy> Table<A> {
-    /// Whether a split of the leaf into halves would be refused as no slot is free for the new page, and
-    /// for no other reason: the leaf has the version that was seen, no record, and isn't being removed.
-    /// It tells before the page is copied for the split.
+    /// Reports whether a split of the leaf into halves would be refused as no slot is free for the new
+    /// page, and for no other reason: the leaf has the version that was seen, no record, and isn't being
+    /// removed. This can be asked before the page is copied for the split.
     pub fn has_no_page_for(&self, leaf: Pid, seen: Version) -> bool
         ensures { result ≡ true → last_id self.now.free ≡ None }
     {

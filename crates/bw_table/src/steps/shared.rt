@@ -1,15 +1,13 @@
 //! What several steps have in common: reasons to refuse them, and changes of one slot.
 
-ghost use Rattle.std.specs.Prelude.{◌≡◌, suc, ◌+◌, ◌^◌, ◌<◌, Some, [], ◌∷◌, nat_lt, is_none, unwrap_or, option_copied};
-ghost use Rattle.bw_keys.specs.Reasons.{when, first_reason};
-ghost use Rattle.bw_delta.specs.Records.{bare};
-ghost use Rattle.bw_step.specs.declared.refused.Refused.TheVariants.{WrongKind, OutOfRange, Deep, TableFull};
+ghost use Rattle.std.specs.Prelude.{◌≡◌, ◌+◌, ◌^◌, ◌<◌, is_none, unwrap_or, option_copied};
 ghost use Rattle.bw_step.specs.declared.view.Stage.TheVariants.{Posted};
 ghost use Rattle.bw_law.specs.Effects.{with_record, with_stage};
-ghost use Rattle.bw_law.specs.Refusals.{absent, stale, frozen, worn, worn_change, is_full, is_outside, found_reasons};
+ghost use Rattle.bw_law.specs.Refusals.{found_reasons};
 ghost use Rattle.bw_law.specs.Slots.{SlotValue};
-ghost use Rattle.bw_table.specs.Answers.{fine_unless};
-ghost use Rattle.bw_table.specs.SlotFacts.{MayGrowDeeper};
+ghost use Rattle.bw_table.specs.Answers.{AnswersFirst};
+ghost use Rattle.bw_table.specs.Reasons.{open_reasons, leaf_reasons, change_reasons, room_reasons};
+ghost use Rattle.bw_table.specs.SlotFacts.{MayGrowDeeper, holding};
 
 use crate::slot::Slot;
 use bw_delta::{Base, Chain, Delta, Spare};
@@ -20,7 +18,7 @@ use std::alloc::Allocator;
 /// Why a page isn't open for a change: it isn't in a row, has another version, or is leaving.
 #[inline(always)]
 pub(super) fn check_open<A: Allocator + Copy>(slot: &Slot<A>, seen: Version) -> Result<(), Refused>
-    ensures { result ≡ fine_unless (first_reason (absent (slot.now ∷ []) ∷ stale ((slot.now, seen.0) ∷ []) ∷ frozen slot.now ∷ [])) }
+    ensures { AnswersFirst (open_reasons slot.now seen.0) result }
 {
     if !slot.stage.is_in_row() {
         return Err(Refused::Absent);
@@ -41,7 +39,7 @@ pub(super) fn check_leaf<A: Allocator + Copy>(
     seen: Version,
     key: Key,
 ) -> Result<(), Refused>
-    ensures { result ≡ fine_unless (first_reason (absent (slot.now ∷ []) ∷ stale ((slot.now, seen.0) ∷ []) ∷ frozen slot.now ∷ when (nat_lt 0 slot.now.level) WrongKind ∷ when (is_outside slot.now key) OutOfRange ∷ [])) }
+    ensures { AnswersFirst (leaf_reasons slot.now seen.0 key) result }
 {
     check_open(slot, seen)?;
     if slot.summary.level > 0 {
@@ -56,7 +54,7 @@ pub(super) fn check_leaf<A: Allocator + Copy>(
 /// Why there is no room for a change of the map, at the book's number.
 #[inline(always)]
 pub(super) fn check_change<A: Allocator + Copy>(slot: &Slot<A>, number: u64) -> Result<(), Refused>
-    ensures { result ≡ fine_unless (first_reason (when (is_full slot.now) Deep ∷ worn_change slot.now number ∷ [])) }
+    ensures { AnswersFirst (change_reasons slot.now number) result }
 {
     if slot.is_full() {
         return Err(Refused::Deep);
@@ -73,7 +71,8 @@ pub(super) fn check_room<A: Allocator + Copy>(
     new: Option<&Slot<A>>,
 ) -> Result<(), Refused>
     // Where there is no slot for the new page, any other may stand in its place.
-    ensures { (other : SlotValue) → result ≡ fine_unless (first_reason (when (is_none (option_copied new.entry)) TableFull ∷ worn (slot.now ∷ unwrap_or (option_copied new.entry) other ∷ []) ∷ [])) }
+    ensures { let new = option_copied new.entry in (other : SlotValue)
+        → AnswersFirst (room_reasons slot.now (unwrap_or new other) (is_none new)) result }
 {
     let Some(new) = new else {
         return Err(Refused::TableFull);
@@ -91,7 +90,7 @@ pub(super) fn check_found<A: Allocator + Copy>(
     seen: Version,
     key: Key,
 ) -> Result<(), Refused>
-    ensures { result ≡ fine_unless (first_reason (found_reasons slot.now number seen.0 key)) }
+    ensures { AnswersFirst (found_reasons slot.now number seen.0 key) result }
 {
     check_leaf(slot, seen, key)?;
     if slot.find(key).is_none() {
@@ -107,7 +106,7 @@ impl<A: Allocator + Copy> Slot<A> {
         self.summary.low
     }
 
-    /// Puts a record on top of the chain, by which the page has so many entries.
+    /// Puts a record on top of the chain, by which the page has `count` entries.
     #[inline(always)]
     pub(super) fn record(&mut self, delta: Delta, count: u64, spare: Spare<A>)
         requires deeper { MayGrowDeeper self.old }
@@ -124,7 +123,7 @@ impl<A: Allocator + Copy> Slot<A> {
     /// Takes up a new page.
     pub(super) fn hold(&mut self, stage: Stage, summary: Summary, base: Base<A>)
         requires version { self.old.version + 1 < 2 ^ 64 }
-        ensures { self.new ≡ record { version = suc self.old.version; stage = stage; low = summary.low; high = summary.high; right = summary.right; level = summary.level; count = summary.count; depth = summary.depth; chain = Some (bare base) } }
+        ensures { self.new ≡ holding stage summary base self.old }
     {
         self.version += 1;
         self.stage = stage;

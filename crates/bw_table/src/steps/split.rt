@@ -1,17 +1,14 @@
 //! split: a new page takes the base; the page ends at the separator and links to it.
 
-ghost use Rattle.std.specs.Prelude.{◌≡◌, ◌≢◌, suc, ◌+◌, ◌-◌, ◌^◌, ◌<◌, ◌≤◌, Some, None, length, slice_set, is_none, unwrap_or, option_copied};
-ghost use Rattle.bw_keys.specs.Reasons.{first_reason};
-ghost use Rattle.bw_keys.specs.declared.range.Fence.TheVariants.{Key};
+ghost use Rattle.std.specs.Prelude.{◌≡◌, ◌≢◌, ◌+◌, ◌-◌, ◌^◌, ◌<◌, ◌≤◌, Some, None, length, is_none, unwrap_or, option_copied};
 ghost use Rattle.bw_delta.specs.Entries.{at};
 ghost use Rattle.bw_delta.specs.Pages.{listed_length};
-ghost use Rattle.bw_delta.specs.declared.chain.Delta.TheVariants as deltas;
 ghost use Rattle.bw_step.specs.ProposalView.{split_of};
-ghost use Rattle.bw_law.specs.Effects.{TakesStep, with_record, lower_half, upper_half};
+ghost use Rattle.bw_law.specs.Effects.{TakesStep, slots_split, cut_before};
 ghost use Rattle.bw_law.specs.Refusals.{refusal, split_reasons, is_leaving_at};
 ghost use Rattle.bw_law.specs.Slots.{SlotValue, slot_in, routes_in};
-ghost use Rattle.bw_table.specs.Answers.{fine_unless};
-ghost use Rattle.bw_table.specs.SlotFacts.{HasSoundChain, MayGrowDeeper};
+ghost use Rattle.bw_table.specs.Answers.{AnswersFirst, fine_unless};
+ghost use Rattle.bw_table.specs.SlotFacts.{HasSoundChain, MayGrowDeeper, upper_summary};
 
 use crate::slot::Slot;
 use crate::steps::shared::{check_open, check_room};
@@ -78,7 +75,9 @@ fn may_split<A: Allocator + Copy>(
 ) -> Result<(), Refused>
     requires sound { HasSoundChain slot.now }
     // Where there is no slot for the new page, any other may stand in its place.
-    ensures { (other : SlotValue) → result ≡ fine_unless (first_reason (split_reasons slot.now (unwrap_or (option_copied new.entry) other) child_leaving (is_none (option_copied new.entry)) step.now.seen.0 step.now.separator step.now.base)) }
+    ensures { let new = option_copied new.entry in let step = step.now in (other : SlotValue)
+        → AnswersFirst (split_reasons slot.now (unwrap_or new other) child_leaving (is_none new)
+        step.seen.0 step.separator step.base) result }
 {
     check_open(slot, step.seen)?;
     if slot.is_other_kind(&step.base) {
@@ -99,7 +98,7 @@ fn may_split<A: Allocator + Copy>(
     check_room(slot, new)
 }
 
-/// Gives the upper part of a page to a new one.
+/// Moves the upper part of a page to a new one.
 fn split_at<A: Allocator + Copy>(
     slots: &mut Vec<Slot<A>>,
     page: Pid,
@@ -114,19 +113,19 @@ fn split_at<A: Allocator + Copy>(
     requires deeper { MayGrowDeeper (slot_in slots.old.items page.0) }
     requires new_version { (slot_in slots.old.items new.0).version + 1 < 2 ^ 64 }
     requires count { listed_length base.listed ≤ (slot_in slots.old.items page.0).count }
-    ensures { let slot = slot_in slots.old.items page.0 in slots.new.items ≡ slice_set (slice_set slots.old.items page.0 (lower_half separator new base slot)) new.0 (upper_half (slot_in slots.old.items new.0).version separator base slot) }
+    ensures { slots.new.items ≡ slots_split page.0 new separator base slots.old.items }
 {
     let upper = slots[page.0 as usize].split_off(separator, new, base.len() as u64, spare);
     slots[new.0 as usize].hold(Stage::Unposted, upper, base);
 }
 
 impl<A: Allocator + Copy> Slot<A> {
-    /// Ends the page before the separator, and answers the summary of the part from it on.
+    /// Ends the page before the separator, and returns the summary of the part from it on.
     fn split_off(&mut self, separator: Key, new: Pid, count: u64, spare: Spare<A>) -> Summary
         requires deeper { MayGrowDeeper self.old }
         requires count { count ≤ self.old.count }
-        ensures upper { result ≡ record { low = separator; high = self.old.high; right = self.old.right; level = self.old.level; count = count; depth = 0 } }
-        ensures lower { self.new ≡ record (with_record (deltas.Split separator new) (self.old.count - count) self.old) { high = Key separator; right = Some new } }
+        ensures upper { result ≡ upper_summary separator count self.old }
+        ensures lower { self.new ≡ cut_before separator new count self.old }
     {
         let upper = Summary {
             low: separator,

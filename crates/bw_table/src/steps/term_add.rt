@@ -1,14 +1,12 @@
 //! term add: a record on the parent; the child is Posted.
 
-ghost use Rattle.std.specs.Prelude.{◌≡◌, ◌≢◌, suc, ◌+◌, ◌^◌, ◌<◌, None, length, slice_set};
-ghost use Rattle.bw_keys.specs.Reasons.{first_reason};
+ghost use Rattle.std.specs.Prelude.{◌≡◌, ◌≢◌, suc, ◌+◌, ◌^◌, ◌<◌, None, length};
 ghost use Rattle.bw_delta.specs.declared.chain.Delta.TheVariants as deltas;
 ghost use Rattle.bw_step.specs.ProposalView.{term_add_of};
-ghost use Rattle.bw_step.specs.declared.view.Stage.TheVariants.{Posted};
-ghost use Rattle.bw_law.specs.Effects.{TakesStep, with_record, with_stage};
+ghost use Rattle.bw_law.specs.Effects.{TakesStep, slots_posted, with_record};
 ghost use Rattle.bw_law.specs.Refusals.{refusal, term_add_reasons};
 ghost use Rattle.bw_law.specs.Slots.{slot_in};
-ghost use Rattle.bw_table.specs.Answers.{fine_unless};
+ghost use Rattle.bw_table.specs.Answers.{AnswersFirst, fine_unless};
 ghost use Rattle.bw_table.specs.SlotFacts.{MayGrowDeeper};
 
 use crate::slot::Slot;
@@ -55,7 +53,8 @@ fn may_add_term<A: Allocator + Copy>(
     under: &Slot<A>,
     step: &TermAdd<A>,
 ) -> Result<(), Refused>
-    ensures { result ≡ fine_unless (first_reason (term_add_reasons over.now under.now step.now.parent_seen.0 step.now.child_seen.0)) }
+    ensures { let step = step.now in AnswersFirst
+        (term_add_reasons over.now under.now step.parent_seen.0 step.child_seen.0) result }
 {
     if !over.stage.is_in_row() || !under.stage.is_in_row() {
         return Err(Refused::Absent);
@@ -100,7 +99,7 @@ fn term_add_at<A: Allocator + Copy>(
     requires deeper { MayGrowDeeper (slot_in slots.old.items parent.0) }
     requires child_version { (slot_in slots.old.items child.0).version + 1 < 2 ^ 64 }
     requires count { (slot_in slots.old.items parent.0).count + 1 < 2 ^ 64 }
-    ensures { let over = slot_in slots.old.items parent.0 in let under = slot_in slots.old.items child.0 in slots.new.items ≡ slice_set (slice_set slots.old.items parent.0 (with_record (deltas.TermAdd under.low child) (suc over.count) over)) child.0 (with_stage Posted under) }
+    ensures { slots.new.items ≡ slots_posted parent.0 child slots.old.items }
 {
     let low = slots[child.0 as usize].low();
     slots[parent.0 as usize].term_add(low, child, spare);

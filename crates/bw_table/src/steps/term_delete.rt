@@ -1,14 +1,13 @@
 //! term delete: a record on the parent; the child's slot is Free, and its id goes to the end of the free
 //! list, unless its version is 2^64 - 1.
 
-ghost use Rattle.std.specs.Prelude.{◌≡◌, ◌≢◌, suc, ◌+◌, ◌-◌, ◌^◌, ◌<◌, None, length, slice_set};
-ghost use Rattle.bw_keys.specs.Reasons.{first_reason};
+ghost use Rattle.std.specs.Prelude.{◌≡◌, ◌≢◌, suc, ◌+◌, ◌-◌, ◌^◌, ◌<◌, None, length};
 ghost use Rattle.bw_delta.specs.declared.chain.Delta.TheVariants as deltas;
 ghost use Rattle.bw_step.specs.ProposalView.{term_delete_of};
-ghost use Rattle.bw_law.specs.Effects.{TakesStep, with_record};
+ghost use Rattle.bw_law.specs.Effects.{TakesStep, slots_unposted, with_record};
 ghost use Rattle.bw_law.specs.Refusals.{refusal, term_delete_reasons};
 ghost use Rattle.bw_law.specs.Slots.{slot_in, free_slot};
-ghost use Rattle.bw_table.specs.Answers.{fine_unless};
+ghost use Rattle.bw_table.specs.Answers.{AnswersFirst, fine_unless};
 ghost use Rattle.bw_table.specs.SlotFacts.{MayGrowDeeper};
 
 use crate::slot::Slot;
@@ -56,7 +55,8 @@ fn may_delete_term<A: Allocator + Copy>(
     under: &Slot<A>,
     step: &TermDelete<A>,
 ) -> Result<(), Refused>
-    ensures { result ≡ fine_unless (first_reason (term_delete_reasons over.now under.now step.now.parent_seen.0 step.now.child_seen.0)) }
+    ensures { let step = step.now in AnswersFirst
+        (term_delete_reasons over.now under.now step.parent_seen.0 step.child_seen.0) result }
 {
     if !over.stage.is_in_row() || under.stage == Stage::Free {
         return Err(Refused::Absent);
@@ -85,7 +85,7 @@ fn may_delete_term<A: Allocator + Copy>(
     Ok(())
 }
 
-/// Takes the term of a merged child out of its parent, and frees the child's slot. Answers the
+/// Takes the term of a merged child out of its parent, and frees the child's slot. Returns the
 /// version of the free slot.
 fn term_delete_at<A: Allocator + Copy>(
     slots: &mut Vec<Slot<A>>,
@@ -100,7 +100,7 @@ fn term_delete_at<A: Allocator + Copy>(
     requires child_version { (slot_in slots.old.items child.0).version + 1 < 2 ^ 64 }
     requires count { 0 < (slot_in slots.old.items parent.0).count }
     ensures version { result ≡ suc (slot_in slots.old.items child.0).version }
-    ensures slots { let over = slot_in slots.old.items parent.0 in let under = slot_in slots.old.items child.0 in slots.new.items ≡ slice_set (slice_set slots.old.items parent.0 (with_record (deltas.TermDelete under.low) (over.count - 1) over)) child.0 (free_slot (suc under.version)) }
+    ensures slots { slots.new.items ≡ slots_unposted parent.0 child.0 slots.old.items }
 {
     let low = slots[child.0 as usize].low();
     slots[parent.0 as usize].term_delete(low, spare);
@@ -117,7 +117,7 @@ impl<A: Allocator + Copy> Slot<A> {
         self.record(Delta::TermDelete(low), count, spare);
     }
 
-    /// Frees the slot, and answers its version.
+    /// Frees the slot, and returns its version.
     fn free_up(&mut self) -> u64
         requires version { self.old.version + 1 < 2 ^ 64 }
         ensures version { result ≡ suc self.old.version }

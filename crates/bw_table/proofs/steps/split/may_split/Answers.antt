@@ -1,5 +1,5 @@
-use Rattle.std.proofs.Common.{◌≡◌, [], ◌∷◌, Err, ◌∙◌, rules}
-use Rattle.bw_law.specs.Refusals.{absent, stale, frozen}
+use Rattle.std.proofs.Common.{◌≡◌, Err, ◌∙◌, rules}
+use Rattle.bw_table.specs.Reasons.{open_reasons}
 use Rattle.bw_table.proofs.Reasons.{refused_before}
 use Rattle.bw_table.proofs.steps.split.may_split.Goals as goal
 
@@ -8,7 +8,7 @@ returns-in_err-check_open g c =
     let slot = c.args.slot.now in
     let reason = c.in_err-check_open.field-0.0 in
     let same : c.from_residual.result ≡ Err reason = search rules in
-    λ other. same ∙ refused_before (absent (slot ∷ []) ∷ stale ((slot, c.args.step.now.seen.0) ∷ []) ∷ frozen slot ∷ []) _ reason c.in_err-check_open.ensures
+    λ other. same ∙ refused_before (open_reasons slot c.args.step.now.seen.0) _ reason c.in_err-check_open.ensures
 
 pub returns-then-not-has_upper_part : goal.returns-then-not-has_upper_part
 returns-then-not-has_upper_part g c = search rules
