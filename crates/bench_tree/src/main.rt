@@ -22,7 +22,7 @@ use std::time::Clock;
 use std::{env, io};
 use thiserror::Error;
 
-/// Why no time is told.
+/// Why no time is reported.
 #[derive(Debug, Drop, Error)]
 pub(crate) enum Stop {
     #[error("memory")]
@@ -84,13 +84,13 @@ impl From<bw_work::Fault> for Stop {
     }
 }
 
-/// How many millions a second that are.
+/// Returns the rate in millions a second.
 fn rate(count: u32, seconds: f64) -> f64 {
     f64::from(count) / 1e6 / seconds
 }
 
-/// How many million operations a second readers do, how many million changes a second a writer makes beside
-/// them, which publishes every so many, and how many milliseconds its longest publication takes.
+/// Returns the millions of operations a second of readers, those of changes of a writer beside
+/// them, and the milliseconds of its longest publication. It publishes after each `every` changes.
 fn beside<R: Clock + Threads + Wait + Sync + Send + Copy>(
     rt: R,
     alloc: Global,
@@ -104,7 +104,7 @@ fn beside<R: Clock + Threads + Wait + Sync + Send + Copy>(
     Ok(format!(in alloc; "reader {reads:.9} writer {changes:.6} longest {longest:.3}\n")?)
 }
 
-/// What one worker is answered, a line for each work and structure. It tells nothing of time.
+/// Returns what one worker is answered, a line for each work and structure, without times.
 fn tallies<R: Clock + Threads + Wait + Sync + Send + Copy>(
     rt: R,
     alloc: Global,
@@ -124,7 +124,7 @@ fn tallies<R: Clock + Threads + Wait + Sync + Send + Copy>(
     Ok(text)
 }
 
-/// What is asked for, as the lines that the program prints.
+/// Returns what is asked for, as the lines that the program prints.
 fn answer<R: Clock + Threads + Wait + Sync + Send + Copy>(
     rt: R,
     alloc: Global,
@@ -150,7 +150,7 @@ fn answer<R: Clock + Threads + Wait + Sync + Send + Copy>(
     }
 }
 
-/// The answer to the words, or how they are given.
+/// Returns the answer to the words, or the usage where they ask for nothing.
 fn report<R: Clock + Threads + Wait + Sync + Send + Copy>(
     rt: R,
     alloc: Global,
@@ -167,7 +167,7 @@ fn report<R: Clock + Threads + Wait + Sync + Send + Copy>(
     }
 }
 
-/// The words that the program was called with, its own name first.
+/// Returns the program's arguments, with its own name first.
 fn words(rt: &HostRuntime) -> Result<Vec<String>, Stop> {
     Ok(env::args(rt)?.collect(rt.alloc())?)
 }

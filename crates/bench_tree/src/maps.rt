@@ -32,7 +32,7 @@ pub(crate) fn run_map(rt: &impl Clock, alloc: Global, task: &Task) -> Result<Tim
     Ok(Timed { tally, seconds })
 }
 
-/// Puts every second key of those that are drawn later.
+/// Puts every second key of those drawn later.
 fn fill(map: &mut Map<Global>, order: &[u32]) -> Result<(), Stop> {
     for key in order {
         map.put(2 * u64::from(*key), u64::from(*key))?;
@@ -49,12 +49,12 @@ fn load(map: &mut Map<Global>, keys: &[u32]) -> Result<Tally, Stop> {
     Ok(tally)
 }
 
-/// Gives the key itself as its value.
+/// Puts the key with itself as value.
 fn put_one(map: &mut Map<Global>, key: Key) -> Result<Tally, Stop> {
     Ok(Tally::of_put(map.put(key, key)?.reply))
 }
 
-/// Takes each key out.
+/// Deletes each key.
 fn delete_each(map: &mut Map<Global>, keys: &[u32]) -> Result<Tally, Stop> {
     let mut tally = Tally::default();
     for key in keys {
@@ -87,7 +87,7 @@ fn mix(map: &mut Map<Global>, task: &Task, gets: u32, keys: &[u32]) -> Result<Ta
     Ok(tally)
 }
 
-/// Sets drawn keys that are there, to drawn values.
+/// Sets drawn keys that have values to drawn ones.
 fn set_often(map: &mut Map<Global>, task: &Task) -> Result<Tally, Stop> {
     let mut tally = Tally::default();
     let mut rng = Pcg32::new(0, 1);
@@ -111,7 +111,7 @@ fn scan_often(map: &Map<Global>, alloc: Global, task: &Task) -> Result<Tally, St
     Ok(tally)
 }
 
-/// The first pairs from a key on.
+/// Returns the first pairs from a key on.
 fn scan(
     map: &Map<Global>,
     alloc: Global,

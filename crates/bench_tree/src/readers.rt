@@ -1,4 +1,4 @@
-//! Trees with readers: what readers do, alone and beside one writer, and what puts cost that are published.
+//! Trees with readers: readers alone, readers beside one writer, and puts that are published.
 
 ghost use Rattle.std.specs.Prelude.{◌≡◌};
 ghost use Rattle.bw_tree.specs.Trees.{OpensFor};
@@ -31,15 +31,16 @@ const WRITER: u64 = 64;
 pub(crate) enum Trial {
     /// It is filled and published, and then only read.
     Reads,
-    /// It is filled and published, and then read beside a writer that publishes every so many changes.
+    /// It is filled and published, and then read beside a writer that publishes after each `every`
+    /// changes.
     Beside,
-    /// It is loaded, and published every so many puts.
+    /// It is loaded, and published after each `every` puts.
     Puts,
     /// It is filled, with nothing published.
     Pending,
 }
 
-/// How long the readers took, or the puts, and what a writer did beside them.
+/// The time that the readers took, or the puts, and what a writer did beside them.
 #[derive(Clone, Copy, Debug)]
 pub(crate) struct Figures {
     pub timed: Timed,
@@ -47,7 +48,7 @@ pub(crate) struct Figures {
 }
 
 impl Figures {
-    /// Without a writer.
+    /// Returns the figures without a writer.
     fn of(timed: Timed) -> Figures {
         Figures {
             timed,
@@ -61,7 +62,7 @@ impl Figures {
 pub(crate) struct Written {
     pub changes: u32,
     pub seconds: f64,
-    /// How long the longest publication took.
+    /// The time of the longest publication.
     pub longest: Duration,
 }
 
@@ -73,10 +74,10 @@ impl Written {
     };
 }
 
-/// What threads do on a tree. They share a value of it behind this trait, so that what it holds doesn't
-/// matter to them.
+/// What threads do on a tree. They share a value behind this trait, so that its fields don't matter
+/// to them.
 trait Working {
-    /// Readers are numbered from 0 on.
+    /// Reads. Readers are numbered from 0.
     fn read<N: Naming>(&self, reader: Reader<N>, number: u32) -> Result<Tally, ScanFault>;
 
     /// Writes until the readers have ended.
@@ -87,11 +88,11 @@ trait Working {
         share: Share<N, D>,
     ) -> Result<Written, Stop>;
 
-    /// Tells the writer that the readers have ended.
+    /// Ends the writer: the readers have ended.
     fn end(&self);
 }
 
-/// Each reader in a thread of its own.
+/// Runs each reader in a thread of its own.
 fn read_together<
     N: Naming + Send + Sync,
     R: Threads + Wait + Sync + Send + Copy,
@@ -115,7 +116,7 @@ fn read_together<
     })
 }
 
-/// Lets all readers read, and times them together. Then the writer may end.
+/// Runs all readers, and times them together. Then the writer may end.
 fn read_timed<
     N: Naming + Send + Sync,
     R: Clock + Threads + Wait + Sync + Send + Copy,
@@ -131,7 +132,7 @@ fn read_timed<
     })
 }
 
-/// The writer and the readers side by side.
+/// Runs the writer and the readers side by side.
 fn work_side_by_side<
     N: Naming + Send + Sync,
     D: Ledger + Send + Sync,
@@ -152,7 +153,7 @@ fn work_side_by_side<
     )
 }
 
-/// Who works on a tree, which is published every so many changes.
+/// The writer and the readers of a tree, which is published after each `every` changes.
 #[derive(Drop)]
 struct Crew {
     alloc: Global,
@@ -166,7 +167,7 @@ struct Crew {
 }
 
 impl Crew {
-    /// Looks known or drawn keys up.
+    /// Gets known or drawn keys.
     fn get_often<N: Naming>(
         &self,
         reader: &mut Reader<N>,
@@ -246,7 +247,7 @@ impl Working for Crew {
     }
 }
 
-/// Publishes, and tells how long that took.
+/// Publishes, and returns the time that it took.
 fn publish_time<R: Clock + Wait + Copy, N: Naming, D: Ledger>(
     rt: &R,
     tree: &ReadTree<R, N, D>,
@@ -256,7 +257,7 @@ fn publish_time<R: Clock + Wait + Copy, N: Naming, D: Ledger>(
     Ok(start.elapsed(rt)?)
 }
 
-/// Fills the tree, and publishes it part by part where that is asked for.
+/// Fills the tree, and publishes it part by part if asked to.
 fn fill<R: Wait + Copy, N: Naming, D: Ledger>(
     tree: &ReadTree<R, N, D>,
     share: Share<N, D>,
@@ -278,7 +279,7 @@ fn fill<R: Wait + Copy, N: Naming, D: Ledger>(
     Ok(share)
 }
 
-/// A load by one worker, published every so many puts.
+/// Loads the tree by one worker, and publishes after each `every` puts.
 fn put_all<R: Clock + Wait + Copy, N: Naming, D: Ledger>(
     rt: &R,
     tree: &ReadTree<R, N, D>,

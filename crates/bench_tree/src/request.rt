@@ -4,7 +4,7 @@ use crate::task::{Task, number};
 use crate::trees::{CONFIG, Structure};
 use bw_keys::Config;
 
-/// How the words are given.
+/// The text that says which words the program takes.
 pub(crate) const USAGE: &str = "\
 usage: bench_tree STRUCTURE WORK WORKERS KEYS OPERATIONS
        bench_tree beside WORK READERS KEYS OPERATIONS CHANGES
@@ -21,20 +21,20 @@ CHAIN is the most records of a page (1 to 32), FANOUT the most entries (4 to 64)
 
 #[derive(Clone, Copy, Debug, PartialEq, Eq)]
 pub(crate) enum Request {
-    /// How fast a structure does a task.
+    /// The rate of a task on a structure.
     Rate(Structure, Task),
-    /// How fast readers do a task beside a writer that publishes every so many changes.
+    /// The rate of a task of readers beside a writer that publishes after each `every` changes.
     Beside { task: Task, every: u32 },
-    /// How fast a load is done that is published every so many puts.
+    /// The rate of a load that is published after each `every` puts.
     Puts { task: Task, every: u32 },
-    /// A tree is to be filled with nothing published.
+    /// A tree that is filled with nothing published.
     Pending(Task),
-    /// What one worker is answered by each structure, for each kind of work in this one's place.
+    /// What one worker is answered by each structure, for each kind of work in place of the task's.
     Tallies(Task),
 }
 
 impl Request {
-    /// None where the words ask for nothing that there is.
+    /// Reads a request, or returns None if the words are none.
     pub(crate) fn read(words: &[&str]) -> Option<Request> {
         match words {
             ["pages", chain, fanout, rest @ ..] => {
@@ -51,7 +51,7 @@ impl Request {
         }
     }
 
-    /// What is asked of trees of this configuration.
+    /// Reads what is asked of trees of this configuration.
     fn read_on(config: Config, words: &[&str]) -> Option<Request> {
         match words {
             ["puts", keys, every] => Some(Request::Puts {

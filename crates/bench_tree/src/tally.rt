@@ -3,24 +3,24 @@
 use bw_work::{Del, Put, Set};
 use std::fmt;
 
-/// How many calls found or changed something. It tells nothing of time, so two programs that do the
-/// same operations with one worker have the same tally.
+/// The numbers of calls that found or changed something. Two programs that do the same operations
+/// with one worker have the same tally.
 #[derive(Clone, Copy, Debug, Default, PartialEq, Eq)]
 pub(crate) struct Tally {
     /// Gets that found a value.
     pub found: u64,
-    /// Puts and sets that gave a key that wasn't there a value.
+    /// Puts and sets that inserted a key.
     pub inserted: u64,
-    /// Sets that gave a key that was there another value.
+    /// Sets that replaced a value.
     pub replaced: u64,
-    /// Deletes that took a key out.
+    /// Deletes that removed a key.
     pub removed: u64,
-    /// The pairs that scans gave, all together.
+    /// The pairs that all scans returned.
     pub scanned: u64,
 }
 
 impl Tally {
-    /// Of a get.
+    /// Returns the tally of a get.
     pub(crate) fn of_get(found: Option<u64>) -> Tally {
         Tally {
             found: u64::from(found.is_some()),
@@ -28,7 +28,7 @@ impl Tally {
         }
     }
 
-    /// Of a put.
+    /// Returns the tally of a put.
     pub(crate) fn of_put(reply: Put) -> Tally {
         Tally {
             inserted: u64::from(matches!(reply, Put::Inserted)),
@@ -36,7 +36,7 @@ impl Tally {
         }
     }
 
-    /// Of a set.
+    /// Returns the tally of a set.
     pub(crate) fn of_set(reply: Set) -> Tally {
         Tally {
             inserted: u64::from(matches!(reply, Set::Inserted)),
@@ -45,7 +45,7 @@ impl Tally {
         }
     }
 
-    /// Of a delete.
+    /// Returns the tally of a delete.
     pub(crate) fn of_delete(reply: Del) -> Tally {
         Tally {
             removed: u64::from(matches!(reply, Del::Removed(_))),
@@ -53,7 +53,7 @@ impl Tally {
         }
     }
 
-    /// Of a scan that gave so many pairs.
+    /// Returns the tally of a scan with this number of pairs.
     pub(crate) fn of_scan(pairs: usize) -> Tally {
         Tally {
             scanned: pairs as u64,
@@ -61,12 +61,12 @@ impl Tally {
         }
     }
 
-    /// Whether a key was given a value, or another one, or taken out.
+    /// Returns whether a key was inserted, replaced or removed.
     pub(crate) fn has_changes(self) -> bool {
         self.inserted > 0 || self.replaced > 0 || self.removed > 0
     }
 
-    /// The sum of both.
+    /// Returns the sum of both.
     pub(crate) fn plus(self, other: Tally) -> Tally {
         Tally {
             found: self.found.saturating_add(other.found),

@@ -18,18 +18,18 @@ pub(crate) enum Order {
 /// The kind of a task's operations.
 #[derive(Clone, Copy, Debug, PartialEq, Eq)]
 pub(crate) enum Work {
-    /// Each key is put once.
+    /// Puts each key once.
     Load(Order),
-    /// Scans of a map that was filled in this order. Without an operation the filling is left, for
-    /// the memory that it takes.
+    /// Scans a map that was filled in this order. Without operations only the filling is left,
+    /// which shows the memory that it takes.
     Fill(Order),
-    /// Gets in so many of a hundred operations; of the others half are puts, half deletes.
+    /// Gets in this number of a hundred operations. Half of the others are puts, half deletes.
     Mix { gets: u32 },
     /// The same by Zipf's distribution, so that a few keys are drawn often.
     Zipf { gets: u32 },
-    /// Keys that are there are given other values.
+    /// Replaces values.
     Set,
-    /// Each key of a map is taken out once.
+    /// Deletes each key of a map once.
     Delete,
     /// The first hundred pairs from a key on.
     Scan,
@@ -55,7 +55,7 @@ impl Work {
         ("scan", Work::Scan),
     ];
 
-    /// Whether nothing is changed.
+    /// Returns whether nothing is changed.
     pub(crate) fn only_reads(self) -> bool {
         match self {
             Work::Load(_) | Work::Set | Work::Delete => false,
@@ -64,12 +64,12 @@ impl Work {
         }
     }
 
-    /// Whether its operations are scans.
+    /// Returns whether its operations are scans.
     pub(crate) fn scans(self) -> bool {
         matches!(self, Work::Fill(_) | Work::Scan | Work::List)
     }
 
-    /// Whether the map is loaded or filled by rising keys.
+    /// Returns whether the map is loaded or filled by rising keys.
     fn rises(self) -> bool {
         matches!(self, Work::Load(Order::Rising) | Work::Fill(Order::Rising))
     }
@@ -91,11 +91,11 @@ pub(crate) struct Task {
     pub workers: u32,
     pub keys: u32,
     pub operations: u32,
-    /// Of the tree that they are done on.
+    /// The configuration of the tree.
     pub config: Config,
 }
 
-/// The greatest number of keys. Operations draw from twice as many.
+/// The most keys. Operations draw from twice their number.
 const MOST_KEYS: u32 = 1 << 30;
 
 const MOST_WORKERS: u32 = 64;
@@ -118,7 +118,7 @@ impl Task {
         })
     }
 
-    /// How many operations all workers do together.
+    /// Returns the number of operations of all workers together.
     pub(crate) fn count(&self) -> u32 {
         match self.work {
             Work::Load(_) | Work::Delete => self.keys,
@@ -126,12 +126,12 @@ impl Task {
         }
     }
 
-    /// How many operations each worker does.
+    /// Returns the number of operations of each worker.
     pub(crate) fn turns(&self) -> u32 {
         self.operations.checked_div(self.workers).unwrap_or(0)
     }
 
-    /// The keys, each once, in the order in which they are put.
+    /// Returns the keys, each once, in the order in which they are put.
     pub(crate) fn order(&self, alloc: Global) -> Result<Vec<u32>, AllocError> {
         let mut order = Vec::new(alloc);
         for key in 0..self.keys {
@@ -143,15 +143,16 @@ impl Task {
         Ok(order)
     }
 
-    /// Operations draw keys below this, half of which a map that was filled has.
+    /// Returns the end of the keys that operations draw. A filled map has half of them.
     pub(crate) fn end(&self) -> u32
         ensures { 0 < result }
     {
         self.keys.saturating_mul(2).max(1)
     }
 
-    /// The keys of all operations, where workers don't draw them as they go: those of a load, and of
-    /// deletes, are in the order of the puts, and Zipf's take too long to be drawn while a clock runs.
+    /// Returns the keys of all operations, if workers don't draw them as they go: those of a load
+    /// and of deletes are in the order of the puts, and Zipf's take too long to be drawn while a
+    /// clock runs.
     pub(crate) fn known_keys(
         &self,
         alloc: Global,
@@ -164,7 +165,8 @@ impl Task {
         }
     }
 
-    /// The keys of the worker's turns, of the known keys of all operations. None where these aren't known.
+    /// Returns the keys of the worker's turns among the known keys of all operations, or none where
+    /// these aren't known.
     pub(crate) fn part<'a>(&self, worker: u32, keys: &'a [u32]) -> &'a [u32] {
         let turns = self.turns() as usize;
         let start = turns.saturating_mul(worker as usize);

@@ -1,5 +1,5 @@
-//! The tree under a task's operations, by a worker that has it for itself, by a map, by workers that share
-//! it, or by readers.
+//! The tree under a task's operations: of a worker alone, of a map, of workers that share it, or of
+//! readers.
 
 ghost use Rattle.std.specs.Prelude.{◌≡◌};
 ghost use Rattle.bw_tree.specs.Trees.{OpensFor};
@@ -63,7 +63,7 @@ impl Structure {
         None
     }
 
-    /// Whether the task can be done so.
+    /// Returns whether the task can be done so.
     pub(crate) fn is_for(self, task: &Task) -> bool {
         match self {
             Structure::Alone | Structure::Map => task.workers == 1,
@@ -88,15 +88,15 @@ impl Structure {
     }
 }
 
-/// What all workers were answered, and how long they took.
+/// What all workers were answered, and the time that they took.
 #[derive(Clone, Copy, Debug)]
 pub(crate) struct Timed {
     pub tally: Tally,
     pub seconds: f64,
 }
 
-/// The usual configuration, for the greatest number of keys that there is room for. Short chains suit
-/// it, as each record is a piece of memory of its own, which gets have to pass.
+/// The usual configuration, with room for the most keys. Short chains suit it, as each record is a
+/// piece of memory of its own, which gets have to pass.
 pub(crate) const CONFIG: Config = Config {
     fanout: 64,
     chain: 2,
@@ -105,8 +105,8 @@ pub(crate) const CONFIG: Config = Config {
     first_version: 0,
 };
 
-/// How many keys one worker puts while a tree is filled. Its trail is given up then, so that little of the
-/// memory at that time is a trail's.
+/// The number of keys that one worker puts while a tree is filled. Its trail is dropped then, so
+/// that trails take little of the memory.
 pub(crate) const PART: usize = 4096;
 
 /// Fills the table with a part of the keys.
@@ -134,7 +134,7 @@ fn run_alone(rt: &impl Clock, alloc: Global, task: &Task) -> Result<Timed, Stop>
     Ok(Timed { tally, seconds })
 }
 
-/// Fills the tree with a part of the keys, and gives the share back.
+/// Fills the tree with a part of the keys, and returns the share.
 pub(crate) fn fill_by_hand<S: Shared<Global, Step<Global>>>(
     alloc: Global,
     tree: &S,
@@ -180,7 +180,7 @@ fn shared<
     Ok(Timed { tally, seconds })
 }
 
-/// Each worker in a thread of its own.
+/// Runs each worker in a thread of its own.
 fn work_together<
     I: MadeBy + Send + Sync,
     D: Ledger + Send + Sync,
@@ -212,7 +212,7 @@ fn work_together<
     })
 }
 
-/// One worker's thread.
+/// Runs one worker.
 fn work_at<S: Shared<Global, Step<Global>>>(
     tree: &S,
     alloc: Global,

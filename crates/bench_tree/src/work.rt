@@ -12,10 +12,10 @@ use rand_core::Rng;
 use rand_pcg::Pcg32;
 use std::alloc::Global;
 
-/// How many pairs a scan asks for.
+/// The number of pairs that a scan asks for.
 pub(crate) const SCANNED: usize = 100;
 
-/// Puts every second key of those that are drawn later, where the task begins with a map.
+/// Puts every second key of those drawn later, if the task begins with a map.
 pub(crate) fn fill<S: Steps<Global, Step<Global>>>(
     steps: &mut S,
     task: &Task,
@@ -30,7 +30,7 @@ pub(crate) fn fill<S: Steps<Global, Step<Global>>>(
     Ok(())
 }
 
-/// Does one worker's part of the task, whose keys are given where they are known.
+/// Does one worker's part of the task, with its known keys, if any.
 pub(crate) fn work<S: Steps<Global, Step<Global>>>(
     steps: &mut S,
     alloc: Global,
@@ -46,7 +46,7 @@ pub(crate) fn work<S: Steps<Global, Step<Global>>>(
     }
 }
 
-/// Puts each key whose turn it is, or takes it out.
+/// Puts or deletes the key of each turn.
 fn each_key<S: Steps<Global, Step<Global>>>(
     steps: &mut S,
     task: &Task,
@@ -63,7 +63,7 @@ fn each_key<S: Steps<Global, Step<Global>>>(
     Ok(tally)
 }
 
-/// Puts a key, or takes the one out that a map was filled with.
+/// Puts a key, or deletes one that the map was filled with.
 fn known_one<S: Steps<Global, Step<Global>>>(
     steps: &mut S,
     task: &Task,
@@ -107,7 +107,7 @@ fn get_one<S: Steps<Global, Step<Global>>>(steps: &mut S, key: Key) -> Result<Ta
     Ok(Tally::of_get(steps.get(key)?))
 }
 
-/// Gives the key itself as its value.
+/// Puts the key with itself as value.
 fn put_one<S: Steps<Global, Step<Global>>>(steps: &mut S, key: Key) -> Result<Tally, Stop> {
     Ok(Tally::of_put(steps.put(key, key)?.reply))
 }
@@ -116,7 +116,7 @@ fn delete_one<S: Steps<Global, Step<Global>>>(steps: &mut S, key: Key) -> Result
     Ok(Tally::of_delete(steps.delete(key)?.reply))
 }
 
-/// Sets drawn keys that are there, to drawn values.
+/// Sets drawn keys that have values to drawn ones.
 fn set_often<S: Steps<Global, Step<Global>>>(
     steps: &mut S,
     task: &Task,
@@ -140,7 +140,7 @@ fn set_one<S: Steps<Global, Step<Global>>>(
     Ok(Tally::of_set(steps.set(key, value)?.reply))
 }
 
-/// A put or a delete, in equal parts, of a drawn key.
+/// Puts or deletes a drawn key, in equal parts.
 pub(crate) fn change_one<S: Steps<Global, Step<Global>>>(
     steps: &mut S,
     task: &Task,
@@ -154,7 +154,7 @@ pub(crate) fn change_one<S: Steps<Global, Step<Global>>>(
     }
 }
 
-/// The key of a turn, drawn now where it isn't known.
+/// Returns the key of a turn, drawn now if it isn't known.
 pub(crate) fn key_at(rng: &mut Pcg32, task: &Task, part: &[u32], turn: u32) -> Key {
     match part.get(turn as usize) {
         Some(key) => u64::from(*key),
@@ -162,17 +162,17 @@ pub(crate) fn key_at(rng: &mut Pcg32, task: &Task, part: &[u32], turn: u32) -> K
     }
 }
 
-/// A key below twice their number.
+/// Returns a key below twice their number.
 pub(crate) fn drawn_key(rng: &mut Pcg32, task: &Task) -> Key {
     u64::from(rng.next_u32() % task.end())
 }
 
-/// A key that the map was filled with.
+/// Returns a key that the map was filled with.
 pub(crate) fn filled_key(rng: &mut Pcg32, task: &Task) -> Key {
     2 * u64::from(rng.next_u32() % task.keys.max(1))
 }
 
-/// From which key on pairs are listed, and how many at most.
+/// Returns the key from which pairs are listed, and the most of them.
 pub(crate) fn drawn_part(rng: &mut Pcg32, task: &Task) -> (Key, usize) {
     if task.work == Work::List {
         return (0, usize::MAX);
@@ -197,7 +197,7 @@ fn scan_often<S: Steps<Global, Step<Global>>>(
     Ok(tally)
 }
 
-/// The first pairs from a key on, gathered leaf by leaf.
+/// Returns the first pairs from a key on, gathered leaf by leaf.
 fn scan<S: Steps<Global, Step<Global>>>(
     steps: &mut S,
     alloc: Global,

@@ -11,7 +11,7 @@ const FIRST_WEIGHT: u64 = 1 << 54;
 /// A prime above every `end`, so that the ranks times this, modulo `end`, are all the keys.
 const STEP: u64 = 2_654_435_761;
 
-/// So many keys, each below `end`.
+/// Returns `count` drawn keys, each below `end`.
 pub(crate) fn draw(alloc: Global, end: u32, count: u32) -> Result<Vec<u32>, AllocError> {
     let sums = cumulative_weights(alloc, end)?;
     let mut rng = Pcg32::new(0, 2);
@@ -22,7 +22,7 @@ pub(crate) fn draw(alloc: Global, end: u32, count: u32) -> Result<Vec<u32>, Allo
     Ok(keys)
 }
 
-/// The weights of the ranks, each with those of the ranks before it.
+/// Returns the weights of the ranks, each with those of the ranks before it.
 fn cumulative_weights(alloc: Global, ranks: u32) -> Result<Vec<u64>, AllocError> {
     let mut sums = Vec::new(alloc);
     let mut weight = FIRST_WEIGHT;
@@ -35,21 +35,22 @@ fn cumulative_weights(alloc: Global, ranks: u32) -> Result<Vec<u64>, AllocError>
     Ok(sums)
 }
 
-/// The weight of the next rank. Those of all ranks r are as r^-0.99 to within a thousandth: from r to
-/// r + 1 that falls by (1 + 1/r)^-0.99, which is (r + 1/200) / (r + 199/200) but for terms of 1/r^3.
+/// Returns the weight of the next rank. Those of all ranks r are as r^-0.99 to within a thousandth:
+/// from r to r + 1 that falls by (1 + 1/r)^-0.99, which is (r + 1/200) / (r + 199/200) but for
+/// terms of 1/r^3.
 fn next_weight(weight: u64, rank: u32) -> u64 {
     let base = 200 * u64::from(rank);
     weight.saturating_mul(base + 1) / (base + 199)
 }
 
-/// A rank, drawn by its weight. The first is 0.
+/// Returns a rank drawn by its weight. The first is 0.
 fn drawn_rank(rng: &mut Pcg32, sums: &[u64]) -> usize {
     let total = sums.last().copied().unwrap_or(1).max(1);
     let drawn = rng.next_u64() % total;
     sums.partition_point(|sum| *sum <= drawn)
 }
 
-/// The key of a rank, so that keys that are drawn often don't lie side by side.
+/// Returns the key of a rank. Keys that are drawn often don't lie side by side.
 fn key_of(rank: usize, end: u32) -> u32 {
     ((rank as u64).saturating_mul(STEP) % u64::from(end.max(1))) as u32
 }

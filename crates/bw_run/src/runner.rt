@@ -126,7 +126,7 @@ fn run_locked<
     finish(machine, rows, table, outputs, trails)
 }
 
-/// Runs the rows on a tree with `readers` readers, with these blank ledgers and this blank book.
+/// Runs the rows on a tree with `readers` readers, with these blank ledgers and announcements.
 fn run_read<
     N: Naming + Send + Sync,
     D: Ledger + Send + Sync,

@@ -1,4 +1,4 @@
--- The exchange that adds a list keeps the rule of the book.
+-- The exchange that announces a list keeps the rule of announcements.
 use Rattle.std.proofs.Common.{◌≡◌, ℕ, ◌+◌, ◌<◌, ◌==◌, Bool, true, false, List, [], ◌∷◌, ◌++◌, length, refl, ap, sym, subst, arith, inl, append-nil, length-append, None, MatchBool}
 use Rattle.std.proofs.lemmas.Bool.Decides.{nat_tests}
 use mathlib.Core.List.{IsPrefix}
@@ -50,7 +50,7 @@ module _ (log seen : Log) (steps : List Proposal) (old : ℕ) (number : length s
         rw is tt,
       )
 
--- whatever the book is, the exchange adds the list to all that was seen, or finds that the book is longer
+-- whatever was announced, the exchange adds the list to all that was seen, or finds that more was announced
 pub adding_keeps_the_rule : (seen : Log) (steps : List Proposal) (old : ℕ) → length seen ≡ old → BeginsWith steps (newest [] seen)
     → Moves IsKept shown moved 0 (seen, (no_nib, None)) (λ n. either (n == old) (old + 1) n) (Adds (step 0 old (old + 1) steps) (seen, (no_nib, None)))
 adding_keeps_the_rule seen steps old number goes_on cells log kept begins away =

@@ -1,4 +1,4 @@
--- Beginnings of one book of lists, each of which begins with the one before it.
+-- Beginnings of announcements, in which each list begins with the one before it.
 use Rattle.std.proofs.Common.{◌≡◌, ◌≤◌, List, [], ◌∷◌, ◌++◌, length, refl, ap, sym, ◌∙◌, subst, arith, append_assoc, append-nil}
 use mathlib.Core.List.{IsPrefix}
 use Rattle.bw_step.specs.Proposals.{Proposal}
@@ -43,13 +43,13 @@ rest_rises : (first : List Proposal) (xs ys : List (List Proposal)) → Rise fir
 rest_rises first [] ys r = r
 rest_rises first (x ∷ xs) ys r = rest_rises x xs ys r.1
 
--- the list of a longer beginning of the book begins with that of a shorter one
+-- the newest list of a longer beginning begins with that of a shorter one
 longer_goes_on : (xs ys : List (List Proposal)) → IsPrefix xs ys → Rise [] ys → BeginsWith (newest [] ys) (newest [] xs)
 longer_goes_on xs ys p =
     subst (λ (l : List (List Proposal)). Rise [] l → BeginsWith (newest [] l) (newest [] xs)) p.1
     (λ r. subst (λ (l : List Proposal). BeginsWith l (newest [] xs)) (sym (newest_of_both [] xs p.0)) (newest_begins (newest [] xs) p.0 (rest_rises [] xs p.0 r)))
 
--- of two beginnings of one book, the list of that with fewer lists begins the other's
+-- of two beginnings, the newest list of that with fewer lists begins the other's
 pub fewer_begins_more : (xs ys log : List (List Proposal)) → IsPrefix xs log → IsPrefix ys log → length xs ≤ length ys → Rise [] ys → BeginsWith (newest [] ys) (newest [] xs)
 fewer_begins_more xs ys log p q le r = longer_goes_on xs ys (shorter_begins xs ys log p q le) r
 

@@ -48,14 +48,14 @@ marked table end from front (Step step ∷ notes) r =
 marked table end from front (Mark other ∷ notes) r = marked table end other front notes r
 
 -- where what is pending ends with a mark of all of it, the copies end as the table where their list leads
-pub lands : (config : Config) (table end : TableValue) (from front : Announced) (notes : List Note) (book : Book)
-    → LeadTo table (steps_of notes) end → IsSnapshot config from.list table → front ≡ record { list = from.list ++ steps_of notes; book = book }
+pub lands : (config : Config) (table end : TableValue) (from front : Announced) (notes : List Note) (announcements : Book)
+    → LeadTo table (steps_of notes) end → IsSnapshot config from.list table → front ≡ record { list = from.list ++ steps_of notes; announcements = announcements }
     → IsSnapshot config (fold noted (table, from) (notes ++ Mark front ∷ [])).1.list (fold noted (table, from) (notes ++ Mark front ∷ [])).0
-    × ((fold noted (table, from) (notes ++ Mark front ∷ [])).1.book ≡ book)
+    × ((fold noted (table, from) (notes ++ Mark front ∷ [])).1.announcements ≡ announcements)
     × BeginsWith (fold noted (table, from) (notes ++ Mark front ∷ [])).1.list from.list
-lands config table end from front notes book run snapshot is =
-    subst (λ (shown : TableValue × Announced). IsSnapshot config shown.1.list shown.0 × (shown.1.book ≡ book) × BeginsWith shown.1.list from.list) (sym (marked table end from front notes run))
-    (subst (λ (f : Announced). IsSnapshot config f.list end × (f.book ≡ book) × BeginsWith f.list from.list) (sym is) (leads_on (new_table config) table end from.list (steps_of notes) snapshot run, refl, (steps_of notes, refl)))
+lands config table end from front notes announcements run snapshot is =
+    subst (λ (shown : TableValue × Announced). IsSnapshot config shown.1.list shown.0 × (shown.1.announcements ≡ announcements) × BeginsWith shown.1.list from.list) (sym (marked table end from front notes run))
+    (subst (λ (f : Announced). IsSnapshot config f.list end × (f.announcements ≡ announcements) × BeginsWith f.list from.list) (sym is) (leads_on (new_table config) table end from.list (steps_of notes) snapshot run, refl, (steps_of notes, refl)))
 
 pub begins_one_more : (xs ys : List Proposal) (step : Proposal) (seen : List Proposal) → BeginsWith (xs ++ ys) seen → BeginsWith (xs ++ (ys ++ step ∷ [])) seen
 begins_one_more xs ys step seen s = subst (λ (steps : List Proposal). BeginsWith steps seen) (append_assoc xs ys (step ∷ [])) (begins_and_goes_on (xs ++ ys) (step ∷ []) seen s)

@@ -1,4 +1,4 @@
--- How the logic tells apart what the lock keeps.
+-- How the logic distinguishes what the lock keeps.
 use Rattle.std.specs.Prelude.{List, refl}
 use Rattle.std.specs.Coded.{Coded, code_by, coded×, coded_list}
 use Rattle.bw_step.specs.Proposals.{Proposal}

@@ -27,13 +27,13 @@ module _ {P A S : Type 0} {g : Ghosts Shown Note S} where
   abbrev pub unpublished : Writer Shown Note (List Proposal) P A S g → List Note
   unpublished w = drop w.behind w.log.items
 
-  -- the list that the next publication shows: the published one, and then the steps that are pending
+  -- the list that the next publication shows: the published one with the pending steps behind it
   abbrev pub next_list : Writer Shown Note (List Proposal) P A S g → List Proposal
   next_list w = w.desk.shown.value.front.list ++ steps_of (unpublished w)
 
   -- the front of that list, once it is announced here
   abbrev pub next_front : Book → Writer Shown Note (List Proposal) P A S g → Announced
-  next_front book w = record { list = next_list w; book = book }
+  next_front announcements w = record { list = next_list w; announcements = announcements }
 
   -- the published pair shows what the unpublished notes lead to, and the writing end has seen it
   abbrev pub Publishes : Writer Shown Note (List Proposal) P A S g → Writer Shown Note (List Proposal) P A S g → Type 0
@@ -47,7 +47,7 @@ module _ {P A S : Type 0} {g : Ghosts Shown Note S} where
 
   -- the unpublished notes lead to a table that is where its list leads
   abbrev pub MayPublish : Config → Book → Writer Shown Note (List Proposal) P A S g → Type 0
-  MayPublish config book w = Land config book w.desk.shown.value.table w.desk.shown.value.front (unpublished w)
+  MayPublish config announcements w = Land config announcements w.desk.shown.value.table w.desk.shown.value.front (unpublished w)
 
   -- a table beside the writing end that publishes it
   abbrev pub published_value : TableValue → Writer Shown Note (List Proposal) P A S g → PublishedValue

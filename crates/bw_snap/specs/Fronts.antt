@@ -1,4 +1,4 @@
--- The announced lists, their rule, and what the step that announces a list reports.
+-- The rule of announcements, and what the step that announces a list reports.
 use Rattle.std.specs.Prelude.{ℕ, ◌≡◌, ◌==◌, true, List, [], ◌∷◌, ◌++◌, length, MatchBool}
 use Rattle.logbook.specs.Pages.{Cell, Step, View, Book, Named}
 use Rattle.bw_step.specs.Proposals.{Proposal}
@@ -19,13 +19,13 @@ pub record IsKept (cells : List Cell) (log : List (List Proposal)) : Type 0 wher
   pub words : cells ≡ (length log, true) ∷ (0, true) ∷ []
   pub rising : Rise [] log
 
--- a list that was announced, and where it stands
+-- a list that was announced, and the log in which it was
 pub record Announced : Type 0 where
   pub list : List Proposal
-  pub book : Book
+  pub announcements : Book
 
 abbrev pub head_of : Book → Named
-head_of book = record { tracked = true; key = 0; book = book }
+head_of announcements = record { tracked = true; key = 0; book = announcements }
 
 -- the list was added to all that had been seen, or more lists were there
 abbrev pub Adds : Step (List Proposal) → View (List Proposal) ℕ → ℕ → View (List Proposal) ℕ → Type 0

@@ -1,4 +1,4 @@
--- How the logic tells proposed steps apart: each is stored as one value, which gives it back.
+-- How the logic distinguishes proposed steps: each is stored as one value, from which it is read back.
 use Rattle.std.specs.Prelude.{◌≡◌, ℕ}
 use Rattle.std.proofs.Common.{refl, ◌⊎◌, inl, inr}
 use Rattle.std.specs.Coded.{Coded, code_by, coded×, coded⊎, coded_ℕ}

@@ -15,10 +15,10 @@ LeadTo from (step ∷ steps) to = (refusal from step ≡ None) × LeadTo (after 
 abbrev pub IsSnapshot : Config → List Proposal → TableValue → Type 0
 IsSnapshot config steps table = LeadTo (new_table config) steps table
 
--- the list goes on from the other
+-- the list begins with the other
 abbrev pub BeginsWith : List Proposal → List Proposal → Type 0
 BeginsWith steps seen = (rest : List Proposal) × (steps ≡ seen ++ rest)
 
--- one list goes on from the other, and the test says whether it is the first
+-- one list begins with the other, and the test says whether it is the first that does
 abbrev pub GoesOn : Bool → List Proposal → List Proposal → Type 0
 GoesOn test one other = MatchBool test (BeginsWith one other) (BeginsWith other one)

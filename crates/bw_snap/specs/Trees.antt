@@ -37,7 +37,7 @@ IsDenialOf table step denials.NoMemory = refusal table step ≡ None
 abbrev pub is_bad_reader_number : ℕ → Bool
 is_bad_reader_number readers = is_out_of 1 16 readers
 
--- a tree may be made by the configuration, for so many workers and readers
+-- a tree may be made by the configuration, for this number of workers and of readers
 abbrev pub MayBeRead : Config → ℕ → ℕ → Type 0
 MayBeRead config workers readers = MayBeMade config workers × (is_bad_reader_number readers ≡ false)
 
@@ -49,7 +49,7 @@ IsSnapFault config workers readers BadReaders = MayBeMade config workers × (is_
 IsSnapFault config workers readers NoMemory = MayBeRead config workers readers
 IsSnapFault config workers readers NoReader = MayBeRead config workers readers
 
--- something was wanting that a tree needs, and no bad number was told
+-- memory or a place was short: no bad number was the fault
 abbrev pub IsWant : SnapFault → Type 0
 IsWant (BadConfig bad) = ⊥
 IsWant BadWorkers = ⊥

@@ -10,7 +10,7 @@ use crate::proposed::List;
 use logbook::{Offer, Plain};
 use std::sync::Wait;
 
-/// The step asks for the published list, and then what is pending.
+/// The step asks for the published list with what is pending behind it.
 impl<N: Naming> Plain<WritingEnd<N>, List, u64> for Add {
     ghost use Rattle.std.specs.Prelude.{None};
     ghost use Rattle.bw_snap.specs.Ends.{next_list};
@@ -22,15 +22,15 @@ impl<N: Naming> Plain<WritingEnd<N>, List, u64> for Add {
 
 impl Front {
     /// Announces the published list with what is pending. The word is written under the tree's lock
-    /// alone, so the first try finds it as it was left. No clause says so: hence a loop, and not a
-    /// fault that never comes. After 2^64 - 1 lists it wouldn't end.
+    /// alone, so the first try succeeds. No clause says so: hence a loop, and not a fault that never
+    /// comes. After 2^64 - 1 lists it wouldn't end.
     pub(crate) fn announce<N: Naming, R: Wait>(
         &mut self,
         head: &Head<N>,
         writer: &WritingEnd<N>,
         rt: &R,
     )
-        requires book { self.old.book ≡ N.announcements }
+        requires announcements { self.old.announcements ≡ N.announcements }
         requires list { BeginsWith (next_list writer.now) self.old.list }
         ensures { self.new ≡ next_front N.announcements writer.now }
     {
@@ -42,10 +42,9 @@ impl Front {
         unreachable!()
     }
 
-    /// Tries to announce it, and returns whether it did: it doesn't where a list was announced that
-    /// this front hasn't seen.
+    /// Announces it, unless a list was announced that this front hasn't seen. Returns whether it did.
     fn try_announce<N: Naming>(&mut self, head: &Head<N>, writer: &WritingEnd<N>) -> bool
-        requires book { self.old.book ≡ N.announcements }
+        requires announcements { self.old.announcements ≡ N.announcements }
         requires list { BeginsWith (next_list writer.now) self.old.list }
         ensures { Becomes result self.old self.new (next_front N.announcements writer.now) }
     {

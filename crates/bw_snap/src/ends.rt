@@ -22,7 +22,7 @@ use left_right::writer::Writer;
 use std::alloc::{AllocError, Global};
 use std::sync::Wait;
 
-/// What makes reading ends.
+/// The source of reading ends.
 pub type Source<N> = Factory<Shown, List, Backed<N>>;
 
 pub type ReadingEnd<N> = Reader<Shown, List, Backed<N>>;
@@ -38,7 +38,7 @@ pub fn begin<N: Naming>(
 ) -> Result<WritingEnd<N>, NoMemory>
     requires some { 0 < readers }
     requires few { readers < 2 ^ 32 }
-    requires front { front.now ≡ record { list = []; book = N.announcements } }
+    requires front { front.now ≡ record { list = []; announcements = N.announcements } }
     requires config { N.config ≡ config }
     ensures table { IfOk result (λ w. w.desk.shown.value.table ≡ new_table config) }
     ensures front { IfOk result (λ w. w.desk.shown.value.front ≡ front.now) }
@@ -64,18 +64,19 @@ fn empty(machine: Global, config: Config, front: &Front) -> Result<Shown, NoMemo
     Ok(Shown::new(machine, table, front.again()))
 }
 
-/// What was found, and the front of the table in which it was found.
+/// What was found, and the front of the table that has it.
 #[derive(Drop)]
 pub struct Glance {
     pub look: Look,
     pub front: Front,
 }
 
-/// Returns what the published table has at the key; none, where it gave no entry.
+/// Returns what the published table has at the key, or `None` where it gave no entry.
 #[inline(always)]
 pub fn read<N: Naming>(reader: ReadingEnd<N>, key: Key) -> (ReadingEnd<N>, Option<Glance>)
     ensures look { IfSome result.1 (λ glance. IsLookIn N.config key glance.front.list glance.look) }
-    ensures book { IfSome result.1 (λ glance. glance.front.book ≡ N.announcements) }
+    ensures announced { IfSome result.1
+        (λ glance. glance.front.announcements ≡ N.announcements) }
     ensures seen { BeginsWith (view result.0.place) (view reader.place) }
     ensures list { IfSome result.1 (λ glance. glance.front.list ≡ view result.0.place) }
     ensures closed { IfNone result.1 (view result.0.place ≡ view reader.place) }
@@ -90,7 +91,7 @@ pub fn read<N: Naming>(reader: ReadingEnd<N>, key: Key) -> (ReadingEnd<N>, Optio
     }
 }
 
-/// The pairs that were found, and the front of the table in which they were found.
+/// The pairs that were found, and the front of the table that has them.
 #[derive(Drop)]
 pub struct Scan {
     pub pairs: Vec<(Key, u64)>,
@@ -110,13 +111,14 @@ fn scan_of(shown: &Shown, low: Key, limit: usize) -> Result<Scan, NoMemory>
     })
 }
 
-/// Returns the published table's first pairs from the key on; none, where it gave no entry.
+/// Returns the published table's first pairs from the key on, or `None` where it gave no entry.
 pub fn read_pairs<N: Naming>(
     reader: ReadingEnd<N>,
     part: (Key, usize),
 ) -> (ReadingEnd<N>, Option<Result<Scan, NoMemory>>)
     ensures pairs { IfSome result.1 (λ read. IfOk read (IsScanFrom N.config part.0 part.1)) }
-    ensures book { IfSome result.1 (λ read. IfOk read (λ scan. scan.front.book ≡ N.announcements)) }
+    ensures announced { IfSome result.1 (λ read.
+        IfOk read (λ scan. scan.front.announcements ≡ N.announcements)) }
     ensures seen { BeginsWith (view result.0.place) (view reader.place) }
     ensures list { IfSome result.1 (λ read. IfOk read (λ s. s.front.list ≡ view result.0.place)) }
     ensures closed { IfNone result.1 (view result.0.place ≡ view reader.place) }
@@ -162,7 +164,7 @@ pub fn advance<N: Naming, R: Wait>(writer: &mut WritingEnd<N>, rt: &R) -> Result
     replace_with(writer, rt, publish)
 }
 
-/// Returns a reader that has seen nothing. It takes up one of the places for readers.
+/// Returns a reader that has seen nothing. It takes one of the places for readers.
 pub fn newcomer<N: Naming>(source: &Source<N>) -> Result<ReadingEnd<N>, NoMemory>
     ensures { IfOk result (λ reader. view reader.place ≡ []) }
 {
@@ -184,7 +186,7 @@ fn told<N: Naming>(writer: &mut WritingEnd<N>) -> Result<ReadingEnd<N>, AllocErr
     Ok(reader)
 }
 
-/// Does the same, as soon as there is a place for it.
+/// Returns the same, as soon as there is a place for it.
 pub fn surely_told<N: Naming, R: Wait>(writer: &mut WritingEnd<N>, rt: &R) -> ReadingEnd<N>
     ensures desk { writer.new.desk.shown ≡ writer.old.desk.shown }
     ensures log { (writer.new.log ≡ writer.old.log) × (writer.new.behind ≡ writer.old.behind) }

@@ -1,4 +1,4 @@
-//! The announced lists of a tree, and fronts, which know a beginning of them.
+//! The announcements of a tree: lists of accepted steps, each a beginning of the next.
 
 ghost use Rattle.std.specs.Prelude.{◌≡◌, []};
 ghost use Rattle.bw_snap.specs.Snapshots.{GoesOn};
@@ -9,7 +9,7 @@ use bw_tree::MadeBy;
 use logbook::{Gain, Play, Rule, Seen, Start, Word};
 use std::marker::{Brand, Model, PhantomData};
 
-/// The rule of the announced lists: each begins with the one before it.
+/// The rule of announcements: each list begins with the one before it.
 pub struct Rising;
 
 impl Rule<List, u64> for Rising {
@@ -30,7 +30,7 @@ impl Rule<List, u64> for Rising {
     ghost moves = { λ ask before after answer. Unit {0} };
 }
 
-/// Who announces a list trades nothing for it.
+/// Announcing a list takes and yields nothing else.
 pub struct Nothing;
 
 impl Gain<List, u64> for Nothing {
@@ -48,12 +48,11 @@ impl Play<List, u64> for Add {
     ghost then = { Adds };
 }
 
-/// A ledger of insertions that names a tree with readers: by the configuration that it is made by,
-/// and by its announced lists.
+/// A ledger of insertions that names a tree with readers: by its configuration and its announcements.
 pub trait Naming: MadeBy {
     ghost use Rattle.logbook.specs.Pages.{Book};
 
-    // where the lists are announced
+    // the log in which the lists are announced
     ghost announcements: { Book };
 }
 
@@ -61,7 +60,7 @@ impl Naming for Brand {
     ghost announcements = { record { number = 0; log_name = 0; cells_name = 0 } };
 }
 
-/// Where a tree's lists will be announced. No list is there yet, and no tree is named by it.
+/// The announcements of a tree to be made: no list yet.
 #[derive(Drop)]
 pub struct Announcements {
     head: Word<List, u64, Rising>,
@@ -71,7 +70,7 @@ pub struct Announcements {
 }
 
 impl Announcements {
-    /// Returns new announcements without a list. It takes no memory.
+    /// Returns announcements without a list. Takes no memory.
     pub fn new() -> Announcements {
         let (seen, mut first, _second) = Seen::open(Start::alone(), 0, 0);
         Announcements {
@@ -80,10 +79,10 @@ impl Announcements {
         }
     }
 
-    /// Returns the word under a tree's name, and the front that has seen nothing.
+    /// Returns the tree's word, and the front that has seen nothing.
     pub(crate) fn named<N: Naming>(self) -> (Head<N>, Front)
         requires { self.seen.book ≡ N.announcements }
-        ensures { result.1 ≡ record { list = []; book = N.announcements } }
+        ensures { result.1 ≡ record { list = []; announcements = N.announcements } }
     {
         let Announcements { head, seen } = self;
         let head = Head {
@@ -95,7 +94,7 @@ impl Announcements {
     }
 }
 
-/// The word that is the number of the announced lists. Who has it may announce a list.
+/// The word that counts the announced lists. Whoever has it may announce one.
 #[derive(Drop)]
 pub struct Head<N: Naming> {
     pub(crate) word: Word<List, u64, Rising>,
@@ -104,7 +103,7 @@ pub struct Head<N: Naming> {
 }
 
 /// A list that was announced, with all that were announced before it. Contracts see it as that
-/// list, with the place where it is announced.
+/// list, with the announcements in which it is.
 #[derive(Drop)]
 pub struct Front {
     pub(crate) count: u64,
@@ -117,7 +116,7 @@ impl Model for Front {
 
     ghost Value = { Announced };
 
-    ghost view = { λ f. record { list = newest [] f.seen.log; book = f.seen.book } };
+    ghost view = { λ f. record { list = newest [] f.seen.log; announcements = f.seen.book } };
 
     ghost invariant = { λ f. (f.count ≡ length f.seen.log) × Rise [] f.seen.log };
 }
@@ -133,10 +132,10 @@ impl Front {
         }
     }
 
-    /// Returns whether this list was announced no earlier than the other, and so begins with it. If
-    /// not, the other begins with this one.
+    /// Returns whether this list was announced no earlier than the other: if so, it begins with the
+    /// other, and if not, the other begins with it.
     pub fn goes_on(&self, other: &Front) -> bool
-        requires { other.now.book ≡ self.now.book }
+        requires { other.now.announcements ≡ self.now.announcements }
         ensures { GoesOn result self.now.list other.now.list }
     {
         let mut both = self.seen.again();

@@ -4,7 +4,7 @@ use crate::front::Front;
 use bw_step::Step;
 use std::alloc::Global;
 
-/// A step of the table, or the list that was announced, with all the steps up to here.
+/// A step of the table, or the announced list of all steps up to here.
 #[derive(Drop)]
 pub enum Note {
     Step(Step<Global>),

@@ -1,7 +1,7 @@
 use std::marker::Model;
 
-/// A proposed step as plain data. No value of it is made: it stands for the entries of the book of
-/// announced lists, which contracts alone see.
+/// A proposed step as plain data. No value of it is made: it stands for the steps of announced
+/// lists, which contracts alone see.
 #[derive(Drop)]
 pub struct Proposed {}
 

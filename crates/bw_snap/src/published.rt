@@ -30,12 +30,11 @@ use std::sync::ledger::Ledger;
 /// The most readers that a tree may have.
 pub const MAX_READERS: u32 = 16;
 
-/// How many stamps there may be at once that are neither used up nor dropped. There is one for each
-/// worker.
+/// The most stamps at once that are neither learnt nor dropped: one for each worker.
 pub const MAX_STAMPS: u32 = 64;
 
-/// A booked table, with the writing end of two published copies of it and the front of all that was
-/// announced. Steps that were taken since the last publication are pending.
+/// A booked table, with the writing end of its two published copies and the front of all that was
+/// announced. Steps taken since the last publication are pending.
 pub struct Published<R: Wait + Drop, N: Naming, D: Ledger> {
     booked: Booked<Global, N, D>,
     writer: WritingEnd<N>,
@@ -63,8 +62,8 @@ impl<R: Wait + Drop, N: Naming, D: Ledger> Model for Published<R, N, D> {
         LeadTo p.writer.desk.shown.value.table (steps_of (unpublished p.writer)) p.booked
         × IsSnapshot N.config p.writer.desk.shown.value.front.list p.writer.desk.shown.value.table
         × BeginsWith (next_list p.writer) p.announced.list
-        × (p.writer.desk.shown.value.front.book ≡ N.announcements)
-        × (p.announced.book ≡ N.announcements)
+        × (p.writer.desk.shown.value.front.announcements ≡ N.announcements)
+        × (p.announced.announcements ≡ N.announcements)
         × (seen_by p.writer.desk.place ≡ p.writer.desk.shown.value.front.list) };
 }
 
@@ -82,8 +81,8 @@ impl<R: Wait + Drop, N: Naming, D: Ledger> Drop for Published<R, N, D> {
 }
 
 impl<R: Wait + Drop, N: Naming, D: Ledger> Published<R, N, D> {
-    /// A table without pairs, published as it is, with a share of nothing for each worker. All lies
-    /// in the machine's memory. There is room for so many readers, 1 to `MAX_READERS`.
+    /// Returns a table without pairs, published as it is, and a share of nothing for each worker. All
+    /// lies in the machine's memory. There is room for `readers` readers, 1 to `MAX_READERS`.
     pub fn new(
         rt: R,
         machine: Global,
@@ -119,7 +118,7 @@ impl<R: Wait + Drop, N: Naming, D: Ledger> Published<R, N, D> {
         Ok((published, shares))
     }
 
-    /// Lends the table, which the pending steps lead to from the published one.
+    /// Returns the table, to which the pending steps lead from the published one.
     #[inline(always)]
     pub fn table(&self) -> &Table<Global>
         ensures same { result.now ≡ self.now.table }
@@ -129,7 +128,7 @@ impl<R: Wait + Drop, N: Naming, D: Ledger> Published<R, N, D> {
         self.booked.table()
     }
 
-    /// Makes a reader of what is published, while that is nothing.
+    /// Returns a new reader, while nothing is published.
     pub(crate) fn reader(&self) -> Result<Reader<N>, NoMemory>
         requires { self.now.list ≡ [] }
         ensures { IfOk result (λ reader. reader ≡ []) }
@@ -138,7 +137,7 @@ impl<R: Wait + Drop, N: Naming, D: Ledger> Published<R, N, D> {
         Ok(Reader::over(inner, self.writer.published().front.again()))
     }
 
-    /// Takes the step as `Booked::install` does, and notes its twin for the published copies.
+    /// Takes the step as `Booked::install` does, and leaves its twin pending for the published copies.
     #[inline(always)]
     pub fn install(
         &mut self,
@@ -172,9 +171,9 @@ impl<R: Wait + Drop, N: Naming, D: Ledger> Published<R, N, D> {
         }
     }
 
-    /// Publishes what is pending, and stamps the list that was published. Fails where memory is
-    /// refused, and where there are `MAX_STAMPS` stamps. The stamp's place is kept before anything
-    /// is published, so that it is there when the stamp is made.
+    /// Publishes what is pending, and returns a stamp of the list that was published. Fails where
+    /// memory is refused, and where there are `MAX_STAMPS` stamps. The stamp's place is reserved
+    /// before anything is published, so that none is missing afterwards.
     pub fn publish(&mut self) -> Result<Stamp<N>, NoMemory>
         ensures table { OnOk result (self.new.table ≡ self.old.table) }
         ensures published { OnOk result (self.new.published ≡ self.old.table) }
@@ -198,8 +197,8 @@ impl<R: Wait + Drop, N: Naming, D: Ledger> Published<R, N, D> {
         Ok(Stamp::over(inner, self.writer.published().front.again()))
     }
 
-    /// Gives the table out, and asks for no share, as `Booked::into_table` does. The published
-    /// copies are given up.
+    /// Returns the table, and asks for no share, as `Booked::into_table` does. The published copies
+    /// are dropped.
     pub fn into_table(self) -> Table<Global>
         ensures table { result ≡ self.table }
         ensures config { result.config ≡ N.config }
@@ -208,7 +207,7 @@ impl<R: Wait + Drop, N: Naming, D: Ledger> Published<R, N, D> {
         self.into_booked().into_table()
     }
 
-    /// Gives the table out, as `Booked::close` does. The published copies are given up.
+    /// Returns the table, as `Booked::close` does. The published copies are dropped.
     pub fn close(self, shares: Vec<Share<N, D>>) -> Result<Table<Global>, MissingShare>
         ensures table { IfOk result (λ table. table ≡ self.table) }
         ensures closed { IfOk result (IsClosed N.config shares.items) }
@@ -218,7 +217,7 @@ impl<R: Wait + Drop, N: Naming, D: Ledger> Published<R, N, D> {
         self.into_booked().close(shares)
     }
 
-    /// Gives the booked table out, and the published copies up.
+    /// Returns the booked table, and drops the published copies.
     fn into_booked(self) -> Booked<Global, N, D>
         ensures { result ≡ self.table }
     {
@@ -234,8 +233,8 @@ impl<R: Wait + Drop, N: Naming, D: Ledger> Published<R, N, D> {
     }
 }
 
-/// The booked table of a tree with so many readers. Want of memory is told only where no other
-/// fault is.
+/// Returns the booked table of a tree with `readers` readers. Want of memory is reported only where
+/// no other fault applies.
 fn new_booked<I: MadeBy, D: Ledger>(
     machine: Global,
     config: Config,

@@ -76,14 +76,14 @@ impl<R: Wait + Copy, N: Naming, D: Ledger> ReadTree<R, N, D> {
         Ok((tree, shares, readers))
     }
 
-    /// Publishes all that was taken, and stamps the list that was published. It is refused as
-    /// `Published::publish` is: for want of memory, and where there are `MAX_STAMPS` stamps.
+    /// Publishes all that was taken, and returns a stamp of the list that was published. Fails as
+    /// `Published::publish` does: for want of memory, and where there are `MAX_STAMPS` stamps.
     pub fn publish(&self) -> Result<Stamp<N>, NoMemory> {
         self.published.lock(&self.rt).publish()
     }
 
-    /// Returns the table, and asks for no share, as `Booked::into_table` does. Its readers answer
-    /// no more.
+    /// Returns the table, and asks for no share, as `Booked::into_table` does. The readers answer no
+    /// more.
     pub fn into_table(self) -> Table<Global>
         ensures config { result.config ≡ N.config }
         ensures tree { IsTree result }
@@ -92,7 +92,7 @@ impl<R: Wait + Copy, N: Naming, D: Ledger> ReadTree<R, N, D> {
         published.into_inner().into_table()
     }
 
-    /// Returns the table, as `Booked::close` does. Its readers answer no more. Where a worker
+    /// Returns the table, as `Booked::close` does. The readers answer no more. Where a worker
     /// dropped its share, as by an early `?`, it fails with [`MissingShare`], and all pairs are
     /// lost. So have each worker hand its share back beside its error, or take the table by
     /// [`into_table`](ReadTree::into_table).

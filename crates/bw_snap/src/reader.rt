@@ -36,21 +36,21 @@ impl<N: Naming> Model for Reader<N> {
 
     ghost view = { λ r. r.front.list };
 
-    ghost invariant = { λ r. (r.front.book ≡ N.announcements)
+    ghost invariant = { λ r. (r.front.announcements ≡ N.announcements)
         × BeginsWith (seen_by r.inner.place) r.front.list };
 }
 
 impl<N: Naming> Reader<N> {
     pub(crate) fn over(inner: ReadingEnd<N>, front: Front) -> Reader<N>
-        requires book { front.book ≡ N.announcements }
+        requires announcements { front.announcements ≡ N.announcements }
         requires list { BeginsWith (view inner.place) front.list }
         ensures { result ≡ front.list }
     {
         Reader { inner, front }
     }
 
-    /// Uses the stamp up. The reader's list becomes the longer of its own and the stamp's, which
-    /// begins with both.
+    /// Learns the stamp's list. The reader's list becomes the longer of the two, which begins with
+    /// both.
     pub fn learn(&mut self, stamp: Stamp<N>)
         ensures one { (self.new ≡ self.old) ⊎ (self.new ≡ stamp) }
         ensures own { BeginsWith self.new self.old }
@@ -63,8 +63,8 @@ impl<N: Naming> Reader<N> {
         }
     }
 
-    /// Returns what the map has at the key after a list of accepted steps, which begins with all
-    /// that this reader has seen and learnt. The list is the reader's from then on.
+    /// Returns the value that the key has after a list of accepted steps, which begins with all that
+    /// this reader has seen and learnt. The list is the reader's from then on.
     #[inline(always)]
     pub fn get(&mut self, key: Key) -> Result<Option<u64>, Closed>
         ensures seen { BeginsWith self.new self.old }
@@ -77,7 +77,7 @@ impl<N: Naming> Reader<N> {
         }
     }
 
-    /// Does as `get`, and returns also how many changes of the map that list has.
+    /// Returns what `get` does, with the number of the map's changes in that list.
     #[inline(always)]
     pub fn look(&mut self, key: Key) -> Result<Look, Closed>
         ensures seen { BeginsWith self.new self.old }

@@ -58,7 +58,7 @@ impl Absorb<Note> for Shown {
         Ok(())
     }
 
-    /// The note itself is taken, so it can't fail.
+    /// Takes the note itself, so it can't fail.
     fn absorb_second(&mut self, note: Note, _other: &Shown) -> Result<(), Note> {
         match note {
             Note::Step(step) => take(&mut self.table, step),
@@ -90,7 +90,7 @@ impl<N: Naming> Protocol<Shown, List> for Backed<N> {
     ghost first = { [] };
 }
 
-/// Who enters or publishes sees a table whose list begins with its view, and that list is its view
+/// Entering or publishing shows a table whose list begins with the view, and that list is the view
 /// from then on.
 pub struct Sees<N> {
     of: PhantomData<N>,
@@ -102,7 +102,7 @@ impl<N: Naming> Outcome<Shown, List> for Sees<N> {
     ghost then = { λ v x y w. SeesOn N.config N.announcements v y.table y.front w };
 }
 
-/// The writing end tells all that it has seen, and keeps it.
+/// The writing end passes on all that it has seen, and keeps it.
 pub struct Tells;
 
 impl Split<List> for Tells {
@@ -111,7 +111,7 @@ impl Split<List> for Tells {
     ghost right = { λ v. v };
 }
 
-/// A reader that has seen nothing takes in what it is told.
+/// A reader that has seen nothing learns what is passed on.
 pub struct Takes;
 
 impl Join<List> for Takes {

@@ -24,13 +24,13 @@ impl<N: Naming> Model for Stamp<N> {
 
     ghost view = { λ s. s.front.list };
 
-    ghost invariant = { λ s. (s.front.book ≡ N.announcements)
+    ghost invariant = { λ s. (s.front.announcements ≡ N.announcements)
         × (told_to s.inner.place ≡ s.front.list) };
 }
 
 impl<N: Naming> Stamp<N> {
     pub(crate) fn over(inner: ReadingEnd<N>, front: Front) -> Stamp<N>
-        requires book { front.book ≡ N.announcements }
+        requires announcements { front.announcements ≡ N.announcements }
         requires list { view inner.place ≡ front.list }
         ensures { result ≡ front.list }
     {

@@ -34,7 +34,7 @@ use std::io::{Read, Write};
 use std::sync::Wait;
 use std::thread::Threads;
 
-/// The words that no words stand for.
+/// The words in place of none.
 static USUAL: [&str; 1] = ["run"];
 
 /// Carries out the words, which leave out the program's own name, and returns the exit status. No

@@ -1,4 +1,4 @@
-//! The program `bwtree` over the standard streams. What it does is `bw_trace::command`.
+//! The program `bwtree`: `bw_trace::command` over the standard streams.
 #![tactic(auto)]
 
 use bw_trace::command;

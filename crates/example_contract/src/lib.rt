@@ -7,7 +7,7 @@ ghost use Rattle.bw_delta.specs.Entries.{put};
 use nifforan::{Fault, Key, Map};
 use std::alloc::Global;
 
-/// Gives each of the two keys the value.
+/// Sets both keys to the value.
 pub fn set_both(map: &mut Map<Global>, first: Key, second: Key, value: u64) -> Result<(), Fault>
     ensures { OnOk result (map.new.pairs ≡ put second value (put first value map.old.pairs)) }
 {

@@ -1,4 +1,4 @@
-//! Puts a few pairs into a map, reads them, and takes some of them out.
+//! Puts a few pairs into a map, reads them, and removes some of them.
 #![tactic(auto)]
 
 use anyhow::Result;
@@ -9,7 +9,7 @@ fn change_and_read(rt: HostRuntime, map: &mut Map<Global>) -> Result<()> {
     for key in 1..11 {
         map.put(key, 100)?;
     }
-    // put leaves a value that is there
+    // `put` leaves a value that is there
     println!(rt; "{:?}", map.put(4, 200)?.reply)?;
     println!(rt; "{:?}", map.set(4, 200)?.reply)?;
     println!(rt; "{:?}", map.delete(6)?.reply)?;

@@ -1,5 +1,5 @@
-//! Four threads fill one map, each with keys of its own; four with readers fill another, and look
-//! without the lock at what they put.
+//! Four threads fill one map, each with keys of its own. Four with readers fill another, and look
+//! at what they put without the lock.
 #![tactic(auto)]
 
 use anyhow::Result;
@@ -7,7 +7,7 @@ use nifforan_shared::{
     Calls, Config, Fault, Job, ReadingJob, Reads, Worker, share, share_with_readers,
 };
 
-/// A thousand keys for each worker.
+/// Puts a thousand keys by each worker.
 struct Fill;
 
 impl Job for Fill {
@@ -22,7 +22,7 @@ impl Job for Fill {
     }
 }
 
-/// The same, and then each worker answers what its reader finds at the first of its keys.
+/// Does the same, and returns what each worker's reader finds at the first of its keys.
 impl ReadingJob for Fill {
     type Output = Result<Option<u64>, Fault>;
 

@@ -1,4 +1,4 @@
-//! A tree whose shares are handed to its threads and back by hand.
+//! A tree whose shares are passed to its threads and back by hand.
 #![tactic(auto)]
 
 ghost use Rattle.std.specs.Prelude.{◌≡◌};
@@ -17,7 +17,7 @@ use std::sync::ledger::Ledger;
 use std::thread;
 use std::thread::Threads;
 
-/// What a worker does. Where it ends early its share stays with the hand.
+/// Does a worker's part. Where it ends early, its share stays with the hand.
 fn fill<S: Shared<Global, Step<Global>>>(
     hand: &mut Hand<'_, Global, S, Open>,
     worker: u32,
@@ -29,7 +29,7 @@ fn fill<S: Shared<Global, Step<Global>>>(
     Ok(())
 }
 
-/// A worker's thread. The share comes back whatever came of the work.
+/// Runs a worker, and returns its share whatever came of the work.
 fn work<S: Shared<Global, Step<Global>>>(
     machine: Global,
     tree: &S,
@@ -42,7 +42,7 @@ fn work<S: Shared<Global, Step<Global>>>(
     (share, done)
 }
 
-/// Makes a tree, and has a thread for each worker fill it.
+/// Makes a tree, and fills it by a thread for each worker.
 fn fill_all<
     I: MadeBy + Send + Sync,
     D: Ledger + Send + Sync,
@@ -60,7 +60,7 @@ fn fill_all<
     Ok((tree.close(shares)?, done))
 }
 
-/// A thread for each share: all shares, and the first fault.
+/// Runs a thread for each share, and returns all shares and the first fault.
 fn join_all<
     I: MadeBy + Send + Sync,
     D: Ledger + Send + Sync,

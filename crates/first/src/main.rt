@@ -1,4 +1,4 @@
-//! Puts four keys into a table of one leaf, each by a checked step, and prints what it then has.
+//! Puts four keys into a table of one leaf, each by a checked step, and prints what it has then.
 #![tactic(auto)]
 
 ghost use Rattle.std.specs.Prelude.{◌≡◌, ◌≢◌};
@@ -58,7 +58,7 @@ impl Stop {
     }
 }
 
-/// Gives the key itself as value, by the version that the leaf has now.
+/// Puts the key with itself as value, by the version that the leaf has now.
 fn put<A: Allocator + Copy>(alloc: A, table: &mut Table<A>, key: Key) -> Result<(), Stop> {
     let page = Pid(0);
     let view = table.peek(page).ok_or(Stop::Refused(Refused::Absent))?;
@@ -75,8 +75,8 @@ fn put<A: Allocator + Copy>(alloc: A, table: &mut Table<A>, key: Key) -> Result<
     }
 }
 
-/// The lines that the program prints: each leaf, and then how many pairs were inserted, were removed
-/// and are there.
+/// Returns the lines that the program prints: each leaf, and then the numbers of pairs inserted,
+/// removed and there.
 fn report<A: Allocator + Copy>(machine: Global, alloc: A) -> Result<String, Stop> {
     let mut table = Table::new(machine, alloc, Config::default())?;
     for key in 1..5 {

@@ -80,7 +80,7 @@ within_last_out a b low end pair es rise last out =
 pub within_no_last : (low end : ℕ) (es : PairList) → last_below end es ≡ None → within low end es ≡ []
 within_no_last low end es none = within_below low end es ∙ ap (from low) (no_last (below end es) none)
 
--- PairList that are lent.
+-- Pairs that are lent.
 
 module _ (low past end : ℕ) (es : PairList) (rise : rises low past es ≡ true) (pair : ℕ × ℕ) (rest : PairList) (lent : EndsWith (below end es) (rest ++ pair ∷ [])) where
   joined : below end es ≡ (lent.0 ++ rest) ++ pair ∷ []
@@ -177,7 +177,7 @@ module _ (table : TableValue) (law : Lawful table) where
       subst (λ (s : PairList). YieldsLast (λ (left : PairList). left) s taken (within start less es)) (ap (λ (n : ℕ). within start n es) is ∙ view)
       (subst (λ (n : ℕ). YieldsLast (λ (left : PairList). left) (within start (upto + 1) es) taken (within start n es)) (sym ends) step)
 
--- an iterator that gives the last of a list and leaves the others comes to its end
+-- an iterator that yields the last of a list and leaves the others comes to its end
 pub yields_back_progress : (can : PairList → Type 0) → ((left : PairList) → can left) → (old : PairList) (taken : Option (ℕ × ℕ)) (new : PairList) → YieldsLast (λ (left : PairList). left) old taken new
     → MakesProgress can (item_count (λ (left : PairList). left)) old taken new
 yields_back_progress can each old None new yields = record { on = λ finite. tt; keeps = tt; rests = λ finite. finite }

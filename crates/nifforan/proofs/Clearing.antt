@@ -106,7 +106,7 @@ receipts_lose low high removed old new a b leads adds =
     in
     subst (λ n. Loses low high n a b) (ap removals_in is ∙ adds.count) (removals_lose low high leads.0 a b leads.2 (subst (AreRemovals low high) (sym is) adds.removals))
 
--- the pairs that are left, and those that were taken out
+-- the pairs that are left, and those that were removed
 pub lost_count : (low high removed : ℕ) (old new : TableValue) → Lawful old → Booked old → Lawful new → Booked new → Loses low high removed old new → length (pairs_of new.slots) + removed ≡ length (pairs_of old.slots)
 lost_count low high removed old new old_law old_book new_law new_book loses =
     omega (arith, book_counts old old_law old_book (pairs_of old.slots) (pairs_are old old_law), book_counts new new_law new_book (pairs_of new.slots) (pairs_are new new_law), old_book, new_book, loses.count, loses.no_more)

@@ -179,7 +179,7 @@ module _ (table : TableValue) (law : Lawful table) where
       by_test true less = within_first 0 key_count from end pair es rise (sym is) (grind (arith, nat_tests, less))
       by_test false more = (within_ends 0 key_count from end es rise (λ other first. let same : pair ≡ other = cc (is, first) in subst (λ (p : ℕ × ℕ). end ≤ p.0) same (grind (arith, nat_tests, more))), none_left end)
 
--- an iterator that gives the first of a list and leaves the others comes to its end
+-- an iterator that yields the first of a list and leaves the others comes to its end
 pub yields_progress : (can : PairList → Type 0) → ((left : PairList) → can left) → (old : PairList) (taken : Option (ℕ × ℕ)) (new : PairList) → YieldsFirst (λ (left : PairList). left) old taken new
     → MakesProgress can (item_count (λ (left : PairList). left)) old taken new
 yields_progress can each old None new yields = record { on = λ finite. tt; keeps = tt; rests = λ finite. finite }

@@ -12,7 +12,7 @@ use Rattle.bw_table.specs.Orders.{HasNoKeyWithin, IsNextAt, LeafValue}
 use Rattle.bw_table.proofs.Orders.{next_in_leaf, none_in_leaf}
 use Rattle.nifforan.specs.Reading.{IsLeafFor}
 
--- PairList that are lent.
+-- Pairs that are lent.
 
 module _ (low end key : ℕ) (es : List (ℕ × ℕ)) (rise : rises low end es ≡ true) (pair : ℕ × ℕ) (rest : List (ℕ × ℕ)) where
   -- the first of them is the leaf's first one

@@ -1,4 +1,4 @@
--- What a reply tells of the map before a call and after it.
+-- What a reply says of the map before a call and after it.
 use Rattle.std.proofs.Common.{◌≡◌, ℕ, List, [], ◌∷◌, ◌++◌, Option, Some, None, Result, Ok, Err, refl, ap, sym, subst, ◌∙◌}
 use Rattle.std.specs.Prelude.{IfOk, OnErr}
 use Rattle.bw_step.specs.declared.receipt.Receipt.{Receipt}
@@ -28,7 +28,7 @@ value_before a b key found same is = λ value. ((λ e. (same key value).0 ((is v
 value_after : (a b : List SlotValue) (key : ℕ) (found : Option ℕ) → SameMap a b → IsValueAt a key found → IsValueAt b key found
 value_after a b key found same is = λ value. ((λ e. (same key value).1 ((is value).0 e)), (λ maps. (is value).1 ((same key value).0 maps)))
 
--- the map was the same before what is told of
+-- the map was the same before what is reported
 told_after : (telling : Telling) (a b c : List SlotValue) → SameMap a b → TellsMap telling b c → TellsMap telling a c
 told_after (change number key before after) a b c same tells = record {
   had = value_before a b key before same tells.had;
@@ -41,7 +41,7 @@ told_after (change number key before after) a b c same tells = record {
 told_after (look at key found) a b c same tells = (value_before a b key found same tells.0, same_then a b c same tells.1)
 told_after shape a b c same tells = same_then a b c same tells
 
--- the map is the same after what is told of
+-- the map is the same after what is reported
 told_before : (telling : Telling) (a b c : List SlotValue) → TellsMap telling a b → SameMap b c → TellsMap telling a c
 told_before (change number key before after) a b c tells same = record {
   had = tells.had;
@@ -86,7 +86,7 @@ one_next x r (change number key before after) xs a b c is tells none rest one = 
 one_next x r (look at key found) xs a b c is tells none rest one = one_here x r (look at key found) xs a b c is tells none one
 one_next x r shape xs a b c is tells none rest one = told_after (telling_of r) a b c tells (rest one)
 
--- where one receipt is not of the tree's shape, the map changed as it tells
+-- where one receipt is not of the tree's shape, the map changed as it reports
 one_told : (rs : List Receipt) (r : Receipt) (a b : TableValue) → Replays a rs b → without_shapes rs ≡ r ∷ [] → TellsMap (telling_of r) a.slots b.slots
 one_told [] r a b leads one = absurd (not_one r [] (sym one))
 one_told (x ∷ xs) r a b leads one =

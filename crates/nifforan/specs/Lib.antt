@@ -1,3 +1,4 @@
+pub mod Calls
 pub mod Clearing
 pub mod Maps
 pub mod Reading

@@ -19,7 +19,7 @@ use Rattle.bw_procedures.specs.declared.reply.Set.TheVariants as sets
 abbrev pub PairList : Type 0
 PairList = List (ℕ × ℕ)
 
--- a map: what it was made by, and its pairs in the order of their keys
+-- a map: its configuration, and its pairs in the order of their keys
 pub record MapValue : Type 0 where
   pub config : Config
   pub pairs : PairList
@@ -63,7 +63,7 @@ within low end pairs = filter (is_inside low end) pairs
 abbrev pub outside : ℕ → ℕ → PairList → PairList
 outside low end pairs = filter (λ pair. not (is_inside low end pair)) pairs
 
--- what a reply tells of the value that the key had
+-- the value that the key had, by the reply
 abbrev pub before_put : Put → Option ℕ
 before_put Inserted = None
 before_put (Present there) = Some there
@@ -76,16 +76,11 @@ abbrev pub before_delete : Del → Option ℕ
 before_delete (Removed value) = Some value
 before_delete NoKey = None
 
--- the pairs after a put: a key that is there keeps its value
-abbrev pub after_put : ℕ → ℕ → Put → PairList → PairList
-after_put key value Inserted pairs = put key value pairs
-after_put key value (Present there) pairs = pairs
-
--- the value that the key has then
+-- the value that the key has after a put: one that was there stays
 abbrev pub value_after_put : ℕ → Put → ℕ
 value_after_put value Inserted = value
 value_after_put value (Present there) = there
 
--- with a reply the key changed as the reply tells: from the value before it to the one after
+-- with a reply the key changed by it: from the value before it to the one after
 abbrev pub Changes : {T : Type 0} → ℕ → (T → Option ℕ) → (T → Option ℕ) → Result (Done T) Fault → TableValue → TableValue → Type 0
 Changes key before after result old new = IfOk result (λ done. ChangesKey old.slots new.slots key (before done.reply) (after done.reply))

@@ -1,4 +1,4 @@
-//! The end of a range, from which its pairs are taken one before the other.
+//! The back end of a range, from which its pairs are taken backwards.
 
 ghost use Rattle.std.specs.Prelude.{◌≡◌, ◌+◌, [], ◌∷◌, ◌++◌, IfSome, IfNone};
 ghost use Rattle.bw_table.specs.Orders.{HasNoKeyWithin, IsPreviousAt};
@@ -8,16 +8,16 @@ use bw_keys::Key;
 use bw_table::{LeafRef, Table};
 use std::alloc::Allocator;
 
-/// The leaf in which the keys of a range end that are left.
+/// The leaf in which the keys that are left end.
 #[derive(Drop)]
 pub(crate) struct Back<'m, A: Allocator + Copy> {
     pub(crate) leaf: LeafRef<'m, A>,
-    /// The leaf's pairs that come last, as they lie side by side in it, or some of them.
+    /// The leaf's last pairs, as they lie side by side in it, or some of them.
     pub(crate) lent: &'m [(Key, u64)],
 }
 
-/// The pair of the table with the greatest key at or below the key, if there is one. The leaf has it
-/// then, which is searched for where none is held yet.
+/// Returns the table's pair with the greatest key at or below the key, if there is one. The leaf
+/// that has it is held then, and searched for if none is held yet.
 #[inline(always)]
 pub(crate) fn previous_from<'m, A: Allocator + Copy>(
     table: &'m Table<A>,
@@ -39,8 +39,8 @@ pub(crate) fn previous_from<'m, A: Allocator + Copy>(
     pair
 }
 
-/// The same of the leaf that is held: the last pair of those that are lent, or the one that is searched
-/// for where none are left.
+/// Returns the same from the leaf that is held: the last pair of those lent, or the one that is
+/// searched for if none is left.
 #[inline(always)]
 fn previous_in<'m, A: Allocator + Copy>(
     table: &'m Table<A>,
@@ -61,7 +61,7 @@ fn previous_in<'m, A: Allocator + Copy>(
     searched_upto(table, leaf, lent, key)
 }
 
-/// Takes the last pair of those that are lent.
+/// Takes the last pair of those lent.
 #[inline(always)]
 fn take_last<'m>(lent: &mut &'m [(Key, u64)]) -> Option<(Key, u64)>
     ensures last { IfSome result (λ pair. lent.old.now ≡ lent.new.now ++ pair ∷ []) }
@@ -73,8 +73,8 @@ fn take_last<'m>(lent: &mut &'m [(Key, u64)]) -> Option<(Key, u64)>
     Some(pair)
 }
 
-/// The pair of the table with the greatest key at or below the key, searched for from leaf to leaf, and
-/// the pairs that lie before it. The leaf that has it is held then.
+/// Searches leaf by leaf for the table's pair with the greatest key at or below the key, and
+/// returns it. The leaf that has it is held then, and lends the pairs before it.
 fn searched_upto<'m, A: Allocator + Copy>(
     table: &'m Table<A>,
     leaf: &mut LeafRef<'m, A>,

@@ -1,12 +1,12 @@
-ghost use Rattle.std.specs.Prelude.{◌≡◌, ◌↔◌, ℕ, ◌+◌, [], Some, None, length};
+ghost use Rattle.std.specs.Prelude.{◌≡◌, ◌↔◌, [], None, length};
 ghost use Rattle.std.specs.Prelude.{IsTrue, IsOk, IfOk, IfErr, OnErr};
 ghost use Rattle.bw_keys.specs.Limits.{first_bad_field};
 ghost use Rattle.bw_keys.specs.Ranges.{end_of};
-ghost use Rattle.bw_delta.specs.Entries.{at, put, without};
+ghost use Rattle.bw_delta.specs.Entries.{at};
 ghost use Rattle.bw_delta.specs.Entries.{first_entry, last_entry, first_from, last_upto};
 ghost use Rattle.bw_table.specs.Answers.{IsNewFault};
-ghost use Rattle.nifforan.specs.Maps.{map_of, within, outside};
-ghost use Rattle.nifforan.specs.Maps.{before_put, after_put, before_set, before_delete};
+ghost use Rattle.nifforan.specs.Calls.{Puts, Sets, Deletes, Clears};
+ghost use Rattle.nifforan.specs.Maps.{map_of, within, before_put, before_set, before_delete};
 
 use crate::pairs::Pairs;
 use crate::worker::Worker;
@@ -18,12 +18,11 @@ use std::marker::Model;
 
 /// An ordered map from u64 keys to u64 values, for one thread.
 ///
-/// A call that changes it may end with a fault: `NoMemory`, `TableFull` where no slot is free for a
-/// new page, `TooTall` where the tree has its greatest height, `Worn` where a page's version or the
-/// number of changes is used up, and `Contended` where it took the effort that the configuration
-/// allows a call. In the place of a reply a fault says that the map has the pairs that it had. Beside
-/// a reply, in `Done::fault`, it says that the pairs are as the reply tells, and only the care for the
-/// pages was cut short, which a later call takes up again.
+/// A call that changes it may end with a fault: `NoMemory`, `TableFull` if no slot is free for a
+/// new page, `TooTall` if the tree has its greatest height, `Worn` if a page's version or the
+/// number of changes is used up, and `Contended` if the call used the effort that the configuration
+/// allows it. A fault in place of a reply leaves the pairs unchanged. One beside a reply, in
+/// `Done::fault`, only cuts short the care for the pages, which a later call resumes.
 #[derive(Drop)]
 pub struct Map<A: Allocator + Copy> {
     worker: Worker<A>,
@@ -43,8 +42,8 @@ impl<A: Allocator + Copy> Model for Map<A> {
 }
 
 impl<A: Allocator + Copy> Map<A> {
-    /// Makes a map without pairs. The pairs will lie in `alloc`, all else in the machine's memory.
-    /// Fails where a field of the configuration is out of its range, or memory is short.
+    /// Creates a map without pairs. The pairs will lie in `alloc`, all else in the machine's
+    /// memory. Fails if a field of the configuration is out of its range, or memory is short.
     pub fn new(machine: Global, alloc: A, config: Config) -> Result<Map<A>, NewFault>
         ensures config { IfOk result (λ map. map.config ≡ config) }
         ensures empty { IfOk result (λ map. map.pairs ≡ []) }
@@ -55,7 +54,8 @@ impl<A: Allocator + Copy> Map<A> {
         Ok(Map::from_table(machine, alloc, table))
     }
 
-    /// Makes the map that the table has. New pairs will lie in `alloc`, all else in the machine's memory.
+    /// Creates the map that the table has. New pairs will lie in `alloc`, all else in the machine's
+    /// memory.
     pub fn from_table(machine: Global, alloc: A, table: Table<A>) -> Map<A>
         ensures { result ≡ map_of table }
     {
@@ -87,7 +87,7 @@ impl<A: Allocator + Copy> Map<A> {
         book.inserted - book.removed
     }
 
-    /// Whether the map has no pair.
+    /// Returns whether the map has no pair.
     pub fn is_empty(&self) -> bool
         ensures { IsTrue result ↔ (self.now.pairs ≡ []) }
     {
@@ -131,7 +131,7 @@ impl<A: Allocator + Copy> Map<A> {
     }
 
     /// Returns the pairs with keys from the low on and below the high, in the order of their keys.
-    /// They are read from the map one after the other, and take no memory.
+    /// They are read from the map one by one. Takes no memory.
     pub fn range(&self, low: Key, high: Fence) -> Pairs<'_, A>
         ensures { result ≡ within low (end_of high) self.now.pairs }
     {
@@ -149,16 +149,15 @@ impl<A: Allocator + Copy> Map<A> {
     pub fn iter(&self) -> Pairs<'_, A>
         ensures { result ≡ self.now.pairs }
     {
-        // Reading the worker tells the law of its table.
+        // Reading the worker yields the law of its table.
         let _worker = &self.worker;
         self.range(0, Fence::Top)
     }
 
     /// Inserts the pair, unless the key has a value: then it keeps that, and the reply has it.
     pub fn put(&mut self, key: Key, value: u64) -> Result<Done<Put>, Fault>
-        ensures reply { IfOk result (λ done. before_put done.reply ≡ at key self.old.pairs) }
-        ensures pairs { IfOk result (λ done.
-            self.new.pairs ≡ after_put key value done.reply self.old.pairs) }
+        ensures puts { IfOk result (λ done.
+            Puts key value (before_put done.reply) self.old.pairs self.new.pairs) }
         ensures unchanged { OnErr result (self.new.pairs ≡ self.old.pairs) }
         ensures config { self.new.config ≡ self.old.config }
     {
@@ -167,8 +166,8 @@ impl<A: Allocator + Copy> Map<A> {
 
     /// Sets the key to the value. The reply has the value before it, if there was one.
     pub fn set(&mut self, key: Key, value: u64) -> Result<Done<Set>, Fault>
-        ensures reply { IfOk result (λ done. before_set done.reply ≡ at key self.old.pairs) }
-        ensures pairs { IfOk result (λ done. self.new.pairs ≡ put key value self.old.pairs) }
+        ensures sets { IfOk result (λ done.
+            Sets key value (before_set done.reply) self.old.pairs self.new.pairs) }
         ensures unchanged { OnErr result (self.new.pairs ≡ self.old.pairs) }
         ensures config { self.new.config ≡ self.old.config }
     {
@@ -177,24 +176,19 @@ impl<A: Allocator + Copy> Map<A> {
 
     /// Deletes the key, if it has a value. The reply has that value.
     pub fn delete(&mut self, key: Key) -> Result<Done<Del>, Fault>
-        ensures reply { IfOk result (λ done. before_delete done.reply ≡ at key self.old.pairs) }
-        ensures pairs { IfOk result (λ done. self.new.pairs ≡ without key self.old.pairs) }
+        ensures deletes { IfOk result (λ done.
+            Deletes key (before_delete done.reply) self.old.pairs self.new.pairs) }
         ensures unchanged { OnErr result (self.new.pairs ≡ self.old.pairs) }
         ensures config { self.new.config ≡ self.old.config }
     {
         self.worker.delete(key)
     }
 
-    /// Deletes the keys from the low on and below the high, and returns how many it deleted. Where a
+    /// Deletes the keys from the low on and below the high, and returns how many it deleted. If a
     /// fault ends it before, it has deleted some of them, and no others.
     pub fn clear(&mut self, low: Key, high: Fence) -> Cleared
-        ensures cleared { result.fault ≡ None
-            → self.new.pairs ≡ outside low (end_of high) self.old.pairs }
-        ensures others { outside low (end_of high) self.new.pairs
-            ≡ outside low (end_of high) self.old.pairs }
-        ensures fewer { (key value : ℕ)
-            → at key self.new.pairs ≡ Some value → at key self.old.pairs ≡ Some value }
-        ensures count { length self.new.pairs + result.removed ≡ length self.old.pairs }
+        ensures clears { Clears low (end_of high) result.removed (result.fault ≡ None)
+            self.old.pairs self.new.pairs }
         ensures config { self.new.config ≡ self.old.config }
     {
         self.worker.clear(low, high)

@@ -13,20 +13,20 @@ use std::marker::Model;
 
 /// The pairs of a map whose keys lie in a range, in the order of their keys, from either end.
 ///
-/// It takes no memory: it holds a leaf of the map, and walks along the leaf's own list. It searches
-/// only at the leaf's end, and for each key that a record of the leaf names. From behind it holds
+/// Takes no memory: it holds a leaf of the map, and walks along the leaf's own list. It searches
+/// only at the leaf's end, and for each key that a record of the leaf names. At the back it holds
 /// another leaf, which it searches for when the first pair is taken there.
 #[derive(Drop)]
 pub struct Pairs<'m, A: Allocator + Copy> {
     pub(crate) table: &'m Table<A>,
     pub(crate) leaf: LeafRef<'m, A>,
-    /// The leaf's pairs that come next, as they lie side by side in it, or some of them.
+    /// The leaf's next pairs, as they lie side by side in it, or some of them.
     pub(crate) lent: &'m [(Key, u64)],
-    /// Where the keys begin that are left.
+    /// Where the keys that are left begin.
     pub(crate) next: Fence,
     /// Where they end.
     pub(crate) high: Fence,
-    /// The leaf in which they end, once a pair was taken from behind.
+    /// The leaf in which they end, once a pair was taken from the back.
     pub(crate) back: Option<Back<'m, A>>,
 }
 
@@ -87,7 +87,7 @@ impl<'m, A: Allocator + Copy> DoubleEndedIterator for Pairs<'m, A> {
     }
 }
 
-/// The pair, if its key lies below the fence.
+/// Returns the pair, if its key lies below the fence.
 #[inline(always)]
 fn below(high: Fence, pair: Option<(Key, u64)>) -> Option<(Key, u64)>
     ensures { result ≡ below_end (end_of high) pair }
@@ -98,7 +98,7 @@ fn below(high: Fence, pair: Option<(Key, u64)>) -> Option<(Key, u64)>
     }
 }
 
-/// Where the keys begin that come after the pair; past all keys where there is none.
+/// Returns where the keys after the pair begin: past all keys if there is none.
 #[inline(always)]
 fn past(pair: Option<(Key, u64)>) -> Fence
     ensures { end_of result ≡ end_past pair }
@@ -112,7 +112,7 @@ fn past(pair: Option<(Key, u64)>) -> Fence
     }
 }
 
-/// The greatest key below the fence, if there is one.
+/// Returns the greatest key below the fence, if there is one.
 #[inline(always)]
 fn last_under(high: Fence) -> Option<Key>
     ensures key { IfSome result (λ key. key + 1 ≡ end_of high) }
@@ -124,7 +124,7 @@ fn last_under(high: Fence) -> Option<Key>
     }
 }
 
-/// The pair, if its key doesn't lie below the fence.
+/// Returns the pair, if its key doesn't lie below the fence.
 #[inline(always)]
 fn at_or_past(next: Fence, pair: Option<(Key, u64)>) -> Option<(Key, u64)>
     ensures { result ≡ from_start (end_of next) pair }
@@ -135,7 +135,7 @@ fn at_or_past(next: Fence, pair: Option<(Key, u64)>) -> Option<(Key, u64)>
     }
 }
 
-/// Where the keys end that come before the pair; before all keys where there is none.
+/// Returns where the keys before the pair end: before all keys if there is none.
 #[inline(always)]
 fn before(pair: Option<(Key, u64)>) -> Fence
     ensures { end_of result ≡ end_before pair }
@@ -146,8 +146,8 @@ fn before(pair: Option<(Key, u64)>) -> Fence
     }
 }
 
-/// The pair of the table with the least key at or above the key, if there is one: the first of those
-/// that are lent, or the one that is searched for where none are left. The leaf has it then.
+/// Returns the table's pair with the least key at or above the key, if there is one: the first of
+/// those lent, or the one that is searched for if none is left. The leaf that has it is held then.
 #[inline(always)]
 fn next_from<'m, A: Allocator + Copy>(
     table: &'m Table<A>,
@@ -169,7 +169,7 @@ fn next_from<'m, A: Allocator + Copy>(
     searched_from(table, leaf, lent, key)
 }
 
-/// Takes the first pair of those that are lent.
+/// Takes the first pair of those lent.
 #[inline(always)]
 fn take_first<'m>(lent: &mut &'m [(Key, u64)]) -> Option<(Key, u64)>
     ensures first { IfSome result (λ pair. lent.old.now ≡ pair ∷ lent.new.now) }
@@ -181,8 +181,8 @@ fn take_first<'m>(lent: &mut &'m [(Key, u64)]) -> Option<(Key, u64)>
     Some(pair)
 }
 
-/// The pair of the table with the least key at or above the key, searched for from leaf to leaf, and the
-/// pairs that lie behind it. The leaf that has it is held then.
+/// Searches leaf by leaf for the table's pair with the least key at or above the key, and returns
+/// it. The leaf that has it is held then, and lends the pairs behind it.
 fn searched_from<'m, A: Allocator + Copy>(
     table: &'m Table<A>,
     leaf: &mut LeafRef<'m, A>,

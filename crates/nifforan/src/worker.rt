@@ -22,8 +22,8 @@ pub(crate) struct Worker<A: Allocator + Copy> {
 }
 
 impl<A: Allocator + Copy> Worker<A> {
-    /// A worker without receipts. Its trail will lie in the machine's memory, all else that it makes
-    /// in `alloc`.
+    /// Creates a worker without receipts. Its trail will lie in the machine's memory, all else that
+    /// it makes in `alloc`.
     pub(crate) fn new(machine: Global, alloc: A, table: Table<A>) -> Worker<A>
         ensures table { result.owner.table.value ≡ table }
         ensures ready { IsReady result.owner.table.value result.owner.account.seen.trail }
@@ -87,7 +87,7 @@ impl<A: Allocator + Copy> Worker<A> {
         result
     }
 
-    /// Deletes the keys from the low on and below the high. The trail's memory is freed, since it had
+    /// Deletes the keys from the low on and below the high, and frees the trail's memory, which had
     /// a receipt for each of them.
     pub(crate) fn clear(&mut self, low: Key, high: Fence) -> Cleared
         requires { self.old.owner.account.seen.trail ≡ [] }

@@ -1,22 +1,23 @@
 //! The ordered map for C: a handle of eight bytes, and calls on it.
 //!
-//! A handle begins as zero, which is closed. `include/nifforan.h` tells C's side of each call.
+//! A handle begins as zero, which is closed. `include/nifforan.h` describes each call for C.
 #![tactic(auto)]
 
 ghost use Rattle.std.specs.Prelude.{◌≡◌, ◌≢◌, ◌↔◌, ◌+◌, None, Some, IfSome, length};
 ghost use Rattle.bw_keys.specs.Limits.{first_bad_field};
-ghost use Rattle.bw_delta.specs.Entries.{at, put, without};
+ghost use Rattle.bw_delta.specs.Entries.{at};
+ghost use Rattle.nifforan.specs.Calls.{Puts, Sets, Deletes};
 ghost use Rattle.nifforan_handle.specs.Answers.{had, IsZeroWithout};
-ghost use Rattle.nifforan_handle.specs.Calls.{Writes, Clears, ReadsInto};
-ghost use Rattle.nifforan_handle.specs.Held.{pairs_in, pairs_from, empty_map, put_if_absent};
+ghost use Rattle.nifforan_handle.specs.Calls.{Writes, ClearsHeld, ReadsInto};
+ghost use Rattle.nifforan_handle.specs.Held.{pairs_in, pairs_from, empty_map};
 ghost use Rattle.nifforan_handle.specs.Statuses.{config_of, status_of_field};
 ghost use Rattle.nifforan_handle.specs.declared.status.TheConstants.{CLOSED, NO_MEMORY, OK, OPEN};
 
 pub use nifforan_handle::{Cleared, Count, Handle, Pair, Read, Reply, Settings};
 use std::alloc::Global;
 
-/// Opens a map without pairs at a closed handle. With any status but `OK` the handle stays as it is:
-/// `OPEN` where it holds a map, else that of the first setting out of its range, else `NO_MEMORY`.
+/// Opens a map without pairs at a closed handle. With any status but `OK` the handle stays as it
+/// is: `OPEN` if it holds a map, else that of the first setting out of its range, else `NO_MEMORY`.
 #[unsafe(no_mangle)]
 pub extern "C" fn nifforan_create(alloc: Global, map: &mut Handle, settings: &Settings) -> u32
     ensures open { map.old.held ≢ None ↔ result ≡ OPEN }
@@ -30,7 +31,7 @@ pub extern "C" fn nifforan_create(alloc: Global, map: &mut Handle, settings: &Se
     map.create(alloc, settings)
 }
 
-/// How many pairs the map has.
+/// Returns the number of pairs.
 #[unsafe(no_mangle)]
 pub extern "C" fn nifforan_pairs(alloc: Global, map: &mut Handle) -> Count
     ensures closed { map.old.held ≡ None ↔ result.status ≡ CLOSED }
@@ -41,7 +42,7 @@ pub extern "C" fn nifforan_pairs(alloc: Global, map: &mut Handle) -> Count
     map.pairs(alloc)
 }
 
-/// The value at the key, if it has one. It takes no memory.
+/// Returns the value of the key, if it has one. Takes no memory.
 #[unsafe(no_mangle)]
 pub extern "C" fn nifforan_get(alloc: Global, map: &mut Handle, key: u64) -> Reply
     ensures closed { map.old.held ≡ None ↔ result.status ≡ CLOSED }
@@ -54,41 +55,41 @@ pub extern "C" fn nifforan_get(alloc: Global, map: &mut Handle, key: u64) -> Rep
     map.get(alloc, key)
 }
 
-/// Gives the key the value, unless the key is there: then it keeps its value, which the reply tells.
+/// Inserts the pair, unless the key has a value: then it keeps that, and the reply has it.
 #[unsafe(no_mangle)]
 pub extern "C" fn nifforan_put(alloc: Global, map: &mut Handle, key: u64, value: u64) -> Reply
-    ensures { Writes key (put_if_absent key value) result map.old.held map.new.held }
+    ensures { Writes (Puts key value) result map.old.held map.new.held }
 {
     map.put(alloc, key, value)
 }
 
-/// Gives the key the value, whether it is there or not. The reply tells the value that it had.
+/// Sets the key to the value. The reply has the value before it, if there was one.
 #[unsafe(no_mangle)]
 pub extern "C" fn nifforan_set(alloc: Global, map: &mut Handle, key: u64, value: u64) -> Reply
-    ensures { Writes key (put key value) result map.old.held map.new.held }
+    ensures { Writes (Sets key value) result map.old.held map.new.held }
 {
     map.set(alloc, key, value)
 }
 
-/// Takes the key out, if it is there. The reply tells the value that it had.
+/// Deletes the key, if it has a value. The reply has that value.
 #[unsafe(no_mangle)]
 pub extern "C" fn nifforan_delete(alloc: Global, map: &mut Handle, key: u64) -> Reply
-    ensures { Writes key (without key) result map.old.held map.new.held }
+    ensures { Writes (Deletes key) result map.old.held map.new.held }
 {
     map.delete(alloc, key)
 }
 
-/// Takes out the keys from the low to the high, both included, and tells how many. Where a fault ends
-/// it before, it took out some of them, and no others.
+/// Deletes the keys from the low to the high, both included, and returns how many it deleted. If a
+/// fault ends it before, it has deleted some of them, and no others.
 #[unsafe(no_mangle)]
 pub extern "C" fn nifforan_clear(alloc: Global, map: &mut Handle, low: u64, high: u64) -> Cleared
-    ensures { Clears low (high + 1) result map.old.held map.new.held }
+    ensures { ClearsHeld low (high + 1) result map.old.held map.new.held }
 {
     map.clear(alloc, low, high)
 }
 
-/// Reads the pairs from the key on, in the order of their keys, until the room is full or none is left,
-/// and tells the key of the next one. It takes no memory.
+/// Reads the pairs from the key on, in the order of their keys, until the room is full or none is
+/// left, and returns the key of the next one. Takes no memory.
 #[unsafe(no_mangle)]
 pub extern "C" fn nifforan_read(
     alloc: Global,

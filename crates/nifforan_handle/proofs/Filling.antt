@@ -1,12 +1,11 @@
 -- Places that are filled with pairs, one after the other.
-use Rattle.std.proofs.Common.{◌≡◌, ℕ, ◌+◌, ◌<◌, ◌≤◌, List, [], ◌∷◌, ◌++◌, length, take, drop, min, map, slice_set, refl, sym, ap, subst, ◌∙◌, arith}
-use Rattle.std.proofs.lemmas.Grind.{common_steps}
+use Rattle.std.proofs.Common.{◌≡◌, ℕ, ◌+◌, ◌<◌, ◌≤◌, List, [], ◌∷◌, ◌++◌, length, take, drop, min, slice_set, refl, sym, ap, subst, ◌∙◌, arith}
 use Rattle.std.proofs.lemmas.List.{take_more_set, drop-set-lt, drop_at, take_at, map_push, append_assoc, drop-drop, length_push, length-set, length-append}
 use Rattle.nifforan.specs.Maps.{PairList}
 use Rattle.nifforan_handle.specs.Reading.{are_pairs}
 use Rattle.nifforan_handle.specs.declared.answer.Pair.{Pair}
 
--- of all pairs, so many were given out and stand in the places, and the others are left
+-- of all pairs, these stand in the places, and the others are left
 pub record IsFilled (old now : List Pair) (all given left : PairList) (count : ℕ) : Type 0 where
   pub all_are : all ≡ given ++ left
   pub stand : are_pairs (take count now) ≡ given

@@ -8,10 +8,9 @@ use Rattle.std.proofs.Common.{◌≡◌, ℕ, List, [], ◌∷◌, ◌++◌, ref
 use seplogic.Ra.Ura.{Ura}
 use mir.Raw.{raw as bare}
 use mir.Syntax.{impl, tcons, tnil, dnil, ty_ptr}
-use mir.Val.{Val, vptr, vstruct, vcons, vnil, of_list, has_ty}
+use mir.Val.{Val, vstruct, vcons, vnil, of_list, has_ty}
 use base.Logic.{ent, guard, via, snd∗, fst∗, guard_i, never}
 use base.Fraction.{full_share}
-use base.Fml.{ftrue, fex}
 use types.Logic.{Logic, sem}
 use types.Kit.{Item, Goal, Seq, Step, step, ‵, given, ◌$◌, drop, use1, fsplit, fjoin, fpick, fpack, feq_i, feq_l, learn}
 use contract.Monad.{fact_use}

@@ -1,4 +1,4 @@
--- What an answer tells.
+-- What an answer says.
 use Rattle.std.specs.Prelude.{◌≡◌, ◌≢◌, ℕ, Bool, true, false, Option, Some, None}
 use Rattle.nifforan_handle.specs.declared.answer.Read.{Read}
 use Rattle.nifforan_handle.specs.declared.answer.Reply.{Reply}
@@ -13,15 +13,15 @@ number_if false n = None
 abbrev pub had : Reply → Option ℕ
 had reply = number_if reply.found reply.value
 
--- there is a reply, which tells that the key had this before
+-- there is a reply, by which the key had this before
 abbrev pub RepliesWith : Option ℕ → Reply → Type 0
 RepliesWith before reply = (reply.status ≡ OK) × (had reply ≡ before)
 
--- where the key had no value, the number in its place is 0
+-- if the key had no value, the number in its place is 0
 abbrev pub IsZeroWithout : Reply → Type 0
 IsZeroWithout reply = reply.found ≡ false → reply.value ≡ 0
 
--- the care for the pages is told beside a reply alone: OK, or what cut it short
+-- the care for the pages is reported beside a reply alone: OK, or what cut it short
 abbrev pub IsCare : Reply → Type 0
 IsCare reply = (reply.status ≢ OK → reply.care ≡ OK) × (reply.care ≢ OK → TellsFault reply.care)
 
@@ -29,6 +29,6 @@ IsCare reply = (reply.status ≢ OK → reply.care ≡ OK) × (reply.care ≢ OK
 abbrev pub next_key : Read → Option ℕ
 next_key read = number_if read.has_next read.next
 
--- where no pair is left, the number in its key's place is 0
+-- if no pair is left, the number in its key's place is 0
 abbrev pub IsZeroAtEnd : Read → Type 0
 IsZeroAtEnd read = read.has_next ≡ false → read.next ≡ 0

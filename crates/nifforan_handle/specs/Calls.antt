@@ -1,7 +1,7 @@
 -- What the calls on a handle do to the map that it holds.
-use Rattle.std.specs.Prelude.{◌≡◌, ◌≢◌, ◌↔◌, ℕ, ◌+◌, List, Option, Some, None, length, take, drop, min}
-use Rattle.bw_delta.specs.Entries.{at}
-use Rattle.nifforan.specs.Maps.{MapValue, PairList, outside}
+use Rattle.std.specs.Prelude.{◌≡◌, ◌≢◌, ◌↔◌, ℕ, List, Option, None, length, take, drop, min}
+use Rattle.nifforan.specs.Calls.{Clears}
+use Rattle.nifforan.specs.Maps.{MapValue, PairList}
 use Rattle.nifforan_handle.specs.declared.answer.Cleared.{Cleared}
 use Rattle.nifforan_handle.specs.declared.answer.Pair.{Pair}
 use Rattle.nifforan_handle.specs.declared.answer.Read.{Read}
@@ -12,12 +12,11 @@ use Rattle.nifforan_handle.specs.Held.{pairs_in, config_in}
 use Rattle.nifforan_handle.specs.Reading.{are_pairs, first_key}
 use Rattle.nifforan_handle.specs.Statuses.{IsStatus}
 
--- a put, a set or a delete of the key, which leaves these pairs after those before it
-pub record Writes (key : ℕ) (after : PairList → PairList) (it : Reply) (old new : Option MapValue) : Type 0 where
+-- a put, a set or a delete, by what it does to the pairs, and the value that the key had
+pub record Writes (Does : Option ℕ → PairList → PairList → Type 0) (it : Reply) (old new : Option MapValue) : Type 0 where
   pub closed : (old ≡ None) ↔ (it.status ≡ CLOSED)
-  -- the reply tells the value that the key had
-  pub reply : it.status ≡ OK → had it ≡ at key (pairs_in old)
-  pub pairs : it.status ≡ OK → pairs_in new ≡ after (pairs_in old)
+  -- the reply has the value that the key had
+  pub reply : it.status ≡ OK → Does (had it) (pairs_in old) (pairs_in new)
   pub status : IsStatus it.status
   pub nothing : it.status ≢ OK → had it ≡ None
   pub zero : IsZeroWithout it
@@ -26,17 +25,13 @@ pub record Writes (key : ℕ) (after : PairList → PairList) (it : Reply) (old 
   pub config : config_in new ≡ config_in old
 
 -- the removal of the keys from the low on and below the end
-pub record Clears (low end : ℕ) (it : Cleared) (old new : Option MapValue) : Type 0 where
+pub record ClearsHeld (low end : ℕ) (it : Cleared) (old new : Option MapValue) : Type 0 where
   pub closed : (old ≡ None) ↔ (it.status ≡ CLOSED)
   pub status : IsStatus it.status
-  pub cleared : it.status ≡ OK → pairs_in new ≡ outside low end (pairs_in old)
-  -- also where a fault ended it, no other key is gone, and no pair is new
-  pub others : outside low end (pairs_in new) ≡ outside low end (pairs_in old)
-  pub fewer : (key value : ℕ) → at key (pairs_in new) ≡ Some value → at key (pairs_in old) ≡ Some value
-  pub count : length (pairs_in new) + it.removed ≡ length (pairs_in old)
+  pub clears : Clears low end it.removed (it.status ≡ OK) (pairs_in old) (pairs_in new)
   pub config : config_in new ≡ config_in old
 
--- the first of the pairs are in the first of the places, and the answer tells how many, and the key of the next one
+-- the first of the pairs are in the first of the places, and the answer has their number and the key of the next one
 pub record ReadsInto (pairs : PairList) (it : Read) (old new : List Pair) : Type 0 where
   pub count : it.count ≡ min (length old) (length pairs)
   pub read : are_pairs (take it.count new) ≡ take it.count pairs

@@ -2,7 +2,6 @@
 use Rattle.std.specs.Prelude.{ℕ, [], Option, Some, None}
 use Rattle.bw_keys.specs.Ranges.{key_count}
 use Rattle.bw_keys.specs.declared.config.Config.{Config}
-use Rattle.bw_delta.specs.Entries.{at, put}
 use Rattle.nifforan.specs.Maps.{MapValue, PairList, within}
 
 -- the pairs of its map; a closed handle has none
@@ -14,18 +13,10 @@ pairs_in (Some map) = map.pairs
 abbrev pub pairs_from : ℕ → Option MapValue → PairList
 pairs_from key held = within key key_count (pairs_in held)
 
--- what its map was made by, or that it has none
+-- the configuration of its map, if it has one
 abbrev pub config_in : Option MapValue → Option Config
 config_in None = None
 config_in (Some map) = Some map.config
 
 abbrev pub empty_map : Config → MapValue
 empty_map config = record { config = config; pairs = [] }
-
-abbrev if_absent : Option ℕ → PairList → PairList → PairList
-if_absent None new old = new
-if_absent (Some there) new old = old
-
--- the pairs with this one, unless its key is there
-abbrev pub put_if_absent : ℕ → ℕ → PairList → PairList
-put_if_absent key value pairs = if_absent (at key pairs) (put key value pairs) pairs

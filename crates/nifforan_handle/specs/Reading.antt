@@ -1,4 +1,4 @@
--- PairList in C's array.
+-- Pairs in C's array.
 use Rattle.std.specs.Prelude.{ℕ, List, [], ◌∷◌, Option, Some, None, map}
 use Rattle.nifforan.specs.Maps.{PairList}
 use Rattle.nifforan_handle.specs.declared.answer.Pair.{Pair}

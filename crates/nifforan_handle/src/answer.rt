@@ -1,4 +1,4 @@
-//! What calls answer.
+//! The answers to calls.
 ghost use Rattle.std.specs.Prelude.{◌≡◌, None, Some, IfOk, IfErr, IfSome};
 ghost use Rattle.nifforan.specs.Maps.{before_put, before_set, before_delete};
 ghost use Rattle.nifforan_handle.specs.Answers.{had, next_key, RepliesWith, IsCare, IsZeroWithout, IsZeroAtEnd};
@@ -8,13 +8,13 @@ ghost use Rattle.nifforan_handle.specs.declared.status.TheConstants.{CLOSED, OK}
 use crate::status::{self, CLOSED, OK};
 use nifforan::{Del, Done, Fault, Put, Set};
 
-/// What a call on one key answers.
+/// The answer to a call on one key.
 #[repr(C)]
 #[derive(Clone, Copy)]
 pub struct Reply {
-    /// `OK` with a reply, or else why there is none: then the map has the pairs that it had.
+    /// `OK` with a reply, or else why there is none: then the pairs are unchanged.
     pub status: u32,
-    /// With a reply, `OK`, or what cut the care for the pages short, which a later call takes up again.
+    /// With a reply, `OK`, or what cut the care for the pages short, which a later call resumes.
     pub care: u16,
     /// Whether the key had a value before the call.
     pub found: bool,
@@ -113,7 +113,7 @@ impl Reply {
     }
 }
 
-/// How many pairs a map has.
+/// The number of pairs of a map.
 #[repr(C)]
 #[derive(Clone, Copy)]
 pub struct Count {
@@ -122,13 +122,13 @@ pub struct Count {
     pub pairs: u64,
 }
 
-/// What came of the removal of a range of keys.
+/// The answer to the removal of a range of keys.
 #[repr(C)]
 #[derive(Clone, Copy)]
 pub struct Cleared {
     /// `OK`, or what ended the call before its range did.
     pub status: u32,
-    /// How many keys were taken out.
+    /// The number of keys that were deleted.
     pub removed: u64,
 }
 
@@ -152,11 +152,11 @@ pub struct Pair {
     pub value: u64,
 }
 
-/// What came of the reading of pairs.
+/// The answer to a read of pairs.
 #[repr(C)]
 #[derive(Clone, Copy)]
 pub struct Read {
-    /// How many pairs were read.
+    /// The number of pairs that were read.
     pub count: usize,
     /// The key of the next pair, or 0.
     pub next: u64,

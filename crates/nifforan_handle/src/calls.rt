@@ -1,12 +1,13 @@
-//! What the calls for C do.
+//! The calls for C.
 
 ghost use Rattle.std.specs.Prelude.{◌≡◌, ◌≢◌, ◌↔◌, ◌+◌, None, Some, IfSome, length};
 ghost use Rattle.bw_keys.specs.Limits.{first_bad_field};
 ghost use Rattle.bw_keys.specs.Ranges.{end_of};
-ghost use Rattle.bw_delta.specs.Entries.{at, put, without};
+ghost use Rattle.bw_delta.specs.Entries.{at};
+ghost use Rattle.nifforan.specs.Calls.{Puts, Sets, Deletes};
 ghost use Rattle.nifforan_handle.specs.Answers.{had, IsZeroWithout};
-ghost use Rattle.nifforan_handle.specs.Calls.{Writes, Clears, ReadsInto};
-ghost use Rattle.nifforan_handle.specs.Held.{pairs_in, pairs_from, empty_map, put_if_absent};
+ghost use Rattle.nifforan_handle.specs.Calls.{Writes, ClearsHeld, ReadsInto};
+ghost use Rattle.nifforan_handle.specs.Held.{pairs_in, pairs_from, empty_map};
 ghost use Rattle.nifforan_handle.specs.Statuses.{config_of, status_of_field};
 ghost use Rattle.nifforan_handle.specs.declared.status.TheConstants.{CLOSED, NO_MEMORY, OK, OPEN};
 
@@ -20,8 +21,9 @@ use nifforan::{Map, NewFault};
 use std::alloc::Global;
 
 impl Handle {
-    /// Opens a map without pairs at a closed handle. With any status but `OK` the handle stays as it is:
-    /// `OPEN` where it holds a map, else that of the first setting out of its range, else `NO_MEMORY`.
+    /// Opens a map without pairs at a closed handle. With any status but `OK` the handle stays as
+    /// it is: `OPEN` if it holds a map, else that of the first setting out of its range, else
+    /// `NO_MEMORY`.
     pub fn create(&mut self, alloc: Global, settings: &Settings) -> u32
         ensures open { self.old.held ≢ None ↔ result ≡ OPEN }
         ensures setting { self.old.held ≡ None → IfSome (first_bad_field (config_of settings.now))
@@ -49,7 +51,7 @@ impl Handle {
         }
     }
 
-    /// How many pairs the map has.
+    /// Returns the number of pairs.
     pub fn pairs(&mut self, alloc: Global) -> Count
         ensures closed { self.old.held ≡ None ↔ result.status ≡ CLOSED }
         ensures open { self.old.held ≢ None ↔ result.status ≡ OK }
@@ -67,7 +69,7 @@ impl Handle {
         Count { status: OK, pairs }
     }
 
-    /// The value at the key, if it has one. It takes no memory.
+    /// Returns the value of the key, if it has one. Takes no memory.
     pub fn get(&mut self, alloc: Global, key: u64) -> Reply
         ensures closed { self.old.held ≡ None ↔ result.status ≡ CLOSED }
         ensures open { self.old.held ≢ None ↔ result.status ≡ OK }
@@ -84,9 +86,9 @@ impl Handle {
         reply
     }
 
-    /// Gives the key the value, unless the key is there: then it keeps its value, which the reply tells.
+    /// Inserts the pair, unless the key has a value: then it keeps that, and the reply has it.
     pub fn put(&mut self, alloc: Global, key: u64, value: u64) -> Reply
-        ensures { Writes key (put_if_absent key value) result self.old.held self.new.held }
+        ensures { Writes (Puts key value) result self.old.held self.new.held }
     {
         let Some(mut held) = self.take(alloc) else {
             return Reply::without(CLOSED);
@@ -96,9 +98,9 @@ impl Handle {
         reply
     }
 
-    /// Gives the key the value, whether it is there or not. The reply tells the value that it had.
+    /// Sets the key to the value. The reply has the value before it, if there was one.
     pub fn set(&mut self, alloc: Global, key: u64, value: u64) -> Reply
-        ensures { Writes key (put key value) result self.old.held self.new.held }
+        ensures { Writes (Sets key value) result self.old.held self.new.held }
     {
         let Some(mut held) = self.take(alloc) else {
             return Reply::without(CLOSED);
@@ -108,9 +110,9 @@ impl Handle {
         reply
     }
 
-    /// Takes the key out, if it is there. The reply tells the value that it had.
+    /// Deletes the key, if it has a value. The reply has that value.
     pub fn delete(&mut self, alloc: Global, key: u64) -> Reply
-        ensures { Writes key (without key) result self.old.held self.new.held }
+        ensures { Writes (Deletes key) result self.old.held self.new.held }
     {
         let Some(mut held) = self.take(alloc) else {
             return Reply::without(CLOSED);
@@ -120,10 +122,10 @@ impl Handle {
         reply
     }
 
-    /// Takes out the keys from the low to the high, both included, and tells how many. Where a fault ends
-    /// it before, it took out some of them, and no others.
+    /// Deletes the keys from the low to the high, both included, and returns how many it deleted.
+    /// If a fault ends it before, it has deleted some of them, and no others.
     pub fn clear(&mut self, alloc: Global, low: u64, high: u64) -> Cleared
-        ensures { Clears low (high + 1) result self.old.held self.new.held }
+        ensures { ClearsHeld low (high + 1) result self.old.held self.new.held }
     {
         let Some(mut held) = self.take(alloc) else {
             return Cleared {
@@ -136,8 +138,8 @@ impl Handle {
         Cleared::of(cleared)
     }
 
-    /// Reads the pairs from the key on, in the order of their keys, until the room is full or none is left,
-    /// and tells the key of the next one. It takes no memory.
+    /// Reads the pairs from the key on, in the order of their keys, until the room is full or none
+    /// is left, and returns the key of the next one. Takes no memory.
     pub fn read(&mut self, alloc: Global, key: u64, pairs: &mut [Pair]) -> Read
         ensures closed { self.old.held ≡ None ↔ result.status ≡ CLOSED }
         ensures open { self.old.held ≢ None ↔ result.status ≡ OK }
@@ -160,7 +162,7 @@ impl Handle {
     }
 }
 
-/// The fence right above the key.
+/// Returns the fence right above the key.
 fn past(key: Key) -> Fence
     ensures { end_of result ≡ key + 1 }
 {

@@ -24,14 +24,14 @@ impl Model for Handle {
 }
 
 impl Handle {
-    /// A handle without a map.
+    /// Returns a handle without a map.
     pub fn closed() -> Handle
         ensures { result.held ≡ None }
     {
         Handle { at: null_mut() }
     }
 
-    /// A handle that holds the map.
+    /// Returns a handle that holds the map.
     pub fn of(map: Box<Map<Global>>) -> Handle
         ensures { result.held ≡ Some map.value }
     {
@@ -45,7 +45,7 @@ impl Handle {
         Handle { at: at as *mut () }
     }
 
-    /// Gives out the map that the handle holds, if it holds one.
+    /// Returns the map that the handle holds, if it holds one.
     pub fn into_map(self, alloc: Global) -> Option<Box<Map<Global>>>
         ensures { MatchOption result (self.held ≡ None) (λ map. self.held ≡ Some map.value) }
     {
@@ -57,7 +57,7 @@ impl Handle {
         Some(map)
     }
 
-    /// Gives out the map that the handle holds, if it holds one, and closes the handle.
+    /// Takes the map out of the handle, if it holds one, and closes the handle.
     pub(crate) fn take(&mut self, alloc: Global) -> Option<Box<Map<Global>>>
         ensures map { MatchOption result (self.old.held ≡ None)
             (λ map. self.old.held ≡ Some map.value) }
@@ -66,7 +66,7 @@ impl Handle {
         replace(self, Handle::closed()).into_map(alloc)
     }
 
-    /// Holds the map from here on. One that it held before is freed.
+    /// Holds the map from now on, and frees the one that it held before, if any.
     pub(crate) fn hold(&mut self, alloc: Global, map: Box<Map<Global>>)
         ensures { self.new.held ≡ Some map.value }
     {

@@ -1,5 +1,5 @@
-//! A map behind one pointer that its caller keeps between calls, and the calls on it as C is to see them:
-//! plain numbers go in, and plain structs come out. `nifforan_c` exports them.
+//! A map behind one pointer that its caller keeps between calls, and the calls on it as C sees
+//! them: plain numbers go in, and plain structs come out. `nifforan_c` exports them.
 #![tactic(auto)]
 
 mod answer;

@@ -24,7 +24,8 @@ pub(crate) fn pairs_from(map: &Map<Global>, key: Key, places: &mut [Pair]) -> Re
     Read::of(count, next)
 }
 
-/// Writes the pairs that are left to the places, until no place or no pair is left, and tells how many.
+/// Writes the pairs that are left to the places, until no place or no pair is left, and returns
+/// their number.
 fn fill(left: &mut Pairs<'_, Global>, places: &mut [Pair]) -> usize
     ensures count { result ≡ min (length places.old) (length left.old) }
     ensures left { left.new ≡ drop result left.old }

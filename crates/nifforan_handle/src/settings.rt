@@ -3,19 +3,19 @@ ghost use Rattle.nifforan_handle.specs.Statuses.{config_of};
 
 use bw_keys::Config;
 
-/// What a map is made by: see `Config`.
+/// The configuration of a map: see `Config`.
 #[repr(C)]
 #[derive(Clone, Copy)]
 pub struct Settings {
-    /// How many pairs a page may have before it is split, 4 to 64.
+    /// The most pairs of a page before it is split, 4 to 64.
     pub fanout: u32,
-    /// How many changes a page may carry before it is written anew, 1 to 32.
+    /// The most changes that a page carries before it is written anew, 1 to 32.
     pub chain: u32,
-    /// How many pages the map has room for, 8 to 65,536.
+    /// The number of pages that there is room for, 8 to 65,536.
     pub pages: u32,
-    /// How many attempts one call may make, 1 to 1,000.
+    /// The most attempts of one call, 1 to 1,000.
     pub tries: u32,
-    /// The version that every page begins with. Any number will do.
+    /// The version of each page at first. Any number will do.
     pub first_version: u64,
 }
 

@@ -1,4 +1,4 @@
-//! What came of a call, as a number for C.
+//! The outcomes of calls, as numbers for C.
 ghost use Rattle.std.specs.Prelude.{◌≡◌, ◌≢◌, ◌<◌, ◌^◌};
 ghost use Rattle.nifforan_handle.specs.Statuses.{status_of, status_of_fault, status_of_field, TellsFault};
 ghost use Rattle.nifforan_handle.specs.declared.status.TheConstants.{OK};
@@ -6,7 +6,7 @@ ghost use Rattle.nifforan_handle.specs.declared.status.TheConstants.{OK};
 use bw_keys::Field;
 use nifforan::Fault;
 
-/// The call did what it was asked for.
+/// The call did what it was asked to.
 pub const OK: u32 = 0;
 
 /// The handle is closed: it holds no map.
@@ -39,7 +39,7 @@ pub const TOO_TALL: u32 = 9;
 /// The version of a page, or the number of changes, is used up.
 pub const WORN: u32 = 10;
 
-/// The call took all tries that it has.
+/// The call used all tries that it has.
 pub const CONTENDED: u32 = 11;
 
 pub(crate) fn of(fault: Option<Fault>) -> u16

@@ -110,7 +110,7 @@ fn share_locked<
     })
 }
 
-/// Shares a tree with a reader for each worker, with these blank ledgers and this blank book.
+/// Shares a tree with a reader for each worker, with these blank ledgers and announcements.
 #[tactic(auto, using(crate::proofs::Workers::few_workers))]
 fn share_read<
     N: Naming + Send + Sync,

@@ -118,7 +118,7 @@ other_goes_on text other number rest so_far = first_is_here text other number No
 pub some_tells : (text other : List ℕ) (number : ℕ) → IsFirstDifference (lines_of text) (lines_of other) number → (Some number ≡ None) ↔ (text ≡ other)
 some_tells text other number first = ((λ none. absurd (cc none)), (λ same. absurd (first.differs (ap (λ t. line_in (lines_of t) number) same))))
 
--- what is told where the first text has ended
+-- what is returned where the first text has ended
 abbrev pub Told : List ℕ → List ℕ → Option ℕ → Type 0
 Told text other result = ((result ≡ None) ↔ (text ≡ other)) × IfSome result (IsFirstDifference (lines_of text) (lines_of other))
 
@@ -148,7 +148,7 @@ not_false : (b : Bool) → not b ≡ false → b ≡ true
 not_false true is = refl
 not_false false is = absurd (cc is)
 
--- the test of two lines tells whether they are equal
+-- the test of two lines decides whether they are equal
 pub lines_equal : (x y : List ℕ) → not (bytes_eq x y) ≡ false → x ≡ y
 lines_equal x y is = (bytes_eq-Decides x y).0 (not_false (bytes_eq x y) is)
 

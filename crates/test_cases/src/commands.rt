@@ -1,6 +1,7 @@
-//! Cases of the program's command: what is given to it, and what it is to answer.
+//! Cases of the program's command: its input, and the answer wanted.
 //!
-//! A file has one case after the other. Each line begins with a mark, and has its text behind a blank:
+//! A file has one case after the other. Each line begins with a mark, and has its text behind a
+//! blank:
 //!
 //! | Mark | The line says |
 //! |---|---|
@@ -24,21 +25,21 @@ use std::alloc::Global;
 use std::sync::Wait;
 use std::thread::Threads;
 
-/// What is given to the program, and what it is to answer.
+/// An input of the program, and the answer wanted.
 #[derive(Drop)]
 struct Case<'a> {
     words: &'a str,
-    /// Words that are given behind these once more, with the same answer.
+    /// Further words behind these, with which the answer is the same.
     more: Option<&'a str>,
     input: String,
     has_failure: bool,
-    /// Whether the answer has lines above those that are wanted.
+    /// Whether the output has lines above those that are wanted.
     has_more: bool,
     /// The lines of the answer, with their marks.
     wanted: String,
 }
 
-/// Gives the cases of a file to the program, and counts them.
+/// Runs the program on the cases of a file, and counts them.
 pub(crate) fn agree<R: Threads + Wait + Sync + Send + Copy>(
     rt: R,
     alloc: Global,
@@ -87,7 +88,7 @@ fn read_case<'a>(alloc: Global, block: &'a str) -> Result<Case<'a>> {
     Ok(case)
 }
 
-/// Fails where the program first doesn't answer as it is to.
+/// Fails where the program first doesn't answer as wanted.
 fn judge<R: Threads + Wait + Sync + Send + Copy>(rt: R, alloc: Global, case: &Case) -> Result<()> {
     judge_with(rt, alloc, case, "")?;
     match case.more {
@@ -126,7 +127,7 @@ fn judge_with<R: Threads + Wait + Sync + Send + Copy>(
     )
 }
 
-/// What stands below so many lines of a text.
+/// Returns what stands below this number of lines of a text.
 fn below(text: &str, lines: usize) -> &str {
     let mut rest = text;
     for _ in 0..lines {

@@ -1,10 +1,10 @@
-//! The lines of two texts, compared: a program that is tested by what it writes tells by it where
-//! that first isn't what was foretold.
+//! The lines of two texts, compared: where a program that is tested by its output first differs
+//! from what was foretold.
 ghost use Rattle.std.specs.Prelude.{◌≡◌, ◌↔◌, ◌∷◌, ◌<◌, None, IfSome, length, option_copied};
 ghost use Rattle.test_cases.specs.Lines.{lines_of, lines_left, line_in, IsFirstDifference};
 
-/// The number of the first line that differs, counted from 1, if the texts aren't equal. Where one
-/// text goes on and the other doesn't, the next line differs.
+/// Returns the number of the first line that differs, counted from 1, if the texts aren't equal. If
+/// one text goes on and the other doesn't, the next line differs.
 pub(crate) fn first_difference(text: &str, other: &str) -> Option<usize>
     ensures equal { (result ≡ None) ↔ (text.now ≡ other.now) }
     ensures first { IfSome result (IsFirstDifference (lines_of text.now) (lines_of other.now)) }
@@ -28,7 +28,7 @@ pub(crate) fn first_difference(text: &str, other: &str) -> Option<usize>
     other_rest.is_some().then_some(number)
 }
 
-/// The line of this number, counted from 1, if the text has it.
+/// Returns the line with this number, counted from 1, if the text has it.
 pub(crate) fn line_at(text: &str, number: usize) -> Option<&str>
     ensures { option_copied result ≡ line_in (lines_of text.now) number }
 {
@@ -41,7 +41,7 @@ pub(crate) fn line_at(text: &str, number: usize) -> Option<&str>
     Some(first_line(rest).0)
 }
 
-/// The first line of the text, and what stands after its end, if it has one.
+/// Returns the first line of the text, and what stands after its end, if it has one.
 fn first_line(text: &str) -> (&str, Option<&str>)
     ensures lines { lines_of text.now ≡ result.0.now ∷ lines_left (option_copied result.1) }
     ensures shorter { IfSome result.1 (λ rest. length rest.now < length text.now) }

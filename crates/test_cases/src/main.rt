@@ -1,6 +1,7 @@
-//! Goes through cases in files, and tells of each file whether it is answered as was foretold, or where it first isn't.
-//! An argument `KIND/NAME` names the files of a case or of a row of cases; with a kind alone, `steps` or `drawings`,
-//! the script on standard input is played or drawn, and the answers or drawings are printed.
+//! Goes through cases in files, and reports of each file whether it is answered as foretold, or
+//! where it first isn't. An argument `KIND/NAME` names the files of a case or of a row of cases.
+//! With a kind alone, `steps` or `drawings`, the script on standard input is played or drawn, and
+//! the answers or drawings are printed.
 #![tactic(auto)]
 
 mod commands;
@@ -19,7 +20,8 @@ use std::sync::Wait;
 use std::thread::Threads;
 use std::{env, io};
 
-/// What is to be printed of an argument. That a case isn't answered as was foretold is an error, too.
+/// Returns what is printed for an argument. A case that isn't answered as foretold is an error,
+/// too.
 fn tell<R: Threads + Wait + Sync + Send + Copy + Files + Input + AllocGlobal>(
     rt: R,
     argument: &str,

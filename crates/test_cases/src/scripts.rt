@@ -7,8 +7,8 @@ use bw_scripts::{Answer, Player, ScriptFault};
 use std::alloc::Global;
 use std::rt::Files;
 
-/// A line for each line of the script that asks for something. A line that can't be read is told by its number, and
-/// ends the script.
+/// Returns a line for each line of the script that asks for something. A line that can't be read is
+/// reported by its number, and ends the script.
 pub(crate) fn answers(alloc: Global, script: &str) -> Result<String> {
     let mut player = Player::new(alloc);
     let mut answers = String::new(alloc);
@@ -33,8 +33,8 @@ pub(crate) fn agree<R: Files + AllocGlobal>(rt: &R, path: &str, name: &str) -> R
     Ok(format!(in rt.alloc(); "{name}: as foretold\n")?)
 }
 
-/// A drawing for each comment of the script, of the table that the lines before the comment leave. A
-/// line feed ends each. A line that can't be read or is refused ends the script.
+/// Returns a drawing for each comment of the script, of the table that the lines before the comment
+/// leave. A line feed ends each. A line that can't be read or is refused ends the script.
 pub(crate) fn drawings(alloc: Global, script: &str) -> Result<Vec<String>> {
     let mut player = Player::new(alloc);
     let mut drawings = Vec::new(alloc);
@@ -60,7 +60,7 @@ fn drawing(alloc: Global, player: &Player) -> Result<String> {
     Ok(format!(in alloc; "{drawing}\n")?)
 }
 
-/// Draws a script, and compares each drawing with that which lies beside it.
+/// Draws a script, and compares each drawing with the one that lies beside it.
 pub(crate) fn agree_drawn<R: Files + AllocGlobal>(
     rt: &R,
     path: &str,

@@ -1,16 +1,16 @@
-//! Scripts of what workers and readers do on a tree: played line by line, with an answer to each.
+//! Scripts of what workers and readers do on a tree, played line by line, with an answer to each.
 //!
-//! A script begins with its title and with the line that makes its tree; an empty line stands between two scripts.
-//! What a line is answered stands beneath it, behind `> `.
+//! A script begins with its title and the line that makes its tree. An empty line stands between
+//! two scripts. The answer to a line stands beneath it, behind `> `.
 //!
-//! | Line | It says |
+//! | Line | What it says |
 //! |---|---|
 //! | `tree WORKERS READERS OPTIONS` | the tree is made, with the options of a trace |
 //! | `W,put,K,V`, or another row of a trace | the worker makes the call |
 //! | `publish` | all is published, and the stamp is kept |
-//! | `reader R learn` | the reader learns of the newest stamp that is left |
+//! | `reader R learn` | the reader learns the newest stamp that is left |
 //! | `reader R get K`, `look K`, `scan LOW LIMIT` | the reader reads |
-//! | `close` | the tree is closed with all shares; then its leaves, book and pairs are told, and what its readers answer |
+//! | `close` | the tree is closed with all shares; its leaves, book and pairs are written, and what its readers answer |
 //! | `abandon` | the same, but the shares are lost |
 
 ghost use Rattle.std.specs.Prelude.{◌≡◌};
@@ -34,7 +34,7 @@ use std::sync::ledger::Ledger;
 /// The most workers that a tree has.
 const MOST_WORKERS: u32 = 64;
 
-/// The workers do the rows of the text.
+/// Does the rows of the text, each by its worker.
 fn work<R: Wait + Copy, N: Naming, D: Ledger>(
     alloc: Global,
     tree: &ReadTree<R, N, D>,
@@ -54,7 +54,7 @@ fn work<R: Wait + Copy, N: Naming, D: Ledger>(
     Ok(())
 }
 
-/// The reader does what the words say.
+/// Does what the words say by the reader.
 fn read<N: Naming>(
     alloc: Global,
     reader: &mut Reader<N>,
@@ -79,7 +79,7 @@ fn read<N: Naming>(
     Ok(())
 }
 
-/// Does what the lines say, and tells what they are answered.
+/// Does what the lines say, and writes their answers.
 fn play_lines<R: Wait + Copy, N: Naming, D: Ledger>(
     alloc: Global,
     tree: &ReadTree<R, N, D>,
@@ -111,7 +111,7 @@ fn play_lines<R: Wait + Copy, N: Naming, D: Ledger>(
     Ok(())
 }
 
-/// Tells what is left of a tree.
+/// Writes what is left of a tree.
 fn tell<N: Naming>(
     alloc: Global,
     table: &Table<Global>,
@@ -133,7 +133,8 @@ fn tell<N: Naming>(
     Ok(())
 }
 
-/// Plays the lines behind the one that makes the tree, owned here: ledgers aren't named at a call with a `&str`.
+/// Plays the lines behind the one that makes the tree. They are owned here, since ledgers aren't
+/// named at a call with a `&str`.
 fn play_over<R: Wait + Copy, N: Naming, D: Ledger>(
     rt: R,
     alloc: Global,
@@ -163,7 +164,7 @@ fn play_over<R: Wait + Copy, N: Naming, D: Ledger>(
     tell(alloc, &table, readers, played)
 }
 
-/// Plays the script, and gives it back as it is answered.
+/// Plays the script, and returns it with its answers.
 fn play<R: Wait + Copy>(rt: R, alloc: Global, script: &str) -> Result<String> {
     let (title, rest) = script.split_once('\n').context("a title alone")?;
     let (tree, lines) = rest.split_once('\n').unwrap_or((rest, ""));
@@ -186,7 +187,7 @@ fn play<R: Wait + Copy>(rt: R, alloc: Global, script: &str) -> Result<String> {
     Ok(played)
 }
 
-/// Plays the scripts of the text, and compares what each is answered with what stands in it.
+/// Plays the scripts of the text, and compares the answers to each with those in it.
 pub(crate) fn agree<R: Wait + Copy>(rt: R, alloc: Global, text: &str) -> Result<String> {
     let mut lines = String::new(alloc);
     for script in text.split("\n\n") {

@@ -1,4 +1,4 @@
-//! Texts of files, and what was answered beside them.
+//! Texts of files, compared with answers.
 
 use crate::lines::{first_difference, line_at};
 use anyhow::{Result, bail};
@@ -9,7 +9,7 @@ pub(crate) fn read<R: Files + AllocGlobal>(rt: &R, name: &str) -> Result<String>
     Ok(fs::read_to_string(rt, name)?)
 }
 
-/// Reads the file of this name with this ending.
+/// Reads the file with this name and ending.
 pub(crate) fn read_part<R: Files + AllocGlobal>(
     rt: &R,
     name: &str,
@@ -18,7 +18,7 @@ pub(crate) fn read_part<R: Files + AllocGlobal>(
     read(rt, &format!(in rt.alloc(); "{name}.{ending}")?)
 }
 
-/// Fails with the first line that differs, an empty text standing for one that isn't there.
+/// Fails with the first line that differs. An empty text stands for one that isn't there.
 pub(crate) fn compare(answered: &str, foretold: &str) -> Result<()> {
     let Some(number) = first_difference(answered, foretold) else {
         return Ok(());

@@ -1,4 +1,4 @@
-//! Traces with what an independent model of the map foretold of them, byte for byte.
+//! Traces, with what an independent model of the map foretold of them, byte for byte.
 
 use crate::program::{Input, answer_to};
 use crate::texts::{compare, read_part};
@@ -20,14 +20,14 @@ pub(crate) struct Vector {
     pub(crate) trace: String,
 }
 
-/// Who does the rows of a trace.
+/// A way in which the rows of a trace are done.
 #[derive(Clone, Copy)]
 enum Way {
-    /// A worker that has the table for itself.
+    /// By a worker that has the table for itself.
     Alone,
-    /// A worker with a hand on a tree.
+    /// By a worker with a hand on a tree.
     Hand,
-    /// The program's command, with so many readers.
+    /// By the program's command, with this number of readers.
     Program(u32),
 }
 
@@ -59,7 +59,7 @@ pub(crate) fn agree<R: Threads + Wait + Sync + Send + Copy + Files + AllocGlobal
     Ok(lines)
 }
 
-/// The replies, leaves and counts, and behind them the history.
+/// Returns the replies, leaves and counts, and behind them the history.
 pub(crate) fn joined(alloc: Global, replies: String, history: &str) -> Result<String> {
     Ok(format!(in alloc; "{replies}history\n{history}")?)
 }
@@ -93,7 +93,8 @@ fn run<R: Threads + Wait + Sync + Send + Copy>(
     }
 }
 
-/// The configuration that the options give, with the program's numbers for those that aren't there.
+/// Returns the configuration by the options, with the program's defaults for those that aren't
+/// there.
 pub(crate) fn config_of(options: &str) -> Result<Config> {
     let mut config = Config {
         fanout: 16,
@@ -118,7 +119,7 @@ pub(crate) fn config_of(options: &str) -> Result<Config> {
 }
 
 impl Vector {
-    /// What the program prints of the trace.
+    /// Returns what the program prints of the trace.
     fn printed<R: Threads + Wait + Sync + Send + Copy>(
         &self,
         rt: R,

@@ -17,7 +17,7 @@ use std::alloc::Global;
 use std::sync::Wait;
 use std::sync::ledger::Ledger;
 
-/// Does the rows of the trace in their order. A line for each reply.
+/// Does the rows of the trace in their order, and returns a line for each reply.
 fn work<S: Steps<Global, Step<Global>>>(
     alloc: Global,
     steps: &mut S,
@@ -32,7 +32,7 @@ fn work<S: Steps<Global, Step<Global>>>(
     Ok(lines)
 }
 
-/// The replies, the survey of the table and the audit, and the history behind them.
+/// Returns the replies, the survey of the table and the audit, and the history behind them.
 fn ending(
     alloc: Global,
     replies: String,

@@ -1,4 +1,4 @@
-//! Steps as plain data, and the steps that are built of them.
+//! Steps as plain data, and the steps built of them.
 
 use crate::pages::{Pages, seen};
 use bw_chain::{HalveFault, consolidate, halve};
@@ -12,7 +12,7 @@ use bw_table::{CopyFault, Table};
 use std::alloc::{Allocator, Global};
 use std::test::Fail;
 
-/// A step that fits a tree as it is: its pages, in the order of the step's fields, and its key and
+/// A step that fits a tree as it is: its pages, in the order of the step's fields, its key and its
 /// value.
 #[derive(Clone, Copy, Debug, PartialEq, Eq)]
 pub enum Change {
@@ -23,7 +23,7 @@ pub enum Change {
     /// In the middle of the page's entries.
     Split(u32),
     TermAdd(u32, u32),
-    /// Over the root that there is and the page.
+    /// Over the present root and the page.
     Grow(u32),
     Mark(u32, u32),
     Merge(u32, u32),
@@ -31,7 +31,7 @@ pub enum Change {
 }
 
 impl Change {
-    /// The pages whose versions the step names. Where it names one, that page twice.
+    /// Returns the pages whose versions the step names. Where it names one, that page twice.
     pub fn pages(self) -> (u32, u32) {
         match self {
             Change::Insert(page, _, _)
@@ -46,8 +46,8 @@ impl Change {
     }
 }
 
-/// A base that lists what the page's chain does. An empty leaf, where the page isn't there as it was
-/// seen.
+/// Returns a base that lists what the page's chain does, or an empty leaf if the page isn't as it
+/// was seen.
 fn base_of<A: Allocator + Copy, S: Pages<A>>(
     alloc: A,
     pages: &S,
@@ -75,7 +75,8 @@ fn consolidation<A: Allocator + Copy, S: Pages<A>>(
     }))
 }
 
-/// The upper half of the page, with its separator. The whole page where it has less than two entries.
+/// Returns the upper half of the page with its separator, or the whole page if it has less than two
+/// entries.
 fn upper_half<A: Allocator + Copy, S: Pages<A>>(
     alloc: A,
     pages: &S,
@@ -107,7 +108,7 @@ fn split<A: Allocator + Copy, S: Pages<A>>(
     }))
 }
 
-/// A new root over the root that there is and the child. An empty leaf where these make no page.
+/// Returns a new root over the present one and the child, or an empty leaf if these make no page.
 fn growth<A: Allocator + Copy, S: Pages<A>>(
     alloc: A,
     pages: &S,
@@ -148,7 +149,7 @@ fn merge<A: Allocator + Copy>(
     }))
 }
 
-/// The step, with these versions of the pages that it names.
+/// Returns the step, with these versions of the pages that it names.
 pub fn step_with<A: Allocator + Copy, S: Pages<A>>(
     alloc: A,
     pages: &S,
@@ -203,7 +204,7 @@ pub fn step_with<A: Allocator + Copy, S: Pages<A>>(
     }
 }
 
-/// The step for the pages as they are now.
+/// Returns the step for the pages as they are now.
 pub fn step_of<A: Allocator + Copy, S: Pages<A>>(
     alloc: A,
     pages: &S,

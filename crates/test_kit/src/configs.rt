@@ -9,7 +9,7 @@ pub const SMALL: Config = Config {
     first_version: 0,
 };
 
-/// Small pages and chains, with room for hundreds of keys, and with effort for workers that meet.
+/// Small pages and chains, room for hundreds of keys, and effort for workers that meet.
 pub const LARGE: Config = Config {
     fanout: 4,
     chain: 4,

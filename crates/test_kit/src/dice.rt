@@ -9,21 +9,22 @@ use rand_core::Rng;
 use rand_pcg::Pcg32;
 use std::alloc::Global;
 
-/// How many keys the drawn steps speak of.
+/// The number of keys in drawn steps.
 const KEYS: u32 = 256;
 
-/// How many ids they name: those of the slots, and two past the end.
+/// The number of ids in drawn steps: those of the slots, and two past the end.
 const IDS: u32 = 66;
 
-/// How many pages a search passes before it gives up, as others may change the tree meanwhile.
+/// The number of pages that a search passes before it gives up, as others may change the tree
+/// meanwhile.
 const LONGEST_WALK: u32 = 1000;
 
-/// A number below the bound, and 0 where there is none.
+/// Returns a number below the bound, or 0 if there is none.
 fn below(rng: &mut Pcg32, bound: u32) -> u32 {
     rng.next_u32().checked_rem(bound).unwrap_or(0)
 }
 
-/// The page in the row of the level whose range holds the key, as a search finds it.
+/// Returns the page in the row of the level whose range holds the key, as a search finds it.
 fn holder<S: Pages<Global>>(pages: &S, key: Key, level: u8) -> Option<View> {
     let mut place = pages.top();
     for _ in 0..LONGEST_WALK {
@@ -36,7 +37,7 @@ fn holder<S: Pages<Global>>(pages: &S, key: Key, level: u8) -> Option<View> {
     None
 }
 
-/// The first page from a drawn id on that is at the stage.
+/// Returns the first page from a drawn id on that is at the stage.
 fn at_stage<S: Pages<Global>>(rng: &mut Pcg32, pages: &S, stage: Stage) -> Option<View> {
     let first = below(rng, IDS);
     for turn in 0..IDS {
@@ -58,7 +59,7 @@ fn left_of<S: Pages<Global>>(pages: &S, page: Option<View>) -> Option<View> {
     holder(pages, view.low.saturating_sub(1), view.level)
 }
 
-/// The page's id. Now and then, and where there is no page, any id.
+/// Returns the page's id. Now and then, and if there is no page, returns any id.
 fn id_of(rng: &mut Pcg32, page: Option<View>) -> u32 {
     let any = below(rng, IDS);
     match page {
@@ -67,7 +68,7 @@ fn id_of(rng: &mut Pcg32, page: Option<View>) -> u32 {
     }
 }
 
-/// The version, and now and then another one.
+/// Returns the version, or now and then another one.
 fn forged(rng: &mut Pcg32, Version(seen): Version) -> Version {
     match below(rng, 32) {
         0 => Version(seen.wrapping_sub(1)),
@@ -76,13 +77,13 @@ fn forged(rng: &mut Pcg32, Version(seen): Version) -> Version {
     }
 }
 
-/// A leaf, or now and then an inner page.
+/// Returns a leaf, or now and then an inner page.
 fn any_holder<S: Pages<Global>>(rng: &mut Pcg32, pages: &S, key: Key) -> u32 {
     let level = if below(rng, 4) == 0 { 1 } else { 0 };
     id_of(rng, holder(pages, key, level))
 }
 
-/// A change with a parent, or a left neighbour, of a page at a stage.
+/// Returns a change with a parent, or a left neighbour, of a page at a stage.
 fn naming<S: Pages<Global>>(rng: &mut Pcg32, pages: &S, kind: u32) -> Change {
     let stage = match kind {
         23..=25 => Stage::Unposted,
@@ -102,7 +103,7 @@ fn naming<S: Pages<Global>>(rng: &mut Pcg32, pages: &S, kind: u32) -> Change {
     }
 }
 
-/// A change of a drawn kind.
+/// Returns a change of a drawn kind.
 fn drawn_change<S: Pages<Global>>(rng: &mut Pcg32, pages: &S) -> Change {
     let key = Key::from(below(rng, KEYS));
     match below(rng, 32) {
@@ -115,7 +116,7 @@ fn drawn_change<S: Pages<Global>>(rng: &mut Pcg32, pages: &S) -> Change {
     }
 }
 
-/// A split at another key.
+/// Returns the split at another key.
 fn at_another_key(step: Step<Global>, key: Key) -> Step<Global> {
     let mut step = step;
     if let Step::Split(split) = &mut step {
@@ -124,7 +125,7 @@ fn at_another_key(step: Step<Global>, key: Key) -> Step<Global> {
     step
 }
 
-/// A step of a drawn kind.
+/// Returns a step of a drawn kind.
 pub fn drawn_step<S: Pages<Global>>(
     rng: &mut Pcg32,
     alloc: Global,

@@ -4,8 +4,8 @@ use bw_delta::NoMemory;
 use linked_list_allocator::LocalHeap;
 use std::alloc::Global;
 
-/// Heaps to be borrowed for the same time: an ample one, and then each 16 bytes larger than the one
-/// before.
+/// Returns heaps to be borrowed for the same time: an ample one, and then each 16 bytes larger than
+/// the one before.
 pub fn growing_heaps(machine: Global, many: usize) -> Result<Vec<LocalHeap>, NoMemory> {
     let mut heaps = Vec::new(machine);
     heaps.push(LocalHeap::new(machine, 65536)?)?;
@@ -17,13 +17,13 @@ pub fn growing_heaps(machine: Global, many: usize) -> Result<Vec<LocalHeap>, NoM
     Ok(heaps)
 }
 
-/// How many heaps had no room and how many had it, where no heap of the latter is smaller than one of
-/// the former.
+/// The numbers of heaps that had no room and of those that had it, no heap of the latter smaller
+/// than one of the former.
 #[derive(Clone, Copy, Debug, PartialEq, Eq)]
 pub struct Rooms {
     pub refused: u32,
     pub made: u32,
-    /// Whether a heap kept memory, or a larger one than another that had room had none.
+    /// Whether a heap kept memory, or had no room though it is larger than another that had it.
     pub is_wrong: bool,
 }
 
@@ -34,7 +34,7 @@ impl Rooms {
         is_wrong: false,
     };
 
-    /// Counts a heap of which memory was asked, and given back.
+    /// Counts a heap of which memory was requested, and freed.
     pub fn count(&mut self, made: bool, heap: &LocalHeap) {
         self.is_wrong = self.is_wrong || heap.used() != 0 || (self.made > 0 && !made);
         if made {
@@ -44,7 +44,7 @@ impl Rooms {
         }
     }
 
-    /// Whether some heaps had no room, and all larger ones had it, and all was given back.
+    /// Returns whether some heaps had no room, all larger ones had it, and all memory was freed.
     pub fn are_fair(&self) -> bool {
         self.refused > 0 && self.made > 0 && !self.is_wrong
     }

@@ -1,4 +1,4 @@
-//! A worker that is held in the middle of a change, while another one does its task.
+//! A worker that is held in the middle of a change while another does its task.
 
 use crate::meeting::Meeting;
 use crate::play::Worked;
@@ -26,14 +26,14 @@ impl HeldAfter {
         }
     }
 
-    /// Called before a worker's calls: worker 1 waits until worker 0 is held.
+    /// Begins a worker's calls: worker 1 waits until worker 0 is held.
     pub fn begin(&self, worker: u32) {
         if worker == 1 {
             self.meeting.wait_for(0);
         }
     }
 
-    /// Called after a worker's calls: worker 0 may go on when worker 1 is done.
+    /// Ends a worker's calls: worker 0 may go on when worker 1 is done.
     pub fn end(&self, worker: u32) {
         if worker == 1 {
             self.meeting.arrive(1);
@@ -45,12 +45,12 @@ impl HeldAfter {
         self.meeting.wait_for(1);
     }
 
-    /// Whether worker 0 was held and worker 1 was done meanwhile.
+    /// Returns whether worker 1 was done while worker 0 was held.
     pub fn came_about(&self) -> bool {
         self.meeting.came_about()
     }
 
-    /// A worker does its task on a tree, worker 1 while worker 0 is held.
+    /// Does a worker's task on a tree: worker 1's while worker 0 is held.
     pub fn work<S: Shared<Global, Step<Global>>>(
         &self,
         machine: Global,
@@ -74,8 +74,8 @@ impl Gate for HeldAfter {
     }
 }
 
-/// After which steps worker 0 is held in turn, the first of each kind that changes the tree's shape, and
-/// how many pairs it has put or deleted by then.
+/// The steps after which worker 0 is held in turn, the first of each kind that changes the tree's
+/// shape, and the number of pairs that it has put or deleted by then.
 pub const HOLDS: [(Kind, u64); 7] = [
     (Kind::Consolidate, 4),
     (Kind::Split, 5),
@@ -144,7 +144,7 @@ const HELD_BOOK: Book = Book {
     modified: 0,
 };
 
-/// Whether the insertions on the trail are numbered one by one, behind so many changes.
+/// Returns whether the insertions on the trail are numbered one by one behind `changes`.
 fn are_numbered_behind(trail: &[Receipt], changes: u64) -> bool {
     let mut last = changes;
     for receipt in trail {
@@ -158,8 +158,8 @@ fn are_numbered_behind(trail: &[Receipt], changes: u64) -> bool {
     true
 }
 
-/// Whether both workers were answered as they were to be, worker 1 did all behind so many changes of
-/// worker 0, and the table has the pairs of both.
+/// Returns whether both workers were answered as expected, worker 1 did all behind `changes`
+/// changes of worker 0, and the table has the pairs of both.
 pub fn are_both_done(
     machine: Global,
     table: &Table<Global>,

@@ -5,7 +5,7 @@ use bw_table::CopyFault;
 use bw_tree::{Denied, Share, Shared};
 use std::alloc::Global;
 
-/// What comes between a worker that takes a step or looks, and the tree.
+/// What stands between a worker and the tree when it takes a step or looks.
 pub trait Hook<S: Shared<Global, Step<Global>>> {
     ghost use Rattle.std.specs.Prelude.{◌≡◌, IfOk};
     ghost use Rattle.bw_step.specs.ProposalView.{proposal_of};
@@ -28,7 +28,7 @@ pub trait Hook<S: Shared<Global, Step<Global>>> {
     }
 }
 
-/// A shared tree, with a hook before it.
+/// A shared tree behind a hook.
 #[derive(Drop)]
 pub struct Hooked<'t, S, H> {
     pub tree: &'t S,

@@ -1,5 +1,5 @@
-//! What the tests of several crates share: steps as plain data and the steps that are built of them,
-//! drawn steps, heaps that grow, and workers with what is asked of them and what comes between them.
+//! What the tests of several crates share: steps as plain data and the steps built of them, drawn
+//! steps, heaps that grow, and workers with their tasks and what stands between them and a tree.
 #![tactic(auto)]
 
 mod change;

@@ -1,10 +1,10 @@
 use std::sync::atomic::{AtomicU64, Ordering};
 use std::thread;
 
-/// How often a worker that is held gives way before it gives up.
+/// The number of times that a held worker gives way before it gives up.
 const MOST_TURNS: u32 = 1_000_000;
 
-/// Where two workers, 0 and 1, wait for each other.
+/// A point at which two workers, 0 and 1, wait for each other.
 #[derive(Drop)]
 pub struct Meeting {
     zero: AtomicU64,
@@ -25,12 +25,12 @@ impl Meeting {
         if worker == 0 { &self.zero } else { &self.one }
     }
 
-    /// The worker is there. Whether it came for the first time.
+    /// Notes that the worker has come. Returns whether it is the first time.
     pub fn arrive(&self, worker: u32) -> bool {
         self.flag(worker).swap(1, Ordering::SeqCst) == 0
     }
 
-    /// Holds who calls until the worker is there.
+    /// Holds the caller until the worker has come.
     pub fn wait_for(&self, worker: u32) {
         let flag = self.flag(worker);
         for _ in 0..MOST_TURNS {
@@ -42,7 +42,7 @@ impl Meeting {
         self.missed.store(1, Ordering::SeqCst);
     }
 
-    /// Whether both came, and nobody gave up waiting.
+    /// Returns whether both came, and neither gave up waiting.
     pub fn came_about(&self) -> bool {
         self.zero.load(Ordering::SeqCst) == 1
             && self.one.load(Ordering::SeqCst) == 1

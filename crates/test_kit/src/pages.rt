@@ -12,15 +12,15 @@ pub trait Pages<A: Allocator + Copy> {
     ghost use Rattle.std.specs.Prelude.{IfOk};
     ghost use Rattle.bw_delta.specs.Sound.{IsSound};
 
-    /// Where a search begins.
+    /// Returns where a search begins.
     fn top(&self) -> Place;
 
-    /// Where a search for the key, down to the goal's level, goes from a place.
+    /// Returns where a search for the key, down to the goal's level, goes from a place.
     fn way(&self, place: Place, key: Key, goal: u8) -> Go;
 
     fn view(&self, page: u32) -> Option<View>;
 
-    /// A copy of the page's chain, if the page is there as it was seen.
+    /// Returns a copy of the page's chain, if the page is as it was seen.
     fn chain(&self, alloc: A, page: u32, seen: Version) -> Result<Chain<A>, CopyFault>
         ensures { IfOk result IsSound };
 }
@@ -61,7 +61,7 @@ impl<R: Wait + Drop, I: MadeBy, D: Ledger> Pages<Global> for Tree<R, Global, I, 
     }
 }
 
-/// The version of a page, and 0 where there is none.
+/// Returns the version of a page, or 0 if there is none.
 pub fn seen<A: Allocator + Copy, S: Pages<A>>(pages: &S, page: u32) -> Version {
     match pages.view(page) {
         Some(view) => view.version,

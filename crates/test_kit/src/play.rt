@@ -1,4 +1,4 @@
-//! A tree for two workers, from its making to its end.
+//! A tree for two workers, from beginning to end.
 
 ghost use Rattle.std.specs.Prelude.{◌≡◌};
 ghost use Rattle.bw_tree.specs.Trees.{OpensFor};
@@ -14,7 +14,7 @@ use std::sync::Wait;
 use std::sync::ledger::Ledger;
 use std::thread::{Threads, join};
 
-/// A worker's share when it is done, and what it tells.
+/// A worker's share when it is done, and its result.
 #[derive(Drop)]
 pub struct Worked<I: Ledger, D: Ledger, T> {
     pub share: Share<I, D>,
@@ -23,7 +23,7 @@ pub struct Worked<I: Ledger, D: Ledger, T> {
 
 /// What two workers, 0 and 1, do on a tree.
 pub trait Play<T: Drop> {
-    /// What a worker does.
+    /// Does a worker's part.
     fn work<S: Shared<Global, Step<Global>> + Pages<Global>>(
         &self,
         tree: &S,
@@ -41,7 +41,7 @@ pub enum Turns {
     SideBySide,
 }
 
-/// What is left of a play: the table, and what each worker told.
+/// What is left of a play: the table, and each worker's result.
 #[derive(Drop)]
 pub struct Ended<T> {
     pub table: Table<Global>,
@@ -71,7 +71,7 @@ struct Both<I: Ledger, D: Ledger, T> {
     one: Worked<I, D, T>,
 }
 
-/// Lets the workers do their work.
+/// Runs the workers.
 fn work_both<
     I: MadeBy + Send + Sync,
     D: Ledger + Send + Sync,

@@ -1,4 +1,4 @@
-/// A receipt in few words, also in a constant. Where a change's value isn't written it is the key.
+/// A receipt in few words, also in a constant. A change's value that isn't written is the key.
 #[macro_export]
 macro_rules! receipt {
     (inserted $number:expr, $key:expr) => {

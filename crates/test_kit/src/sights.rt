@@ -1,4 +1,4 @@
-//! What a table tells of itself.
+//! What a table shows of itself.
 
 use bw_delta::NoMemory;
 use bw_keys::{Fence, Key};
@@ -6,7 +6,7 @@ use bw_step::Leaf;
 use bw_table::Table;
 use std::alloc::{Allocator, Global};
 
-/// The low, the high and the number of pairs of each leaf.
+/// Returns the low, the high and the number of pairs of each leaf.
 pub fn leaves_of<A: Allocator + Copy>(
     machine: Global,
     table: &Table<A>,
@@ -18,7 +18,7 @@ pub fn leaves_of<A: Allocator + Copy>(
     Ok(shown)
 }
 
-/// Whether the pairs are the keys from 1 to the last, each with itself as value.
+/// Returns whether the pairs are the keys from 1 to the last, each with itself as value.
 pub fn are_own_pairs(pairs: &[(Key, u64)], last: Key) -> bool {
     let mut next = 1u64;
     for pair in pairs {

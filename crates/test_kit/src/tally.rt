@@ -1,9 +1,9 @@
-//! How often steps were answered so, and whether a table can be what they left.
+//! The numbers of answers to steps, and whether a table can be what they left.
 
 use bw_keys::Fence;
 use bw_step::{Kind, Leaf, Receipt};
 
-/// How many steps were answered so.
+/// The numbers of steps, by their answers.
 #[derive(Clone, Copy, Debug, PartialEq, Eq)]
 pub struct Tally {
     pub inserted: u64,
@@ -51,7 +51,7 @@ impl Tally {
         }
     }
 
-    /// How many steps were answered.
+    /// Returns the number of steps that were answered.
     pub fn total(&self) -> u64 {
         let mut total = self.inserted;
         for more in [self.deleted, self.modified, self.refused] {
@@ -63,13 +63,14 @@ impl Tally {
         total
     }
 
-    /// Whether steps of each sort that changes the map were answered, and some were refused.
+    /// Returns whether steps of each sort that changes the map were accepted, and some were
+    /// refused.
     pub fn has_changes(&self) -> bool {
         self.inserted > 0 && self.deleted > 0 && self.modified > 0 && self.refused > 0
     }
 }
 
-/// Whether the leaves' ranges partition the keys.
+/// Returns whether the leaves' ranges partition the keys.
 pub fn partition_the_keys(leaves: &[Leaf]) -> bool {
     let mut end = Fence::Key(0);
     for leaf in leaves {

@@ -1,4 +1,4 @@
-//! What a worker is asked to do, and what it answers.
+//! A worker's calls, and their answers.
 
 use crate::play::Worked;
 use bw_delta::NoMemory;
@@ -20,24 +20,24 @@ pub enum Call {
     Clear(Key, Fence),
 }
 
-/// What a call answers: one reply, and behind it the fault that ended helping or tending, or the removal
-/// of a range, if there was one. A slice is answered by each of its pairs, and by where the next leaf
-/// begins.
+/// An answer to a call: one reply, and behind it the fault that ended helping or tending, or the
+/// removal of a range, if there was one. A slice is answered by each of its pairs, and by where the
+/// next leaf begins.
 #[derive(Clone, Copy, Debug, PartialEq, Eq)]
 pub enum Reply {
     Put(Put),
     Set(Set),
     Delete(Del),
     Get(Option<u64>),
-    /// How many keys were taken out.
+    /// The number of keys that were deleted.
     Clear(u64),
     Pair(Key, u64),
     Next(Option<Key>),
     But(Fault),
 }
 
-/// What a worker is to do: to put each key from the first to the last, with itself as value, and then
-/// to make the calls.
+/// What a worker is to do: put each key from the first to the last, with itself as value, and then
+/// make the calls.
 #[derive(Clone, Copy, Debug)]
 pub struct Task<'c> {
     pub first: Key,
@@ -46,7 +46,7 @@ pub struct Task<'c> {
 }
 
 impl<'c> Task<'c> {
-    /// Puts alone.
+    /// Returns a task of puts alone.
     pub fn puts(first: Key, last: Key) -> Task<'c> {
         Task {
             first,
@@ -55,7 +55,7 @@ impl<'c> Task<'c> {
         }
     }
 
-    /// Calls alone.
+    /// Returns a task of calls alone.
     pub fn calls(calls: &'c [Call]) -> Task<'c> {
         Task {
             first: 1,
@@ -65,19 +65,19 @@ impl<'c> Task<'c> {
     }
 }
 
-/// What a worker was told.
+/// The answers to a worker.
 #[derive(Debug, Drop)]
 pub struct Told {
-    /// The replies to the calls, behind those of the puts that didn't just insert a key.
+    /// The replies to the calls, behind those to the puts that didn't just insert a key.
     pub replies: Vec<Reply>,
     /// What the calls left on the trail.
     pub trail: Vec<Receipt>,
-    /// Where a call, or a put, gave no reply: why.
+    /// Why a call or a put had no reply.
     pub fault: Option<Fault>,
 }
 
 impl Told {
-    /// Whether each put just inserted a key, and no call was answered.
+    /// Returns whether each put just inserted a key, and no call was answered.
     pub fn is_plain(&self) -> bool {
         self.replies.is_empty() && self.fault.is_none()
     }
@@ -92,7 +92,7 @@ fn add_slice(replies: &mut Vec<Reply>, slice: &Slice) -> Result<(), NoMemory> {
     Ok(())
 }
 
-/// Adds a reply, with the fault that there was beside it.
+/// Adds a reply, with the fault beside it, if any.
 fn add(replies: &mut Vec<Reply>, reply: Reply, but: Option<Fault>) -> Result<(), NoMemory> {
     replies.push(reply)?;
     if let Some(fault) = but {
@@ -158,7 +158,8 @@ fn call_each<S: Steps<Global, Step<Global>>>(
     Ok(())
 }
 
-/// How long the trail was before the calls, and why they ended early, if they did.
+/// Does the task. Returns the trail's length before the calls, and why they ended early, if they
+/// did.
 fn serve<S: Steps<Global, Step<Global>>>(
     machine: Global,
     steps: &mut S,
@@ -173,7 +174,7 @@ fn serve<S: Steps<Global, Step<Global>>>(
     (before, call_each(machine, steps, task.calls, replies).err())
 }
 
-/// Does the task. The replies, how long the trail was before the calls, and the fault.
+/// Does the task, and returns its answers.
 pub fn work<S: Steps<Global, Step<Global>>>(
     machine: Global,
     steps: &mut S,
@@ -196,7 +197,7 @@ pub fn work<S: Steps<Global, Step<Global>>>(
     }
 }
 
-/// A worker does its task on a tree.
+/// Does a worker's task on a tree.
 pub fn work_by_hand<S: Shared<Global, Step<Global>>, G: Gate>(
     machine: Global,
     tree: &S,

@@ -25,7 +25,7 @@ const UNTOUCHED: Pair = Pair { key: 5, value: 6 };
 pub struct Beside {
     machine: Global,
     rng: Pcg32,
-    /// How many keys may be drawn.
+    /// The number of keys that may be drawn.
     keys: u32,
     pairs: BTreeMap<u64, u64>,
     /// Whether a call found no page free.
@@ -59,8 +59,8 @@ impl Beside {
         ENDS.get(drawn as usize).copied().unwrap_or(drawn.into())
     }
 
-    /// Opens the handle, makes so many rounds of a hundred drawn calls, reads its map after each, and closes it.
-    /// Answers whether each call answered as the kit's map does.
+    /// Opens the handle, makes rounds of a hundred drawn calls, reads its map after each, and
+    /// closes it. Returns whether each call answered as the kit's map does.
     pub fn play(
         &mut self,
         handle: &mut Handle,
@@ -91,7 +91,7 @@ impl Beside {
         }
     }
 
-    /// A change of a key, or a look at it. Where no page is free, nothing is changed.
+    /// Changes a key, or looks it up. If no page is free, nothing is changed.
     fn call_at_key(&mut self, handle: &mut Handle) -> Result<bool, AllocError> {
         let (machine, key, value) = (self.machine, self.key(), self.rng.next_u64());
         let there = self.pairs.get(&key).copied();
@@ -116,7 +116,7 @@ impl Beside {
         Ok((reply.status, reply.found, reply.value) == wanted)
     }
 
-    /// Reads into room of a drawn size, and leaves the places behind it alone.
+    /// Reads into room of a drawn size, which leaves the places behind it alone.
     fn read(&mut self, handle: &mut Handle) -> bool {
         let (key, room) = (self.key(), self.below(ROOM as u32) as usize);
         let mut places = [UNTOUCHED; ROOM];
@@ -134,7 +134,7 @@ impl Beside {
             && places[room].key == UNTOUCHED.key
     }
 
-    /// Clears a drawn range, which may be empty. Where no page is free, some of its keys may be left.
+    /// Clears a drawn range, which may be empty. If no page is free, some of its keys may be left.
     fn clear(&mut self, handle: &mut Handle) -> Result<bool, AllocError> {
         let low = self.key();
         let high = low.saturating_add(self.below(64).into()).saturating_sub(3);
@@ -153,7 +153,7 @@ impl Beside {
         Ok(is_said && cleared.removed == removed)
     }
 
-    /// Takes those keys out of the kit's map that the handle hasn't, and counts them.
+    /// Removes the keys from the kit's map that the handle hasn't, and returns their number.
     fn forget_lost(&mut self, handle: &mut Handle, keys: &[u64]) -> u64 {
         let mut removed = 0u64;
         for key in keys {
@@ -165,7 +165,8 @@ impl Beside {
         removed
     }
 
-    /// Takes the map out of the handle, reads it at a drawn key, and puts it back, made anew of its table.
+    /// Takes the map out of the handle, reads it at a drawn key, and puts it back, made anew of its
+    /// table.
     fn reads_of_map(&mut self, handle: &mut Handle) -> Result<bool, AllocError> {
         let machine = self.machine;
         let low = self.key();
@@ -182,7 +183,7 @@ impl Beside {
         Ok(is_alike)
     }
 
-    /// Whether each read of the map tells what the kit's map has.
+    /// Returns whether each read of the map returns what the kit's map has.
     fn is_read(&self, map: &Map<Global>, low: u64, high: u64) -> bool
         requires { low ≤ high }
     {
@@ -206,7 +207,8 @@ impl Beside {
         !alike.contains(&false)
     }
 
-    /// Whether the map's pairs in a range, and all of them, come backwards as the kit's map has them.
+    /// Returns whether the map's pairs in a range, and all of them, come backwards as the kit's map
+    /// has them.
     fn is_read_backwards(&self, map: &Map<Global>, low: u64, high: u64) -> bool
         requires { low ≤ high }
     {
@@ -216,7 +218,7 @@ impl Beside {
     }
 }
 
-/// Whether each call says that the handle is closed.
+/// Returns whether each call reports that the handle is closed.
 pub fn is_closed(machine: Global, handle: &mut Handle) -> bool {
     let mut places = [UNTOUCHED; 1];
     let read = handle.read(machine, 0, &mut places);

@@ -8,7 +8,8 @@ use std::alloc::{AllocError, Global};
 use std::collections::{BTreeMap, btree_map};
 use std::test::Fail;
 
-/// Fanout and chain, and how many calls a worker makes: records on few leaves, leaves of few pairs, and short chains.
+/// Fanout, chain, and the number of a worker's calls: records on few leaves, leaves of few pairs,
+/// and short chains.
 const TABLES: [(u32, u32, u32); 4] = [(64, 8, 2000), (4, 8, 700), (8, 32, 3), (64, 1, 0)];
 
 /// Keys near both ends of all keys, and among those that are drawn.
@@ -25,7 +26,7 @@ struct Calls {
 }
 
 impl Calls {
-    /// The call of the number: its key, and its value if it is a set.
+    /// Returns the next call: its key, and its value if it is a set.
     fn next(rng: &mut Pcg32) -> (u64, Option<u64>) {
         let drawn = u64::from(rng.next_u32() % 256);
         let key = if drawn < 8 {
@@ -37,7 +38,7 @@ impl Calls {
         (key, if value % 3 == 0 { None } else { Some(value) })
     }
 
-    /// The same calls on the kit's map.
+    /// Makes the same calls on the kit's map.
     fn plain(&self, machine: Global) -> Result<BTreeMap<u64, u64>, AllocError> {
         let mut plain = BTreeMap::new(machine);
         let mut rng = Pcg32::seed_from_u64(self.seed);
@@ -75,7 +76,7 @@ fn owned(pair: (&u64, &u64)) -> (u64, u64) {
     (*pair.0, *pair.1)
 }
 
-/// Whether both give the same, pair for pair, and then none, from the ends that the bits tell.
+/// Returns whether both yield the same pairs, and then none, each from the end that its bit names.
 fn are_alike(
     mut left: Pairs<'_, Global>,
     mut wanted: btree_map::Range<'_, u64, u64>,
@@ -96,7 +97,7 @@ fn are_alike(
     left.next().is_none() && left.next_back().is_none() && left.next().is_none()
 }
 
-/// The pairs of the kit's map in the range.
+/// Returns the pairs of the kit's map in the range.
 fn between(plain: &BTreeMap<u64, u64>, low: u64, high: Fence) -> btree_map::Range<'_, u64, u64> {
     match high {
         Fence::Key(high) if low < high => plain.range(low..high),
@@ -105,7 +106,7 @@ fn between(plain: &BTreeMap<u64, u64>, low: u64, high: Fence) -> btree_map::Rang
     }
 }
 
-/// Whether the range is read alike by each order of turns, and backwards at once.
+/// Returns whether the range is read alike by each order of turns, and backwards at once.
 fn is_read(map: &Map<Global>, plain: &BTreeMap<u64, u64>, low: u64, high: Fence) -> bool {
     let backwards = between(plain, low, high).rev().map(owned);
     let mut is_alike = map.range(low, high).rev().eq(backwards);
@@ -116,7 +117,7 @@ fn is_read(map: &Map<Global>, plain: &BTreeMap<u64, u64>, low: u64, high: Fence)
     is_alike
 }
 
-/// Whether each range between the bounds is read alike, and all pairs.
+/// Returns whether each range between the bounds is read alike, and all pairs.
 fn are_read(map: &Map<Global>, plain: &BTreeMap<u64, u64>) -> bool {
     let mut are_alike = map.iter().rev().eq(plain.iter().rev().map(owned));
     for low in BOUNDS {

@@ -1,5 +1,5 @@
-//! Maps, and handles for C, beside the kit's `BTreeMap`: the same drawn calls on both. And what the workers of a shared
-//! tree are answered, call by call.
+//! Maps and handles for C beside the kit's `BTreeMap`, by the same drawn calls, and what the
+//! workers of a shared tree are answered, call by call.
 #![tactic(auto)]
 
 #[cfg(test)]

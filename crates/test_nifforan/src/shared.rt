@@ -23,7 +23,7 @@ type Changes = ([Option<Put>; 2], [Option<Set>; 2], [Option<Del>; 2]);
 
 type Answers = (Changes, Option<Option<u64>>, u64, Option<(u64, u64)>);
 
-/// What a worker brings back, under its own number.
+/// A worker's result, with its number.
 #[derive(Drop)]
 struct Part {
     worker: u32,
@@ -45,7 +45,7 @@ fn reply<T: Drop>(answer: Result<Done<T>, Fault>) -> Option<T> {
     Some(answer.ok()?.reply)
 }
 
-/// Has the worker put a hundred keys from the first on, and then make each kind of call.
+/// Puts a hundred keys from the first on, and then makes each kind of call.
 fn call_each<W: Worker>(hand: &mut W, first: u64) -> Answers
     requires { first < 64000 }
 {
@@ -88,8 +88,8 @@ impl ReadingJob for Calls {
     }
 }
 
-/// Shares a tree among so many workers. The parts stand by the workers' numbers, since the job
-/// promises of each that it tells its own.
+/// Shares a tree among a number of workers. The parts stand by the workers' numbers, since the job
+/// promises of each that it names its own.
 fn share_calls<R: Threads + Wait + Sync + Send + Copy>(
     rt: R,
     calls: &Calls,
@@ -101,7 +101,8 @@ fn share_calls<R: Threads + Wait + Sync + Send + Copy>(
     share(rt, calls.machine, config, workers, calls)
 }
 
-/// What workers on small pages bring back: three that make each call, and two with readers that list.
+/// Returns the results of workers on small pages: three that make each call, and two with readers
+/// that list.
 fn tell_all<R: Threads + Wait + Sync + Send + Copy>(rt: R, calls: &Calls) -> Result<String, Fail> {
     let config = Config {
         fanout: 4,
@@ -147,7 +148,8 @@ fn each_call_of_a_worker_and_its_reader_is_answered(rt: HostRuntime) -> Result<(
     Ok(())
 }
 
-/// Chain, workers, and what is told: a bad field of the configuration is, before a bad number of workers.
+/// Chain, workers, and the report: a bad field of the configuration comes before a bad number of
+/// workers.
 const FAULTS: [(u32, u32, &str); 3] = [
     (8, 0, "bad workers"),
     (8, 65, "bad workers"),

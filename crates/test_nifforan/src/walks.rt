@@ -5,8 +5,9 @@ use nifforan_handle::{Handle, Settings};
 use std::alloc::Global;
 use std::test::Fail;
 
-/// Fanout, chain, pages and how many keys may be drawn, and whether its pages are to be too few: the smallest map,
-/// few keys that come and go, the smallest pages, the usual settings, and the greatest.
+/// Fanout, chain, pages, the number of keys that may be drawn, and whether the pages are to be too
+/// few: the smallest map, few keys that come and go, the smallest pages, the usual settings, and
+/// the greatest.
 const WALKS: [(u32, u32, u32, u32, bool); 5] = [
     (4, 3, 8, 400, true),
     (4, 4, 64, 24, false),
@@ -15,7 +16,7 @@ const WALKS: [(u32, u32, u32, u32, bool); 5] = [
     (64, 32, 65_536, 400, false),
 ];
 
-/// Why a handle isn't as the kit's map, if it isn't.
+/// Returns why a handle isn't as the kit's map, if it isn't.
 fn walk(machine: Global, seed: usize) -> Result<Option<&'static str>, Fail> {
     let Some((fanout, chain, pages, keys, is_small)) = WALKS.get(seed).copied() else {
         return Ok(None)

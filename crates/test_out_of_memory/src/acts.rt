@@ -7,8 +7,8 @@ use bw_step::Step;
 use bw_work::{Act, Calls, Fault, Steps, do_act};
 use std::alloc::Global;
 
-/// What each worker of a trial does. The puts split a leaf twice, and the deletes merge one; what is
-/// removed twice is a range of which the first removal may have ended early.
+/// The acts of each worker of a trial. The puts split a leaf twice, and the deletes merge one. The
+/// range that is removed twice may be left in part by the first removal.
 pub(crate) const ACTS: [Act; 18] = [
     Act::Put { key: 1, value: 1 },
     Act::Put { key: 2, value: 2 },
@@ -36,7 +36,7 @@ pub(crate) const ACTS: [Act; 18] = [
     Act::Get { key: 0 },
 ];
 
-/// Whether each key has what it has in the map.
+/// Fails unless each key has what it has in the map.
 fn see_all<S: Steps<Global, Step<Global>>>(steps: &mut S, plain: &Plain) -> Result<(), Stop> {
     for key in 0..KEYS as u64 {
         hold(
@@ -47,7 +47,8 @@ fn see_all<S: Steps<Global, Step<Global>>>(steps: &mut S, plain: &Plain) -> Resu
     Ok(())
 }
 
-/// Does the act, and where memory was refused, sees the pairs; where it was refused whole, does it again.
+/// Does the act. If memory was refused, checks the pairs, and if it was refused whole, does it
+/// again.
 fn act_once<S: Steps<Global, Step<Global>>>(
     steps: &mut S,
     machine: Global,
@@ -70,7 +71,7 @@ fn act_once<S: Steps<Global, Step<Global>>>(
     }
 }
 
-/// Does an act once more that was refused.
+/// Does once more an act that was refused.
 fn act_again<S: Steps<Global, Step<Global>>>(
     steps: &mut S,
     machine: Global,

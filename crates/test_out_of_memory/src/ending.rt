@@ -5,7 +5,7 @@ use bw_delta::NoMemory;
 use bw_snap::Closed;
 use std::alloc::{AllocError, AllocFailed};
 
-/// How a trial ended of which everything held.
+/// How a trial ended in which everything held.
 #[derive(Clone, Copy, Debug, PartialEq, Eq)]
 pub(crate) enum Ending {
     /// Nothing was refused.
@@ -15,7 +15,7 @@ pub(crate) enum Ending {
 }
 
 impl Ending {
-    /// The ending of two parts.
+    /// Returns the ending of two parts.
     pub(crate) fn and(self, other: Ending) -> Ending {
         match self {
             Ending::Whole => other,
@@ -27,9 +27,9 @@ impl Ending {
 /// Why a trial came to no end.
 #[derive(Clone, Copy, Debug, PartialEq, Eq)]
 pub(crate) enum Stop {
-    /// A request was refused where there was nothing to lose by it: the trial may begin again.
+    /// A request was refused while nothing was at stake: the trial may begin again.
     Memory,
-    /// What must hold, and didn't.
+    /// What should hold, and didn't.
     Broken(&'static str),
 }
 
@@ -63,7 +63,7 @@ impl From<Closed> for Stop {
     }
 }
 
-/// That it holds, or that the sentence is broken.
+/// Fails with the sentence unless it holds.
 pub(crate) fn hold(holds: bool, sentence: &'static str) -> Result<(), Stop> {
     if holds {
         Ok(())

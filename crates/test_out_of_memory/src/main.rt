@@ -1,7 +1,7 @@
-//! Trials of what stands where memory is refused. The input says how many requests for memory are made
-//! ahead, and then names the trials. A run of which the Nth request is refused so meets it at another
-//! place of its trial: `.ci/refuse_memory` lets it come to each place in turn. A line a trial tells whether
-//! what must hold held.
+//! Trials of what holds where memory is refused. The input says how many requests for memory are
+//! made ahead, and then names the trials. So a run of which the Nth request is refused meets the
+//! refusal at another place of its trial: `.ci/refuse_memory` lets it come to each place in turn. A
+//! line for each trial reports whether all held.
 #![tactic(auto)]
 
 mod acts;
@@ -23,7 +23,7 @@ use std::sync::Wait;
 use std::thread::Threads;
 use std::{io, str};
 
-/// Makes so many requests, and whether all of them were served.
+/// Makes this number of requests, and returns whether all of them were served.
 fn ask_ahead(machine: Global, requests: u32) -> bool {
     for _ in 0..requests {
         if Box::new(machine, 0u8).is_err() {
@@ -33,7 +33,7 @@ fn ask_ahead(machine: Global, requests: u32) -> bool {
     true
 }
 
-/// Does the trial of this name.
+/// Does the trial with this name.
 fn run_trial<R: Threads + Wait + Sync + Send + Copy>(
     rt: R,
     machine: Global,
@@ -51,8 +51,8 @@ fn run_trial<R: Threads + Wait + Sync + Send + Copy>(
     }
 }
 
-/// Does a trial, and begins it once more where it was refused memory before it had anything to lose. What
-/// came of it.
+/// Does a trial, begins it once more if it was refused memory while nothing was at stake, and
+/// returns its outcome.
 fn stand<R: Threads + Wait + Sync + Send + Copy>(
     rt: R,
     machine: Global,

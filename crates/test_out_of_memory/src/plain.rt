@@ -7,7 +7,7 @@ use bw_work::{Act, Cleared, Del, Fault, Put, Reply, Set};
 /// The keys of the trials are below this one.
 pub(crate) const KEYS: usize = 16;
 
-/// What each key has. It takes no memory.
+/// The value of each key. Takes no memory.
 #[derive(Clone, Copy, Debug, PartialEq, Eq)]
 pub(crate) struct Plain {
     values: [Option<u64>; KEYS],
@@ -25,7 +25,7 @@ impl Plain {
             .flatten()
     }
 
-    /// Gives the key the value, or takes it out. What it had.
+    /// Sets the key to the value, or removes it, and returns what it had.
     fn change(&mut self, key: Key, value: Option<u64>) -> Option<u64> {
         let had = self.get(key);
         if let Ok(place) = usize::try_from(key) {
@@ -36,7 +36,7 @@ impl Plain {
         had
     }
 
-    /// Takes the first keys of the range out, up to so many. How many they were.
+    /// Removes the first keys of the range, at most `most`, and returns their number.
     fn clear(&mut self, low: Key, high: Fence, most: u64) -> u64 {
         let mut removed = 0u64;
         for key in 0..KEYS as u64 {
@@ -51,7 +51,7 @@ impl Plain {
         removed
     }
 
-    /// Takes a put, as a reply of a tree must have it.
+    /// Puts the pair, and returns what a tree should reply.
     fn put(&mut self, key: Key, value: u64) -> Put {
         match self.get(key) {
             Some(old) => Put::Present(old),
@@ -76,7 +76,7 @@ impl Plain {
         }
     }
 
-    /// Takes the removal of a range, which may have ended early where memory was refused.
+    /// Takes over the removal of a range, which may have ended early if memory was refused.
     fn take_clear(&mut self, low: Key, high: Fence, cleared: Cleared) -> bool {
         match cleared.fault {
             None => self.clear(low, high, u64::MAX) == cleared.removed,
@@ -84,8 +84,8 @@ impl Plain {
         }
     }
 
-    /// Takes the act that a tree replied to. Whether memory was refused behind the reply; broken, if it is
-    /// another reply than that of this map, or another fault.
+    /// Takes over the act that a tree replied to, and returns whether memory was refused behind the
+    /// reply. Broken if it is another reply than this map's, or another fault.
     pub(crate) fn take(&mut self, act: Act, reply: Reply) -> Result<Ending, Stop> {
         let (is_right, fault) = match (act, reply) {
             (Act::Put { key, value }, Reply::Put(done)) => {
@@ -111,7 +111,7 @@ impl Plain {
         }
     }
 
-    /// Whether these are its pairs, in the order of their keys.
+    /// Returns whether these are its pairs, in the order of their keys.
     pub(crate) fn has(&self, pairs: &[(Key, u64)]) -> bool {
         let mut rest = pairs;
         for key in 0..KEYS as u64 {

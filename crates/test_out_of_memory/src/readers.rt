@@ -25,9 +25,9 @@ macro_rules! puts {
     };
 }
 
-/// Groups of puts, each of which is published. The first two have as many as there is room for in the first
-/// piece of memory that what is pending takes, so that a publication wants room for its mark; behind the third
-/// each copy was published before.
+/// Groups of puts, each of which is published. The first two have as many as there is room for in
+/// the first piece of memory that what is pending takes, so that a publication requests room for
+/// its mark. Behind the third each copy was published before.
 const GROUPS: [&[Act]; 3] = [puts!(0, 1, 2, 3), puts!(4, 5, 6, 7), puts!(8)];
 
 /// Chains so long that the puts of the first group are all that is pending.
@@ -39,7 +39,7 @@ const LONG_CHAINS: Config = Config {
     first_version: 0,
 };
 
-/// That the reader finds what the map has, or the sentence is broken.
+/// Fails with the sentence unless the reader finds what the map has.
 fn see<N: Naming>(
     reader: &mut Reader<N>,
     plain: &Plain,
@@ -51,10 +51,10 @@ fn see<N: Naming>(
     Ok(())
 }
 
-/// The put that comes between a refused publication and the next one.
+/// The put between a refused publication and the next one.
 const FURTHER: [Act; 1] = [Act::Put { key: 15, value: 15 }];
 
-/// Publishes what the map has, and the put beside it where memory was refused: until then the reader
+/// Publishes what the map has, and the put beside it if memory was refused: until then the reader
 /// sees what it saw before, and then all.
 fn publish<R: Wait + Copy, N: Naming, D: Ledger, S: Steps<Global, Step<Global>>>(
     tree: &ReadTree<R, N, D>,
@@ -100,7 +100,8 @@ fn publish_all<R: Wait + Copy, N: Naming, D: Ledger, S: Steps<Global, Step<Globa
     Ok(ending)
 }
 
-/// Lets a worker do the groups of acts, with a share that it takes from the list and gives back. Its trail.
+/// Does the groups of acts by a worker, with a share that it takes from the list and puts back.
+/// Returns its trail, too.
 fn work<R: Wait + Copy, N: Naming, D: Ledger>(
     machine: Global,
     tree: &ReadTree<R, N, D>,
@@ -120,7 +121,7 @@ fn work<R: Wait + Copy, N: Naming, D: Ledger>(
     Ok((ending, trail))
 }
 
-/// Scans all keys into a list that has a pair: it is as it was, or has all.
+/// Scans all keys into a list that has a pair, which then is as it was, or has all.
 fn scan<N: Naming>(machine: Global, reader: &mut Reader<N>, plain: &Plain) -> Result<Ending, Stop> {
     let mut list = Vec::new(machine);
     list.push((7, 77))?;
@@ -176,7 +177,7 @@ fn published_over<R: Wait + Copy, N: Naming, D: Ledger>(
     Ok(ending.and(scanned))
 }
 
-/// A worker on a tree that has a reader.
+/// The trial of a worker on a tree that has a reader.
 pub(crate) fn beside_readers<R: Wait + Copy>(rt: R, machine: Global) -> Result<Ending, Stop> {
     let groups: [&[Act]; 1] = [&ACTS];
     published_over::<R, Brand, Brand>(
@@ -189,7 +190,7 @@ pub(crate) fn beside_readers<R: Wait + Copy>(rt: R, machine: Global) -> Result<E
     )
 }
 
-/// Puts, publications and scans.
+/// The trial of puts, publications and scans.
 pub(crate) fn publications<R: Wait + Copy>(rt: R, machine: Global) -> Result<Ending, Stop> {
     published_over::<R, Brand, Brand>(
         rt,

@@ -54,7 +54,7 @@ const TRAILS: [&[Receipt]; 2] = [
     &[receipt!(looked 1, 5, Some(5))],
 ];
 
-/// A replay, and its audit.
+/// The trial of a replay and its audit.
 pub(crate) fn replays(machine: Global) -> Result<Ending, Stop> {
     let Replayed { table, trails } = replay_events(machine)?;
     let are_right = trails.len() == TRAILS.len()

@@ -24,8 +24,8 @@ macro_rules! rows {
 /// The puts split a leaf twice, and at the last row a worker with a reader publishes them.
 const ROWS: [Row; 8] = rows!(1, 2, 3, 4, 5, 6, 7; 4);
 
-/// How often the worker calls its gate in all: for three consolidations, for two splits, and for the root and the
-/// term over the new leaves.
+/// The number of the worker's calls of its gate: for three consolidations, two splits, and the root
+/// and the term over the new leaves.
 const CALLS: u64 = 7;
 
 /// Counts the calls of the worker.
@@ -40,7 +40,7 @@ impl Gate for Counted {
     }
 }
 
-/// Takes what the rows were replied to.
+/// Takes over the acts of the rows, by their replies.
 fn take_replies(plain: &mut Plain, replies: &[Reply]) -> Result<Ending, Stop> {
     hold(replies.len() == ROWS.len(), "each row has a reply")?;
     let mut ending = Ending::Whole;
@@ -58,8 +58,9 @@ fn judge(machine: Global, finished: &Finished) -> Result<Ending, Stop> {
     Ok(ending)
 }
 
-/// Why a run that has no end to show may begin again. A run tells `Memory` before its worker starts or in the
-/// audit, and its other faults before the worker starts: which calls of the gate there were shows it.
+/// Returns why a run without an end may begin again. A run reports `Memory` before its worker
+/// starts or in the audit, and its other faults before the worker starts, as the number of the
+/// gate's calls shows.
 fn refused(fault: RunFault, readers: u32, calls: u64) -> Stop {
     match fault {
         RunFault::Memory if calls == 0 || calls == CALLS => Stop::Memory,
@@ -75,7 +76,7 @@ fn refused(fault: RunFault, readers: u32, calls: u64) -> Stop {
     }
 }
 
-/// A run of one worker, which has a reader or none.
+/// The trial of a run of one worker, with or without a reader.
 pub(crate) fn run_with<R: Threads + Wait + Sync + Send + Copy>(
     rt: R,
     machine: Global,

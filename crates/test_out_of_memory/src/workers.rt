@@ -18,8 +18,8 @@ use std::sync::Wait;
 use std::sync::ledger::Ledger;
 use test_kit::{SMALL, partition_the_keys};
 
-/// Whether the table has the map's pairs, in leaves that partition the keys and by its book, and the
-/// audit explains the trail.
+/// Fails unless the table has the map's pairs, in leaves that partition the keys and by its book,
+/// and the audit explains the trail.
 pub(crate) fn judge(
     machine: Global,
     table: &Table<Global>,
@@ -41,7 +41,7 @@ pub(crate) fn judge(
     hold(verdict == Verdict::Yes, "the audit says yes")
 }
 
-/// A worker that has its table for itself.
+/// The trial of a worker that has its table for itself.
 pub(crate) fn alone(machine: Global) -> Result<Ending, Stop> {
     let Ok(mut table) = Table::new(machine, machine, SMALL) else {
         return Err(Stop::Memory);
@@ -54,7 +54,8 @@ pub(crate) fn alone(machine: Global) -> Result<Ending, Stop> {
     Ok(ending)
 }
 
-/// Lets a worker do all acts on the tree, with a share that it takes from the list and gives back. Its trail.
+/// Does all acts on the tree by a worker, with a share that it takes from the list and puts back.
+/// Returns its trail, too.
 fn work<R: Wait + Copy, I: MadeBy, D: Ledger>(
     machine: Global,
     tree: &Tree<R, Global, I, D>,
@@ -93,7 +94,7 @@ fn by_hand_over<R: Wait + Copy, I: MadeBy, D: Ledger>(
     Ok(ending)
 }
 
-/// A worker on a tree under its lock.
+/// The trial of a worker on a tree under its lock.
 pub(crate) fn by_hand<R: Wait + Copy>(rt: R, machine: Global) -> Result<Ending, Stop> {
     by_hand_over::<R, Brand, Brand>(rt, machine, SMALL, Blanks::new(1))
 }

@@ -1,4 +1,4 @@
-//! Readers and writers that move one byte a call, and of whose calls each in turn fails.
+//! Readers and writers that move one byte a call, of whose calls each fails in turn.
 
 use bw_trace::{
     OutFault, TextFault, command, read_history, read_trace, write_history, write_trace,
@@ -170,7 +170,7 @@ impl Ended {
     }
 }
 
-/// How the case ends over memory.
+/// Returns how the case ends over memory.
 fn whole<R: AllocGlobal + Threads + Wait + Sync + Send + Copy>(
     rt: R,
     (words, text): Case,
@@ -187,7 +187,8 @@ fn whole<R: AllocGlobal + Threads + Wait + Sync + Send + Copy>(
     }
 }
 
-/// How many calls of the end fail, each in a run that ends as it is to. None where one doesn't.
+/// Returns the number of calls of the end that fail, each in a run that ends as it should, or None
+/// if one doesn't.
 fn failures<R: AllocGlobal + Threads + Wait + Sync + Send + Copy>(
     rt: R,
     case: Case,

@@ -70,8 +70,8 @@ fn faults_have_texts(rt: HostRuntime) -> Result<(), Fail> {
     Ok(())
 }
 
-/// Worker 1 stops at its first row. That worker 0 does all of its rows shows in the row that is named: the last
-/// but one of these, which it can't do either.
+/// Returns a trace of which worker 1 stops at its first row. That worker 0 does all of its rows
+/// shows in the row that is named: the last but one of these, which it can't do either.
 fn stopping_trace(machine: Global) -> Result<Vec<Row>, NoMemory> {
     let mut trace = Vec::new(machine);
     add_puts(&mut trace, 1, (0, 2), false)?;

@@ -1,6 +1,6 @@
-//! Tests of runs by public calls alone, and of the texts and the command, of what no file of cases can
-//! say: workers that run side by side, runs that have a fault, texts that are written and read again, long
-//! ones, and ends that fail. The cases stand in `test_cases`.
+//! Tests of runs, texts and the command by public calls alone, beyond what files of cases can say:
+//! workers side by side, runs with a fault, texts that are written and read again, long ones, and
+//! ends that fail. The cases stand in `test_cases`.
 #![tactic(auto)]
 
 #[cfg(test)]

@@ -26,7 +26,8 @@ impl Read for Lines {
     }
 }
 
-/// Words, a row and how often it is given, and the answer: status, output and faults.
+/// Words, a row and the number of times that it is given, and the answer: status, output and
+/// faults.
 type Row = (
     &'static str,
     &'static str,

@@ -8,7 +8,7 @@ use std::alloc::Global;
 use std::sync::Wait;
 use std::thread::Threads;
 
-/// A removal of all keys by a worker.
+/// Returns a worker's removal of all keys.
 pub(crate) fn clear_all(worker: u32) -> Row {
     Row {
         worker,
@@ -19,8 +19,8 @@ pub(crate) fn clear_all(worker: u32) -> Row {
     }
 }
 
-/// Adds puts of the keys behind the first so many by a worker, each with itself as value. Where looks are asked
-/// for, there is one for its key behind every tenth of them.
+/// Adds a worker's puts of the `many` keys after `behind`, each with itself as value. If looks are
+/// asked for, every tenth put is followed by one for its key.
 pub(crate) fn add_puts(
     trace: &mut Vec<Row>,
     worker: u32,
@@ -43,7 +43,7 @@ pub(crate) fn add_puts(
     Ok(())
 }
 
-/// Runs a trace, if it is one for so many workers.
+/// Runs a trace, if it is one for this number of workers.
 pub(crate) fn finish<R: Threads + Wait + Sync + Send + Copy, G: Gate + Sync>(
     rt: R,
     machine: Global,

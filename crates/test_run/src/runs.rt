@@ -7,7 +7,7 @@ use std::sync::Wait;
 use std::test::Fail;
 use std::thread::Threads;
 
-/// What the program prints on the input, where it ends well.
+/// Returns what the program prints on the input, if it ends well.
 fn printed<R: Abort + AllocGlobal + Threads + Wait + Sync + Send + Copy>(
     rt: &R,
     words: &[&str],
@@ -21,7 +21,7 @@ fn printed<R: Abort + AllocGlobal + Threads + Wait + Sync + Send + Copy>(
     Ok(String::from_utf8(written)?)
 }
 
-/// Returns a trace of puts of rising keys, and a row more.
+/// Returns a trace of puts of rising keys, and one row more.
 fn rising(alloc: Global, keys: u32, more: &str) -> Result<String, Fail> {
     let mut trace = String::new(alloc);
     for key in 1..=keys {
@@ -118,7 +118,7 @@ fn meeting_trace(alloc: Global, meeting: Meeting) -> Result<String, Fail> {
     Ok(trace)
 }
 
-/// Runs the trace by two workers, and has its history checked.
+/// Runs the trace by two workers, and checks its history.
 fn met<R: Abort + AllocGlobal + Threads + Wait + Sync + Send + Copy>(
     rt: &R,
     trace: &str,

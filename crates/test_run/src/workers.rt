@@ -1,4 +1,4 @@
-//! Runs of threads. That their histories are legal is proved; these are to come to their end without a fault.
+//! Runs of threads. That their histories are legal is proved. These are to end without a fault.
 
 use crate::rows::{add_puts, clear_all, finish};
 use bw_delta::NoMemory;
@@ -12,7 +12,7 @@ use std::test::Fail;
 use std::thread::Threads;
 use test_kit::{LARGE, Meeting};
 
-/// The first workers put a hundred keys each, and the last one removes all keys so many times.
+/// The first workers put a hundred keys each, and the last one removes all keys a number of times.
 #[derive(Clone, Copy)]
 struct Case {
     readers: u32,
@@ -20,7 +20,7 @@ struct Case {
     /// Whether each of them looks for every tenth of its keys.
     has_looks: bool,
     clears: u32,
-    /// How often it is run.
+    /// The number of runs.
     runs: u32,
 }
 
@@ -33,7 +33,7 @@ const HUNDREDS: Case = Case {
     runs: 10,
 };
 
-/// One worker puts a hundred keys, and the other one removes all, ten times.
+/// One worker puts a hundred keys, and the other removes all, ten times.
 const REMOVED: Case = Case {
     putters: 1,
     clears: 10,
@@ -57,7 +57,7 @@ static PUTS: [Case; 4] = [
     },
 ];
 
-/// The trace of a case.
+/// Returns the trace of a case.
 fn trace_of(machine: Global, case: &Case) -> Result<Vec<Row>, NoMemory> {
     let mut trace = Vec::new(machine);
     for worker in 0..case.putters.min(2) {
@@ -70,7 +70,7 @@ fn trace_of(machine: Global, case: &Case) -> Result<Vec<Row>, NoMemory> {
     Ok(trace)
 }
 
-/// How many keys the replies tell to be removed. None where a fault ended a removal.
+/// Returns the number of removed keys by the replies, or None if a fault ended a removal.
 fn removed_by(replies: &[Reply]) -> Option<u64> {
     let mut removed = 0u64;
     for reply in replies {
@@ -84,7 +84,7 @@ fn removed_by(replies: &[Reply]) -> Option<u64> {
     Some(removed)
 }
 
-/// Whether each key that was put was removed once, or is left with its value.
+/// Returns whether each key that was put was removed once, or is left with its value.
 fn is_each_once(case: &Case, ran: &Finished, pairs: &[(Key, u64)]) -> bool {
     let left = pairs.len() as u64;
     let put = 100 * u64::from(case.putters);
@@ -92,7 +92,8 @@ fn is_each_once(case: &Case, ran: &Finished, pairs: &[(Key, u64)]) -> bool {
         && pairs.iter().all(|(key, value)| key == value)
 }
 
-/// Runs a case again and again. The number of the first run that doesn't end as it is to.
+/// Runs a case again and again, and returns the number of the first run that doesn't end as it
+/// should.
 fn first_missed<R: Threads + Wait + Sync + Send + Copy>(
     rt: R,
     machine: Global,
@@ -136,7 +137,7 @@ fn each_key_is_removed_once_or_left_beside_readers(rt: HostRuntime) -> Result<()
     Ok(())
 }
 
-/// Holds each of two workers at its first call until the other's first call came.
+/// Holds each of two workers at its first call until the other has come to its own.
 #[derive(Drop)]
 struct FirstCalls {
     meeting: Meeting,

@@ -1,4 +1,4 @@
-//! A reader that looks all the time, beside two workers that change the map and publish.
+//! A reader that looks all the time beside two workers that change the map and publish.
 
 use crate::crew::{Crew, work_on_new_tree};
 use crate::seen::Seen;
@@ -20,31 +20,31 @@ use test_kit::{LARGE, Meeting, Told, Worked};
 
 const RUNS: u64 = 20;
 
-/// How often the reader looks in each run.
+/// The number of the reader's looks in each run.
 const LOOKS: u64 = 5_000;
 
-/// How many acts a worker does at most, where the reader takes longer.
+/// The most acts of a worker, where the reader takes longer.
 const MOST_ACTS: u64 = 2_000;
 
-/// How often the reader turns at most until the workers have ended.
+/// The most turns of the reader until the workers have ended.
 const MOST_TURNS: u64 = 1_000_000_000;
 
 const KEYS: u64 = 16;
 
-/// How many looks the reader has between two of its turns.
+/// The number of looks between two of the reader's turns.
 const TURN: u64 = 256;
 
-/// The workers draw acts, and publish after one in four, until the reader has looked often enough, which
-/// begins behind the first publication. When they have ended it looks once more.
+/// The workers draw acts, and publish after one in four, until the reader has looked often enough.
+/// It begins after the first publication, and looks once more when they have ended.
 #[derive(Drop)]
 struct Beside {
     machine: Global,
     run: u64,
     /// Where the reader waits for the first publication.
     begun: Meeting,
-    /// How many readers have looked often enough.
+    /// The number of readers that have looked often enough.
     read: AtomicU64,
-    /// How many workers have ended.
+    /// The number of workers that have ended.
     written: AtomicU64,
 }
 
@@ -123,7 +123,7 @@ impl Crew for Beside {
     }
 }
 
-/// How many changes a look saw.
+/// Returns the number of changes that a look saw.
 fn changes_in(look: Option<&Receipt>) -> u64 {
     match look {
         Some(Receipt::Looked { at, .. }) => *at,

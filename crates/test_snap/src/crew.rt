@@ -15,9 +15,9 @@ use std::test::Fail;
 use std::thread::{Threads, join};
 use test_kit::{Told, Worked};
 
-/// What the threads do, and what each tells.
+/// What the threads do, each with its result.
 pub(crate) trait Crew {
-    /// What a worker does, 0 or 1.
+    /// Does the part of a worker, 0 or 1.
     fn write<R: Wait + Copy, N: Naming, D: Ledger>(
         &self,
         tree: &ReadTree<R, N, D>,
@@ -28,7 +28,7 @@ pub(crate) trait Crew {
     fn read<N: Naming>(&self, reader: Reader<N>) -> Seen;
 }
 
-/// Lets both workers do their work.
+/// Runs both workers.
 fn write_both<
     N: Naming + Send + Sync,
     D: Ledger + Send + Sync,
@@ -47,7 +47,7 @@ fn write_both<
     )
 }
 
-/// Lets all do their work side by side.
+/// Runs all side by side.
 fn work_all<
     N: Naming + Send + Sync,
     D: Ledger + Send + Sync,
@@ -106,7 +106,7 @@ fn work_over<
     })
 }
 
-/// Lets a crew work on a new tree.
+/// Runs a crew on a new tree.
 pub(crate) fn work_on_new_tree<R: Threads + Wait + Sync + Send + Copy, C: Crew + Sync>(
     rt: R,
     machine: Global,

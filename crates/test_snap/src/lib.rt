@@ -1,5 +1,5 @@
-//! Tests of a reader in a thread of its own, beside two workers: what a reader sees while one of them
-//! is held, and while both write and publish all the time; and of the room for stamps.
+//! Tests of a reader in a thread of its own beside two workers: what it sees while one of them is
+//! held, and while both write and publish all the time. Tests of the room for stamps, too.
 #![tactic(auto)]
 
 #[cfg(test)]

@@ -7,7 +7,7 @@ use bw_keys::Key;
 use bw_snap::{Closed, Naming, Reader, ScanFault, Stamp};
 use bw_step::Look;
 
-/// What the map has at the key, once two stamps were learnt, in any order.
+/// Returns the value of the key, once two stamps were learnt in any order.
 pub fn get_after<N: Naming>(
     reader: &mut Reader<N>,
     one: Stamp<N>,
@@ -24,7 +24,7 @@ pub fn get_after<N: Naming>(
     reader.get(key)
 }
 
-/// As `get_after`, with the number of the changes that were seen.
+/// Returns what `get_after` does, with the number of changes that were seen.
 pub fn look_after<N: Naming>(
     reader: &mut Reader<N>,
     stamp: Stamp<N>,
@@ -38,7 +38,7 @@ pub fn look_after<N: Naming>(
     reader.look(key)
 }
 
-/// The first pairs from the key on, once the stamp was learnt.
+/// Fills `out` with the first pairs from the key on, once the stamp was learnt.
 pub fn scan_after<N: Naming>(
     reader: &mut Reader<N>,
     stamp: Stamp<N>,

@@ -12,9 +12,9 @@ use test_kit::Told;
 /// What a reader saw.
 #[derive(Debug, Drop)]
 pub(crate) struct Seen {
-    /// Its looks.
+    /// The receipts of its looks.
     pub(crate) trail: Vec<Receipt>,
-    /// How many looks had no answer.
+    /// The number of looks without an answer.
     pub(crate) unanswered: u64,
 }
 
@@ -26,7 +26,7 @@ impl Seen {
         }
     }
 
-    /// Looks the key up, and keeps what was found. How many changes the look saw.
+    /// Looks the key up, notes what was found, and returns the number of changes that the look saw.
     pub(crate) fn look<N: Naming>(&mut self, reader: &mut Reader<N>, key: Key) -> u64 {
         if let Ok(look) = reader.look(key) {
             let (at, found) = (look.at, look.found);
@@ -39,7 +39,7 @@ impl Seen {
     }
 }
 
-/// What is left of the work of all: the table, and what the workers and the reader tell.
+/// What is left of the work of all: the table, and the results of the workers and the reader.
 #[derive(Drop)]
 pub(crate) struct Left {
     pub(crate) table: Table<Global>,
@@ -49,7 +49,7 @@ pub(crate) struct Left {
 }
 
 impl Left {
-    /// What an audit says of the workers with what the reader saw.
+    /// Returns the audit's verdict on the workers with what the reader saw.
     pub(crate) fn verdict(self, machine: Global) -> Result<Verdict, Fail> {
         let Left {
             table,

@@ -18,7 +18,7 @@ use test_kit::LARGE;
 /// The key that is put when there is no room for a stamp.
 const PAST: Key = MAX_STAMPS as Key;
 
-/// Puts keys, and publishes behind each, until there is no room for a stamp.
+/// Puts keys, and publishes after each, until there is no room for a stamp.
 fn stamp_all<R: Wait + Copy, N: Naming, D: Ledger, S: Steps<Global, Step<Global>>>(
     machine: Global,
     tree: &ReadTree<R, N, D>,
@@ -37,15 +37,15 @@ fn stamp_all<R: Wait + Copy, N: Naming, D: Ledger, S: Steps<Global, Step<Global>
 /// What readers find.
 #[derive(Clone, Copy, Debug, PartialEq, Eq)]
 struct Found {
-    /// At the last two keys, once a publication was refused for whose stamp there was no room.
+    /// At the last two keys, once a publication was refused for want of room for its stamp.
     refused: [Option<u64>; 2],
-    /// At the last key, once a stamp was used up and a publication covered the key.
+    /// At the last key, once a stamp was learnt and a publication covered the key.
     covered: Option<u64>,
-    /// At the last key, by a reader that has learnt of all other stamps.
+    /// At the last key, by a reader that has learnt all other stamps.
     learnt: Option<u64>,
 }
 
-/// Publishes where there is no room for a stamp, and again when one was used up.
+/// Publishes while there is no room for a stamp, and again when one was learnt.
 fn publish_past<R: Wait + Copy, N: Naming, D: Ledger>(
     tree: &ReadTree<R, N, D>,
     stamps: Vec<Stamp<N>>,

@@ -1,4 +1,4 @@
-//! A worker that is held in the middle of a change of shape, while another one does its task and
+//! A worker that is held in the middle of a change of shape, while another does its task and
 //! publishes, and a reader sees what was published.
 
 use crate::crew::{Crew, work_on_new_tree};
@@ -57,8 +57,8 @@ impl Crew for Both {
     }
 }
 
-/// What is left of both, where the reader saw so many changes, the last of worker 1 among them, and
-/// none that worker 0 made later.
+/// Returns what is left of both, where the reader saw `changes` changes, the last of worker 1 among
+/// them, and none that worker 0 made later.
 fn hold<R: Threads + Wait + Sync + Send + Copy>(
     rt: R,
     crew: &Both,
@@ -73,8 +73,8 @@ fn hold<R: Threads + Wait + Sync + Send + Copy>(
     }
 }
 
-/// What worker 1 is asked and replies while worker 0 is held, and what it leaves on its trail: its own
-/// put, and before it the root over the two leaves.
+/// What worker 1 is asked and replies while worker 0 is held, and what it leaves on its trail: its
+/// own put, and before it the root over the two leaves.
 const ASKED: [Call; 1] = [Call::Put(6, 6)];
 
 const REPLIED: [Reply; 1] = [Reply::Put(Put::Inserted)];

@@ -1,4 +1,4 @@
-//! What is done at once is what the steps do one behind the other.
+//! What is done at once is what its steps do one after the other.
 
 use crate::rest::after;
 use bw_keys::{Key, Pid};
@@ -13,7 +13,7 @@ const PAGES: u32 = 8;
 /// The first keys, of which some have no value.
 const KEYS: Key = 12;
 
-/// Whether both tables have the same pages, pairs and counts.
+/// Returns whether both tables have the same pages, pairs and counts.
 fn are_alike(one: &Table<Global>, other: &Table<Global>) -> bool {
     (0..PAGES).all(|page| one.peek(Pid(page)) == other.peek(Pid(page)))
         && (0..KEYS).all(|key| one.get(key) == other.get(key))
@@ -25,7 +25,7 @@ struct Row {
     before: &'static [Change],
     key: Key,
     wished: Wished,
-    /// The page, how many pairs it has then, and the receipt.
+    /// The page, the number of its pairs then, and the receipt.
     done: Option<(u32, u64, Receipt)>,
     /// The steps that do the same.
     steps: &'static [Change],

@@ -11,10 +11,10 @@ use test_kit::{
     play_on_new_tree,
 };
 
-/// How many steps each of the two threads proposes.
+/// The number of steps that each thread proposes.
 const STEPS: u32 = 5000;
 
-/// Each worker proposes drawn steps; fewer, where memory ran out.
+/// Each worker proposes drawn steps, or fewer if memory runs out.
 #[derive(Drop)]
 struct Drawn {
     machine: Global,

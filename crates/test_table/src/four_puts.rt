@@ -7,7 +7,7 @@ use std::alloc::Global;
 use std::test::Fail;
 use test_kit::{Change, Pages, Play, Turns, Worked, are_own_pairs, play_on_new_tree, step_of};
 
-/// Puts the key with itself as value on page 0, and where the page has changed meanwhile again, at
+/// Puts the key with itself as value on page 0, and again if the page has changed meanwhile, at
 /// most 4 times.
 fn put<S: Shared<Global, Step<Global>> + Pages<Global>>(
     tree: &S,
@@ -24,7 +24,7 @@ fn put<S: Shared<Global, Step<Global>> + Pages<Global>>(
     None
 }
 
-/// Each worker puts two keys, and tells how many it put.
+/// Each worker puts two keys, and returns the number that it put.
 #[derive(Drop)]
 struct FourPuts {
     machine: Global,

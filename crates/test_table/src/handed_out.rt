@@ -1,4 +1,4 @@
-//! A table that is handed out though a share is lost.
+//! A table that a tree returns though a share is lost.
 
 ghost use Rattle.std.specs.Prelude.{◌≡◌};
 ghost use Rattle.bw_tree.specs.Trees.{OpensFor};
@@ -21,7 +21,7 @@ const CHANGES: [Change; 3] = [
 
 const PAIRS: [(Key, u64); 2] = [(1, 1), (2, 20)];
 
-/// The pairs of the table that a tree hands out, with no share.
+/// Returns the pairs of the table that a tree returns without a share.
 fn of_tree<I: MadeBy, D: Ledger, R: Wait + Drop>(
     rt: R,
     machine: Global,

@@ -18,7 +18,8 @@ fn trails_of(alloc: Global, listed: &[&[Receipt]]) -> Result<Vec<Vec<Receipt>>, 
     Ok(trails)
 }
 
-/// The verdict on trails and the pairs that are left; none, where the keys of these don't rise.
+/// Returns the verdict on trails and the pairs that are left, or None if the keys of these don't
+/// rise.
 fn verdict_on(
     alloc: Global,
     trails: &[Vec<Receipt>],
@@ -58,7 +59,7 @@ fn changed_shapes_are_passed_over_and_keep_their_place(rt: HostRuntime) -> Resul
     Ok(())
 }
 
-/// A worker puts a key on page 0, as it saw the page at first.
+/// Returns the put of a key on page 0, by a worker that saw the page as it was at first.
 fn put(worker: u32, key: Key, value: u64, spare: Spare<Global>) -> Event
     ensures { result.worker ≡ worker }
 {
@@ -83,7 +84,7 @@ fn look(worker: u32, key: Key) -> Event
     }
 }
 
-/// What the workers of a run are told: the second one's put comes too late.
+/// What the workers of a run are answered: the second one's put comes too late.
 const TOLD: [&[Receipt]; 2] = [
     &[receipt!(inserted 1, 5 => 50)],
     &[receipt!(looked 1, 5, Some(50))],

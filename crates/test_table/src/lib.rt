@@ -1,7 +1,7 @@
-//! Tests of the mapping table and of what stands on it: what scripts of steps can't say. The summaries
-//! that the table lends, leaves at rest, what is done at once, and memory that runs out; steps that two
-//! threads propose to a shared tree, a tree whose share is lost, and histories and runs that were judged
-//! by hand.
+//! Tests of the mapping table and of what stands on it, beyond what scripts of steps can say:
+//! summaries, leaves at rest, what is done at once, and memory that runs out; steps that two
+//! threads propose to a shared tree, a tree whose share is lost, and histories and runs that were
+//! judged by hand.
 #![tactic(auto)]
 
 #[cfg(test)]

@@ -1,4 +1,4 @@
-//! Chains in a heap of their own: they are given back, and what is refused is said.
+//! Chains in a heap of their own: all memory is freed, and refusals are reported.
 
 use bw_keys::{Config, Key};
 use bw_table::{CopyFault, Refused, Table};
@@ -9,8 +9,8 @@ use test_kit::{
     Change, Pages, Rooms, SMALL, THREE_LEAVES, growing_heaps, seen, step_of, take, take_all,
 };
 
-/// Steps on a table with so many slots, and then puts of the keys from 0 on: a page has this depth, and
-/// another step is refused.
+/// Steps on a table with this number of slots, and then puts of the keys from 0 on: a page has this
+/// depth, and another step is refused.
 struct Row {
     slots: u32,
     changes: [&'static [Change]; 2],
@@ -20,8 +20,8 @@ struct Row {
     left: Left,
 }
 
-/// What is left of a row: why the step was refused, whether it took memory and gave it back, and how deep the
-/// copy of the page is.
+/// What is left of a row: why the step was refused, whether memory was taken and freed, and the
+/// depth of the page's copy.
 #[derive(Clone, Copy, Debug, PartialEq, Eq)]
 struct Left {
     refused: Option<Refused>,
@@ -100,7 +100,7 @@ fn puts<'a>(heap: &'a LocalHeap, table: &mut Table<&'a LocalHeap>, keys: Key) ->
     Ok(())
 }
 
-/// Does the row in a heap, and lets the table go before the copy.
+/// Does the row in a heap, and drops the table before the copy.
 fn left_of(machine: Global, heap: &LocalHeap, row: &Row) -> Result<Left, Fail> {
     let config = Config {
         pages: row.slots,
@@ -148,7 +148,7 @@ static ONE_OF_EACH: [Change; 10] = [
     Change::TermDelete(2, 1),
 ];
 
-/// Makes twins of a step in the heaps; the first has room for the step and a tree of three leaves.
+/// Makes twins of a step in the heaps. The first has room for the step and a tree of three leaves.
 fn twin_in_each<'a>(
     machine: Global,
     heaps: &'a [LocalHeap],
@@ -166,7 +166,7 @@ fn twin_in_each<'a>(
     Ok(rooms)
 }
 
-/// Copies a page that was merged in each heap.
+/// Copies a merged page into each heap.
 fn copy_in_each<'a>(machine: Global, heaps: &'a [LocalHeap]) -> Result<Rooms, Fail> {
     let (ample, tight) = heaps.split_first().ok_or("no heap")?;
     let mut table = Table::new(machine, ample, SMALL)?;

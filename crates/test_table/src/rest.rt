@@ -1,4 +1,4 @@
-//! The leaf that is told at once, and what the table keeps of a page beside its chain.
+//! Leaves at rest, and what the table keeps of a page beside its chain.
 
 use bw_keys::{Fence, Key, Pid};
 use bw_table::{Summary, Table};
@@ -33,7 +33,7 @@ const EMPTIED: [Change; 5] = [
     Change::TermDelete(2, 1),
 ];
 
-/// The tree of three leaves after some more steps.
+/// Returns the tree of three leaves after some more steps.
 pub(crate) fn after(alloc: Global, changes: &[Change]) -> Result<Table<Global>, Fail> {
     let mut table = Table::new(alloc, alloc, SMALL)?;
     take_all(alloc, &mut table, &THREE_LEAVES)?;
@@ -41,7 +41,7 @@ pub(crate) fn after(alloc: Global, changes: &[Change]) -> Result<Table<Global>, 
     Ok(table)
 }
 
-/// Some steps, a key, and the leaf that is told for it.
+/// Some steps, a key, and its leaf, if that is at rest.
 static LEAVES: [(&[Change], Key, Option<u32>); 12] = [
     (&[], 0, Some(0)),
     (&[], 3, Some(1)),

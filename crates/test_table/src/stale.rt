@@ -12,7 +12,7 @@ const THREE: [Change; 3] = [
     Change::Insert(0, 3, 3),
 ];
 
-/// The version and the depth of the leaf, which has the keys from 1 to the last.
+/// Returns the version and the depth of the leaf, which has the keys from 1 to the last.
 fn leaf(alloc: Global, table: &Table<Global>, last: u64) -> Result<Option<(u64, u8)>, Fail> {
     if !are_own_pairs(&table.pairs(alloc)?, last) {
         return Ok(None);

@@ -1,4 +1,4 @@
-//! A worker that is alone takes steps that were built by hand, and is asked what it sees.
+//! A worker alone takes steps that were built by hand, and is asked what it sees.
 
 use bw_delta::{NoMemory, Spare};
 use bw_keys::{Config, Key, Pid, Version};
@@ -10,7 +10,7 @@ use std::alloc::Global;
 use std::test::Fail;
 use test_kit::{SMALL, receipt};
 
-/// What the worker is asked, of the first page or of this one, as of version 0.
+/// A question to the worker, about the first page or this one, as of version 0.
 #[derive(Clone, Copy, Debug, PartialEq, Eq)]
 enum Ask {
     Insert(Key),
@@ -100,7 +100,7 @@ fn answer_of(
     }
 }
 
-/// The first row with another answer, or another effort: its number, the answer and the effort.
+/// Returns the first row with another answer or effort: its number, the answer and the effort.
 fn first_other(
     machine: Global,
     alone: &mut Alone<'_, Global>,
@@ -116,7 +116,7 @@ fn first_other(
     Ok(None)
 }
 
-/// Questions, the trail in the end, and how many refusals of worn versions ended a call.
+/// Questions, the trail in the end, and the number of refusals of worn versions that ended a call.
 type Case = (Config, &'static [Row], &'static [Receipt], u64);
 
 static CASES: [Case; 2] = [(SMALL, &EFFORTS, &TRAIL, 0), (LAST, &WORN, &[], 1)];

@@ -1,6 +1,6 @@
-//! A worker that is alone makes changes at once where a page is consolidated after each record. A hand on
-//! a tree makes the same drawn calls step by step, and both are answered alike, leave the same receipts
-//! and spend the same effort.
+//! A worker alone makes changes at once where a page is consolidated after each record. A hand on a
+//! tree makes the same drawn calls step by step, and both are answered alike, leave the same
+//! receipts and spend the same effort.
 
 use bw_keys::{Config, Fence};
 use bw_step::{Receipt, Step};
@@ -15,13 +15,13 @@ use test_kit::{
     Call, LARGE, Pages, Play, Reply, SMALL, Task, Turns, Worked, play_on_new_tree, work,
 };
 
-/// How many calls a worker makes, at most.
+/// The most calls of a worker.
 const CALLS: u32 = 400;
 
 const KEYS: u32 = 48;
 
-/// Room for all keys; so little that the table gets full; so little effort that tending gives up; and
-/// versions that are used up.
+/// Room for all keys, a table that gets full, an effort at which tending gives up, and versions
+/// that are used up.
 static CONFIGS: [Config; 5] = [
     Config { chain: 1, ..LARGE },
     Config {
@@ -67,7 +67,7 @@ fn drawn_calls(machine: Global, seed: u64) -> Result<Vec<Call>, AllocError> {
     Ok(calls)
 }
 
-/// What came of the calls, which end where one has no reply.
+/// The outcome of the calls, which end where one has no reply.
 #[derive(Debug, PartialEq, Eq, Drop)]
 struct Outcome {
     replies: Vec<Reply>,

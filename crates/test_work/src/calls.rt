@@ -45,7 +45,7 @@ impl Play<Efforts> for ByHand {
     }
 }
 
-/// The same by a worker that is alone.
+/// Returns the same of a worker alone.
 fn lone_efforts(machine: Global) -> Result<(u64, u64, u64), Fail> {
     let mut table = Table::new(machine, machine, SMALL)?;
     let mut alone = Alone::new(machine, machine, &mut table);

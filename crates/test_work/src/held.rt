@@ -1,4 +1,4 @@
-//! A worker that does its task while another one is held.
+//! A worker that does its task while another is held.
 
 use bw_audit::{Verdict, audit, is_ascending};
 use bw_keys::{Fence, Key};
@@ -37,7 +37,8 @@ impl Play<Told> for Both {
 /// A worker's calls, what they reply, and what they leave on its trail.
 type Calls = (&'static [Call], &'static [Reply], &'static [Receipt]);
 
-/// After which step worker 0 is held, how many keys it puts before its calls, and the calls of both.
+/// The step after which worker 0 is held, the number of keys that it puts before its calls, and the
+/// calls of both.
 struct Case {
     kind: Kind,
     puts: Key,
@@ -59,7 +60,7 @@ static CASES: [Case; 2] = [
         ),
         leaves: &[(0, Fence::Key(3), 2), (3, Fence::Top, 4)],
     },
-    // a key that worker 1 takes out is not counted
+    // a key that worker 1 deletes is not counted
     Case {
         kind: Kind::Consolidate,
         puts: 3,
@@ -112,7 +113,7 @@ fn a_worker_goes_on_where_one_is_held(rt: HostRuntime) -> Result<(), Fail> {
     Ok(())
 }
 
-/// What an audit says of the trails and of the pairs that are left.
+/// Returns the audit's verdict on the trails and the pairs that are left.
 fn verdict_on(
     machine: Global,
     table: &Table<Global>,

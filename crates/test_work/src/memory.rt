@@ -1,5 +1,5 @@
-//! A worker that is alone in a small heap. That what it is refused changes nothing is proved; here calls are
-//! refused only where there is no room, and all memory is given back.
+//! A worker alone in a small heap. That what it is refused changes nothing is proved. Here calls
+//! are refused only where there is no room, and all memory is freed.
 
 use bw_keys::{Fence, Key};
 use bw_table::Table;
@@ -9,11 +9,11 @@ use std::alloc::{Allocator, Global};
 use std::test::Fail;
 use test_kit::{Call, Rooms, SMALL};
 
-/// A heap of 4,096 bytes has no room for so many pairs.
+/// More pairs than a heap of 4,096 bytes has room for.
 const MOST: Key = 300;
 
-/// Puts the keys from 1 on, each with itself as value, and answers the one that memory was refused
-/// for. None where each had room, or another answer came.
+/// Puts the keys from 1 on, each with itself as value, and returns the one for which memory was
+/// refused, or None if each had room or another answer came.
 fn put_until_refused<A: Allocator + Copy>(alone: &mut Alone<'_, A>) -> Option<Key> {
     for key in 1..=MOST {
         match alone.put(key, key) {
@@ -25,7 +25,7 @@ fn put_until_refused<A: Allocator + Copy>(alone: &mut Alone<'_, A>) -> Option<Ke
     None
 }
 
-/// Whether each key from 1 on, and below the end, has itself as value.
+/// Returns whether each key from 1 on and below the end has itself as value.
 fn has_each<A: Allocator + Copy>(alone: &mut Alone<'_, A>, end: Key) -> bool {
     for key in 1..end {
         if alone.get(key) != Ok(Some(key)) {
@@ -35,8 +35,8 @@ fn has_each<A: Allocator + Copy>(alone: &mut Alone<'_, A>, end: Key) -> bool {
     true
 }
 
-/// Fills a table in the heap. How many keys had room; None where an answer was wrong, or the table hasn't just
-/// these.
+/// Fills a table in the heap, and returns the number of keys that had room, or None if an answer
+/// was wrong or the table hasn't just these keys.
 fn fill_table(machine: Global, heap: &LocalHeap) -> Option<u64> {
     let mut table = Table::new(machine, heap, SMALL).ok()?;
     let mut alone = Alone::new(machine, heap, &mut table);
@@ -56,7 +56,8 @@ fn a_full_heap_refuses_and_keeps_what_was_inserted(rt: HostRuntime) -> Result<()
     Ok(())
 }
 
-/// The keys from 1 to this one are put, and then the calls made, in heaps that grow by so many bytes.
+/// The last of the keys that are put, from 1 on, the calls after them, and the bytes by which heaps
+/// grow.
 type Case = (Key, &'static [Call], usize);
 
 static CASES: [Case; 2] = [
@@ -78,7 +79,7 @@ static CASES: [Case; 2] = [
     (24, &[Call::Clear(0, Fence::Top), Call::Get(1)], 32),
 ];
 
-/// Makes a call. The fault that came, with a reply or in place of one.
+/// Makes a call, and returns its fault, beside a reply or in place of one.
 fn fault_of<A: Allocator + Copy>(
     machine: Global,
     alone: &mut Alone<'_, A>,
@@ -94,7 +95,8 @@ fn fault_of<A: Allocator + Copy>(
     }
 }
 
-/// Makes the calls of a case. Whether there was room for all; None where another fault came.
+/// Makes the calls of a case, and returns whether there was room for all, or None if another fault
+/// came.
 fn had_room<A: Allocator + Copy>(
     machine: Global,
     alone: &mut Alone<'_, A>,
@@ -118,7 +120,7 @@ fn had_room<A: Allocator + Copy>(
     Some(had_room)
 }
 
-/// Makes the calls of a case on a table in the heap. Whether there was room for all.
+/// Makes the calls of a case on a table in the heap, and returns whether there was room for all.
 fn work_in(machine: Global, heap: &LocalHeap, case: Case) -> Result<bool, Fail> {
     let Ok(mut table) = Table::new(machine, heap, SMALL) else {
         return Ok(false);

@@ -1,4 +1,4 @@
-//! Tasks of a worker, each with what it is answered, what it leaves on its trail, and the leaves and the
+//! Tasks of a worker, each with its answers, what it leaves on its trail, and the leaves and the
 //! book in the end.
 
 use bw_keys::{Config, Fence, Key};
@@ -11,17 +11,17 @@ pub(crate) struct Row {
     pub(crate) config: Config,
     /// Worker 0 puts the keys from 1 to this one first.
     pub(crate) puts: Key,
-    /// Steps of a change that worker 0 leaves unfinished then. Where there are some, worker 1 makes
-    /// the calls.
+    /// Steps of a change that worker 0 leaves unfinished then. If there are any, worker 1 makes the
+    /// calls.
     pub(crate) unfinished: &'static [Change],
     pub(crate) calls: &'static [Call],
     pub(crate) replies: &'static [Reply],
     /// What the calls leave on the trail.
     pub(crate) trail: &'static [Receipt],
     pub(crate) leaves: &'static [(Key, Fence, u64)],
-    /// How many pairs were inserted, how many removed, and how many modified.
+    /// The numbers of pairs inserted, removed and modified.
     pub(crate) book: (u64, u64, u64),
-    /// By a hand: how many steps the tree accepts, and how often the gate is called.
+    /// By a hand: the numbers of steps that the tree accepts, and of calls of the gate.
     pub(crate) steps: Option<(u64, u64)>,
     /// Steps that the table takes in the end, with their receipts.
     pub(crate) then: &'static [(Change, Receipt)],

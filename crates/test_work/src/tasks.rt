@@ -17,7 +17,7 @@ use test_kit::{
     play_on_new_tree, step_of, take, work, work_by_hand,
 };
 
-/// Takes steps one by one. None where one of them wasn't taken.
+/// Takes steps one by one, and returns None if one of them wasn't taken.
 fn leave<S: Shared<Global, Step<Global>> + Pages<Global>>(
     machine: Global,
     tree: &S,
@@ -31,8 +31,8 @@ fn leave<S: Shared<Global, Step<Global>> + Pages<Global>>(
     Some(())
 }
 
-/// Worker 0 does the row. Where that leaves a change unfinished worker 1 makes the calls. The steps that the
-/// tree accepts of them, and the calls of the gate, are counted.
+/// Worker 0 does the row. If that leaves a change unfinished, worker 1 makes the calls. The steps
+/// that the tree accepts of them, and the calls of the gate, are counted.
 #[derive(Drop)]
 struct ByHand {
     machine: Global,
@@ -77,7 +77,7 @@ impl ByHand {
         }
     }
 
-    /// Whether as many steps were accepted, and the gate called as often, as the row says.
+    /// Returns whether as many steps were accepted, and the gate called as often, as the row says.
     fn has_counted(&self) -> bool {
         let accepted = self.accepted.load(Ordering::SeqCst);
         let gated = self.gated.load(Ordering::SeqCst);
@@ -104,7 +104,7 @@ impl Play<Told> for ByHand {
     }
 }
 
-/// Whether a worker was told what the row says, and left that.
+/// Returns whether a worker was answered, and left, what the row says.
 fn is_as_foretold(
     machine: Global,
     row: &Row,

@@ -8,7 +8,7 @@ use Rattle.bw_snap.proofs.ends.publish.Goals as goal
 pub publish_as-requires : goal.publish_as-requires
 publish_as-requires g c next is =
     let config = g.N.MadeBy.config in
-    let book = g.N.Naming.announcements in
+    let announcements = g.N.Naming.announcements in
     let now = c.args.writer.desk.shown.value in
-    let lands = subst (λ (end : TableValue × Announced). IsSnapshot config end.1.list end.0 × (end.1.book ≡ book) × BeginsWith end.1.list now.front.list) (sym is) c.requires in
-    goes_on config book _ _ now next lands.0 lands.1 lands.2
+    let lands = subst (λ (end : TableValue × Announced). IsSnapshot config end.1.list end.0 × (end.1.announcements ≡ announcements) × BeginsWith end.1.list now.front.list) (sym is) c.requires in
+    goes_on config announcements _ _ now next lands.0 lands.1 lands.2

@@ -16,7 +16,7 @@ compare_exchange-found-requires g c =
     let w = c.args.writer.now in
     let asked : List Proposal = w.desk.shown.value.front.list ++ steps_of (drop w.behind w.log.items) in
     let goes_on : BeginsWith asked (newest [] c.self.inside.seen.log) = subst (λ (l : List Proposal). BeginsWith asked l) (sym (ap (λ x. x.list) c.self.view_is)) c.requires.list in
-    let mine : c.self.inside.seen.book ≡ g.N.Naming.announcements = ap (λ x. x.book) c.self.view_is ∙ c.requires.book in
+    let mine : c.self.inside.seen.book ≡ g.N.Naming.announcements = ap (λ x. x.announcements) c.self.view_is ∙ c.requires.announcements in
     let home = mine ∙ sym (ap (λ b. b.book) head) in (
       ap (λ b. b.tracked) head,
       ap (λ s. s.book) again ∙ home,
@@ -47,6 +47,6 @@ returns g c =
     let added = was_added c.compare_exchange-found.result c.self.inside.count _ _ same c.compare_exchange-found.ensures.7 in
     let new : c.compare_exchange-found.new.seen.log ≡ log ++ asked ∷ [] = rw (again, c.plain-offer.ensures.1) at added in
     let list = ap (λ (l : List (List Proposal)). newest [] l) new ∙ one_more_is_newest [] log asked in
-    let mine : c.self.inside.seen.book ≡ g.N.Naming.announcements = ap (λ x. x.book) c.self.view_is ∙ c.requires.book in
-    let book = c.compare_exchange-found.ensures.0 ∙ (ap (λ s. s.book) again ∙ mine) in
-    λ i. record { list = list i; book = book i }
+    let mine : c.self.inside.seen.book ≡ g.N.Naming.announcements = ap (λ x. x.announcements) c.self.view_is ∙ c.requires.announcements in
+    let announcements = c.compare_exchange-found.ensures.0 ∙ (ap (λ s. s.book) again ∙ mine) in
+    λ i. record { list = list i; announcements = announcements i }

@@ -15,7 +15,7 @@ pub advance-requires : goal.advance-requires
 advance-requires g c =
     let w = c.self.inside.writer in
     let notes = drop w.behind w.log.items in
-    let is : c.again.result ≡ record { list = w.desk.shown.value.front.list ++ steps_of notes; book = g.N.Naming.announcements } = c.again.ensures ∙ c.announce.ensures in
+    let is : c.again.result ≡ record { list = w.desk.shown.value.front.list ++ steps_of notes; announcements = g.N.Naming.announcements } = c.again.ensures ∙ c.announce.ensures in
     rw (c.append.ensures.desk, c.in-Ok.ensures.pending)
     (lands g.N.MadeBy.config w.desk.shown.value.table c.self.inside.booked w.desk.shown.value.front c.again.result notes g.N.Naming.announcements c.self.invariant.0 c.self.invariant.1 is)
 
@@ -49,11 +49,11 @@ invariant_of-self-2 g c =
     let w = c.self.inside.writer in
     let notes = drop w.behind w.log.items in
     let v : Shown = w.desk.shown.value in
-    let is : c.again.result ≡ record { list = v.front.list ++ steps_of notes; book = g.N.Naming.announcements } = c.again.ensures ∙ c.announce.ensures in
+    let is : c.again.result ≡ record { list = v.front.list ++ steps_of notes; announcements = g.N.Naming.announcements } = c.again.ensures ∙ c.announce.ensures in
     let landed : fold noted (v.table, v.front) (notes ++ Mark c.again.result ∷ []) ≡ (c.self.inside.booked, c.again.result) = marked v.table c.self.inside.booked v.front c.again.result notes c.self.invariant.0 in
     let end = rw (c.append.ensures.desk, c.in-Ok.ensures.pending) at c.in-Ok-advance.ensures.ok in
     let table : c.advance.new.writer.desk.shown.value.table ≡ c.self.inside.booked = end.0 ∙ ap (λ p. p.0) landed in
-    let front : c.advance.new.writer.desk.shown.value.front ≡ record { list = v.front.list ++ steps_of notes; book = g.N.Naming.announcements } = end.1 ∙ (ap (λ p. p.1) landed ∙ is) in
+    let front : c.advance.new.writer.desk.shown.value.front ≡ record { list = v.front.list ++ steps_of notes; announcements = g.N.Naming.announcements } = end.1 ∙ (ap (λ p. p.1) landed ∙ is) in
     let told = c.surely_told-inner.ensures in
     rw (told.desk, told.log.0, told.log.1, told.seen, table, front, end.2, end.3, c.announce.ensures)
     (refl, leads_on (new_table g.N.MadeBy.config) v.table c.self.inside.booked v.front.list (steps_of notes) c.self.invariant.1 c.self.invariant.0, ([], refl), refl, refl, ap (λ p. p.1.list) landed ∙ ap (λ (f : Announced). f.list) is)
@@ -76,10 +76,10 @@ returns-clause-list g c =
     let w = c.self.inside.writer in
     let notes = drop w.behind w.log.items in
     let v : Shown = w.desk.shown.value in
-    let is : c.again.result ≡ record { list = v.front.list ++ steps_of notes; book = g.N.Naming.announcements } = c.again.ensures ∙ c.announce.ensures in
+    let is : c.again.result ≡ record { list = v.front.list ++ steps_of notes; announcements = g.N.Naming.announcements } = c.again.ensures ∙ c.announce.ensures in
     let landed : fold noted (v.table, v.front) (notes ++ Mark c.again.result ∷ []) ≡ (c.self.inside.booked, c.again.result) = marked v.table c.self.inside.booked v.front c.again.result notes c.self.invariant.0 in
     let end = rw (c.append.ensures.desk, c.in-Ok.ensures.pending) at c.in-Ok-advance.ensures.ok in
-    let front : c.advance.new.writer.desk.shown.value.front ≡ record { list = v.front.list ++ steps_of notes; book = g.N.Naming.announcements } = end.1 ∙ (ap (λ p. p.1) landed ∙ is) in
+    let front : c.advance.new.writer.desk.shown.value.front ≡ record { list = v.front.list ++ steps_of notes; announcements = g.N.Naming.announcements } = end.1 ∙ (ap (λ p. p.1) landed ∙ is) in
     let lists : v.front.list ++ steps_of notes ≡ c.args.self.now.list ++ c.args.self.now.pending = ap (λ (h : PublishedValue). h.list ++ h.pending) c.self.view_is in
     let told = c.surely_told-inner.ensures in
     rw (told.desk) (ap (λ (f : Announced). f.list) front ∙ lists)

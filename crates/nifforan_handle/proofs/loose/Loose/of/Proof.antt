@@ -21,7 +21,7 @@ use denote.RattleType.{RattleType, owns}
 use denote.Signature.{types_at, plain}
 use denote.Builtin.{RawPtr}
 use denote.RawPtr.{Ptr, block_ptr, null_ptr, ptr_val, in_a_block}
-use denote.Steps.{nothing, only, heard}
+use denote.Steps.{nothing, only}
 use denote.Param.{bounded, layout}
 use denote.Param.NoDrop.{glues}
 use denote.Triple.Clauses.{Lasts, lasts}
@@ -40,7 +40,6 @@ use Rattle.std_alloc.specs.contracts.boxed.Box.into_raw as callee
 use Rattle.std_alloc.proofs.boxed.Box.into_raw.Met.{met}
 use Rattle.std_alloc.proofs.BoxSteps.Form as box
 use Rattle.std_alloc.proofs.BoxSteps.Steps.{box_out, box_in}
-use Rattle.nifforan_handle.specs.Owned.{boxed}
 use Rattle.nifforan_handle.proofs.Destruct++none.drop.Code.{code as drops_code}
 use Rattle.nifforan_handle.proofs.Steps.{heap_al, in_heap, Loose, one, one_good, loose_in}
 use Rattle.nifforan_handle.specs.contracts.loose.Loose.of as F
