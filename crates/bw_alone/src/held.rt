@@ -21,7 +21,7 @@ pub(crate) fn law<A: Allocator + Copy, H: Holds<Table<A>>>(held: &H)
     ensures lawful { Lawful (H.value held.now) }
     ensures booked { Booked (H.value held.now) }
 {
-    let _config = held.get().config();
+    held.get().law();
 }
 
 /// Takes the step: see [`Table::install`].

@@ -99,6 +99,12 @@ abbrev pub Looked : Keep → ℕ → Result (Option Look) NoMemory → Seen → 
 Looked keep key (Ok look) old new = SameCounts old new × (new.trail ≡ trail_after_look keep key look old.trail) × (new.effort ≡ look_effort look old.effort)
 Looked keep key (Err no_memory) old new = new ≡ old
 
+-- a look at the key's leaf, wherever that is, or nothing
+abbrev pub LookedAtOnce : Keep → ℕ → Result (Option Look) NoMemory → Seen → Seen → Type 0
+LookedAtOnce keep key (Ok None) old new = new ≡ old
+LookedAtOnce keep key (Ok (Some look)) old new = Looked keep key (Ok (Some look)) old new
+LookedAtOnce keep key (Err no_memory) old new = new ≡ old
+
 -- a copy costs effort where the page was absent or has changed
 abbrev pub copy_effort : {C : Type 0} → Result C CopyFault → ℕ → ℕ
 copy_effort (Ok chain) n = n

@@ -11,7 +11,8 @@ use bw_keys::Key;
 use bw_step::{Look, Step};
 use std::alloc::Allocator;
 
-/// Walks to the key's leaf, and looks there. None where the walk or the look came to nothing.
+/// Looks the key up at once, where the worker can; otherwise walks to the key's leaf, and looks
+/// there. None where the walk or the look came to nothing.
 #[tactic(auto, using(crate::proofs::Spending::sought))]
 #[inline(always)]
 pub(crate) fn seek<A: Allocator + Copy, S: Steps<A, Step<A>>>(
@@ -24,6 +25,9 @@ pub(crate) fn seek<A: Allocator + Copy, S: Steps<A, Step<A>>>(
     ensures no_effort { S.calm steps.old quiet
         → (S.seen steps.new).effort ≡ (S.seen steps.old).effort }
 {
+    if let Some(look) = steps.look_at_once(key, Keep::Always)? {
+        return Ok(Some(look));
+    }
     match leaf(steps, key) {
         Some(view) => steps.look(view.pid, key, Keep::Always),
         None => Ok(None),

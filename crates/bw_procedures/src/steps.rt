@@ -55,13 +55,13 @@ pub struct Ends {
 ///
 /// `P` is the step over `A`.
 pub trait Steps<A: Allocator + Copy, P: Proposes> {
-    ghost use Rattle.std.specs.Prelude.{◌≡◌, ◌≤◌, ℕ, List, true, false, IfOk, IfSome};
+    ghost use Rattle.std.specs.Prelude.{◌≡◌, ◌≤◌, ℕ, List, true, false, None, Ok, IfOk, IfSome};
     ghost use Rattle.bw_step.specs.declared.refused.Refused.TheVariants as reasons;
     ghost use Rattle.bw_delta.specs.Records.{bare};
     ghost use Rattle.bw_delta.specs.Entries.{from};
     ghost use Rattle.bw_delta.specs.Sound.{IsSound};
     ghost use Rattle.bw_step.specs.Steps.{IsNext};
-    ghost use Rattle.bw_procedures.specs.Seen.{Seen, ends_of, Visited, Looked, Copied};
+    ghost use Rattle.bw_procedures.specs.Seen.{Seen, ends_of, Visited, Looked, LookedAtOnce, Copied};
     ghost use Rattle.bw_procedures.specs.Seen.{Installed, Idled, IsRefused};
     ghost use Rattle.bw_procedures.specs.Calls.{IsAtLevel, SplitAtOnce};
     ghost use Rattle.bw_procedures.specs.Writing.{ChangedAtOnce};
@@ -103,6 +103,17 @@ pub trait Steps<A: Allocator + Copy, P: Proposes> {
             calm self.now (holds _key 0 view.pid) × calm self.now (fresh view.pid view.version)) }
     {
         None
+    }
+
+    /// Looks a key up, where the worker can find the key's leaf and look there in one step, and
+    /// nothing on the way to the leaf is unfinished. Otherwise does nothing, and returns none.
+    /// `keep` says when the look is added to the trail. Fails where the trail has no room.
+    fn look_at_once(&mut self, _key: Key, _keep: Keep) -> Result<Option<Look>, NoMemory>
+        ensures follows { follows self.old self.new }
+        ensures seen { LookedAtOnce _keep _key result (seen self.old) (seen self.new) }
+        ensures unanswered { result ≡ Ok None → self.new ≡ self.old }
+    {
+        Ok(None)
     }
 
     /// Makes a wish come true for a key, where the worker can do that in one step: by a look that

@@ -1,2 +1,3 @@
+mod AtOnce
 pub mod Trees
 pub mod Answers

@@ -1,10 +1,14 @@
 -- The shares of a tree's workers: each is a part of the book's insertions and removals.
-use Rattle.std.specs.Prelude.{◌≡◌, ℕ, ◌+◌, List, Result, sum_by, Some, None, refl, MatchResult}
+use Rattle.std.specs.Prelude.{◌≡◌, ℕ, ◌+◌, List, Result, sum_by, Option, Some, None, refl, MatchResult}
 use Rattle.std.specs.Coded.{Coded, code_by, coded×, coded_ℕ}
 use Rattle.std.specs.declared.sync.ledger.Blank.{Blank}
+use Rattle.bw_chain.specs.declared.in_place.Wished.{Wished}
+use Rattle.bw_chain.specs.InPlaces.{delta_for}
+use Rattle.bw_step.specs.declared.at_once.AtOnce.{AtOnce}
 use Rattle.bw_step.specs.declared.survey.Book.{Book}
 use Rattle.bw_step.specs.declared.receipt.Receipt.{Receipt}
 use Rattle.bw_step.specs.Tellings.{Telling, change, telling_of}
+use Rattle.bw_table.specs.InPlaces.{receipt_for}
 
 -- the number of insertions and that of removals; modifications are no part of a share
 pub record ShareValue : Type 0 where
@@ -39,6 +43,15 @@ counted share receipt = share_with share (telling_of receipt)
 -- an accepted step is counted in the share, and one that is refused leaves it as it was
 abbrev pub CountsIn : {E : Type 0} → ShareValue → ShareValue → Result Receipt E → Type 0
 CountsIn old new result = MatchResult result (λ receipt. new ≡ counted old receipt) (λ _. new ≡ old)
+
+-- what was done at once is counted in the share; where nothing was, the share is as it was
+abbrev pub CountsAtOnce : ShareValue → ShareValue → Option AtOnce → Type 0
+CountsAtOnce old new None = new ≡ old
+CountsAtOnce old new (Some done) = new ≡ counted old done.receipt
+
+-- the receipt of what was done for the wish, for a key that had a value, or none
+abbrev pub IsReceiptAtOnce : ℕ → Wished → Receipt → Type 0
+IsReceiptAtOnce key wished receipt = (number : ℕ) × (had : Option ℕ) × (receipt ≡ receipt_for number key had (delta_for wished key had))
 
 -- all insertions and all removals of the shares
 abbrev pub sum_of : List ShareValue → ShareValue

@@ -1,13 +1,15 @@
 //! A table whose book is the sum of its workers' shares, at every moment outside its own calls.
 
 ghost use Rattle.std.specs.Prelude.{◌≡◌, ◌≢◌, ◌<◌, ◌↔◌, None, Some, All, length};
-ghost use Rattle.std.specs.Prelude.{IsOk, IfOk, IfErr, OnOk, OnErr};
+ghost use Rattle.std.specs.Prelude.{IsOk, IfOk, IfErr, OnOk, OnErr, IfSome, IfNone};
 ghost use Rattle.bw_step.specs.ProposalView.{proposal_of};
-ghost use Rattle.bw_law.specs.Tables.{new_table};
+ghost use Rattle.bw_law.specs.Tables.{new_table, TellsMap};
 ghost use Rattle.bw_law.specs.Laws.{MapAfter};
 ghost use Rattle.bw_law.specs.Refusals.{refusal};
-ghost use Rattle.bw_tree.specs.Shares.{no_changes, CountsIn};
+ghost use Rattle.bw_table.specs.InPlaces.{IsDoneAtOnce};
+ghost use Rattle.bw_tree.specs.Shares.{no_changes, CountsIn, CountsAtOnce, IsReceiptAtOnce};
 ghost use Rattle.bw_step.specs.Steps.{IsReceiptOf};
+ghost use Rattle.bw_step.specs.Tellings.{telling_of};
 ghost use Rattle.bw_tree.specs.Trees.{IsTree, IsClosed, Leads};
 ghost use Rattle.bw_tree.specs.Trees.{OpensFor, IsNewFault, MayBeMade, is_bad_number};
 
@@ -15,8 +17,9 @@ use crate::fault::{MissingShare, NewFault};
 use crate::ledgers::Ledgers;
 use crate::made_by::MadeBy;
 use crate::share::{Blanks, Share};
-use bw_keys::{Config, MAX_WORKERS};
-use bw_step::{Receipt, Refused, Step};
+use bw_chain::Wished;
+use bw_keys::{Config, Key, MAX_WORKERS};
+use bw_step::{AtOnce, Receipt, Refused, Step};
 use bw_table::Table;
 use std::alloc::{Allocator, Global};
 use std::marker::Model;
@@ -96,6 +99,28 @@ impl<A: Allocator + Copy, I: MadeBy, D: Ledger> Booked<A, I, D> {
         let receipt = self.table.install(step)?;
         self.ledgers.count(share, receipt);
         Ok(receipt)
+    }
+
+    /// Makes the wish come true for the key and consolidates its leaf, as `Table::change_at_once`
+    /// does, and counts an insertion or a removal in the share.
+    #[inline(always)]
+    pub fn change_at_once(
+        &mut self,
+        share: &mut Share<I, D>,
+        key: Key,
+        wished: Wished,
+    ) -> Option<AtOnce>
+        ensures done { IfSome result (λ it.
+            IsDoneAtOnce self.old it.page.0 key wished it.receipt self.new) }
+        ensures map { IfSome result (λ it.
+            TellsMap (telling_of it.receipt) self.old.slots self.new.slots) }
+        ensures receipt { IfSome result (λ it. IsReceiptAtOnce key wished it.receipt) }
+        ensures unchanged { IfNone result (self.new ≡ self.old) }
+        ensures share { CountsAtOnce share.old share.new result }
+    {
+        let done = self.table.change_at_once(key, wished)?;
+        self.ledgers.count(share, done.receipt);
+        Some(done)
     }
 
     /// Returns the table, and asks for no share. So nothing ties its book to the shares.

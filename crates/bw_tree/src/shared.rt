@@ -1,19 +1,21 @@
 use crate::share::Share;
+use bw_chain::Wished;
 use bw_delta::Chain;
 use bw_keys::{Config, Key, Pid, Version};
-use bw_step::{CopyFault, Denied, Look, Next, Place, Proposes, Receipt, View};
+use bw_step::{AtOnce, CopyFault, Denied, Look, Next, Place, Proposes, Receipt, View};
 use std::alloc::Allocator;
 use std::sync::ledger::Ledger;
 
-/// A tree that workers share. Each call but `config` takes one atomic step under the tree's lock.
-/// No answer borrows from the tree, so code over any such tree can't keep the lock between steps.
+/// A tree that workers share. Each call but `config` takes the tree's lock once, for one atomic step,
+/// or for the few that make one look or one change. No answer borrows from the tree, so code over any
+/// such tree can't keep the lock between calls.
 ///
 /// `P` is the step over `A`.
 pub trait Shared<A: Allocator + Copy, P: Proposes> {
     ghost use Rattle.std.specs.Prelude.{◌≡◌, IfOk, IfSome};
     ghost use Rattle.bw_keys.specs.declared.config.Config.{Config};
     ghost use Rattle.bw_delta.specs.Sound.{IsSound};
-    ghost use Rattle.bw_tree.specs.Shares.{CountsIn};
+    ghost use Rattle.bw_tree.specs.Shares.{CountsIn, CountsAtOnce, IsReceiptAtOnce};
     ghost use Rattle.bw_step.specs.Steps.{IsNext, IsReceiptOf};
 
     /// The ledger of the tree's insertions.
@@ -44,6 +46,37 @@ pub trait Shared<A: Allocator + Copy, P: Proposes> {
     /// Returns what the map has at the key, if the page is a leaf in its row whose range holds the
     /// key.
     fn look(&self, pid: Pid, key: Key) -> Option<Look>;
+
+    /// Returns the leaf whose range holds the key, where no page on the way to it is in the middle
+    /// of a split or a merge. None also where the tree can't tell in one hold of its lock: a search
+    /// then goes by [`visit`](Shared::visit).
+    fn leaf_at_once(&self, _key: Key) -> Option<View>
+        ensures leaf { IfSome result (λ view. view.level ≡ 0) }
+    {
+        None
+    }
+
+    /// Returns what the map has at the key, where no page on the way to its leaf is in the middle
+    /// of a split or a merge. None as in [`leaf_at_once`](Shared::leaf_at_once).
+    fn look_at_once(&self, _key: Key) -> Option<Look> {
+        None
+    }
+
+    /// Makes the wish come true for the key and consolidates its leaf, as a change and a
+    /// consolidation one behind the other do, and counts an insertion or a removal in the share.
+    /// Where the wish is true already nothing is done, and the receipt is that of the look. None,
+    /// and nothing done, where the tree can't do both in one hold of its lock.
+    fn change_at_once(
+        &self,
+        share: &mut Share<Self::Insertions, Self::Removals>,
+        _key: Key,
+        _wished: Wished,
+    ) -> Option<AtOnce>
+        ensures share { CountsAtOnce share.old share.new result }
+        ensures receipt { IfSome result (λ done. IsReceiptAtOnce _key _wished done.receipt) }
+    {
+        None
+    }
 
     /// Returns a copy of the page's chain, if the page is in a row and still has the version that
     /// was seen.

@@ -11,9 +11,10 @@ use crate::fault::{MissingShare, NewFault};
 use crate::made_by::MadeBy;
 use crate::share::{Blanks, Share};
 use crate::shared::Shared;
+use bw_chain::Wished;
 use bw_delta::Chain;
 use bw_keys::{Config, Key, Pid, Version};
-use bw_step::{CopyFault, Denied, Look, Next, Place, Receipt, Step, View};
+use bw_step::{AtOnce, CopyFault, Denied, Look, Next, Place, Receipt, Step, View};
 use bw_table::Table;
 use std::alloc::{Allocator, Global};
 use std::sync::ledger::Ledger;
@@ -107,6 +108,25 @@ impl<R: Wait + Drop, A: Allocator + Copy, I: MadeBy, D: Ledger> Shared<A, Step<A
     #[inline(always)]
     fn look(&self, pid: Pid, key: Key) -> Option<Look> {
         self.booked.lock(&self.rt).table().look(pid, key)
+    }
+
+    #[inline(always)]
+    fn leaf_at_once(&self, key: Key) -> Option<View> {
+        self.booked.lock(&self.rt).table().leaf_at_rest(key)
+    }
+
+    #[inline(always)]
+    fn look_at_once(&self, key: Key) -> Option<Look> {
+        let booked = self.booked.lock(&self.rt);
+        let leaf = booked.table().leaf_at_rest(key)?;
+        booked.table().look(leaf.pid, key)
+    }
+
+    #[inline(always)]
+    fn change_at_once(&self, share: &mut Share<I, D>, key: Key, wished: Wished) -> Option<AtOnce> {
+        self.booked
+            .lock(&self.rt)
+            .change_at_once(share, key, wished)
     }
 
     #[inline(always)]

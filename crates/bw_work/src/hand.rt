@@ -7,10 +7,11 @@ ghost use Rattle.bw_procedures.specs.Seen.{Installed, Looked, ends_of};
 ghost use Rattle.bw_work.specs.Hands.{Sums};
 
 use crate::gate::Gate;
+use bw_chain::Wished;
 use bw_delta::{Chain, NoMemory};
 use bw_keys::{Config, Key, Pid, Version};
 use bw_procedures::{Account, Ends, Keep, Steps};
-use bw_step::{CopyFault, Denied, Look, Next, Place, Receipt, Step, View};
+use bw_step::{AtOnce, CopyFault, Denied, Kind, Look, Next, Place, Receipt, Step, View};
 use bw_tree::{Share, Shared};
 use std::alloc::{Allocator, Global};
 
@@ -147,6 +148,33 @@ impl<'t, A: Allocator + Copy, S: Shared<A, Step<A>>, G: Gate> Steps<A, Step<A>>
     }
 
     #[inline(always)]
+    fn leaf_at_once(&self, key: Key) -> Option<View> {
+        self.tree.leaf_at_once(key)
+    }
+
+    #[inline(always)]
+    fn look_at_once(&mut self, key: Key, keep: Keep) -> Result<Option<Look>, NoMemory> {
+        let Some(look) = self.tree.look_at_once(key) else {
+            return Ok(None);
+        };
+        self.account.reserve()?;
+        self.account.looked(key, keep, Some(look));
+        Ok(Some(look))
+    }
+
+    #[inline(always)]
+    fn change_at_once(&mut self, key: Key, wished: Wished) -> Option<AtOnce> {
+        // Longer chains stay as they are, as a tending would leave them.
+        if self.account.config().chain != 1 || self.account.reserve_two().is_err() {
+            return None;
+        }
+        let done = self.tree.change_at_once(&mut self.share, key, wished)?;
+        self.account.done_at_once(done);
+        pass_behind(self.gate, self.worker, done.receipt);
+        Some(done)
+    }
+
+    #[inline(always)]
     fn visit(&mut self, place: Place, key: Key, goal: u8) -> Next {
         let next = self.tree.visit(place, key, goal);
         self.account.visited(next.go);
@@ -215,6 +243,18 @@ impl<'t, A: Allocator + Copy, S: Shared<A, Step<A>>, G: Gate> Steps<A, Step<A>>
     #[inline(always)]
     fn trail(&self) -> &[Receipt] {
         self.account.trail()
+    }
+}
+
+/// Calls the gate for the consolidation behind a change that was made at once; a look has none.
+#[inline(always)]
+fn pass_behind<G: Gate>(gate: &G, worker: u32, receipt: Receipt) {
+    match receipt {
+        Receipt::Looked { .. } => {}
+        Receipt::Inserted { .. }
+        | Receipt::Deleted { .. }
+        | Receipt::Modified { .. }
+        | Receipt::Shaped { .. } => gate.at(worker, Kind::Consolidate),
     }
 }
 

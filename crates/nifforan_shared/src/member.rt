@@ -5,10 +5,11 @@ ghost use Rattle.bw_tree.specs.Shares.{no_changes};
 ghost use Rattle.nifforan_shared.specs.Workers.{share_by};
 
 use crate::worker::Notes;
+use bw_chain::Wished;
 use bw_delta::{Chain, NoMemory};
 use bw_keys::{Config, Key, Pid, Version};
 use bw_procedures::{Ends, Keep, Steps};
-use bw_step::{CopyFault, Denied, Look, Next, Place, Receipt, Step, View};
+use bw_step::{AtOnce, CopyFault, Denied, Look, Next, Place, Receipt, Step, View};
 use bw_tree::{Share, Shared};
 use bw_work::{Gate, Hand};
 use std::alloc::Global;
@@ -89,6 +90,18 @@ impl<'t, S: Shared<Global, Step<Global>>, G: Gate> Steps<Global, Step<Global>>
 
     fn root(&self) -> Place {
         self.hand.root()
+    }
+
+    fn leaf_at_once(&self, key: Key) -> Option<View> {
+        self.hand.leaf_at_once(key)
+    }
+
+    fn look_at_once(&mut self, key: Key, keep: Keep) -> Result<Option<Look>, NoMemory> {
+        self.hand.look_at_once(key, keep)
+    }
+
+    fn change_at_once(&mut self, key: Key, wished: Wished) -> Option<AtOnce> {
+        self.hand.change_at_once(key, wished)
     }
 
     fn visit(&mut self, place: Place, key: Key, goal: u8) -> Next {

@@ -1,18 +1,20 @@
-//! A worker alone makes changes at once where a page is consolidated after each record. A hand on a
-//! tree makes the same drawn calls step by step, and both are answered alike, leave the same
-//! receipts and spend the same effort.
+//! A worker alone, and a hand on a tree, look and make changes at once where a page is consolidated
+//! after each record. A hand on a tree that takes atomic steps alone makes the same drawn calls step
+//! by step. All are answered alike, leave the same receipts and spend the same effort.
 
 use bw_keys::{Config, Fence};
-use bw_step::{Receipt, Step};
+use bw_step::{Kind, Receipt, Step};
 use bw_table::Table;
-use bw_tree::{Share, Shared};
-use bw_work::{Alone, Ends, Fault, Hand, Open, Steps};
+use bw_tree::{Denied, Share, Shared};
+use bw_work::{Alone, Ends, Fault, Gate, Hand, Steps};
 use rand_core::{Rng, SeedableRng};
 use rand_pcg::Pcg32;
 use std::alloc::{AllocError, Global};
+use std::sync::atomic::{AtomicU64, Ordering};
 use std::test::Fail;
 use test_kit::{
-    Call, LARGE, Pages, Play, Reply, SMALL, Task, Turns, Worked, play_on_new_tree, work,
+    Call, Hook, Hooked, LARGE, Pages, Play, Reply, SMALL, Task, Turns, Worked, play_on_new_tree,
+    work,
 };
 
 /// The most calls of a worker.
@@ -92,11 +94,60 @@ fn outcome_of<S: Steps<Global, Step<Global>>>(
     }
 }
 
-/// The first of two hands makes the calls, the other none.
+/// How many of the receipts are of the tree's shape.
+fn shapes_in(trail: &[Receipt]) -> u64 {
+    let mut shapes = 0;
+    for receipt in trail {
+        if let Receipt::Shaped { .. } = receipt {
+            shapes += 1;
+        }
+    }
+    shapes
+}
+
+/// The first of two hands makes the calls, the other none. The calls of its gate are counted.
 #[derive(Drop)]
 struct ByHand {
     machine: Global,
     calls: Vec<Call>,
+    /// Whether the tree is asked for atomic steps alone.
+    by_steps: bool,
+    gated: AtomicU64,
+}
+
+/// Nothing comes between the worker and the tree, but that the tree takes nothing at once.
+struct Steadily;
+
+impl<S: Shared<Global, Step<Global>>> Hook<S> for Steadily {
+    fn install(
+        &self,
+        tree: &S,
+        share: &mut Share<S::Insertions, S::Removals>,
+        step: Step<Global>,
+    ) -> Result<Receipt, Denied> {
+        tree.install(share, step)
+    }
+}
+
+impl Gate for ByHand {
+    fn at(&self, _worker: u32, _kind: Kind) {
+        self.gated.fetch_add(1, Ordering::SeqCst);
+    }
+}
+
+impl ByHand {
+    fn outcome<S: Shared<Global, Step<Global>>>(
+        &self,
+        tree: &S,
+        worker: u32,
+        share: Share<S::Insertions, S::Removals>,
+    ) -> Worked<S::Insertions, S::Removals, Outcome> {
+        let calls: &[Call] = if worker == 0 { &self.calls } else { &[] };
+        let mut hand = Hand::new(self.machine, self.machine, tree, share, worker, self);
+        let told = outcome_of(self.machine, &mut hand, calls);
+        let (share, _) = hand.finish();
+        Worked { share, told }
+    }
 }
 
 impl Play<Outcome> for ByHand {
@@ -106,11 +157,12 @@ impl Play<Outcome> for ByHand {
         worker: u32,
         share: Share<S::Insertions, S::Removals>,
     ) -> Worked<S::Insertions, S::Removals, Outcome> {
-        let calls: &[Call] = if worker == 0 { &self.calls } else { &[] };
-        let mut hand = Hand::new(self.machine, self.machine, tree, share, worker, &Open);
-        let told = outcome_of(self.machine, &mut hand, calls);
-        let (share, _) = hand.finish();
-        Worked { share, told }
+        if self.by_steps {
+            let hook = &Steadily;
+            self.outcome(&Hooked { tree, hook }, worker, share)
+        } else {
+            self.outcome(tree, worker, share)
+        }
     }
 }
 
@@ -119,13 +171,22 @@ fn changes_at_once_are_those_of_the_steps(rt: HostRuntime) -> Result<(), Fail> {
     let machine = rt.alloc();
     for config in CONFIGS.iter() {
         for seed in 0..4 {
-            let calls = drawn_calls(machine, seed)?;
-            let mut table = Table::new(machine, machine, *config)?;
-            let mut alone = Alone::new(machine, machine, &mut table);
-            let at_once = outcome_of(machine, &mut alone, &calls);
-            let by_hand = ByHand { machine, calls };
-            let ended = play_on_new_tree(rt, machine, *config, Turns::OneByOne, &by_hand)?;
-            assert_eq!(rt; at_once, ended.zero, "seed {seed}");
+            for by_steps in [false, true] {
+                let calls = drawn_calls(machine, seed)?;
+                let mut table = Table::new(machine, machine, *config)?;
+                let mut alone = Alone::new(machine, machine, &mut table);
+                let at_once = outcome_of(machine, &mut alone, &calls);
+                let by_hand = ByHand {
+                    machine,
+                    calls,
+                    by_steps,
+                    gated: AtomicU64::new(0),
+                };
+                let ended = play_on_new_tree(rt, machine, *config, Turns::OneByOne, &by_hand)?;
+                assert_eq!(rt; at_once, ended.zero, "seed {seed}, by steps {by_steps}");
+                let gated = by_hand.gated.load(Ordering::SeqCst);
+                assert_eq!(rt; gated, shapes_in(&at_once.trail), "seed {seed}");
+            }
         }
     }
     Ok(())
