@@ -89,8 +89,9 @@ fn rate(count: u32, seconds: f64) -> f64 {
     f64::from(count) / 1e6 / seconds
 }
 
-/// Returns the millions of operations a second of readers, those of changes of a writer beside
-/// them, and the milliseconds of its longest publication. It publishes after each `every` changes.
+/// Returns the line of readers beside a writer, which publishes once per `every` changes: the
+/// millions of operations a second of the readers, those of the writer's changes, and the
+/// milliseconds of the longest publication.
 fn beside<R: Clock + Threads + Wait + Sync + Send + Copy>(
     rt: R,
     alloc: Global,

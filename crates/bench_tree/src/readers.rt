@@ -31,10 +31,10 @@ const WRITER: u64 = 64;
 pub(crate) enum Trial {
     /// It is filled and published, and then only read.
     Reads,
-    /// It is filled and published, and then read beside a writer that publishes after each `every`
+    /// It is filled and published, and then read beside a writer that publishes once per `every`
     /// changes.
     Beside,
-    /// It is loaded, and published after each `every` puts.
+    /// It is loaded, and published once per `every` puts.
     Puts,
     /// It is filled, with nothing published.
     Pending,
@@ -153,7 +153,7 @@ fn work_side_by_side<
     )
 }
 
-/// The writer and the readers of a tree, which is published after each `every` changes.
+/// The writer and the readers of a tree, which is published once per `every` changes.
 #[derive(Drop)]
 struct Crew {
     alloc: Global,
@@ -279,7 +279,7 @@ fn fill<R: Wait + Copy, N: Naming, D: Ledger>(
     Ok(share)
 }
 
-/// Loads the tree by one worker, and publishes after each `every` puts.
+/// Loads the tree by one worker, and publishes once per `every` puts.
 fn put_all<R: Clock + Wait + Copy, N: Naming, D: Ledger>(
     rt: &R,
     tree: &ReadTree<R, N, D>,

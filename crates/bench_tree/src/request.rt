@@ -23,9 +23,9 @@ CHAIN is the most records of a page (1 to 32), FANOUT the most entries (4 to 64)
 pub(crate) enum Request {
     /// The rate of a task on a structure.
     Rate(Structure, Task),
-    /// The rate of a task of readers beside a writer that publishes after each `every` changes.
+    /// The rate of a task of readers beside a writer that publishes once per `every` changes.
     Beside { task: Task, every: u32 },
-    /// The rate of a load that is published after each `every` puts.
+    /// The rate of a load that is published once per `every` puts.
     Puts { task: Task, every: u32 },
     /// A tree that is filled with nothing published.
     Pending(Task),

@@ -36,7 +36,7 @@ pub(crate) const ACTS: [Act; 18] = [
     Act::Get { key: 0 },
 ];
 
-/// Fails unless each key has what it has in the map.
+/// Fails unless each key has in the tree what it has in the plain map.
 fn see_all<S: Steps<Global, Step<Global>>>(steps: &mut S, plain: &Plain) -> Result<(), Stop> {
     for key in 0..KEYS as u64 {
         hold(

@@ -22,7 +22,7 @@ const CALLS: u32 = 400;
 
 const KEYS: u32 = 48;
 
-/// Room for all keys, a table that gets full, an effort at which tending gives up, and versions
+/// Room for all keys, a table that gets full, two efforts with which tending gives up, and versions
 /// that are used up.
 static CONFIGS: [Config; 5] = [
     Config { chain: 1, ..LARGE },
