@@ -11,7 +11,7 @@ use Rattle.bw_delta.specs.Sound.{page_for}
 use Rattle.bw_step.specs.declared.refused.Refused.TheVariants.{Present, TermStands}
 use Rattle.bw_step.specs.declared.view.Stage.TheVariants.{Unposted, Posted, Marked, Merged}
 use Rattle.bw_step.specs.Stages.{is_in_row}
-use Rattle.bw_step.specs.Proposals.{insert, delete, modify, consolidate, split, term_add, grow, mark, merge, term_delete}
+use Rattle.bw_step.specs.Proposals.{insert, consolidate, split, term_add, grow, mark, merge, term_delete}
 use Rattle.bw_law.specs.Slots.{SlotValue, chain_in, pairs_in, routes_in, last_number}
 use Rattle.bw_law.specs.Tables.{TableValue, slot_at, number_of}
 use Rattle.bw_delta.specs.Pages.{upper_part}

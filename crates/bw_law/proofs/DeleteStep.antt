@@ -1,7 +1,6 @@
 -- Delete keeps the law and the book, and takes its one key out of the map.
-use Rattle.std.proofs.Common.{◌≡◌, ◌≢◌, ◌↔◌, ℕ, suc, ◌+◌, ◌-◌, cond, eqb, length, set, Some, None, refl, sym, ◌∙◌, ap, arith}
+use Rattle.std.proofs.Common.{◌≡◌, ℕ, suc, ◌+◌, ◌-◌, length, Some, None, refl, sym, ◌∙◌, ap, arith}
 use Rattle.std.specs.Prelude.{unwrap_or}
-use Rattle.std.proofs.lemmas.Bool.{eq-eqb, ne_eqb}
 use Rattle.bw_keys.specs.Ranges.{end_of}
 use Rattle.bw_delta.specs.declared.chain.Delta.TheVariants.{Delete}
 use Rattle.bw_delta.specs.Entries.{at, without}
@@ -11,12 +10,11 @@ use Rattle.bw_delta.specs.Pairs.{pairs}
 use Rattle.bw_delta.proofs.Stands.{pairs_rise}
 use Rattle.bw_step.specs.Proposals.{delete}
 use Rattle.bw_law.specs.Slots.{SlotValue, pairs_in}
-use Rattle.bw_law.specs.Tables.{TableValue, slot_at, IsPageOf, Lawful, leaf_pairs, Maps, Booked}
+use Rattle.bw_law.specs.Tables.{TableValue, slot_at, IsPageOf, Lawful, Booked}
 use Rattle.bw_law.specs.Effects.{with_record}
 use Rattle.bw_law.specs.Laws.{KeptBy}
 use Rattle.bw_law.proofs.Lists.{at-without, length-without}
 use Rattle.bw_law.proofs.Accepted.{MayChangeFound}
-use Rattle.bw_law.proofs.Shares.{count-set}
 use Rattle.bw_law.proofs.LeafChange.{Changes, changes}
 use Rattle.bw_law.proofs.Chains.{pairs_are, lies_in, leaf_chain}
 
@@ -24,45 +22,26 @@ module _ (table : TableValue) (page seen key : ℕ) (law : Lawful table) (may : 
   abbrev slot : SlotValue
   slot = slot_at table page
 
-  abbrev new : SlotValue
-  new = with_record (Delete key) (slot.count - 1) slot
+  -- the value that is given back
+  abbrev given : ℕ
+  given = unwrap_or (at key (pairs_in slot)) 0
 
   -- the leaf has one pair less
   length_less : (chain : Records) → IsPageOf slot chain → suc (length (without key (pairs chain))) ≡ length (pairs chain)
   length_less chain is = length-without (fences chain).low (end_of (fences chain).high) key may.value (pairs chain) (pairs_rise chain is.sound.built) (ap (at key) (sym (pairs_are slot chain is)) ∙ may.present)
 
-  change : Changes table page key (Delete key) new
-  change = changes table page seen key law may.change (Delete key) (slot.count - 1)
+  change : Changes table page key (Delete key) (Some given) None (with_record (Delete key) (slot.count - 1) slot)
+  change = changes table page seen key law may.change (Delete key) (Some given) None (slot.count - 1)
       (λ chain is. (leaf_chain slot chain is may.change.leaf, lies_in slot chain is key may.change.range))
       (λ f. refl) (λ es. refl)
       (λ chain is. omega (arith, is.count, length_less chain is))
-
-  -- what the leaf has at each key then
-  here : (k : ℕ) → at k (leaf_pairs new) ≡ cond (eqb k key) None (at k (leaf_pairs slot))
-  here k = ap (at k) change.is ∙ at-without key k (pairs_in slot) ∙ ap (λ es. cond (eqb k key) None (at k es)) (sym change.was)
-
-  at_key : at key (leaf_pairs new) ≡ None
-  at_key = here key ∙ ap (λ b. cond b None (at key (leaf_pairs slot))) (eq-eqb key key (λ _. key))
-
-  others : (k v : ℕ) → k ≢ key → Maps (set table.slots page new) k v ↔ Maps table.slots k v
-  others k v other = change.elsewhere k v (here k ∙ ap (λ b. cond b None (at k (leaf_pairs slot))) (ne_eqb k key other))
-
-  -- the key had the value that is given back, and no other
-  given : at key (leaf_pairs slot) ≡ Some (unwrap_or (at key (pairs_in slot)) 0)
-  given = ap (at key) change.was ∙ may.present ∙ ap (λ o. Some (unwrap_or o 0)) (sym may.present)
-
-  had : (v : ℕ) → (Some (unwrap_or (at key (pairs_in slot)) 0) ≡ Some v) ↔ Maps table.slots key v
-  had v = ((λ same. (page, given ∙ same)), (λ maps. sym given ∙ change.map_before v maps))
-
-  -- and has none
-  has : (v : ℕ) → (None ≡ Some v) ↔ Maps (set table.slots page new) key v
-  has v = ((λ none. absurd (cc none)), (λ maps. sym at_key ∙ (change.map_after v).0 maps))
+      (may.present ∙ ap (λ o. Some (unwrap_or o 0)) (sym may.present)) (λ k. at-without key k (pairs_in slot))
 
   pub delete_keeps : Booked table → KeptBy table (delete page seen key)
   delete_keeps booked = record {
     lawful = change.lawful (record table.book { removed = table.book.removed + 1 }) (omega (arith, law.bounds.number, may.change.number));
     booked =
         let own = law.pages page may.change.open_page.in_row in
-        omega (arith, booked, count-set table.slots page new change.inside, ap length change.was, ap length change.is, length_less own.0 own.1, ap length (pairs_are slot own.0 own.1), ap (λ es. length (without key es)) (pairs_are slot own.0 own.1));
-    map = record { had = had; has = has; others = others };
+        omega (arith, booked, change.count, length_less own.0 own.1, ap length (pairs_are slot own.0 own.1), ap (λ es. length (without key es)) (pairs_are slot own.0 own.1));
+    map = change.map;
   }

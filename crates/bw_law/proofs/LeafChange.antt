@@ -1,5 +1,6 @@
 -- A record for a key of a leaf keeps the law, and changes the map at that key alone.
-use Rattle.std.proofs.Common.{◌≡◌, ◌↔◌, ℕ, ◌+◌, ◌<◌, ◌^◌, length, set, Some, refl, sym, ◌∙◌, inl, inr, ⊎_elim, arith}
+use Rattle.std.proofs.Common.{◌≡◌, ◌≢◌, ℕ, ◌+◌, ◌<◌, ◌^◌, cond, eqb, length, set, Option, Some, refl, sym, ap, ◌∙◌, inl, inr, ⊎_elim, arith}
+use Rattle.std.proofs.lemmas.Bool.{eq-eqb, ne_eqb}
 use Rattle.bw_delta.specs.declared.chain.Delta.{Delta}
 use Rattle.bw_delta.specs.declared.fences.Fences.{Fences}
 use Rattle.bw_delta.specs.Entries.{at}
@@ -9,32 +10,27 @@ use Rattle.bw_delta.specs.Pairs.{pairs, pairs_after, routes, routes_after}
 use Rattle.bw_delta.specs.Sound.{MayStandOver}
 use Rattle.bw_step.specs.declared.survey.Book.{Book}
 use Rattle.bw_law.specs.Slots.{SlotValue, pairs_in, routes_in}
-use Rattle.bw_law.specs.Tables.{TableValue, slot_at, number_of, outline, IsPageOf, Lawful, leaf_pairs, Maps}
+use Rattle.bw_law.specs.Tables.{TableValue, slot_at, number_of, outline, IsPageOf, Lawful, leaf_pairs, pair_count, ChangesKey}
 use Rattle.bw_law.specs.Effects.{with_record}
 use Rattle.bw_law.proofs.Accepted.{MayChange}
 use Rattle.bw_law.proofs.Slots.{in_bounds, rows_kept, HasPage, in_row_emptied, good_slots, good-set}
 use Rattle.bw_law.proofs.FreeIds.{free-set, in_row_not_free}
-use Rattle.bw_law.proofs.Shares.{leaf_pairs_in_row, Elsewhere, maps-set, maps_cases, only_here}
+use Rattle.bw_law.proofs.Shares.{leaf_pairs_in_row, Elsewhere, maps-set, maps_cases, only_here, count-set}
 use Rattle.bw_law.proofs.Chains.{above_page, pairs_above, routes_above, route_at}
 
--- what a record for a key of a leaf does
-pub record Changes (table : TableValue) (page key : ℕ) (delta : Delta) (new : SlotValue) : Type 0 where
+-- what a record for a key of a leaf does, where the leaf had the one value at the key, or none, and has the other
+pub record Changes (table : TableValue) (page key : ℕ) (delta : Delta) (before after : Option ℕ) (new : SlotValue) : Type 0 where
   pub lawful : (book : Book) → number_of book < 2 ^ 64 → Lawful (record table { slots = set table.slots page new; book = book })
-  pub inside : page < length table.slots
-  -- the share that the slot had and the one that it has
-  pub was : leaf_pairs (slot_at table page) ≡ pairs_in (slot_at table page)
-  pub is : leaf_pairs new ≡ pairs_after delta (pairs_in (slot_at table page))
-  -- the map at the key is what the slot has there, before and after
-  pub map_before : (value : ℕ) → Maps table.slots key value → at key (leaf_pairs (slot_at table page)) ≡ Some value
-  pub map_after : (value : ℕ) → Maps (set table.slots page new) key value ↔ (at key (leaf_pairs new) ≡ Some value)
-  -- where the slot has a key as it had, so has the map
-  pub elsewhere : (k v : ℕ) → at k (leaf_pairs new) ≡ at k (leaf_pairs (slot_at table page)) → Maps (set table.slots page new) k v ↔ Maps table.slots k v
+  pub map : ChangesKey table.slots (set table.slots page new) key before after
+  pub count : pair_count (set table.slots page new) + length (pairs_in (slot_at table page)) ≡ pair_count table.slots + length (pairs_after delta (pairs_in (slot_at table page)))
 
 -- a record for a key of a leaf
-module _ (table : TableValue) (page seen key : ℕ) (law : Lawful table) (may : MayChange table page seen key) (delta : Delta) (count : ℕ)
+module _ (table : TableValue) (page seen key : ℕ) (law : Lawful table) (may : MayChange table page seen key) (delta : Delta) (before after : Option ℕ) (count : ℕ)
     (stands : (chain : Records) → IsPageOf (slot_at table page) chain → MayStandOver delta chain)
     (same_fence : (f : Fences) → fences_after delta f ≡ f) (same_routes : (es : _) → routes_after delta es ≡ es)
-    (counted : (chain : Records) → IsPageOf (slot_at table page) chain → count ≡ length (pairs_after delta (pairs chain)) + length (routes_after delta (routes chain))) where
+    (counted : (chain : Records) → IsPageOf (slot_at table page) chain → count ≡ length (pairs_after delta (pairs chain)) + length (routes_after delta (routes chain)))
+    (had : at key (pairs_in (slot_at table page)) ≡ before)
+    (has : (k : ℕ) → at k (pairs_after delta (pairs_in (slot_at table page))) ≡ cond (eqb k key) after (at k (pairs_in (slot_at table page)))) where
   abbrev slot : SlotValue
   slot = slot_at table page
 
@@ -71,32 +67,52 @@ module _ (table : TableValue) (page seen key : ℕ) (law : Lawful table) (may : 
   nowhere_else : (value : ℕ) → Elsewhere table.slots page key value → ⊥
   nowhere_else value off = only_here table.slots table.root page key value law.rows law.pages may.open_page.in_row may.leaf may.range off
 
+  -- the share that the slot had and the one that it has
+  was : leaf_pairs slot ≡ pairs_in slot
+  was = leaf_pairs_in_row slot may.open_page.in_row may.leaf
+
+  is : leaf_pairs new ≡ pairs_after delta (pairs_in slot)
+  is = leaf_pairs_in_row new may.open_page.in_row may.leaf ∙ pairs_above slot own.0 own.1 new delta refl
+
+  -- what the leaf has at each key then
+  here : (k : ℕ) → at k (leaf_pairs new) ≡ cond (eqb k key) after (at k (leaf_pairs slot))
+  here k = ap (at k) is ∙ has k ∙ ap (λ es. cond (eqb k key) after (at k es)) (sym was)
+
+  at_key : at key (leaf_pairs new) ≡ after
+  at_key = here key ∙ ap (λ b. cond b after (at key (leaf_pairs slot))) (eq-eqb key key (λ _. key))
+
+  elsewhere : (k v : ℕ) → k ≢ key → at k (leaf_pairs new) ≡ at k (leaf_pairs slot)
+  elsewhere k v other = here k ∙ ap (λ b. cond b after (at k (leaf_pairs slot))) (ne_eqb k key other)
+
   -- so the record changes the map at its key alone
-  pub changes : Changes table page key delta new
+  pub changes : Changes table page key delta before after new
   changes = record {
     lawful = change_keeps_law;
-    inside = inside;
-    was = leaf_pairs_in_row slot may.open_page.in_row may.leaf;
-    is = leaf_pairs_in_row new may.open_page.in_row may.leaf ∙ pairs_above slot own.0 own.1 new delta refl;
-    map_before = λ value maps. ⊎_elim
-        (λ (found : at key (leaf_pairs slot) ≡ Some value). found)
-        (λ (off : Elsewhere table.slots page key value). absurd (nowhere_else value off))
-        (maps_cases table.slots page key value maps);
-    map_after = λ value. (
-      (λ maps. ⊎_elim
-          (λ (found : at key (leaf_pairs new) ≡ Some value). found)
-          (λ (off : Elsewhere table.slots page key value). absurd (nowhere_else value off))
-          ((maps-set table.slots page new key value inside).0 maps)),
-      (λ found. (maps-set table.slots page new key value inside).1 (inl found)),
-    );
-    elsewhere = λ k v same. (
-      (λ maps. ⊎_elim
-          (λ (found : at k (leaf_pairs new) ≡ Some v). (page, sym same ∙ found))
-          (λ (off : Elsewhere table.slots page k v). (off.0, off.2))
-          ((maps-set table.slots page new k v inside).0 maps)),
-      (λ maps. (maps-set table.slots page new k v inside).1 (⊎_elim
-          (λ (found : at k (leaf_pairs slot) ≡ Some v). inl (same ∙ found))
-          (λ (off : Elsewhere table.slots page k v). inr off)
-          (maps_cases table.slots page k v maps))),
-    );
+    count = omega (arith, count-set table.slots page new inside, ap length was, ap length is);
+    map = record {
+      had = λ v. (
+        (λ same. (page, ap (at key) was ∙ had ∙ same)),
+        (λ maps. ⊎_elim
+            (λ (found : at key (leaf_pairs slot) ≡ Some v). sym had ∙ ap (at key) (sym was) ∙ found)
+            (λ (off : Elsewhere table.slots page key v). absurd (nowhere_else v off))
+            (maps_cases table.slots page key v maps)),
+      );
+      has = λ v. (
+        (λ same. (maps-set table.slots page new key v inside).1 (inl (at_key ∙ same))),
+        (λ maps. ⊎_elim
+            (λ (found : at key (leaf_pairs new) ≡ Some v). sym at_key ∙ found)
+            (λ (off : Elsewhere table.slots page key v). absurd (nowhere_else v off))
+            ((maps-set table.slots page new key v inside).0 maps)),
+      );
+      others = λ k v other. (
+        (λ maps. ⊎_elim
+            (λ (found : at k (leaf_pairs new) ≡ Some v). (page, sym (elsewhere k v other) ∙ found))
+            (λ (off : Elsewhere table.slots page k v). (off.0, off.2))
+            ((maps-set table.slots page new k v inside).0 maps)),
+        (λ maps. (maps-set table.slots page new k v inside).1 (⊎_elim
+            (λ (found : at k (leaf_pairs slot) ≡ Some v). inl (elsewhere k v other ∙ found))
+            (λ (off : Elsewhere table.slots page k v). inr off)
+            (maps_cases table.slots page k v maps))),
+      );
+    };
   }
