@@ -1,5 +1,5 @@
 -- Why a step is refused: for each of the ten steps the reasons in the order of their numbers, each tried over all the pages that the step names.
-use Rattle.std.specs.Prelude.{ℕ, ◌+◌, ◌-◌, Bool, false, ◌||◌, not, ◌==◌, nat_lt, nat_le, max, is_some, is_none, if◌then◌else◌, List, [], ◌∷◌, Option, Some, None, option_map, unwrap_or}
+use Rattle.std.specs.Prelude.{ℕ, ◌+◌, ◌-◌, Bool, false, ◌||◌, not, ◌==◌, nat_lt, nat_le, max, is_some, is_none, if◌then◌else◌, List, [], ◌∷◌, ◌++◌, Option, Some, None, option_map, unwrap_or}
 use Rattle.std.specs.List.{list_any}
 use Rattle.bw_keys.specs.declared.page.TheConstants.{MAX_DEPTH, MAX_LEVEL}
 use Rattle.bw_keys.specs.declared.range.Fence.TheVariants.{Top}
@@ -90,29 +90,43 @@ root_page root low child = record { low = 0; high = Top; right = None; listed = 
 
 -- The reasons against each step, by the slots of the pages that it names.
 
+-- the page isn't in a row, or has another version than was seen, or is being removed
+abbrev pub open_reasons : SlotValue → ℕ → List (Option Refused)
+open_reasons slot seen = absent (slot ∷ []) ∷ stale ((slot, seen) ∷ []) ∷ frozen slot ∷ []
+
+-- the page isn't open, or is no leaf, or its range doesn't hold the key
+abbrev pub leaf_reasons : SlotValue → ℕ → ℕ → List (Option Refused)
+leaf_reasons slot seen key = open_reasons slot seen ++ when (nat_lt 0 slot.level) WrongKind ∷ when (is_outside slot key) OutOfRange ∷ []
+
+-- no further record may stand on the chain, or the version or the book's number is used up
+abbrev pub change_reasons : SlotValue → ℕ → List (Option Refused)
+change_reasons slot number = when (is_full slot) Deep ∷ worn_change slot number ∷ []
+
+-- there is no slot for the new page, or a version is used up
+abbrev pub room_reasons : SlotValue → SlotValue → Bool → List (Option Refused)
+room_reasons slot new no_room = when no_room TableFull ∷ worn (slot ∷ new ∷ []) ∷ []
+
 abbrev pub insert_reasons : SlotValue → ℕ → ℕ → ℕ → List (Option Refused)
 insert_reasons slot number seen key =
-    absent (slot ∷ []) ∷ stale ((slot, seen) ∷ []) ∷ frozen slot ∷ when (nat_lt 0 slot.level) WrongKind ∷ when (is_outside slot key) OutOfRange
-    ∷ option_map Present (at key (pairs_in slot)) ∷ when (is_full slot) Deep ∷ worn_change slot number ∷ []
+    leaf_reasons slot seen key ++ option_map Present (at key (pairs_in slot)) ∷ change_reasons slot number
 
 -- Delete and Modify change a key that is there
 abbrev pub found_reasons : SlotValue → ℕ → ℕ → ℕ → List (Option Refused)
 found_reasons slot number seen key =
-    absent (slot ∷ []) ∷ stale ((slot, seen) ∷ []) ∷ frozen slot ∷ when (nat_lt 0 slot.level) WrongKind ∷ when (is_outside slot key) OutOfRange
-    ∷ when (is_none (at key (pairs_in slot))) NoKey ∷ when (is_full slot) Deep ∷ worn_change slot number ∷ []
+    leaf_reasons slot seen key ++ when (is_none (at key (pairs_in slot))) NoKey ∷ change_reasons slot number
 
 abbrev pub consolidate_reasons : SlotValue → ℕ → Page → List (Option Refused)
 consolidate_reasons slot seen base =
-    absent (slot ∷ []) ∷ stale ((slot, seen) ∷ []) ∷ frozen slot ∷ when (is_other_kind base slot) WrongKind
+    open_reasons slot seen ++ when (is_other_kind base slot) WrongKind
     ∷ when (not (is_same_page base (page_for (chain_in slot)))) NotSame ∷ worn (slot ∷ []) ∷ []
 
 -- the child routed at the separator may be leaving, the free list may be empty, and the new page takes a slot
 abbrev pub split_reasons : SlotValue → SlotValue → Bool → Bool → ℕ → ℕ → Page → List (Option Refused)
 split_reasons slot new child_leaving no_room seen separator base =
-    absent (slot ∷ []) ∷ stale ((slot, seen) ∷ []) ∷ frozen slot ∷ when (is_other_kind base slot) WrongKind ∷ when (is_outside slot separator) OutOfRange
+    open_reasons slot seen ++ when (is_other_kind base slot) WrongKind ∷ when (is_outside slot separator) OutOfRange
     ∷ when (nat_lt 0 slot.depth) NotBare ∷ when (is_bad_key slot child_leaving separator) BadSeparator
     ∷ when (not (is_same_page base (upper_part separator (page_for (chain_in slot))))) NotSame
-    ∷ when no_room TableFull ∷ worn (slot ∷ new ∷ []) ∷ []
+    ∷ room_reasons slot new no_room
 
 abbrev pub term_add_reasons : SlotValue → SlotValue → ℕ → ℕ → List (Option Refused)
 term_add_reasons over under parent_seen child_seen =
@@ -125,8 +139,7 @@ abbrev pub grow_reasons : SlotValue → SlotValue → SlotValue → Bool → ℕ
 grow_reasons under root new no_room seen base wanted =
     absent (under ∷ []) ∷ stale ((under, seen) ∷ []) ∷ when (lists_pairs base.listed) WrongKind
     ∷ when (not (is_same_page base wanted)) NotSame ∷ when (not (is_unposted under.stage)) WrongStage
-    ∷ when (not (under.level == root.level)) WrongParent ∷ when (nat_le MAX_LEVEL root.level) TooTall ∷ when no_room TableFull
-    ∷ worn (under ∷ new ∷ []) ∷ []
+    ∷ when (not (under.level == root.level)) WrongParent ∷ when (nat_le MAX_LEVEL root.level) TooTall ∷ room_reasons under new no_room
 
 abbrev pub mark_reasons : SlotValue → SlotValue → ℕ → List (Option Refused)
 mark_reasons slot over seen =

@@ -9,5 +9,4 @@ pub mod Views
 pub mod Visits
 pub mod Whole
 pub mod Gets
-pub mod Reasons
 pub mod Rests

@@ -3,10 +3,9 @@
 ghost use Rattle.std.specs.Prelude.{◌≡◌, ◌+◌, ◌^◌, ◌<◌, is_none, unwrap_or, option_copied};
 ghost use Rattle.bw_step.specs.declared.view.Stage.TheVariants.{Posted};
 ghost use Rattle.bw_law.specs.Effects.{with_record, with_stage};
-ghost use Rattle.bw_law.specs.Refusals.{found_reasons};
 ghost use Rattle.bw_law.specs.Slots.{SlotValue};
+ghost use Rattle.bw_law.specs.Refusals.{found_reasons, open_reasons, leaf_reasons, change_reasons, room_reasons};
 ghost use Rattle.bw_table.specs.Answers.{AnswersFirst};
-ghost use Rattle.bw_table.specs.Reasons.{open_reasons, leaf_reasons, change_reasons, room_reasons};
 ghost use Rattle.bw_table.specs.SlotFacts.{MayGrowDeeper, holding};
 
 use crate::slot::Slot;

@@ -1,5 +1,5 @@
 use Rattle.std.proofs.Common.{◌≡◌, Err, ◌∙◌, rules}
-use Rattle.bw_table.specs.Reasons.{open_reasons}
+use Rattle.bw_law.specs.Refusals.{open_reasons}
 use Rattle.bw_table.proofs.Reasons.{refused_before}
 use Rattle.bw_table.proofs.steps.split.may_split.Goals as goal
 
