@@ -55,9 +55,8 @@ fn do_row<W: Notes, L: Looks>(hand: &mut W, reader: &mut Option<L>, act: Act) ->
             Some(look) => Ok(keep(hand, key, look)?),
             None => Ok(do_act(hand, machine, act)?),
         },
-        Act::Put { .. } | Act::Set { .. } | Act::Delete { .. } | Act::Clear { .. } => {
-            Ok(do_act(hand, machine, act)?)
-        }
+        // A reader answers gets alone.
+        act => Ok(do_act(hand, machine, act)?),
     }
 }
 

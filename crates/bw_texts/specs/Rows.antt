@@ -5,8 +5,8 @@ use Rattle.bw_keys.specs.declared.range.Fence.TheVariants as fences
 use Rattle.bw_texts.specs.declared.trace.row.Row.{Row}
 use Rattle.bw_procedures.specs.declared.act.Act.{Act}
 use Rattle.bw_procedures.specs.declared.act.Act.TheVariants.{Put, Set, Get, Delete, Clear}
-use Rattle.bw_texts.specs.declared.trace.row.Op.{Op}
-use Rattle.bw_texts.specs.declared.trace.row.Op.TheVariants as ops
+use Rattle.bw_texts.specs.declared.trace.act.Op.{Op}
+use Rattle.bw_texts.specs.declared.trace.act.Op.TheVariants as ops
 use Rattle.bw_texts.specs.declared.part.Part.{Part}
 use Rattle.bw_texts.specs.declared.part.Part.TheVariants as part
 use Rattle.bw_texts.specs.Numbers.{number_of, worker_of, is_text}

@@ -1,5 +1,6 @@
 //! Traces: what workers are to do, row by row.
 
+mod act;
 mod made;
 mod read;
 mod row;

@@ -3,11 +3,11 @@
 ghost use Rattle.std.specs.Prelude.{◌≡◌, ◌<◌, ◌↔◌, IfOk, true};
 ghost use Rattle.std.specs.List.{AllByRecursion};
 ghost use Rattle.csv.specs.Records.{fields_of};
-ghost use Rattle.bw_texts.specs.Rows.{act_of, fence_of, op_of, row_of, row_of_fields};
+ghost use Rattle.bw_texts.specs.Rows.{row_of, row_of_fields};
 
 use crate::number::{field, number, worker};
 use crate::part::Part;
-use bw_keys::{Fence, Key};
+use crate::trace::act::{read_act, read_op};
 use bw_procedures::Act;
 use csv::ByteRecord;
 
@@ -57,58 +57,4 @@ fn read_fields(workers: u32, first: &[u8], op: &[u8], key: &[u8], value: &[u8]) 
     let key = number(key).ok_or(Part::Key)?;
     let act = read_act(op, key, value).ok_or(Part::Value)?;
     Ok(Row { worker, act })
-}
-
-#[derive(Clone, Copy, Debug, PartialEq, Eq)]
-enum Op {
-    Put,
-    Set,
-    Get,
-    Delete,
-    Clear,
-}
-
-fn read_op(text: &[u8]) -> Option<Op>
-    ensures { result ≡ op_of text.now }
-{
-    match text {
-        b"put" => Some(Op::Put),
-        b"set" => Some(Op::Set),
-        b"get" => Some(Op::Get),
-        b"del" => Some(Op::Delete),
-        b"clr" => Some(Op::Clear),
-        _ => None,
-    }
-}
-
-fn read_act(op: Op, key: Key, value: &[u8]) -> Option<Act>
-    ensures { result ≡ act_of op key value.now }
-{
-    match op {
-        Op::Put => {
-            let value = number(value)?;
-            Some(Act::Put { key, value })
-        }
-        Op::Set => {
-            let value = number(value)?;
-            Some(Act::Set { key, value })
-        }
-        Op::Get => value.is_empty().then_some(Act::Get { key }),
-        Op::Delete => value.is_empty().then_some(Act::Delete { key }),
-        Op::Clear => {
-            let high = read_fence(value)?;
-            Some(Act::Clear { low: key, high })
-        }
-    }
-}
-
-/// Reads where a range ends: before a key, or at the top if the text is empty.
-fn read_fence(text: &[u8]) -> Option<Fence>
-    ensures { result ≡ fence_of text.now }
-{
-    if text.is_empty() {
-        return Some(Fence::Top);
-    }
-    let high = number(text)?;
-    Some(Fence::Key(high))
 }
