@@ -96,10 +96,10 @@ fn outcome_of<S: Steps<Global, Step<Global>>>(
 
 /// How many of the receipts are of the tree's shape.
 fn shapes_in(trail: &[Receipt]) -> u64 {
-    let mut shapes = 0;
+    let mut shapes = 0u64;
     for receipt in trail {
         if let Receipt::Shaped { .. } = receipt {
-            shapes += 1;
+            shapes = shapes.saturating_add(1);
         }
     }
     shapes
