@@ -102,6 +102,23 @@ abbrev pub ChangedAtOnce : ℕ → Wished → Option AtOnce → Seen → Seen �
 ChangedAtOnce key wished None old new = new ≡ old
 ChangedAtOnce key wished (Some done) old new = IsTrueAtOnce key wished done old new
 
+-- what a wish leaves that came true by a look or by one record
+pub record IsTrueByOne (key : ℕ) (wished : Wished) (done : AtOnce) (old new : Seen) : Type 0 where
+  pub told : IsReceiptFor key wished done.receipt
+  pub counts : SameCounts old new
+  pub trail : new.trail ≡ old.trail ++ done.receipt ∷ []
+  pub effort : new.effort ≡ old.effort
+
+-- a wish came true by one step, or nothing was done
+abbrev pub RecordedAtOnce : ℕ → Wished → Option AtOnce → Seen → Seen → Type 0
+RecordedAtOnce key wished None old new = new ≡ old
+RecordedAtOnce key wished (Some done) old new = IsTrueByOne key wished done old new
+
+-- the page was consolidated by one step, or the step was denied, or nothing was done
+abbrev pub ConsolidatedAtOnce : Pid → Version → Option (Result Receipt Denied) → Seen → Seen → Type 0
+ConsolidatedAtOnce page version None old new = new ≡ old
+ConsolidatedAtOnce page version (Some answer) old new = (base : Page) × Installed (consolidate page.0 version.0 base) answer old new
+
 -- one receipt that isn't Shaped was added, and it is this reply's
 abbrev pub AddsReceipt : {T : Type 0} → (T → Receipt → Type 0) → T → Seen → Seen → Type 0
 AddsReceipt is_of reply old new = (receipt : Receipt) × (without_shapes new.trail ≡ without_shapes old.trail ++ receipt ∷ []) × is_of reply receipt

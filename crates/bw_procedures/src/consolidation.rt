@@ -4,11 +4,12 @@ ghost use Rattle.std.specs.Prelude.{IfOk, IfSome};
 ghost use Rattle.bw_step.specs.ProposalView.{proposal_of};
 ghost use Rattle.bw_procedures.specs.Calls.{ReshapesWithin, Reads, ChangesShape};
 
+use crate::effort::is_spent;
 use crate::fault::Fault;
 use crate::offer::{Answer, offer};
 use crate::steps::Steps;
 use bw_delta::NoMemory;
-use bw_step::{Consolidate, CopyFault, Step, View};
+use bw_step::{Consolidate, CopyFault, Denied, Step, View};
 use std::alloc::Allocator;
 
 /// Makes the step that consolidates the page as it was seen. None where the page has changed since,
@@ -43,6 +44,14 @@ pub(crate) fn consolidate<A: Allocator + Copy, S: Steps<A, Step<A>>>(
     ensures follows { S.follows steps.old steps.new }
     ensures reshapes { ReshapesWithin 1 limit result (S.seen steps.old) (S.seen steps.new) }
 {
+    if !is_spent(steps, limit) {
+        match steps.consolidate_at_once(view.pid, view.version) {
+            Some(Ok(_)) => return Ok(true),
+            Some(Err(Denied::Refused(_))) => return Ok(false),
+            Some(Err(Denied::NoMemory)) => return Err(Fault::NoMemory),
+            None => {}
+        }
+    }
     let Some(step) = consolidation(steps, view)? else {
         return Ok(false);
     };

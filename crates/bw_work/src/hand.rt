@@ -8,7 +8,7 @@ ghost use Rattle.bw_work.specs.Hands.{Sums};
 
 use crate::gate::Gate;
 use bw_chain::Wished;
-use bw_delta::{Chain, NoMemory};
+use bw_delta::{Chain, NoMemory, Spare};
 use bw_keys::{Config, Key, Pid, Version};
 use bw_procedures::{Account, Ends, Keep, Steps};
 use bw_step::{AtOnce, CopyFault, Denied, Kind, Look, Next, Place, Receipt, Step, View};
@@ -172,6 +172,43 @@ impl<'t, A: Allocator + Copy, S: Shared<A, Step<A>>, G: Gate> Steps<A, Step<A>>
         self.account.done_at_once(done);
         pass_behind(self.gate, self.worker, done.receipt);
         Some(done)
+    }
+
+    #[inline(always)]
+    fn records_at_once(&self) -> bool {
+        self.account.config().chain != 1
+    }
+
+    #[inline(always)]
+    fn record_at_once(&mut self, key: Key, wished: Wished, spare: Spare<A>) -> Option<AtOnce> {
+        if self.account.reserve().is_err() {
+            return None;
+        }
+        let done = self
+            .tree
+            .record_at_once(&mut self.share, key, wished, spare)?;
+        self.account.recorded_at_once(done);
+        Some(done)
+    }
+
+    fn consolidate_at_once(
+        &mut self,
+        page: Pid,
+        version: Version,
+    ) -> Option<Result<Receipt, Denied>> {
+        if self.account.reserve().is_err() {
+            return Some(Err(Denied::NoMemory));
+        }
+        let answer = self.tree.consolidate_at_once(self.alloc, page, version)?;
+        match answer {
+            Ok(receipt) => {
+                self.account.accepted(receipt);
+                pass(self.gate, self.worker, receipt);
+            }
+            Err(Denied::NoMemory) => {}
+            Err(Denied::Refused(reason)) => self.account.refused(reason),
+        }
+        Some(answer)
     }
 
     #[inline(always)]
