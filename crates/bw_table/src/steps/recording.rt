@@ -1,9 +1,12 @@
 //! A look for a key and the record of its change, or a page made anew where it lies: each one step.
 
-ghost use Rattle.std.specs.Prelude.{◌≡◌, None, Some, IfSome, IfNone, IfOk, OnErr};
-ghost use Rattle.bw_step.specs.Tellings.{telling_of};
-ghost use Rattle.bw_law.specs.Tables.{TellsMap, slot_at};
-ghost use Rattle.bw_table.specs.InPlaces.{IsRecordedAtOnce, IsConsolidatedAtOnce};
+ghost use Rattle.std.specs.Prelude.{◌≡◌, ◌++◌, ◌∷◌, [], option_map, IfSome, IfNone, IfOk, OnErr};
+ghost use Rattle.bw_step.specs.ProposalView.{proposal_of};
+ghost use Rattle.bw_step.specs.declared.receipt.Receipt.TheVariants.{Looked};
+ghost use Rattle.bw_law.specs.Refusals.{open_reasons, worn};
+ghost use Rattle.bw_law.specs.Tables.{slot_at};
+ghost use Rattle.bw_table.specs.Answers.{AnswersFirst};
+ghost use Rattle.bw_table.specs.InPlaces.{IsRecordedAtOnce, IsConsolidatedAtOnce, step_for};
 
 use crate::slot::Slot;
 use crate::steps::shared::check_open;
@@ -89,7 +92,9 @@ impl<A: Allocator + Copy> Table<A> {
 
 /// Why the page can't be consolidated, whatever its entries.
 #[inline(always)]
-fn may_be_made_anew<A: Allocator + Copy>(slot: &Slot<A>, seen: Version) -> Result<(), Refused> {
+fn may_be_made_anew<A: Allocator + Copy>(slot: &Slot<A>, seen: Version) -> Result<(), Refused>
+    ensures { AnswersFirst (open_reasons slot.now seen.0 ++ worn (slot.now ∷ []) ∷ []) result }
+{
     check_open(slot, seen)?;
     if slot.is_worn() {
         return Err(Refused::Worn);
@@ -106,7 +111,9 @@ fn step_for<A: Allocator + Copy>(
     wished: Wished,
     found: Option<u64>,
     spare: Spare<A>,
-) -> Option<Step<A>> {
+) -> Option<Step<A>>
+    ensures { option_map proposal_of result ≡ step_for leaf.pid.0 leaf.version.0 key wished found }
+{
     let (page, seen) = (leaf.pid, leaf.version);
     match (wished, found) {
         (Wished::Put(_), Some(_)) | (Wished::Delete, None) => None,
@@ -135,7 +142,9 @@ fn step_for<A: Allocator + Copy>(
 
 /// The receipt of a look for the key.
 #[inline(always)]
-fn receipt_of(key: Key, look: Look) -> Receipt {
+fn receipt_of(key: Key, look: Look) -> Receipt
+    ensures { result ≡ Looked look.at key look.found }
+{
     Receipt::Looked {
         at: look.at,
         key,
