@@ -4,7 +4,7 @@
 ghost use Rattle.std.specs.Prelude.{◌≡◌, true};
 ghost use Rattle.bw_procedures.specs.Calls.{OnlySpends, OnlyReshapes};
 ghost use Rattle.bw_procedures.specs.Writes.{Writes};
-ghost use Rattle.bw_procedures.specs.Writing.{ArrivalCosts, Attempts, AttemptsAtOnce};
+ghost use Rattle.bw_procedures.specs.Writing.{ArrivalCosts, Attempts, AttemptsAtOnce, MadeAtOnce};
 ghost use Rattle.bw_procedures.specs.Writing.{Helped, EndsEarned, FoundBy};
 
 use crate::consolidation::consolidate;
@@ -16,6 +16,7 @@ use crate::reply::Done;
 use crate::steps::{Keep, Steps};
 use crate::tending::{is_fair, tend_within};
 use crate::wish::Wish;
+use bw_chain::Wished;
 use bw_delta::{NoMemory, Spare};
 use bw_keys::{Key, Pid};
 use bw_step::{AtOnce, Go, Look, Place, Receipt, Refused, Step, Todo, View};
@@ -90,7 +91,7 @@ fn write_at_once<A: Allocator + Copy, S: Steps<A, Step<A>>, W: Wish>(
     if is_spent(steps, limit) {
         return None;
     }
-    let done = make_at_once(steps, wish)?;
+    let done = make_at_once(steps, wish.key(), wish.wished())?;
     match done.receipt {
         Receipt::Looked { found, .. } => match wish.answered(found) {
             Some(reply) => Some(Tried::Reply(reply)),
@@ -110,16 +111,21 @@ fn write_at_once<A: Allocator + Copy, S: Steps<A, Step<A>>, W: Wish>(
 
 /// Carries out a wish in one step of a worker that can: by a record on the leaf, or with the
 /// consolidation of the leaf behind the change.
+#[tactic(auto, using(crate::proofs::Changing::made_at_once, crate::proofs::Changing::made_by_one))]
 #[inline(always)]
-fn make_at_once<A: Allocator + Copy, S: Steps<A, Step<A>>, W: Wish>(
+fn make_at_once<A: Allocator + Copy, S: Steps<A, Step<A>>>(
     steps: &mut S,
-    wish: W,
-) -> Option<AtOnce> {
+    key: Key,
+    wished: Wished,
+) -> Option<AtOnce>
+    ensures follows { S.follows steps.old steps.new }
+    ensures made { MadeAtOnce key wished result (S.seen steps.old) (S.seen steps.new) }
+{
     if !steps.records_at_once() {
-        return steps.change_at_once(wish.key(), wish.wished());
+        return steps.change_at_once(key, wished);
     }
     match Spare::new(steps.alloc()) {
-        Ok(spare) => steps.record_at_once(wish.key(), wish.wished(), spare),
+        Ok(spare) => steps.record_at_once(key, wished, spare),
         Err(NoMemory) => None,
     }
 }
