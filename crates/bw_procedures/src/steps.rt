@@ -4,7 +4,7 @@ ghost use Rattle.std.specs.Prelude.{◌≡◌};
 ghost use Rattle.bw_procedures.specs.Seen.{is_kept};
 
 use bw_chain::{Wished, consolidate};
-use bw_delta::{Base, Chain, NoMemory, Spare};
+use bw_delta::{Base, Chain, NoMemory};
 use bw_keys::{Config, Key, Pid, Version};
 use bw_step::{AtOnce, CopyFault, Denied, Look, Next, Place, Proposes, Receipt, View};
 use std::alloc::Allocator;
@@ -136,7 +136,7 @@ pub trait Steps<A: Allocator + Copy, P: Proposes> {
     /// Makes a wish come true for a key in one step, by a look that finds it true, which is added to
     /// the trail, or by the change's record on the leaf, whose receipt is added. Otherwise does
     /// nothing, and returns none.
-    fn record_at_once(&mut self, _key: Key, _wished: Wished, _spare: Spare<A>) -> Option<AtOnce>
+    fn record_at_once(&mut self, _key: Key, _wished: Wished) -> Option<AtOnce>
         ensures follows { follows self.old self.new }
         ensures seen { RecordedAtOnce _key _wished result (seen self.old) (seen self.new) }
     {

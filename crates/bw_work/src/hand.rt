@@ -8,7 +8,7 @@ ghost use Rattle.bw_work.specs.Hands.{Sums};
 
 use crate::gate::Gate;
 use bw_chain::Wished;
-use bw_delta::{Chain, NoMemory, Spare};
+use bw_delta::{Chain, NoMemory};
 use bw_keys::{Config, Key, Pid, Version};
 use bw_procedures::{Account, Ends, Keep, Steps};
 use bw_step::{AtOnce, CopyFault, Denied, Kind, Look, Next, Place, Receipt, Step, View};
@@ -180,13 +180,13 @@ impl<'t, A: Allocator + Copy, S: Shared<A, Step<A>>, G: Gate> Steps<A, Step<A>>
     }
 
     #[inline(always)]
-    fn record_at_once(&mut self, key: Key, wished: Wished, spare: Spare<A>) -> Option<AtOnce> {
+    fn record_at_once(&mut self, key: Key, wished: Wished) -> Option<AtOnce> {
         if self.account.reserve().is_err() {
             return None;
         }
         let done = self
             .tree
-            .record_at_once(&mut self.share, key, wished, spare)?;
+            .record_at_once(self.alloc, &mut self.share, key, wished)?;
         self.account.recorded_at_once(done);
         Some(done)
     }
@@ -204,11 +204,14 @@ impl<'t, A: Allocator + Copy, S: Shared<A, Step<A>>, G: Gate> Steps<A, Step<A>>
             Ok(receipt) => {
                 self.account.accepted(receipt);
                 pass(self.gate, self.worker, receipt);
+                Some(Ok(receipt))
             }
-            Err(Denied::NoMemory) => {}
-            Err(Denied::Refused(reason)) => self.account.refused(reason),
+            Err(Denied::NoMemory) => Some(Err(Denied::NoMemory)),
+            Err(Denied::Refused(reason)) => {
+                self.account.refused(reason);
+                Some(Err(Denied::Refused(reason)))
+            }
         }
-        Some(answer)
     }
 
     #[inline(always)]

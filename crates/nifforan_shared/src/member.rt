@@ -6,7 +6,7 @@ ghost use Rattle.nifforan_shared.specs.Workers.{share_by};
 
 use crate::worker::Notes;
 use bw_chain::Wished;
-use bw_delta::{Chain, NoMemory, Spare};
+use bw_delta::{Chain, NoMemory};
 use bw_keys::{Config, Key, Pid, Version};
 use bw_procedures::{Ends, Keep, Steps};
 use bw_step::{AtOnce, CopyFault, Denied, Look, Next, Place, Receipt, Step, View};
@@ -108,8 +108,8 @@ impl<'t, S: Shared<Global, Step<Global>>, G: Gate> Steps<Global, Step<Global>>
         self.hand.records_at_once()
     }
 
-    fn record_at_once(&mut self, key: Key, wished: Wished, spare: Spare<Global>) -> Option<AtOnce> {
-        self.hand.record_at_once(key, wished, spare)
+    fn record_at_once(&mut self, key: Key, wished: Wished) -> Option<AtOnce> {
+        self.hand.record_at_once(key, wished)
     }
 
     fn consolidate_at_once(
