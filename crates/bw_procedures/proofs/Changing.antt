@@ -1,5 +1,5 @@
 -- What a step that changes the map leaves.
-use Rattle.std.proofs.Common.{◌≡◌, ℕ, ◌≤◌, Bool, true, false, if◌then◌else◌, List, [], ◌∷◌, ◌++◌, Option, Some, Result, Ok, Err, refl, sym, ap, subst, ◌∙◌, arith}
+use Rattle.std.proofs.Common.{◌≡◌, ℕ, ◌≤◌, Bool, true, false, if◌then◌else◌, List, [], ◌∷◌, ◌++◌, Option, Some, Result, Ok, Err, refl, sym, ap, subst, ◌∙◌, arith, None}
 use Rattle.bw_keys.specs.declared.page.Pid.{Pid}
 use Rattle.bw_chain.specs.declared.in_place.Wished.{Wished}
 use Rattle.bw_chain.specs.declared.in_place.Wished.TheVariants.{Put, Set, Delete as TakeOut}
@@ -19,7 +19,7 @@ use Rattle.bw_procedures.specs.declared.writing.Tried.{Tried}
 use Rattle.bw_procedures.specs.declared.writing.Tried.TheVariants.{Reply, Tend, Again, Kept}
 use Rattle.bw_procedures.specs.Seen.{Seen, SameCounts, Grows, IsAccepted, is_kept}
 use Rattle.bw_procedures.specs.Seen.{Looked as LookTaken}
-use Rattle.bw_procedures.specs.Writing.{Attempts, AddsReceipt, IsReceiptFor, IsChangeFor, IsTrueAtOnce, shapes_behind, effort_at_once, LookAdds, FoundBy, IsReceiptOfPut, IsDeletionOf, IsSettingOf}
+use Rattle.bw_procedures.specs.Writing.{Attempts, AddsReceipt, IsReceiptFor, IsChangeFor, ChangedAtOnce, RecordedAtOnce, IsMadeAtOnce, MadeAtOnce, shapes_behind, effort_at_once, LookAdds, FoundBy, IsReceiptOfPut, IsDeletionOf, IsSettingOf}
 use Rattle.bw_procedures.specs.Calls.{Offered, OnlyReshapes, ChangesShape}
 use Rattle.bw_procedures.proofs.Trails.{adds_by, adds_nothing}
 use Rattle.bw_procedures.proofs.Reshaping.{counts_grow}
@@ -93,13 +93,20 @@ shape_is_no_change key (Set value) receipt none told = told
 shape_is_no_change key TakeOut (Deleted n k v) none told = cc
 shape_is_no_change key TakeOut receipt none told = told
 
--- beside the receipt of a wish that came true stands at most that of a consolidation
-alone_at_once : (key : ℕ) (wished : Wished) (page : Pid) (receipt : Receipt) → IsReceiptFor key wished receipt → without_shapes (receipt ∷ shapes_behind page receipt) ≡ receipt ∷ []
-alone_at_once key wished page (Inserted n k v) told = refl
-alone_at_once key wished page (Deleted n k v) told = refl
-alone_at_once key wished page (Modified n k old v) told = refl
-alone_at_once key wished page (Looked at k found) told = refl
-alone_at_once key wished page (Shaped kind p other) told = absurd (shape_is_no_change key wished (Shaped kind p other) refl told)
+-- behind the receipt of a wish that came true stand only receipts of shape
+alone_at_once : (key : ℕ) (wished : Wished) (receipt : Receipt) (behind : List Receipt) → without_shapes behind ≡ [] → IsReceiptFor key wished receipt → without_shapes (receipt ∷ behind) ≡ receipt ∷ []
+alone_at_once key wished (Inserted n k v) behind shapes told = ap (λ l. Inserted n k v ∷ l) shapes
+alone_at_once key wished (Deleted n k v) behind shapes told = ap (λ l. Deleted n k v ∷ l) shapes
+alone_at_once key wished (Modified n k old v) behind shapes told = ap (λ l. Modified n k old v ∷ l) shapes
+alone_at_once key wished (Looked at k found) behind shapes told = ap (λ l. Looked at k found ∷ l) shapes
+alone_at_once key wished (Shaped kind p other) behind shapes told = absurd (shape_is_no_change key wished (Shaped kind p other) refl told)
+
+only_shapes : (key : ℕ) (wished : Wished) (page : Pid) (receipt : Receipt) → IsReceiptFor key wished receipt → without_shapes (shapes_behind page receipt) ≡ []
+only_shapes key wished page (Inserted n k v) told = refl
+only_shapes key wished page (Deleted n k v) told = refl
+only_shapes key wished page (Modified n k old v) told = refl
+only_shapes key wished page (Looked at k found) told = refl
+only_shapes key wished page (Shaped kind p other) told = absurd (shape_is_no_change key wished (Shaped kind p other) refl told)
 
 spends_at_once : (receipt : Receipt) (n : ℕ) → n ≤ effort_at_once receipt n
 spends_at_once (Looked at k found) n = omega arith
@@ -108,15 +115,25 @@ spends_at_once (Deleted m k v) n = omega arith
 spends_at_once (Modified m k old v) n = omega arith
 spends_at_once (Shaped kind p other) n = omega arith
 
+-- what was done with a consolidation behind it, or by one step, was made at once
+pub made_at_once : (key : ℕ) (wished : Wished) (done : Option AtOnce) (a b : Seen) → ChangedAtOnce key wished done a b → MadeAtOnce key wished done a b
+made_at_once key wished None a b same = same
+made_at_once key wished (Some done) a b h =
+    record { told = h.told; counts = h.counts; behind = shapes_behind done.page done.receipt; shapes = only_shapes key wished done.page done.receipt h.told; trail = h.trail; effort = let up = spends_at_once done.receipt a.effort in omega (arith, h.effort, up) }
+
+pub made_by_one : (key : ℕ) (wished : Wished) (done : Option AtOnce) (a b : Seen) → RecordedAtOnce key wished done a b → MadeAtOnce key wished done a b
+made_by_one key wished None a b same = same
+made_by_one key wished (Some done) a b h = record { told = h.told; counts = h.counts; behind = []; shapes = refl; trail = h.trail; effort = omega (arith, h.effort) }
+
 -- a wish that came true at once adds the receipt of its reply
-pub adds_at_once : {T : Type 0} → (is_of : T → Receipt → Type 0) (reply : T) (key : ℕ) (wished : Wished) (done : AtOnce) (a b : Seen) → IsTrueAtOnce key wished done a b → is_of reply done.receipt → AddsReceipt is_of reply a b × Grows a b
+pub adds_at_once : {T : Type 0} → (is_of : T → Receipt → Type 0) (reply : T) (key : ℕ) (wished : Wished) (done : AtOnce) (a b : Seen) → IsMadeAtOnce key wished done a b → is_of reply done.receipt → AddsReceipt is_of reply a b × Grows a b
 adds_at_once is_of reply key wished done a b h goes = (
-  (done.receipt, ap without_shapes h.trail ∙ (without_shapes-append a.trail (done.receipt ∷ shapes_behind done.page done.receipt) ∙ ap (λ (l : List Receipt). without_shapes a.trail ++ l) (alone_at_once key wished done.page done.receipt h.told)), goes),
-  counts_grow a b h.counts (adds_by a.trail b.trail (done.receipt ∷ shapes_behind done.page done.receipt) h.trail) (let up = spends_at_once done.receipt a.effort in omega (arith, h.effort, up)),
+  (done.receipt, ap without_shapes h.trail ∙ (without_shapes-append a.trail (done.receipt ∷ h.behind) ∙ ap (λ (l : List Receipt). without_shapes a.trail ++ l) (alone_at_once key wished done.receipt h.behind h.shapes h.told)), goes),
+  counts_grow a b h.counts (adds_by a.trail b.trail (done.receipt ∷ h.behind) h.trail) h.effort,
 )
 
 -- so does a look that finds the wish true
-pub looked_at_once : {T : Type 0} → (is_of : T → Receipt → Type 0) (reply : T) (key : ℕ) (wished : Wished) (done : AtOnce) (a b : Seen) → IsTrueAtOnce key wished done a b
+pub looked_at_once : {T : Type 0} → (is_of : T → Receipt → Type 0) (reply : T) (key : ℕ) (wished : Wished) (done : AtOnce) (a b : Seen) → IsMadeAtOnce key wished done a b
     → (at k : ℕ) (found : Option ℕ) → done.receipt ≡ Looked at k found → ((n : ℕ) → is_of reply (Looked n key found)) → AddsReceipt is_of reply a b × Grows a b
 looked_at_once is_of reply key wished done a b h at k found is goes =
     let told : IsReceiptFor key wished (Looked at k found) = subst (IsReceiptFor key wished) is h.told in

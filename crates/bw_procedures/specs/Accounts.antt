@@ -20,6 +20,10 @@ pub record AccountValue : Type 0 where
 abbrev pub after_at_once : AtOnce → Seen → Seen
 after_at_once done seen = record seen { trail = seen.trail ++ receipts_at_once done; effort = effort_at_once done.receipt seen.effort }
 
+-- after one receipt at no cost
+abbrev pub after_one : Receipt → Seen → Seen
+after_one receipt seen = record seen { trail = seen.trail ++ receipt ∷ [] }
+
 -- after steps that change only the tree's shape, each at the cost of one effort
 abbrev pub after_shapes : List Receipt → Seen → Seen
 after_shapes receipts seen = record seen { trail = seen.trail ++ receipts; effort = raised (length receipts) seen.effort }

@@ -81,6 +81,12 @@ abbrev pub ReshapesWithin : {T : Type 0} → ℕ → ℕ → Result T Fault → 
 ReshapesWithin cost limit (Ok it) old new = OnlyReshapes old new × RoseBy cost old.effort new.effort
 ReshapesWithin cost limit (Err fault) old new = OnlyReshapes old new × IsEarned limit old new fault
 
+-- a page was consolidated where it lies, or that was refused, at the cost of effort; or nothing was done
+abbrev pub ConsolidatesWithin : ℕ → Result (Option Bool) Fault → Seen → Seen → Type 0
+ConsolidatesWithin limit (Ok None) old new = new ≡ old
+ConsolidatesWithin limit (Ok (Some accepted)) old new = OnlyReshapes old new × RoseBy 1 old.effort new.effort
+ConsolidatesWithin limit (Err fault) old new = OnlyReshapes old new × IsEarned limit old new fault
+
 -- an attempt that came to nothing cost effort
 abbrev pub CostsIfNone : {T : Type 0} → Option T → Seen → Seen → Type 0
 CostsIfNone None old new = RoseBy 1 old.effort new.effort

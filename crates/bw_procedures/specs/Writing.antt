@@ -1,9 +1,12 @@
 -- What put, set and delete leave of the worker: one receipt for each reply.
-use Rattle.std.specs.Prelude.{◌≡◌, ◌⊎◌, ℕ, Bool, true, false, List, [], ◌∷◌, ◌++◌, Option, Some, None, Result, Ok, Err}
+use Rattle.std.specs.Prelude.{◌≡◌, ◌≤◌, ◌⊎◌, ℕ, Bool, true, false, List, [], ◌∷◌, ◌++◌, Option, Some, None, Result, Ok, Err}
 use Rattle.bw_keys.specs.declared.page.Pid.{Pid}
 use Rattle.bw_chain.specs.declared.in_place.Wished.{Wished}
 use Rattle.bw_chain.specs.declared.in_place.Wished.TheVariants as wishes
+use Rattle.bw_delta.specs.Pages.{Page}
 use Rattle.bw_step.specs.declared.at_once.AtOnce.{AtOnce}
+use Rattle.bw_step.specs.declared.fault.Denied.{Denied}
+use Rattle.bw_step.specs.Proposals.{consolidate}
 use Rattle.bw_step.specs.declared.receipt.Kind.TheVariants as kinds
 use Rattle.bw_step.specs.declared.receipt.Receipt.{Receipt}
 use Rattle.bw_step.specs.declared.receipt.Receipt.TheVariants as receipts
@@ -23,7 +26,7 @@ use Rattle.bw_procedures.specs.declared.writing.Arrival.{Arrival}
 use Rattle.bw_procedures.specs.declared.writing.Arrival.TheVariants.{Gone, Here, Help}
 use Rattle.bw_procedures.specs.declared.writing.Tried.{Tried}
 use Rattle.bw_procedures.specs.declared.writing.Tried.TheVariants.{Reply, Tend, Again, Kept}
-use Rattle.bw_procedures.specs.Seen.{Seen, SameCounts, Grows, is_kept, one_more}
+use Rattle.bw_procedures.specs.Seen.{Seen, SameCounts, Grows, Installed, is_kept, one_more}
 use Rattle.bw_procedures.specs.Calls.{OnlyReshapes, IsEarned, RoseBy}
 
 -- the receipt that goes with a put's reply: the insertion of the pair, or the look that found the key's value
@@ -101,6 +104,37 @@ pub record IsTrueAtOnce (key : ℕ) (wished : Wished) (done : AtOnce) (old new :
 abbrev pub ChangedAtOnce : ℕ → Wished → Option AtOnce → Seen → Seen → Type 0
 ChangedAtOnce key wished None old new = new ≡ old
 ChangedAtOnce key wished (Some done) old new = IsTrueAtOnce key wished done old new
+
+-- what a wish leaves that came true by a look or by one record
+pub record IsTrueByOne (key : ℕ) (wished : Wished) (done : AtOnce) (old new : Seen) : Type 0 where
+  pub told : IsReceiptFor key wished done.receipt
+  pub counts : SameCounts old new
+  pub trail : new.trail ≡ old.trail ++ done.receipt ∷ []
+  pub effort : new.effort ≡ old.effort
+
+-- a wish came true by one step, or nothing was done
+abbrev pub RecordedAtOnce : ℕ → Wished → Option AtOnce → Seen → Seen → Type 0
+RecordedAtOnce key wished None old new = new ≡ old
+RecordedAtOnce key wished (Some done) old new = IsTrueByOne key wished done old new
+
+-- the page was consolidated by one step, or the step was denied, or nothing was done
+abbrev pub ConsolidatedAtOnce : ℕ → ℕ → Option (Result Receipt Denied) → Seen → Seen → Type 0
+ConsolidatedAtOnce page version None old new = new ≡ old
+ConsolidatedAtOnce page version (Some answer) old new = (base : Page) × Installed (consolidate page version base) answer old new
+
+-- a wish came true at once: its receipt was added, and behind it at most receipts of shape
+pub record IsMadeAtOnce (key : ℕ) (wished : Wished) (done : AtOnce) (old new : Seen) : Type 0 where
+  pub told : IsReceiptFor key wished done.receipt
+  pub counts : SameCounts old new
+  pub behind : List Receipt
+  pub shapes : without_shapes behind ≡ []
+  pub trail : new.trail ≡ old.trail ++ done.receipt ∷ behind
+  pub effort : old.effort ≤ new.effort
+
+-- or nothing was done
+abbrev pub MadeAtOnce : ℕ → Wished → Option AtOnce → Seen → Seen → Type 0
+MadeAtOnce key wished None old new = new ≡ old
+MadeAtOnce key wished (Some done) old new = IsMadeAtOnce key wished done old new
 
 -- one receipt that isn't Shaped was added, and it is this reply's
 abbrev pub AddsReceipt : {T : Type 0} → (T → Receipt → Type 0) → T → Seen → Seen → Type 0

@@ -3,7 +3,7 @@
 ghost use Rattle.std.specs.Prelude.{◌≡◌, ◌+◌, ◌<◌, [], OnOk, length, vec_capacity};
 ghost use Rattle.bw_procedures.specs.Calls.{receipts_of_shape, receipts_of_split};
 ghost use Rattle.bw_procedures.specs.Seen.{ends_of, one_more};
-ghost use Rattle.bw_procedures.specs.Accounts.{after_at_once, after_shapes, after_visit};
+ghost use Rattle.bw_procedures.specs.Accounts.{after_at_once, after_one, after_shapes, after_visit};
 ghost use Rattle.bw_procedures.specs.Accounts.{after_look, after_copy};
 ghost use Rattle.bw_procedures.specs.Accounts.{after_receipt, after_refusal};
 
@@ -185,6 +185,15 @@ impl Account {
             other: None,
         });
         self.effort = self.effort.saturating_add(1);
+    }
+
+    /// Reports that a key was looked at, or the record of its change was put on its leaf.
+    #[inline(always)]
+    pub fn recorded_at_once(&mut self, done: AtOnce)
+        requires { length self.old.seen.trail < self.old.room }
+        ensures { self.new.seen ≡ after_one done.receipt self.old.seen }
+    {
+        self.trail.push_reserved(done.receipt);
     }
 
     /// Reports that a page was split and consolidated, and then the new page named in the parent

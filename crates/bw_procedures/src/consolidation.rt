@@ -2,13 +2,14 @@
 
 ghost use Rattle.std.specs.Prelude.{IfOk, IfSome};
 ghost use Rattle.bw_step.specs.ProposalView.{proposal_of};
-ghost use Rattle.bw_procedures.specs.Calls.{ReshapesWithin, Reads, ChangesShape};
+ghost use Rattle.bw_procedures.specs.Calls.{ReshapesWithin, Reads, ChangesShape, ConsolidatesWithin};
 
+use crate::effort::is_spent;
 use crate::fault::Fault;
 use crate::offer::{Answer, offer};
 use crate::steps::Steps;
 use bw_delta::NoMemory;
-use bw_step::{Consolidate, CopyFault, Step, View};
+use bw_step::{Consolidate, CopyFault, Denied, Step, View};
 use std::alloc::Allocator;
 
 /// Makes the step that consolidates the page as it was seen. None where the page has changed since,
@@ -36,6 +37,41 @@ pub(crate) fn consolidation<A: Allocator + Copy, S: Steps<A, Step<A>>>(
 /// Consolidates the page as it was seen, and returns whether that was accepted. Where it wasn't,
 /// the new page is dropped.
 pub(crate) fn consolidate<A: Allocator + Copy, S: Steps<A, Step<A>>>(
+    steps: &mut S,
+    limit: u64,
+    view: View,
+) -> Result<bool, Fault>
+    ensures follows { S.follows steps.old steps.new }
+    ensures reshapes { ReshapesWithin 1 limit result (S.seen steps.old) (S.seen steps.new) }
+{
+    match consolidate_in_place(steps, limit, view)? {
+        Some(is_accepted) => Ok(is_accepted),
+        None => consolidate_by_copy(steps, limit, view),
+    }
+}
+
+/// Consolidates the page where it lies, if the worker can and has effort left.
+fn consolidate_in_place<A: Allocator + Copy, S: Steps<A, Step<A>>>(
+    steps: &mut S,
+    limit: u64,
+    view: View,
+) -> Result<Option<bool>, Fault>
+    ensures follows { S.follows steps.old steps.new }
+    ensures consolidates { ConsolidatesWithin limit result (S.seen steps.old) (S.seen steps.new) }
+{
+    if is_spent(steps, limit) {
+        return Ok(None);
+    }
+    match steps.consolidate_at_once(view.pid, view.version) {
+        Some(Ok(_)) => Ok(Some(true)),
+        Some(Err(Denied::Refused(_))) => Ok(Some(false)),
+        Some(Err(Denied::NoMemory)) => Err(Fault::NoMemory),
+        None => Ok(None),
+    }
+}
+
+/// Makes the page anew from a copy, and proposes it.
+fn consolidate_by_copy<A: Allocator + Copy, S: Steps<A, Step<A>>>(
     steps: &mut S,
     limit: u64,
     view: View,

@@ -64,7 +64,7 @@ pub trait Steps<A: Allocator + Copy, P: Proposes> {
     ghost use Rattle.bw_procedures.specs.Seen.{Seen, ends_of, Visited, Looked, LookedAtOnce, Copied};
     ghost use Rattle.bw_procedures.specs.Seen.{Installed, Idled, IsRefused};
     ghost use Rattle.bw_procedures.specs.Calls.{IsAtLevel, SplitAtOnce};
-    ghost use Rattle.bw_procedures.specs.Writing.{ChangedAtOnce};
+    ghost use Rattle.bw_procedures.specs.Writing.{ChangedAtOnce, RecordedAtOnce, ConsolidatedAtOnce};
     ghost use Rattle.bw_procedures.specs.Facts.{Fact, quiet, on_the_way, holds, fresh};
     ghost use Rattle.bw_procedures.specs.Facts.{CalmNext, CalmPeek, CalmLook, CalmCopy, CalmAnew};
     ghost use Rattle.bw_procedures.specs.Facts.{ShowsCopy};
@@ -123,6 +123,35 @@ pub trait Steps<A: Allocator + Copy, P: Proposes> {
     fn change_at_once(&mut self, _key: Key, _wished: Wished) -> Option<AtOnce>
         ensures follows { follows self.old self.new }
         ensures seen { ChangedAtOnce _key _wished result (seen self.old) (seen self.new) }
+    {
+        None
+    }
+
+    /// Whether the worker looks a key up and puts the record of its change in one step, where it may
+    /// choose.
+    fn records_at_once(&self) -> bool {
+        false
+    }
+
+    /// Makes a wish come true for a key in one step, by a look that finds it true, which is added to
+    /// the trail, or by the change's record on the leaf, whose receipt is added. Otherwise does
+    /// nothing, and returns none.
+    fn record_at_once(&mut self, _key: Key, _wished: Wished) -> Option<AtOnce>
+        ensures follows { follows self.old self.new }
+        ensures seen { RecordedAtOnce _key _wished result (seen self.old) (seen self.new) }
+    {
+        None
+    }
+
+    /// Consolidates the page where it lies, if the worker can, and it still has the version that was
+    /// seen. None, and nothing done, where the worker can't.
+    fn consolidate_at_once(
+        &mut self,
+        _page: Pid,
+        _version: Version,
+    ) -> Option<Result<Receipt, Denied>>
+        ensures follows { follows self.old self.new }
+        ensures seen { ConsolidatedAtOnce _page.0 _version.0 result (seen self.old) (seen self.new) }
     {
         None
     }

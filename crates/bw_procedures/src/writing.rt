@@ -4,7 +4,7 @@
 ghost use Rattle.std.specs.Prelude.{◌≡◌, true};
 ghost use Rattle.bw_procedures.specs.Calls.{OnlySpends, OnlyReshapes};
 ghost use Rattle.bw_procedures.specs.Writes.{Writes};
-ghost use Rattle.bw_procedures.specs.Writing.{ArrivalCosts, Attempts, AttemptsAtOnce};
+ghost use Rattle.bw_procedures.specs.Writing.{ArrivalCosts, Attempts, AttemptsAtOnce, MadeAtOnce};
 ghost use Rattle.bw_procedures.specs.Writing.{Helped, EndsEarned, FoundBy};
 
 use crate::consolidation::consolidate;
@@ -16,9 +16,10 @@ use crate::reply::Done;
 use crate::steps::{Keep, Steps};
 use crate::tending::{is_fair, tend_within};
 use crate::wish::Wish;
+use bw_chain::Wished;
 use bw_delta::Spare;
 use bw_keys::{Key, Pid};
-use bw_step::{Go, Look, Place, Receipt, Refused, Step, Todo, View};
+use bw_step::{AtOnce, Go, Look, Place, Receipt, Refused, Step, Todo, View};
 use std::alloc::Allocator;
 
 /// Where a writer's walk came to.
@@ -90,7 +91,7 @@ fn write_at_once<A: Allocator + Copy, S: Steps<A, Step<A>>, W: Wish>(
     if is_spent(steps, limit) {
         return None;
     }
-    let done = steps.change_at_once(wish.key(), wish.wished())?;
+    let done = make_at_once(steps, wish.key(), wish.wished())?;
     match done.receipt {
         Receipt::Looked { found, .. } => match wish.answered(found) {
             Some(reply) => Some(Tried::Reply(reply)),
@@ -98,12 +99,32 @@ fn write_at_once<A: Allocator + Copy, S: Steps<A, Step<A>>, W: Wish>(
         },
         receipt => {
             let reply = wish.reply(receipt);
-            if is_fair(steps.config().fanout, done.count) {
+            let config = steps.config();
+            if is_fair(config.fanout, done.count) && u32::from(done.depth) < config.chain {
                 Some(Tried::Reply(reply))
             } else {
                 Some(Tried::Tend(reply, done.page))
             }
         }
+    }
+}
+
+/// Carries out a wish in one step of a worker that can: by a record on the leaf, or with the
+/// consolidation of the leaf behind the change.
+#[tactic(auto, using(crate::proofs::Changing::made_at_once, crate::proofs::Changing::made_by_one))]
+#[inline(always)]
+fn make_at_once<A: Allocator + Copy, S: Steps<A, Step<A>>>(
+    steps: &mut S,
+    key: Key,
+    wished: Wished,
+) -> Option<AtOnce>
+    ensures follows { S.follows steps.old steps.new }
+    ensures made { MadeAtOnce key wished result (S.seen steps.old) (S.seen steps.new) }
+{
+    if steps.records_at_once() {
+        steps.record_at_once(key, wished)
+    } else {
+        steps.change_at_once(key, wished)
     }
 }
 

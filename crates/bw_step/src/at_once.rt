@@ -1,8 +1,8 @@
 use crate::receipt::Receipt;
 use bw_keys::Pid;
 
-/// What was done at once for a key: a look at it, or a change of it and the consolidation of its page
-/// behind that.
+/// What was done at once for a key: a look at it, or a change of it, and in some cases the consolidation
+/// of its page behind that.
 #[derive(Clone, Copy, Debug, PartialEq, Eq, Hash)]
 pub struct AtOnce {
     /// The key's leaf.
@@ -11,4 +11,6 @@ pub struct AtOnce {
     pub receipt: Receipt,
     /// How many entries the leaf has then.
     pub count: u64,
+    /// How many records stand on it then.
+    pub depth: u8,
 }

@@ -1,3 +1,4 @@
+mod Consolidating
 pub mod InPlaces
 pub mod Doing
 pub mod FreeIds

@@ -139,6 +139,22 @@ IsDoneAtOnce old page key wished receipt new =
     let had = at key (pairs_in slot) in
     LooksOrTakes old page (Looked (number_of old.book) key had) receipt new (step_for page slot.version key wished had)
 
+-- one look and no change, or the step
+abbrev pub LooksOrTakesOne : TableValue → Receipt → Receipt → TableValue → Option Proposal → Type 0
+LooksOrTakesOne old look receipt new None = (receipt ≡ look) × (new ≡ old)
+LooksOrTakesOne old look receipt new (Some step) = TakesInTurn old ((step, receipt) ∷ []) new
+
+-- the record of the wish was put on the page
+abbrev pub IsRecordedAtOnce : TableValue → ℕ → ℕ → Wished → Receipt → TableValue → Type 0
+IsRecordedAtOnce old page key wished receipt new =
+    let slot = slot_at old page in
+    let had = at key (pairs_in slot) in
+    LooksOrTakesOne old (Looked (number_of old.book) key had) receipt new (step_for page slot.version key wished had)
+
+-- the page was consolidated by a step that is not refused
+abbrev pub IsConsolidatedAtOnce : TableValue → ℕ → ℕ → TableValue → Receipt → Type 0
+IsConsolidatedAtOnce old page seen new receipt = (base : Page) × TakesInTurn old ((consolidate page seen base, receipt) ∷ []) new
+
 -- the page that ends before the separator, consolidated, where this many of its entries go to the new page
 abbrev pub slot_cut : ℕ → Pid → ℕ → SlotValue → SlotValue
 slot_cut separator new count slot =

@@ -15,6 +15,7 @@ mod insert;
 mod mark;
 mod merge;
 mod modify;
+mod recording;
 mod room;
 mod shared;
 mod split;

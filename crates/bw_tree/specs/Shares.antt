@@ -6,7 +6,10 @@ use Rattle.bw_chain.specs.declared.in_place.Wished.{Wished}
 use Rattle.bw_chain.specs.InPlaces.{delta_for}
 use Rattle.bw_step.specs.declared.at_once.AtOnce.{AtOnce}
 use Rattle.bw_step.specs.declared.survey.Book.{Book}
+use Rattle.bw_keys.specs.declared.page.Pid.{Pid}
+use Rattle.bw_step.specs.declared.receipt.Kind.TheVariants as kinds
 use Rattle.bw_step.specs.declared.receipt.Receipt.{Receipt}
+use Rattle.bw_step.specs.declared.receipt.Receipt.TheVariants.{Shaped}
 use Rattle.bw_step.specs.Tellings.{Telling, change, telling_of}
 use Rattle.bw_table.specs.InPlaces.{receipt_for}
 
@@ -52,6 +55,10 @@ CountsAtOnce old new (Some done) = new ≡ counted old done.receipt
 -- the receipt of what was done for the wish, for a key that had a value, or none
 abbrev pub IsReceiptAtOnce : ℕ → Wished → Receipt → Type 0
 IsReceiptAtOnce key wished receipt = (number : ℕ) × (had : Option ℕ) × (receipt ≡ receipt_for number key had (delta_for wished key had))
+
+-- the receipt of the page's consolidation
+abbrev pub IsConsolidationOf : Pid → Receipt → Type 0
+IsConsolidationOf page receipt = receipt ≡ Shaped kinds.Consolidate page None
 
 -- all insertions and all removals of the shares
 abbrev pub sum_of : List ShareValue → ShareValue

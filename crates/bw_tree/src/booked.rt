@@ -6,8 +6,8 @@ ghost use Rattle.bw_step.specs.ProposalView.{proposal_of};
 ghost use Rattle.bw_law.specs.Tables.{new_table, TellsMap};
 ghost use Rattle.bw_law.specs.Laws.{MapAfter};
 ghost use Rattle.bw_law.specs.Refusals.{refusal};
-ghost use Rattle.bw_table.specs.InPlaces.{IsDoneAtOnce};
-ghost use Rattle.bw_tree.specs.Shares.{no_changes, CountsIn, CountsAtOnce, IsReceiptAtOnce};
+ghost use Rattle.bw_table.specs.InPlaces.{IsDoneAtOnce, IsRecordedAtOnce, IsConsolidatedAtOnce};
+ghost use Rattle.bw_tree.specs.Shares.{no_changes, CountsIn, CountsAtOnce, IsReceiptAtOnce, IsConsolidationOf};
 ghost use Rattle.bw_step.specs.Steps.{IsReceiptOf};
 ghost use Rattle.bw_step.specs.Tellings.{telling_of};
 ghost use Rattle.bw_tree.specs.Trees.{IsTree, IsClosed, Leads};
@@ -18,8 +18,9 @@ use crate::ledgers::Ledgers;
 use crate::made_by::MadeBy;
 use crate::share::{Blanks, Share};
 use bw_chain::Wished;
-use bw_keys::{Config, Key, MAX_WORKERS};
-use bw_step::{AtOnce, Receipt, Refused, Step};
+use bw_delta::Spare;
+use bw_keys::{Config, Key, MAX_WORKERS, Pid, Version};
+use bw_step::{AtOnce, Denied, Receipt, Refused, Step};
 use bw_table::Table;
 use std::alloc::{Allocator, Global};
 use std::marker::Model;
@@ -121,6 +122,41 @@ impl<A: Allocator + Copy, I: MadeBy, D: Ledger> Booked<A, I, D> {
         let done = self.table.change_at_once(key, wished)?;
         self.ledgers.count(share, done.receipt);
         Some(done)
+    }
+
+    /// Puts the record of the change that is wished on the key's leaf, as `Table::record_at_once`
+    /// does, and counts an insertion or a removal in the share.
+    #[inline(always)]
+    pub fn record_at_once(
+        &mut self,
+        share: &mut Share<I, D>,
+        key: Key,
+        wished: Wished,
+        spare: Spare<A>,
+    ) -> Option<AtOnce>
+        ensures done { IfSome result (λ it.
+            IsRecordedAtOnce self.old it.page.0 key wished it.receipt self.new) }
+        ensures receipt { IfSome result (λ it. IsReceiptAtOnce key wished it.receipt) }
+        ensures unchanged { IfNone result (self.new ≡ self.old) }
+        ensures share { CountsAtOnce share.old share.new result }
+    {
+        let done = self.table.record_at_once(key, wished, spare)?;
+        self.ledgers.count(share, done.receipt);
+        Some(done)
+    }
+
+    /// Consolidates the page where it lies, as `Table::consolidate_at_once` does.
+    pub fn consolidate_at_once(
+        &mut self,
+        alloc: A,
+        page: Pid,
+        seen: Version,
+    ) -> Result<Receipt, Denied>
+        ensures done { IfOk result (IsConsolidatedAtOnce self.old page.0 seen.0 self.new) }
+        ensures receipt { IfOk result (IsConsolidationOf page) }
+        ensures denied { OnErr result (self.new ≡ self.old) }
+    {
+        self.table.consolidate_at_once(alloc, page, seen)
     }
 
     /// Returns the table, and asks for no share. So nothing ties its book to the shares.

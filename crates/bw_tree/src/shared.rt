@@ -15,7 +15,7 @@ pub trait Shared<A: Allocator + Copy, P: Proposes> {
     ghost use Rattle.std.specs.Prelude.{◌≡◌, IfOk, IfSome};
     ghost use Rattle.bw_keys.specs.declared.config.Config.{Config};
     ghost use Rattle.bw_delta.specs.Sound.{IsSound};
-    ghost use Rattle.bw_tree.specs.Shares.{CountsIn, CountsAtOnce, IsReceiptAtOnce};
+    ghost use Rattle.bw_tree.specs.Shares.{CountsIn, CountsAtOnce, IsReceiptAtOnce, IsConsolidationOf};
     ghost use Rattle.bw_step.specs.Steps.{IsNext, IsReceiptOf};
 
     /// The ledger of the tree's insertions.
@@ -74,6 +74,36 @@ pub trait Shared<A: Allocator + Copy, P: Proposes> {
     ) -> Option<AtOnce>
         ensures share { CountsAtOnce share.old share.new result }
         ensures receipt { IfSome result (λ done. IsReceiptAtOnce _key _wished done.receipt) }
+    {
+        None
+    }
+
+    /// Looks the key up, puts the record of the change that is wished on its leaf, and counts an
+    /// insertion or a removal in the share. Where there is nothing to do the receipt is that of the
+    /// look. The record's memory is had before the lock is taken. None, and nothing done, where there is
+    /// none, and where the tree can't do both in one hold of its lock.
+    fn record_at_once(
+        &self,
+        _alloc: A,
+        share: &mut Share<Self::Insertions, Self::Removals>,
+        _key: Key,
+        _wished: Wished,
+    ) -> Option<AtOnce>
+        ensures share { CountsAtOnce share.old share.new result }
+        ensures receipt { IfSome result (λ done. IsReceiptAtOnce _key _wished done.receipt) }
+    {
+        None
+    }
+
+    /// Consolidates the page where it lies, if it still has the version that was seen. None, and
+    /// nothing done, where the tree can't do that in one hold of its lock.
+    fn consolidate_at_once(
+        &self,
+        _alloc: A,
+        _page: Pid,
+        _seen: Version,
+    ) -> Option<Result<Receipt, Denied>>
+        ensures receipt { IfSome result (λ answer. IfOk answer (IsConsolidationOf _page)) }
     {
         None
     }

@@ -12,7 +12,7 @@ use crate::made_by::MadeBy;
 use crate::share::{Blanks, Share};
 use crate::shared::Shared;
 use bw_chain::Wished;
-use bw_delta::Chain;
+use bw_delta::{Chain, Spare};
 use bw_keys::{Config, Key, Pid, Version};
 use bw_step::{AtOnce, CopyFault, Denied, Look, Next, Place, Receipt, Step, View};
 use bw_table::Table;
@@ -127,6 +127,33 @@ impl<R: Wait + Drop, A: Allocator + Copy, I: MadeBy, D: Ledger> Shared<A, Step<A
         self.booked
             .lock(&self.rt)
             .change_at_once(share, key, wished)
+    }
+
+    #[inline(always)]
+    fn record_at_once(
+        &self,
+        alloc: A,
+        share: &mut Share<I, D>,
+        key: Key,
+        wished: Wished,
+    ) -> Option<AtOnce> {
+        let spare = Spare::new(alloc).ok()?;
+        self.booked
+            .lock(&self.rt)
+            .record_at_once(share, key, wished, spare)
+    }
+
+    fn consolidate_at_once(
+        &self,
+        alloc: A,
+        page: Pid,
+        seen: Version,
+    ) -> Option<Result<Receipt, Denied>> {
+        Some(
+            self.booked
+                .lock(&self.rt)
+                .consolidate_at_once(alloc, page, seen),
+        )
     }
 
     #[inline(always)]

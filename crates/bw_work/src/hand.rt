@@ -175,6 +175,46 @@ impl<'t, A: Allocator + Copy, S: Shared<A, Step<A>>, G: Gate> Steps<A, Step<A>>
     }
 
     #[inline(always)]
+    fn records_at_once(&self) -> bool {
+        self.account.config().chain != 1
+    }
+
+    #[inline(always)]
+    fn record_at_once(&mut self, key: Key, wished: Wished) -> Option<AtOnce> {
+        if self.account.reserve().is_err() {
+            return None;
+        }
+        let done = self
+            .tree
+            .record_at_once(self.alloc, &mut self.share, key, wished)?;
+        self.account.recorded_at_once(done);
+        Some(done)
+    }
+
+    fn consolidate_at_once(
+        &mut self,
+        page: Pid,
+        version: Version,
+    ) -> Option<Result<Receipt, Denied>> {
+        if self.account.reserve().is_err() {
+            return Some(Err(Denied::NoMemory));
+        }
+        let answer = self.tree.consolidate_at_once(self.alloc, page, version)?;
+        match answer {
+            Ok(receipt) => {
+                self.account.accepted(receipt);
+                pass(self.gate, self.worker, receipt);
+                Some(Ok(receipt))
+            }
+            Err(Denied::NoMemory) => Some(Err(Denied::NoMemory)),
+            Err(Denied::Refused(reason)) => {
+                self.account.refused(reason);
+                Some(Err(Denied::Refused(reason)))
+            }
+        }
+    }
+
+    #[inline(always)]
     fn visit(&mut self, place: Place, key: Key, goal: u8) -> Next {
         let next = self.tree.visit(place, key, goal);
         self.account.visited(next.go);

@@ -104,6 +104,22 @@ impl<'t, S: Shared<Global, Step<Global>>, G: Gate> Steps<Global, Step<Global>>
         self.hand.change_at_once(key, wished)
     }
 
+    fn records_at_once(&self) -> bool {
+        self.hand.records_at_once()
+    }
+
+    fn record_at_once(&mut self, key: Key, wished: Wished) -> Option<AtOnce> {
+        self.hand.record_at_once(key, wished)
+    }
+
+    fn consolidate_at_once(
+        &mut self,
+        page: Pid,
+        version: Version,
+    ) -> Option<Result<Receipt, Denied>> {
+        self.hand.consolidate_at_once(page, version)
+    }
+
     fn visit(&mut self, place: Place, key: Key, goal: u8) -> Next {
         self.hand.visit(place, key, goal)
     }

@@ -38,27 +38,12 @@ impl<A: Allocator + Copy> Table<A> {
         ensures map { IfSome result (λ done.
             TellsMap (telling_of done.receipt) self.old.slots self.new.slots) }
         ensures count { IfSome result (λ done. done.count ≡ (slot_at self.new done.page.0).count) }
+        ensures depth { IfSome result (λ done. done.depth ≡ (slot_at self.new done.page.0).depth) }
         ensures unchanged { IfNone result (self.new ≡ self.old) }
     {
         let page = self.leaf_at_rest(key)?.pid;
         let receipt = self.change_leaf(page, key, wished)?;
-        let count = self.count_of(page);
-        Some(AtOnce {
-            page,
-            receipt,
-            count,
-        })
-    }
-
-    /// How many entries the page has.
-    #[inline(always)]
-    fn count_of(&self, page: Pid) -> u64
-        ensures { result ≡ (slot_at self.now page.0).count }
-    {
-        match self.slot(page) {
-            Some(slot) => slot.summary.count,
-            None => 0,
-        }
+        Some(self.at_once(page, receipt))
     }
 
     /// The same on a page: None where it isn't such a leaf, or its range doesn't hold the key.
