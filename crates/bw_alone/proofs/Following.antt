@@ -31,11 +31,11 @@ step_number table (delete page seen key) = omega arith
 step_number table (modify page seen key value) = omega arith
 step_number table step = tt
 
--- what an accepted step makes of the table is what its receipt tells
+-- what an accepted step makes of the table is what its receipt reports
 step_tells : (table : TableValue) (step : Proposal) → KeptBy table step → Tells (receipt_of table step) table (after table step)
 step_tells table step kept = record { map = kept.map; book = refl; number = step_number table step }
 
--- a receipt that tells of the two tables leads from the one to the other
+-- a receipt that reports what the one table became leads from the one to the other
 pub leads_by : (old new : TableValue) (trail : List Receipt) (receipt : Receipt) → Tells receipt old new → Leads old trail new (trail ++ receipt ∷ [])
 leads_by old new trail receipt tells = (receipt ∷ [], refl, (new, tells, refl))
 

@@ -64,7 +64,7 @@ same_number a b same = grind (arith, nat_tests)
 
 module _ (table : TableValue) (trails : List (List Receipt)) (is : Explains table trails) (worker : ℕ) (inside : worker < length trails) (next : TableValue) (lawful : Lawful next) (booked : Booked next) (r : Receipt)
     (up : (last : ℕ) → last ≤ length (all_changes trails) → rises_from last (telling_of r) ≡ true) where
-  -- a receipt that tells of no change, of a table with the same map
+  -- a receipt that reports no change, of a table with the same map
   keeps_silent : number_of next.book ≡ number_of table.book → SameMap table.slots next.slots → change_of r ≡ None → IsFine (all_changes trails) r → Explains next (add_receipts trails worker (r ∷ []))
   keeps_silent number map none fine =
       let old = all_changes trails in

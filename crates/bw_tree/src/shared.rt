@@ -48,7 +48,7 @@ pub trait Shared<A: Allocator + Copy, P: Proposes> {
     fn look(&self, pid: Pid, key: Key) -> Option<Look>;
 
     /// Returns the leaf whose range holds the key, where no page on the way to it is in the middle
-    /// of a split or a merge. None also where the tree can't tell in one hold of its lock: a search
+    /// of a split or a merge. None also where the tree can't find it in one hold of its lock: a search
     /// then goes by [`visit`](Shared::visit).
     fn leaf_at_once(&self, _key: Key) -> Option<View>
         ensures leaf { IfSome result (λ view. view.level ≡ 0) }
