@@ -7,16 +7,17 @@ use Rattle.bw_delta.specs.Entries.{at}
 use Rattle.bw_step.specs.declared.receipt.Receipt.{Receipt}
 use Rattle.bw_step.specs.declared.receipt.Receipt.TheVariants.{Looked}
 use Rattle.bw_step.specs.declared.view.Look.{Look}
+use Rattle.bw_step.specs.declared.survey.Book.{Book}
 use Rattle.bw_step.specs.Stages.{is_in_row}
 use Rattle.bw_step.specs.Proposals.{Proposal, insert, delete, modify, consolidate, split, term_add, grow, mark, merge, term_delete}
 use Rattle.bw_step.specs.Steps.{IsReceiptOf}
-use Rattle.bw_step.specs.Tellings.{telling_of}
+use Rattle.bw_step.specs.Tellings.{Telling, change, look as looked, shape, telling_of}
 use Rattle.bw_law.specs.Slots.{pairs_in}
-use Rattle.bw_law.specs.Tables.{TableValue, slot_at, number_of, Lawful, Booked, is_leaf_in_row}
+use Rattle.bw_law.specs.Tables.{TableValue, slot_at, number_of, book_with, Lawful, Booked, is_leaf_in_row}
 use Rattle.bw_law.specs.Laws.{KeptBy}
 use Rattle.bw_law.specs.Refusals.{refusal, new_id}
 use Rattle.bw_law.specs.Effects.{after, receipt_of, pid, TakesStep}
-use Rattle.bw_law.proofs.AllSteps.{step_law}
+use Rattle.bw_law.proofs.AllSteps.{step_law, IsNext, step_is_next}
 use Rattle.bw_law.proofs.Accepted.{Holds}
 use Rattle.bw_law.proofs.Facts.{leaf_decides}
 use Rattle.bw_table.specs.Views.{look_at}
@@ -24,16 +25,15 @@ use Rattle.bw_procedures.specs.declared.steps.Keep.{Keep}
 use Rattle.bw_procedures.specs.Seen.{is_kept, trail_after_look}
 use Rattle.bw_alone.specs.Leading.{BearsNumber, Tells, Leads, leads_stay}
 
--- a change of the map bears the next number
-step_number : (table : TableValue) (step : Proposal) → BearsNumber (telling_of (receipt_of table step)) (after table step).book
-step_number table (insert page seen key value) = omega arith
-step_number table (delete page seen key) = omega arith
-step_number table (modify page seen key value) = omega arith
-step_number table step = tt
+-- the next change bears the number that the book has with it
+bears_number : (book : Book) (told : Telling) → IsNext book told → BearsNumber told (book_with book told)
+bears_number book (change number key before after) next = sym next.1
+bears_number book (looked at key found) next = absurd next
+bears_number book shape next = tt
 
 -- what an accepted step makes of the table is what its receipt reports
 step_tells : (table : TableValue) (step : Proposal) → KeptBy table step → Tells (receipt_of table step) table (after table step)
-step_tells table step kept = record { map = kept.map; book = refl; number = step_number table step }
+step_tells table step kept = record { map = kept.map; book = refl; number = bears_number table.book (telling_of (receipt_of table step)) (step_is_next table step) }
 
 -- a receipt that reports what the one table became leads from the one to the other
 pub leads_by : (old new : TableValue) (trail : List Receipt) (receipt : Receipt) → Tells receipt old new → Leads old trail new (trail ++ receipt ∷ [])
