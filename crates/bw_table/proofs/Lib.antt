@@ -4,6 +4,7 @@ pub mod Doing
 pub mod FreeIds
 pub mod LiveRoutes
 pub mod Reasons
+pub mod Reports
 pub mod RowWalk
 pub mod Same
 pub mod Ways
