@@ -209,8 +209,11 @@ struct Left {
 
 fn left_alone(machine: Global, config: Config, calls: &[Call]) -> Result<Left, Fail> {
     let mut table = Table::new(machine, machine, config)?;
-    let mut alone = Alone::new(machine, machine, &mut table);
-    let outcome = outcome_of(machine, &mut alone, calls);
+    let outcome = outcome_of(
+        machine,
+        &mut Alone::new(machine, machine, &mut table),
+        calls,
+    );
     Ok(Left { outcome, table })
 }
 
