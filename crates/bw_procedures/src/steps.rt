@@ -151,7 +151,8 @@ pub trait Steps<A: Allocator + Copy, P: Proposes> {
         _version: Version,
     ) -> Option<Result<Receipt, Denied>>
         ensures follows { follows self.old self.new }
-        ensures seen { ConsolidatedAtOnce _page.0 _version.0 result (seen self.old) (seen self.new) }
+        ensures seen { ConsolidatedAtOnce _page.0 _version.0 result
+            (seen self.old) (seen self.new) }
     {
         None
     }
