@@ -12,5 +12,6 @@ pub mod Whole
 pub mod Writes
 pub mod Gets
 pub mod Listings
+pub mod Cuts
 pub mod Rests
 pub mod Orders
