@@ -18,7 +18,7 @@ use std::sync::atomic::{AtomicU64, Ordering};
 use std::test::Fail;
 use std::thread::Threads;
 use test_kit::{
-    Call, Hook, Hooked, LARGE, Pages, Play, Reply, SMALL, Task, Turns, Worked, play_on_new_tree,
+    Call, Hook, Hooked, LARGE, Pages, Play, Played, Reply, SMALL, Task, Turns, play_on_new_tree,
     work,
 };
 
@@ -175,12 +175,12 @@ impl ByHand {
         tree: &S,
         worker: u32,
         share: Share<S::Insertions, S::Removals>,
-    ) -> Worked<S::Insertions, S::Removals, Outcome> {
+    ) -> Played<S::Insertions, S::Removals, Outcome> {
         let calls: &[Call] = if worker == 0 { &self.calls } else { &[] };
         let mut hand = Hand::new(self.machine, self.machine, tree, share, worker, self);
         let told = outcome_of(self.machine, &mut hand, calls);
         let (share, _) = hand.finish();
-        Worked { share, told }
+        Played { share, told }
     }
 }
 
@@ -190,7 +190,7 @@ impl Play<Outcome> for ByHand {
         tree: &S,
         worker: u32,
         share: Share<S::Insertions, S::Removals>,
-    ) -> Worked<S::Insertions, S::Removals, Outcome> {
+    ) -> Played<S::Insertions, S::Removals, Outcome> {
         if self.by_steps {
             let hook = &Steadily;
             self.outcome(&Hooked { tree, hook }, worker, share)

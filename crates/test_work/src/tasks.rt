@@ -14,7 +14,7 @@ use std::sync::ledger::Ledger;
 use std::test::Fail;
 use std::thread::Threads;
 use test_kit::{
-    Change, Ended, Hook, Hooked, Pages, Play, Task, Told, Turns, Worked, leaves_of,
+    Change, Ended, Hook, Hooked, Pages, Play, Played, Task, Told, Turns, leaves_of,
     play_on_new_tree, step_of, take, work, work_by_hand,
 };
 
@@ -97,7 +97,7 @@ impl Play<Told> for ByHand {
         tree: &S,
         worker: u32,
         share: Share<S::Insertions, S::Removals>,
-    ) -> Worked<S::Insertions, S::Removals, Told> {
+    ) -> Played<S::Insertions, S::Removals, Told> {
         let machine = self.machine;
         let task = self.task(worker);
         let mut worked = if self.by_steps {
