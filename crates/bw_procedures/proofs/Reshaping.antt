@@ -2,6 +2,7 @@
 use Rattle.std.proofs.Common.{◌≢◌, ℕ, zero, suc, ◌+◌, ◌<◌, ◌≤◌, ◌^◌, List, [], ◌∷◌, ◌++◌, length, Option, Some, None, Result, Ok, Err, IfErr, OnOk, refl, sym, ap, subst, ◌∙◌, append-nil, arith}
 use Rattle.bw_keys.specs.declared.page.Pid.{Pid}
 use Rattle.bw_step.specs.Proposals.{Proposal, insert, delete, modify}
+use Rattle.bw_step.specs.Steps.{ChangesShape}
 use Rattle.bw_step.specs.declared.receipt.Receipt.{Receipt}
 use Rattle.bw_step.specs.declared.receipt.Receipt.TheVariants.{Shaped}
 use Rattle.bw_step.specs.Tellings.{without_shapes}
@@ -9,7 +10,7 @@ use Rattle.bw_step.proofs.Tellings.{without_shapes-append}
 use Rattle.bw_procedures.specs.Seen.{Seen, SameCounts, OnlyAdds, Grows, IsAccepted}
 use Rattle.bw_procedures.proofs.Trails.{adds_by, adds_then}
 use Rattle.bw_procedures.specs.declared.fault.Fault.{Fault}
-use Rattle.bw_procedures.specs.Calls.{OnlyReshapes, ReshapesWithin, IsEarned, RoseBy, ChangesShape, raised, TakesShapes, SplitAtOnce}
+use Rattle.bw_procedures.specs.Calls.{OnlyReshapes, ReshapesWithin, IsEarned, RoseBy, raised, TakesShapes, SplitAtOnce}
 use Rattle.bw_procedures.specs.Tending.{IsTended}
 
 pub counts_grow : (a b : Seen) → SameCounts a b → OnlyAdds a.trail b.trail → a.effort ≤ b.effort → Grows a b

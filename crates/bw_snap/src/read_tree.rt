@@ -172,9 +172,7 @@ impl<R: Wait + Copy, N: Naming, D: Ledger> Shared<Global, Step<Global>> for Read
 
     #[inline(always)]
     fn look_at_once(&self, key: Key) -> Option<Look> {
-        let published = self.published.lock(&self.rt);
-        let leaf = published.table().leaf_at_rest(key)?;
-        published.table().look(leaf.pid, key)
+        Some(self.published.lock(&self.rt).table().look_up(key))
     }
 
     #[inline(always)]

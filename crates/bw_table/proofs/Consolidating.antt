@@ -1,5 +1,5 @@
 -- A page that is made anew where it lies is refused for no reason but those that are looked at first.
-use Rattle.std.proofs.Common.{◌≡◌, ℕ, Bool, true, false, not, ◌||◌, ◌==◌, if◌then◌else◌, List, [], ◌∷◌, ◌++◌, Option, Some, None, Result, Ok, Err, refl, sym, ap, subst, ◌∙◌, arith}
+use Rattle.std.proofs.Common.{◌≡◌, ℕ, Bool, true, false, not, ◌||◌, ◌==◌, if◌then◌else◌, List, [], ◌∷◌, ◌++◌, Option, Some, None, Ok, refl, sym, ap, ◌∙◌, arith}
 use Rattle.std.specs.Prelude.{nat_lt, unwrap_or, IfSome}
 use Rattle.std.proofs.lemmas.Bool.Decides.{nat_tests}
 use Rattle.bw_keys.specs.Reasons.{when, first_reason}
@@ -12,7 +12,7 @@ use Rattle.bw_step.specs.declared.refused.Refused.TheVariants.{Absent}
 use Rattle.bw_step.specs.Stages.{is_in_row}
 use Rattle.bw_law.specs.Refusals.{open_reasons, worn, is_other_kind, consolidate_reasons}
 use Rattle.bw_law.specs.Slots.{SlotValue, chain_in, empty_page}
-use Rattle.bw_law.specs.Tables.{TableValue, Lawful, IsPageOf, slot_at}
+use Rattle.bw_law.specs.Tables.{TableValue, Lawful, slot_at}
 use Rattle.bw_law.proofs.SameTests.{same_page_tells}
 use Rattle.bw_table.specs.Answers.{fine_unless}
 

@@ -1,3 +1,2 @@
 mod AtOnce
 pub mod Trees
-pub mod Answers

@@ -56,8 +56,8 @@ pub trait Shared<A: Allocator + Copy, P: Proposes> {
         None
     }
 
-    /// Returns what the map has at the key, where no page on the way to its leaf is in the middle
-    /// of a split or a merge. None as in [`leaf_at_once`](Shared::leaf_at_once).
+    /// Returns what the map has at the key. None where the tree can't look it up in one hold of its
+    /// lock: a search then goes by [`visit`](Shared::visit).
     fn look_at_once(&self, _key: Key) -> Option<Look> {
         None
     }

@@ -8,6 +8,8 @@ mod at_once;
 mod beside;
 #[cfg(test)]
 mod crew;
+#[cfg(test)]
+mod questions;
 pub mod reads;
 #[cfg(test)]
 mod seen;
