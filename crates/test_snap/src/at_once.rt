@@ -1,6 +1,6 @@
 //! A hand on a tree with readers makes changes at once, and each is noted for the published copies.
 //! It is answered as a hand on a tree without readers, and as one that goes step by step, and leaves
-//! the same receipts and leaves. Readers find what a plain map has.
+//! the same receipts and leaves. Its replies, and what readers find, are those of a plain map.
 
 ghost use Rattle.std.specs.Prelude.{◌≡◌};
 ghost use Rattle.bw_tree.specs.Trees.{OpensFor};
@@ -10,7 +10,7 @@ use bw_snap::{Announcements, Naming, ReadTree, Reader};
 use bw_step::{Denied, Receipt, Step};
 use bw_table::Table;
 use bw_tree::{Blanks, MadeBy, Share, Shared, Tree};
-use bw_work::{Ends, Fault, Hand, Open, Steps};
+use bw_work::{Del, Ends, Fault, Hand, Open, Put, Set, Steps};
 use rand_core::{Rng, SeedableRng};
 use rand_pcg::Pcg32;
 use std::alloc::Global;
@@ -46,9 +46,6 @@ static CONFIGS: [Config; 4] = [
     },
 ];
 
-/// The number of those, the first ones, in which no call has a fault.
-const FAULTLESS: usize = 2;
-
 fn drawn_call(rng: &mut Pcg32) -> Call {
     let key = u64::from(rng.next_u32() % KEYS);
     let value = u64::from(rng.next_u32());
@@ -70,26 +67,63 @@ fn drawn_calls(machine: Global, seed: u64) -> Result<Vec<Call>, Fail> {
     Ok(calls)
 }
 
-/// Does to a plain map what the call does to a tree.
-fn do_plainly(map: &mut BTreeMap<Key, u64>, call: Call) -> Result<(), Fail> {
-    match call {
-        Call::Put(key, value) => {
-            if map.get(&key).is_none() {
+/// Removes the keys of the range from a plain map, in their order and no more than the most. Returns
+/// their number.
+fn remove_range(map: &mut BTreeMap<Key, u64>, low: Key, high: Fence, most: u64) -> u64 {
+    let mut removed = 0;
+    for key in low..u64::from(KEYS) {
+        if removed < most && high.is_above(key) && map.remove(&key).is_some() {
+            removed += 1;
+        }
+    }
+    removed
+}
+
+/// Does to a plain map what the call does to a tree, and returns its reply. A range is removed up to
+/// the most keys.
+fn do_plainly(map: &mut BTreeMap<Key, u64>, call: Call, most: u64) -> Result<Reply, Fail> {
+    let reply = match call {
+        Call::Put(key, value) => match map.get(&key).copied() {
+            Some(had) => Reply::Put(Put::Present(had)),
+            None => {
                 map.insert(key, value)?;
+                Reply::Put(Put::Inserted)
+            }
+        },
+        Call::Set(key, value) => match map.insert(key, value)? {
+            Some(old) => Reply::Set(Set::Replaced(old)),
+            None => Reply::Set(Set::Inserted),
+        },
+        Call::Delete(key) => match map.remove(&key) {
+            Some(value) => Reply::Delete(Del::Removed(value)),
+            None => Reply::Delete(Del::NoKey),
+        },
+        Call::Get(key) | Call::Slice(key) => Reply::Get(map.get(&key).copied()),
+        Call::Clear(low, high) => Reply::Clear(remove_range(map, low, high, most)),
+    };
+    Ok(reply)
+}
+
+/// Makes the calls that have a reply on a plain map, and fails where that replies otherwise. A fault
+/// beside a reply takes nothing back; one that ended the removal of a range left the keys behind those
+/// that were counted.
+fn follow(map: &mut BTreeMap<Key, u64>, calls: &[Call], replies: &[Reply]) -> Result<(), Fail> {
+    let mut at = 0;
+    for call in calls {
+        let Some(reply) = replies.get(at).copied() else {
+            return Ok(());
+        };
+        at += 1;
+        let mut most = u64::MAX;
+        if let Some(Reply::But(_)) = replies.get(at) {
+            at += 1;
+            if let Reply::Clear(removed) = reply {
+                most = removed;
             }
         }
-        Call::Set(key, value) => {
-            map.insert(key, value)?;
+        if do_plainly(map, *call, most)? != reply {
+            return Err("a call has another reply than on a plain map".into());
         }
-        Call::Delete(key) => {
-            let _value = map.remove(&key);
-        }
-        Call::Clear(low, Fence::Key(high)) => {
-            for key in low..high {
-                let _value = map.remove(&key);
-            }
-        }
-        Call::Clear(_, Fence::Top) | Call::Get(_) | Call::Slice(_) => {}
     }
     Ok(())
 }
@@ -107,33 +141,30 @@ struct Outcome {
 
 /// What is done behind each part of the calls.
 trait Behind {
-    fn pass(&mut self, calls: &[Call]) -> Result<(), Fail>;
+    fn pass(&mut self, calls: &[Call], replies: &[Reply]) -> Result<(), Fail>;
 }
 
 #[derive(Drop)]
 struct Nothing;
 
 impl Behind for Nothing {
-    fn pass(&mut self, _calls: &[Call]) -> Result<(), Fail> {
+    fn pass(&mut self, _calls: &[Call], _replies: &[Reply]) -> Result<(), Fail> {
         Ok(())
     }
 }
 
-/// The tree is published, and its reader finds the pairs of the plain map, where no call has a fault.
+/// The tree is published, and its reader finds the pairs of the plain map.
 #[derive(Drop)]
 struct Publishes<'t, R: Wait + Copy, N: Naming, D: Ledger> {
     machine: Global,
     tree: &'t ReadTree<R, N, D>,
     reader: &'t mut Reader<N>,
-    faultless: bool,
     map: &'t mut BTreeMap<Key, u64>,
 }
 
 impl<'t, R: Wait + Copy, N: Naming, D: Ledger> Behind for Publishes<'t, R, N, D> {
-    fn pass(&mut self, calls: &[Call]) -> Result<(), Fail> {
-        for call in calls {
-            do_plainly(self.map, *call)?;
-        }
+    fn pass(&mut self, calls: &[Call], replies: &[Reply]) -> Result<(), Fail> {
+        follow(self.map, calls, replies)?;
         let stamp = self.tree.publish()?;
         self.reader.learn(stamp);
         let mut pairs = Vec::new(self.machine);
@@ -142,7 +173,7 @@ impl<'t, R: Wait + Copy, N: Naming, D: Ledger> Behind for Publishes<'t, R, N, D>
         for (key, value) in self.map.iter() {
             wanted.push((*key, *value))?;
         }
-        if pairs == wanted || !self.faultless {
+        if pairs == wanted {
             Ok(())
         } else {
             Err("a reader finds other pairs than a plain map".into())
@@ -173,11 +204,11 @@ fn outcome_of<S: Shared<Global, Step<Global>>, B: Behind>(
         for receipt in receipts.iter() {
             trail.push(*receipt)?;
         }
+        behind.pass(calls, &more)?;
         ended = fault;
         if ended.is_some() {
             break;
         }
-        behind.pass(calls)?;
     }
     Ok(Outcome {
         replies,
@@ -246,8 +277,6 @@ struct Way {
     span: usize,
     /// Whether the tree is asked for atomic steps alone.
     by_steps: bool,
-    /// Whether no call has a fault.
-    faultless: bool,
 }
 
 fn work_over_read_tree<R: Wait + Copy, N: Naming, D: Ledger>(
@@ -278,7 +307,6 @@ fn work_over_read_tree<R: Wait + Copy, N: Naming, D: Ledger>(
         machine,
         tree: &tree,
         reader: &mut reader,
-        faultless: way.faultless,
         map: &mut map,
     };
     let parts = (calls, way.span);
@@ -306,17 +334,13 @@ fn work_beside_reader<R: Wait + Copy>(
 #[test]
 fn changes_at_once_are_noted_as_their_steps(rt: HostRuntime) -> Result<(), Fail> {
     let machine = rt.alloc();
-    for (at, config) in CONFIGS.iter().enumerate() {
+    for config in CONFIGS.iter() {
         for seed in 0..2 {
             let calls = drawn_calls(machine, seed)?;
             let alone = work_on_tree(rt, machine, *config, &calls)?;
             for span in SPANS {
                 for by_steps in [false, true] {
-                    let way = Way {
-                        span,
-                        by_steps,
-                        faultless: at < FAULTLESS,
-                    };
+                    let way = Way { span, by_steps };
                     let beside = work_beside_reader(rt, machine, *config, &calls, way)?;
                     assert_eq!(rt; beside, alone, "seed {seed}, {way:?}");
                 }
