@@ -65,12 +65,15 @@ module _ (R N D : RattleType) (names : naming.Ghosts N.Denot) (made : made_by.Gh
     (
       search (Note-send, Shown-send, Shown-sync, writing.the_field_send, sendable, crosses) depth 60 fits 10000,
       (
-        search (word.the_send, sendable, crosses) depth 60,
+        search (sendable, crosses) depth 60,
         (
-          search (Front-send, sendable, crosses) depth 60,
+          search (word.the_send, sendable, crosses) depth 60,
           (
-            search (r, sendable),
-            tt,
+            search (Front-send, sendable, crosses) depth 60,
+            (
+              search (r, sendable),
+              tt,
+            ),
           ),
         ),
       ),

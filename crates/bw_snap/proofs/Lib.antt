@@ -1,5 +1,6 @@
 pub mod Adding
 pub mod Beginnings
 pub mod Notes
+pub mod Changes
 pub mod Crossing
 pub mod Seats

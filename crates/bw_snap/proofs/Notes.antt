@@ -8,14 +8,15 @@ use Rattle.bw_step.specs.Proposals.{Proposal}
 use Rattle.bw_step.specs.ProposalView.{proposal_of}
 use Rattle.bw_law.specs.Refusals.{refusal}
 use Rattle.bw_law.specs.Effects.{after}
-use Rattle.bw_law.specs.Runs.{next_table}
+use Rattle.bw_law.specs.Runs.{next_table, run}
 use Rattle.bw_law.specs.Tables.{TableValue, new_table}
 use Rattle.bw_table.specs.Answers.{fine_unless}
+use Rattle.bw_snap.specs.declared.note.Change.{Change as Held}
 use Rattle.bw_snap.specs.declared.note.Note.{Note}
-use Rattle.bw_snap.specs.declared.note.Note.TheVariants.{Step, Mark}
+use Rattle.bw_snap.specs.declared.note.Note.TheVariants.{Step, Change, Mark}
 use Rattle.bw_snap.specs.Fronts.{Announced}
 use Rattle.bw_snap.specs.Snapshots.{LeadTo, IsSnapshot, BeginsWith}
-use Rattle.bw_snap.specs.Notes.{noted, steps_of}
+use Rattle.bw_snap.specs.Notes.{noted, noted_steps, steps_of, steps_for, table_with, held_notes}
 use Rattle.bw_snap.proofs.Beginnings.{begins_and_goes_on}
 
 pub leads_on : (a b c : TableValue) (xs ys : List Proposal) → LeadTo a xs b → LeadTo b ys c → LeadTo a (xs ++ ys) c
@@ -29,33 +30,61 @@ pub not_refused : (o : Option Refused) → Ok tt ≡ fine_unless o → o ≡ Non
 not_refused None is = refl
 not_refused (Some reason) is = absurd (cc (is))
 
-pub steps_of-append : (xs ys : List Note) → steps_of (xs ++ ys) ≡ steps_of xs ++ steps_of ys
-steps_of-append [] ys = refl
-steps_of-append (Step step ∷ xs) ys = ap (λ (steps : List Proposal). proposal_of step ∷ steps) (steps_of-append xs ys)
-steps_of-append (Mark front ∷ xs) ys = steps_of-append xs ys
+-- an accepted step is taken
+is_taken : (table : TableValue) (step : Proposal) → refusal table step ≡ None → next_table table step ≡ after table step
+is_taken table step accepted = ap (λ (o : Option Refused). if is_none o then after table step else table) accepted
+
+-- steps that are each accepted are all taken
+pub runs_to : (a b : TableValue) (xs : List Proposal) → LeadTo a xs b → run a xs ≡ b
+runs_to a b [] r = sym r
+runs_to a b (x ∷ xs) r = subst (λ (t : TableValue). run t xs ≡ b) (sym (is_taken a x r.0)) (runs_to (after a x) b xs r.1)
+
+-- and the others lead on from where the first ones led
+pub leads_from : (a c : TableValue) (xs ys : List Proposal) → LeadTo a (xs ++ ys) c → LeadTo (run a xs) ys c
+leads_from a c [] ys r = r
+leads_from a c (x ∷ xs) ys r = subst (λ (t : TableValue). LeadTo (run t xs) ys c) (sym (is_taken a x r.0)) (leads_from (after a x) c xs ys r.1)
+
+-- where the first notes lead, the others go on
+pub steps_of-append : (a b : TableValue) (notes more : List Note) → LeadTo a (steps_of a notes) b → steps_of a (notes ++ more) ≡ steps_of a notes ++ steps_of b more
+steps_of-append a b [] more r = ap (λ (t : TableValue). steps_of t more) (sym r)
+steps_of-append a b (note ∷ notes) more r =
+    let steps = noted_steps a note in
+    let rest = steps_of (run a steps) notes in
+    ap (λ (l : List Proposal). steps ++ l) (steps_of-append (run a steps) b notes more (leads_from a b steps rest r)) ∙ sym (append_assoc steps rest (steps_of b more))
+
+-- once nothing is held back, the notes of the log are all
+pub settled : (log since : List Note) (held : Option Held) → log ++ held_notes held ≡ since → held ≡ None → log ≡ since
+settled log since held same none = sym (append-nil log) ∙ (ap (λ (h : Option Held). log ++ held_notes h) (sym none) ∙ same)
+
+-- and one more note stands behind all
+pub noted_behind : (log next since : List Note) (held : Option Held) (note : Note) → log ++ held_notes held ≡ since → held ≡ None → next ≡ log ++ note ∷ [] → next ++ held_notes held ≡ since ++ note ∷ []
+noted_behind log next since held note same none is =
+    ap (λ (h : Option Held). next ++ held_notes h) none ∙ (append-nil next ∙ (is ∙ ap (λ (l : List Note). l ++ note ∷ []) (settled log since held same none)))
 
 -- a mark is no step
-pub steps_of-mark : (notes : List Note) (front : Announced) → steps_of (notes ++ Mark front ∷ []) ≡ steps_of notes
-steps_of-mark notes front = steps_of-append notes (Mark front ∷ []) ∙ append-nil (steps_of notes)
+pub steps_of-mark : (a b : TableValue) (notes : List Note) (front : Announced) → LeadTo a (steps_of a notes) b → steps_of a (notes ++ Mark front ∷ []) ≡ steps_of a notes
+steps_of-mark a b notes front r = steps_of-append a b notes (Mark front ∷ []) r ∙ append-nil (steps_of a notes)
 
 -- steps that are each accepted are all taken, and the last mark stands
-pub marked : (table end : TableValue) (from front : Announced) (notes : List Note) → LeadTo table (steps_of notes) end → fold noted (table, from) (notes ++ Mark front ∷ []) ≡ (end, front)
+pub marked : (table end : TableValue) (from front : Announced) (notes : List Note) → LeadTo table (steps_of table notes) end → fold noted (table, from) (notes ++ Mark front ∷ []) ≡ (end, front)
 marked table end from front [] r = ap (λ (t : TableValue). (t, front)) (sym r)
 marked table end from front (Step step ∷ notes) r =
-    let p = proposal_of step in
-    let taken : next_table table p ≡ after table p = ap (λ (o : Option Refused). if is_none o then after table p else table) r.0 in
-    subst (λ (t : TableValue). fold noted (t, from) (notes ++ Mark front ∷ []) ≡ (end, front)) (sym taken) (marked (after table p) end from front notes r.1)
+    let next = next_table table (proposal_of step) in
+    marked next end from front notes (leads_from table end (proposal_of step ∷ []) (steps_of next notes) r)
+marked table end from front (Change change ∷ notes) r =
+    let next = table_with table change in
+    marked next end from front notes (leads_from table end (steps_for table change) (steps_of next notes) r)
 marked table end from front (Mark other ∷ notes) r = marked table end other front notes r
 
 -- where what is pending ends with a mark of all of it, the copies end as the table where their list leads
 pub lands : (config : Config) (table end : TableValue) (from front : Announced) (notes : List Note) (announcements : Book)
-    → LeadTo table (steps_of notes) end → IsSnapshot config from.list table → front ≡ record { list = from.list ++ steps_of notes; announcements = announcements }
+    → LeadTo table (steps_of table notes) end → IsSnapshot config from.list table → front ≡ record { list = from.list ++ steps_of table notes; announcements = announcements }
     → IsSnapshot config (fold noted (table, from) (notes ++ Mark front ∷ [])).1.list (fold noted (table, from) (notes ++ Mark front ∷ [])).0
     × ((fold noted (table, from) (notes ++ Mark front ∷ [])).1.announcements ≡ announcements)
     × BeginsWith (fold noted (table, from) (notes ++ Mark front ∷ [])).1.list from.list
-lands config table end from front notes announcements run snapshot is =
-    subst (λ (shown : TableValue × Announced). IsSnapshot config shown.1.list shown.0 × (shown.1.announcements ≡ announcements) × BeginsWith shown.1.list from.list) (sym (marked table end from front notes run))
-    (subst (λ (f : Announced). IsSnapshot config f.list end × (f.announcements ≡ announcements) × BeginsWith f.list from.list) (sym is) (leads_on (new_table config) table end from.list (steps_of notes) snapshot run, refl, (steps_of notes, refl)))
+lands config table end from front notes announcements leads snapshot is =
+    subst (λ (shown : TableValue × Announced). IsSnapshot config shown.1.list shown.0 × (shown.1.announcements ≡ announcements) × BeginsWith shown.1.list from.list) (sym (marked table end from front notes leads))
+    (subst (λ (f : Announced). IsSnapshot config f.list end × (f.announcements ≡ announcements) × BeginsWith f.list from.list) (sym is) (leads_on (new_table config) table end from.list (steps_of table notes) snapshot leads, refl, (steps_of table notes, refl)))
 
-pub begins_one_more : (xs ys : List Proposal) (step : Proposal) (seen : List Proposal) → BeginsWith (xs ++ ys) seen → BeginsWith (xs ++ (ys ++ step ∷ [])) seen
-begins_one_more xs ys step seen s = subst (λ (steps : List Proposal). BeginsWith steps seen) (append_assoc xs ys (step ∷ [])) (begins_and_goes_on (xs ++ ys) (step ∷ []) seen s)
+pub begins_with_more : (xs ys more : List Proposal) (seen : List Proposal) → BeginsWith (xs ++ ys) seen → BeginsWith (xs ++ (ys ++ more)) seen
+begins_with_more xs ys more seen s = subst (λ (steps : List Proposal). BeginsWith steps seen) (append_assoc xs ys more) (begins_and_goes_on (xs ++ ys) more seen s)

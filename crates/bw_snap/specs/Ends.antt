@@ -1,5 +1,5 @@
 -- What a clause reads of the writing end of the published pair.
-use Rattle.std.specs.Prelude.{◌≡◌, Bool, List, [], ◌∷◌, ◌++◌, drop, fold, Result, MatchBool, MatchResult}
+use Rattle.std.specs.Prelude.{◌≡◌, Bool, List, [], ◌∷◌, ◌++◌, drop, fold, Option, Result, MatchBool, MatchResult}
 use Rattle.left_right.specs.Sides.{view}
 use Rattle.left_right.specs.declared.Absorb.{Ghosts}
 use Rattle.left_right.specs.declared.writer.Writer.{Writer}
@@ -7,10 +7,11 @@ use Rattle.logbook.specs.Pages.{Book}
 use Rattle.bw_keys.specs.declared.config.Config.{Config}
 use Rattle.bw_step.specs.Proposals.{Proposal}
 use Rattle.bw_law.specs.Tables.{TableValue}
+use Rattle.bw_snap.specs.declared.note.Change.{Change}
 use Rattle.bw_snap.specs.declared.note.Note.{Note}
 use Rattle.bw_snap.specs.declared.shown.Shown.{Shown}
 use Rattle.bw_snap.specs.Fronts.{Announced}
-use Rattle.bw_snap.specs.Notes.{noted, steps_of}
+use Rattle.bw_snap.specs.Notes.{noted, steps_of, held_notes}
 use Rattle.bw_snap.specs.Trees.{PublishedValue}
 use Rattle.bw_snap.specs.Views.{Land}
 
@@ -27,9 +28,20 @@ module _ {P A S : Type 0} {g : Ghosts Shown Note S} where
   abbrev pub unpublished : Writer Shown Note (List Proposal) P A S g → List Note
   unpublished w = drop w.behind w.log.items
 
-  -- the list that the next publication shows: the published one with the pending steps behind it
+  -- the steps that these notes stand for, and the list that shows them: the published one with them behind it
+  abbrev pub steps_behind : Writer Shown Note (List Proposal) P A S g → List Note → List Proposal
+  steps_behind w notes = steps_of w.desk.shown.value.table notes
+
+  abbrev pub list_behind : Writer Shown Note (List Proposal) P A S g → List Note → List Proposal
+  list_behind w notes = w.desk.shown.value.front.list ++ steps_behind w notes
+
+  -- the list that the next publication shows
   abbrev pub next_list : Writer Shown Note (List Proposal) P A S g → List Proposal
-  next_list w = w.desk.shown.value.front.list ++ steps_of (unpublished w)
+  next_list w = list_behind w (unpublished w)
+
+  -- the notes that the published table hasn't absorbed, with the one that is held back
+  abbrev pub noted_since : Writer Shown Note (List Proposal) P A S g → Option Change → List Note
+  noted_since w held = unpublished w ++ held_notes held
 
   -- the front of that list, once it is announced here
   abbrev pub next_front : Book → Writer Shown Note (List Proposal) P A S g → Announced
@@ -50,5 +62,5 @@ module _ {P A S : Type 0} {g : Ghosts Shown Note S} where
   MayPublish config announcements w = Land config announcements w.desk.shown.value.table w.desk.shown.value.front (unpublished w)
 
   -- a table beside the writing end that publishes it
-  abbrev pub published_value : TableValue → Writer Shown Note (List Proposal) P A S g → PublishedValue
-  published_value table w = record { table = table; published = w.desk.shown.value.table; pending = steps_of (unpublished w); list = w.desk.shown.value.front.list }
+  abbrev pub published_value : TableValue → Writer Shown Note (List Proposal) P A S g → Option Change → PublishedValue
+  published_value table w held = record { table = table; published = w.desk.shown.value.table; pending = steps_behind w (noted_since w held); list = w.desk.shown.value.front.list }

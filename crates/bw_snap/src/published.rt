@@ -1,25 +1,29 @@
 //! The locked table, with the writing end of the published pair.
 
-ghost use Rattle.std.specs.Prelude.{◌≡◌, ◌<◌, ◌++◌, ◌∷◌, ◌↔◌, [], None, length, All, IsOk, IfOk, IfErr, OnOk, OnErr};
+ghost use Rattle.std.specs.Prelude.{◌≡◌, ◌<◌, ◌++◌, ◌∷◌, ◌↔◌, [], None, length, All, IsOk, IfOk, IfErr, OnOk, OnErr, IfSome, IfNone};
 ghost use Rattle.bw_keys.specs.Limits.{first_bad_field};
 ghost use Rattle.bw_step.specs.ProposalView.{proposal_of};
 ghost use Rattle.bw_step.specs.Steps.{IsReceiptOf};
 ghost use Rattle.bw_law.specs.Laws.{MapAfter};
 ghost use Rattle.bw_law.specs.Refusals.{refusal};
 ghost use Rattle.bw_law.specs.Tables.{new_table};
-ghost use Rattle.bw_tree.specs.Shares.{no_changes, CountsIn};
+ghost use Rattle.bw_table.specs.InPlaces.{IsDoneAtOnce};
+ghost use Rattle.bw_tree.specs.Shares.{no_changes, CountsIn, CountsAtOnce, IsReceiptAtOnce};
 ghost use Rattle.bw_tree.specs.Trees.{IsTree, IsClosed, Leads, OpensFor};
+ghost use Rattle.bw_snap.specs.Ends.{noted_since};
+ghost use Rattle.bw_snap.specs.Notes.{steps_at_once, held_note};
 ghost use Rattle.bw_snap.specs.Trees.{IsPublished, IsDenialOf, IsSnapFault, MayBeRead, is_bad_reader_number, published_as_it_is};
 
 use crate::ends::{WritingEnd, advance, append, begin, newcomer, surely_told};
 use crate::fault::SnapFault;
 use crate::front::{Announcements, Front, Head, Naming};
-use crate::note::Note;
+use crate::note::{Change, Note};
 use crate::reader::Reader;
 use crate::stamp::Stamp;
+use bw_chain::Wished;
 use bw_delta::NoMemory;
-use bw_keys::Config;
-use bw_step::{Denied, Receipt, Step};
+use bw_keys::{Config, Key};
+use bw_step::{AtOnce, Denied, Receipt, Step};
 use bw_table::Table;
 use bw_tree::{Blanks, Booked, MadeBy, MissingShare, NewFault, Share};
 use std::alloc::Global;
@@ -34,10 +38,12 @@ pub const MAX_READERS: u32 = 16;
 pub const MAX_STAMPS: u32 = 64;
 
 /// A booked table, with the writing end of its two published copies and the front of all that was
-/// announced. Steps taken since the last publication are pending.
+/// announced. Steps taken since the last publication are pending. The last change made at once is
+/// held back, until the next note: so its note needs no memory once it is made.
 pub struct Published<R: Wait + Drop, N: Naming, D: Ledger> {
     booked: Booked<Global, N, D>,
     writer: WritingEnd<N>,
+    held: Option<Change>,
     head: Head<N>,
     announced: Front,
     rt: R,
@@ -48,20 +54,20 @@ impl<R: Wait + Drop, N: Naming, D: Ledger> Model for Published<R, N, D> {
     ghost use Rattle.bw_snap.specs.Codes.{published_code};
     ghost use Rattle.bw_snap.specs.Trees.{PublishedValue};
     ghost use Rattle.bw_snap.specs.Snapshots.{LeadTo, IsSnapshot, BeginsWith};
-    ghost use Rattle.bw_snap.specs.Notes.{steps_of};
-    ghost use Rattle.bw_snap.specs.Ends.{unpublished, next_list, published_value};
+    ghost use Rattle.bw_snap.specs.Ends.{noted_since, steps_behind, list_behind, published_value};
     ghost use Rattle.left_right.specs.Sides.{view as seen_by};
 
     ghost Value = { PublishedValue };
 
     ghost coded = { published_code };
 
-    ghost view = { λ p. published_value p.booked p.writer };
+    ghost view = { λ p. published_value p.booked p.writer p.held };
 
     ghost invariant = { λ p.
-        LeadTo p.writer.desk.shown.value.table (steps_of (unpublished p.writer)) p.booked
+        LeadTo p.writer.desk.shown.value.table
+        (steps_behind p.writer (noted_since p.writer p.held)) p.booked
         × IsSnapshot N.config p.writer.desk.shown.value.front.list p.writer.desk.shown.value.table
-        × BeginsWith (next_list p.writer) p.announced.list
+        × BeginsWith (list_behind p.writer (noted_since p.writer p.held)) p.announced.list
         × (p.writer.desk.shown.value.front.announcements ≡ N.announcements)
         × (p.announced.announcements ≡ N.announcements)
         × (seen_by p.writer.desk.place ≡ p.writer.desk.shown.value.front.list) };
@@ -72,6 +78,7 @@ impl<R: Wait + Drop, N: Naming, D: Ledger> Drop for Published<R, N, D> {
         let Self {
             booked: _booked,
             writer,
+            held: _,
             head: _head,
             announced: _announced,
             rt,
@@ -111,6 +118,7 @@ impl<R: Wait + Drop, N: Naming, D: Ledger> Published<R, N, D> {
         let published = Published {
             booked,
             writer,
+            held: None,
             head,
             announced,
             rt,
@@ -161,6 +169,10 @@ impl<R: Wait + Drop, N: Naming, D: Ledger> Published<R, N, D> {
             Ok(()) => {}
             Err(reason) => return Err(Denied::Refused(reason)),
         }
+        match settle(&mut self.writer, &mut self.held) {
+            Ok(()) => {}
+            Err(NoMemory) => return Err(Denied::NoMemory),
+        }
         match append(&mut self.writer, Note::Step(twin)) {
             Ok(()) => {}
             Err(NoMemory) => return Err(Denied::NoMemory),
@@ -169,6 +181,35 @@ impl<R: Wait + Drop, N: Naming, D: Ledger> Published<R, N, D> {
             Ok(receipt) => return Ok(receipt),
             Err(reason) => return Err(Denied::Refused(reason)),
         }
+    }
+
+    /// Makes the wish come true for the key and consolidates its leaf, as `Booked::change_at_once`
+    /// does, and leaves the change pending for the published copies. Room for the note of the change
+    /// before it is made first: where there is none, it returns `None` and changes nothing.
+    #[inline(always)]
+    pub fn change_at_once(
+        &mut self,
+        share: &mut Share<N, D>,
+        key: Key,
+        wished: Wished,
+    ) -> Option<AtOnce>
+        ensures done { IfSome result (λ it.
+            IsDoneAtOnce self.old.table it.page.0 key wished it.receipt self.new.table) }
+        ensures receipt { IfSome result (λ it. IsReceiptAtOnce key wished it.receipt) }
+        ensures steps { IfSome result (λ it. self.new.pending
+            ≡ self.old.pending ++ steps_at_once self.old.table it.page.0 key wished) }
+        ensures published { IfSome result (λ it. self.new.published ≡ self.old.published) }
+        ensures list { IfSome result (λ it. self.new.list ≡ self.old.list) }
+        ensures unchanged { IfNone result (self.new ≡ self.old) }
+        ensures share { CountsAtOnce share.old share.new result }
+    {
+        match settle(&mut self.writer, &mut self.held) {
+            Ok(()) => {}
+            Err(NoMemory) => return None,
+        }
+        let done = self.booked.change_at_once(share, key, wished)?;
+        self.held = note_of(key, wished, done);
+        Some(done)
     }
 
     /// Publishes what is pending, and returns a stamp of the list that was published. Fails where
@@ -183,6 +224,10 @@ impl<R: Wait + Drop, N: Naming, D: Ledger> Published<R, N, D> {
         ensures unchanged { OnErr result (self.new ≡ self.old) }
     {
         let kept = newcomer(self.writer.factory())?;
+        match settle(&mut self.writer, &mut self.held) {
+            Ok(()) => {}
+            Err(NoMemory) => return Err(NoMemory),
+        }
         self.announced.announce(&self.head, &self.writer, &self.rt);
         match append(&mut self.writer, Note::Mark(self.announced.again())) {
             Ok(()) => {}
@@ -224,12 +269,46 @@ impl<R: Wait + Drop, N: Naming, D: Ledger> Published<R, N, D> {
         let Self {
             booked,
             writer,
+            held: _,
             head: _head,
             announced: _announced,
             rt,
         } = self;
         drop(writer.take(&rt));
         booked
+    }
+}
+
+/// Puts the note that is held back behind the others.
+#[inline(always)]
+fn settle<N: Naming>(writer: &mut WritingEnd<N>, held: &mut Option<Change>) -> Result<(), NoMemory>
+    ensures desk { writer.new.desk ≡ writer.old.desk }
+    ensures notes { noted_since writer.new held.new ≡ noted_since writer.old held.old }
+    ensures settled { OnOk result (held.new ≡ None) }
+{
+    let Some(change) = *held else {
+        return Ok(());
+    };
+    append(writer, Note::Change(change))?;
+    *held = None;
+    Ok(())
+}
+
+/// Returns the note of what was done at once. A look has none.
+#[inline(always)]
+fn note_of(key: Key, wished: Wished, done: AtOnce) -> Option<Change>
+    ensures { result ≡ held_note key wished done }
+{
+    match done.receipt {
+        Receipt::Looked { .. } => None,
+        Receipt::Inserted { .. }
+        | Receipt::Deleted { .. }
+        | Receipt::Modified { .. }
+        | Receipt::Shaped { .. } => Some(Change {
+            page: done.page,
+            key,
+            wished,
+        }),
     }
 }
 

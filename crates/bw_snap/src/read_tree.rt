@@ -12,9 +12,10 @@ use crate::front::{Announcements, Naming};
 use crate::published::Published;
 use crate::reader::Reader;
 use crate::stamp::Stamp;
+use bw_chain::Wished;
 use bw_delta::{Chain, NoMemory};
 use bw_keys::{Config, Key, Pid, Version};
-use bw_step::{CopyFault, Denied, Look, Next, Place, Receipt, Step, View};
+use bw_step::{AtOnce, CopyFault, Denied, Look, Next, Place, Receipt, Step, View};
 use bw_table::Table;
 use bw_tree::{Blanks, MissingShare, Share, Shared};
 use std::alloc::Global;
@@ -162,6 +163,23 @@ impl<R: Wait + Copy, N: Naming, D: Ledger> Shared<Global, Step<Global>> for Read
     #[inline(always)]
     fn look(&self, pid: Pid, key: Key) -> Option<Look> {
         self.published.lock(&self.rt).table().look(pid, key)
+    }
+
+    #[inline(always)]
+    fn leaf_at_once(&self, key: Key) -> Option<View> {
+        self.published.lock(&self.rt).table().leaf_at_rest(key)
+    }
+
+    #[inline(always)]
+    fn look_at_once(&self, key: Key) -> Option<Look> {
+        Some(self.published.lock(&self.rt).table().look_up(key))
+    }
+
+    #[inline(always)]
+    fn change_at_once(&self, share: &mut Share<N, D>, key: Key, wished: Wished) -> Option<AtOnce> {
+        self.published
+            .lock(&self.rt)
+            .change_at_once(share, key, wished)
     }
 
     #[inline(always)]

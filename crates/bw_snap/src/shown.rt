@@ -1,11 +1,12 @@
 //! One of the two published copies of a table.
 
-ghost use Rattle.std.specs.Prelude.{◌≡◌};
+ghost use Rattle.std.specs.Prelude.{◌≡◌, true, false};
 ghost use Rattle.bw_step.specs.ProposalView.{proposal_of};
 ghost use Rattle.bw_law.specs.Runs.{next_table};
+ghost use Rattle.bw_snap.specs.Notes.{table_with};
 
 use crate::front::{Front, Naming};
-use crate::note::Note;
+use crate::note::{Change, Note};
 use crate::proposed::List;
 use atomic_table::{Join, Split};
 use bw_step::Step;
@@ -53,15 +54,26 @@ impl Absorb<Note> for Shown {
                 };
                 take(&mut self.table, twin);
             }
+            Note::Change(change) => {
+                if !carry_out(&mut self.table, *change) {
+                    return Err(AllocError);
+                }
+            }
             Note::Mark(front) => self.front = front.again(),
         }
         Ok(())
     }
 
-    /// Takes the note itself, so it can't fail.
+    /// Takes the note itself, so a step needs no memory here. A change comes back where there is none
+    /// for it.
     fn absorb_second(&mut self, note: Note, _other: &Shown) -> Result<(), Note> {
         match note {
             Note::Step(step) => take(&mut self.table, step),
+            Note::Change(change) => {
+                if !carry_out(&mut self.table, change) {
+                    return Err(Note::Change(change));
+                }
+            }
             Note::Mark(front) => self.front = front,
         }
         Ok(())
@@ -73,6 +85,17 @@ fn take(table: &mut Table<Global>, step: Step<Global>)
     ensures { table.new ≡ next_table table.old (proposal_of step) }
 {
     let _ = table.install(step);
+}
+
+/// Makes the change as the locked table did. Returns whether it was made: a copy that is where the
+/// locked table was is short of nothing but memory.
+fn carry_out(table: &mut Table<Global>, change: Change) -> bool
+    ensures done { result ≡ true → table.new ≡ table_with table.old change }
+    ensures unchanged { result ≡ false → table.new ≡ table.old }
+{
+    table
+        .change_leaf(change.page, change.key, change.wished)
+        .is_some()
 }
 
 /// The rule of what is published, over what readers, stamps and the writing end have seen. Each of

@@ -13,7 +13,7 @@ mod runs;
 mod workers;
 
 use crate::ending::{Ending, Stop};
-use crate::readers::{beside_readers, publications};
+use crate::readers::{beside_readers, changes_at_once, publications};
 use crate::replays::replays;
 use crate::runs::run_with;
 use crate::workers::{alone, by_hand};
@@ -44,6 +44,7 @@ fn run_trial<R: Threads + Wait + Sync + Send + Copy>(
         "by_hand" => by_hand(rt, machine),
         "beside_readers" => beside_readers(rt, machine),
         "publications" => publications(rt, machine),
+        "changes_at_once" => changes_at_once(rt, machine),
         "replays" => replays(machine),
         "run" => run_with(rt, machine, 0),
         "run_with_reader" => run_with(rt, machine, 1),

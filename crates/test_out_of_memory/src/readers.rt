@@ -39,6 +39,12 @@ const LONG_CHAINS: Config = Config {
     first_version: 0,
 };
 
+/// Chains so short that each put is made at once.
+const SHORT_CHAINS: Config = Config {
+    chain: 1,
+    ..LONG_CHAINS
+};
+
 /// Fails with the sentence unless the reader finds what the map has.
 fn see<N: Naming>(
     reader: &mut Reader<N>,
@@ -196,6 +202,18 @@ pub(crate) fn publications<R: Wait + Copy>(rt: R, machine: Global) -> Result<End
         rt,
         machine,
         LONG_CHAINS,
+        Blanks::new(1),
+        Announcements::new(),
+        &GROUPS,
+    )
+}
+
+/// The same trial where each put is made at once, and noted by its key.
+pub(crate) fn changes_at_once<R: Wait + Copy>(rt: R, machine: Global) -> Result<Ending, Stop> {
+    published_over::<R, Brand, Brand>(
+        rt,
+        machine,
+        SHORT_CHAINS,
         Blanks::new(1),
         Announcements::new(),
         &GROUPS,

@@ -46,9 +46,10 @@ impl<A: Allocator + Copy> Table<A> {
         Some(self.at_once(page, receipt))
     }
 
-    /// The same on a page: None where it isn't such a leaf, or its range doesn't hold the key.
+    /// The same on a page, without a walk. Returns `None` and changes nothing where it isn't such a leaf,
+    /// where its range doesn't hold the key, where a number is used up, and where memory is short.
     #[inline(always)]
-    fn change_leaf(&mut self, page: Pid, key: Key, wished: Wished) -> Option<Receipt>
+    pub fn change_leaf(&mut self, page: Pid, key: Key, wished: Wished) -> Option<Receipt>
         ensures done { IfSome result (λ receipt.
             IsDoneAtOnce self.old page.0 key wished receipt self.new) }
         ensures map { IfSome result (λ receipt.

@@ -14,7 +14,7 @@ compare_exchange-found-requires g c =
     let pen = c.no_pen-pen.ensures in
     let again = c.again-seen.ensures in
     let w = c.args.writer.now in
-    let asked : List Proposal = w.desk.shown.value.front.list ++ steps_of (drop w.behind w.log.items) in
+    let asked : List Proposal = w.desk.shown.value.front.list ++ steps_of w.desk.shown.value.table (drop w.behind w.log.items) in
     let goes_on : BeginsWith asked (newest [] c.self.inside.seen.log) = subst (λ (l : List Proposal). BeginsWith asked l) (sym (ap (λ x. x.list) c.self.view_is)) c.requires.list in
     let mine : c.self.inside.seen.book ≡ g.N.Naming.announcements = ap (λ x. x.announcements) c.self.view_is ∙ c.requires.announcements in
     let home = mine ∙ sym (ap (λ b. b.book) head) in (
@@ -28,7 +28,7 @@ compare_exchange-found-requires g c =
 pub invariant_of-self : goal.invariant_of-self
 invariant_of-self g c =
     let w = c.args.writer.now in
-    let asked : List Proposal = w.desk.shown.value.front.list ++ steps_of (drop w.behind w.log.items) in
+    let asked : List Proposal = w.desk.shown.value.front.list ++ steps_of w.desk.shown.value.table (drop w.behind w.log.items) in
     let log = c.self.inside.seen.log in
     let again = c.again-seen.ensures in
     let goes_on : BeginsWith asked (newest [] log) = subst (λ (l : List Proposal). BeginsWith asked l) (sym (ap (λ x. x.list) c.self.view_is)) c.requires.list in
@@ -40,7 +40,7 @@ invariant_of-self g c =
 pub returns : goal.returns
 returns g c =
     let w = c.args.writer.now in
-    let asked : List Proposal = w.desk.shown.value.front.list ++ steps_of (drop w.behind w.log.items) in
+    let asked : List Proposal = w.desk.shown.value.front.list ++ steps_of w.desk.shown.value.table (drop w.behind w.log.items) in
     let log = c.self.inside.seen.log in
     let again = c.again-seen.ensures in
     let same : c.compare_exchange-found.result ≡ c.self.inside.count = search rules in

@@ -1,0 +1,107 @@
+-- What was done at once is done by the steps that its note stands for.
+use Rattle.std.proofs.Common.{◌≡◌, ℕ, List, [], ◌∷◌, ◌++◌, refl, ap, sym, ◌∙◌, subst, Some, None, Option, append-nil}
+use Rattle.std.specs.Prelude.{Bool, true, is_some, IfSome}
+use Rattle.bw_delta.specs.Entries.{at}
+use Rattle.bw_delta.specs.Pages.{Page}
+use Rattle.bw_keys.specs.declared.page.Pid.{Pid}
+use Rattle.bw_chain.specs.declared.in_place.Wished.{Wished}
+use Rattle.bw_chain.specs.declared.in_place.Wished.TheVariants as wishes
+use Rattle.bw_step.specs.declared.receipt.Kind.TheVariants as kinds
+use Rattle.bw_step.specs.declared.receipt.Receipt.{Receipt}
+use Rattle.bw_step.specs.declared.receipt.Receipt.TheVariants.{Inserted, Deleted, Modified, Looked, Shaped}
+use Rattle.bw_step.specs.Proposals.{Proposal, consolidate}
+use Rattle.bw_law.specs.Effects.{after, TakesStep, receipt_of, pid}
+use Rattle.bw_law.specs.Refusals.{refusal}
+use Rattle.bw_law.specs.Runs.{run, TakesInTurn}
+use Rattle.bw_law.specs.Slots.{pairs_in}
+use Rattle.bw_law.specs.Tables.{TableValue, slot_at, number_of}
+use Rattle.bw_law.proofs.Accepted.{consolidate_accepted}
+use Rattle.bw_table.specs.InPlaces.{step_for, both_steps, TakesBoth, LooksOrTakes, IsDoneAtOnce}
+use Rattle.bw_snap.specs.Notes.{consolidation_of, consolidated_behind, steps_at_once, held_for, held_notes, steps_of, table_with}
+use Rattle.bw_snap.specs.declared.note.Change.{Change}
+use Rattle.bw_snap.specs.declared.note.Note.{Note}
+use Rattle.bw_snap.specs.Snapshots.{LeadTo}
+use Rattle.bw_snap.proofs.Notes.{steps_of-append, runs_to}
+
+-- the consolidation that a table takes is that of the page as it is there
+consolidates_as_it_is : (table : TableValue) (page seen : ℕ) (base : Page) → refusal table (consolidate page seen base) ≡ None → consolidate page seen base ≡ consolidation_of table page
+consolidates_as_it_is table page seen base accepted =
+    let may = consolidate_accepted table page seen base accepted in
+    ap (λ (n : ℕ). consolidate page n base) (sym may.open_page.fresh) ∙ ap (λ (b : Page). consolidate page (slot_at table page).version b) may.same
+
+-- both steps lead to the new table
+both_lead : (old : TableValue) (step : Proposal) (receipt : Receipt) (page seen : ℕ) (base : Page) (new between last : TableValue)
+    → refusal old step ≡ None → TakesStep old step receipt between → refusal between (consolidate page seen base) ≡ None
+    → TakesStep between (consolidate page seen base) (Shaped kinds.Consolidate (pid page) None) last → new ≡ last
+    → LeadTo old (step ∷ consolidation_of (after old step) page ∷ []) new
+both_lead old step receipt page seen base new between last accepted taken still_accepted consolidated is =
+    let there : consolidate page seen base ≡ consolidation_of between page = consolidates_as_it_is between page seen base still_accepted in
+    let leads : LeadTo between (consolidation_of between page ∷ []) new =
+    subst (λ (c : Proposal). LeadTo between (c ∷ []) new) there (still_accepted, is ∙ consolidated.leads) in
+    (accepted, subst (λ (t : TableValue). LeadTo t (consolidation_of t page ∷ []) new) taken.leads leads)
+
+done_leads : (old : TableValue) (page : ℕ) (look receipt : Receipt) (new : TableValue) (step : Option Proposal) → LooksOrTakes old page look receipt new step → LeadTo old (consolidated_behind old page step) new
+done_leads old page look receipt new None done = done.1
+done_leads old page look receipt new (Some step) done =
+    let first : TakesInTurn old (both_steps step receipt page done.seen done.base) new = done.takes in
+    both_lead old step receipt page done.seen done.base new first.0 first.3.0 first.1 first.2 first.3.1 first.3.2 first.3.3
+
+-- what was done at once is what the steps of its note lead to
+pub done_at_once_leads : (old : TableValue) (page key : ℕ) (wished : Wished) (receipt : Receipt) (new : TableValue) → IsDoneAtOnce old page key wished receipt new → LeadTo old (steps_at_once old page key wished) new
+done_at_once_leads old page key wished receipt new done =
+    let slot = slot_at old page in
+    let had = at key (pairs_in slot) in
+    done_leads old page (Looked (number_of old.book) key had) receipt new (step_for page slot.version key wished had) done
+
+-- the receipt of a step that carries out a wish isn't that of a look
+not_looked : (old : TableValue) (page seen key : ℕ) (wished : Wished) (had : Option ℕ) (step : Proposal) (n k : ℕ) (found : Option ℕ) → step_for page seen key wished had ≡ Some step → receipt_of old step ≡ Looked n k found → ⊥
+not_looked old page seen key (wishes.Put value) None step n k found is told = absurd (cc (is, told))
+not_looked old page seen key (wishes.Put value) (Some had) step n k found is told = absurd (cc (is))
+not_looked old page seen key (wishes.Set value) None step n k found is told = absurd (cc (is, told))
+not_looked old page seen key (wishes.Set value) (Some had) step n k found is told = absurd (cc (is, told))
+not_looked old page seen key wishes.Delete None step n k found is told = absurd (cc (is))
+not_looked old page seen key wishes.Delete (Some had) step n k found is told = absurd (cc (is, told))
+
+-- the receipt of both steps is that of the first
+told_by_first : (old : TableValue) (step : Proposal) (receipt : Receipt) (page : ℕ) (new : TableValue) → TakesBoth old step receipt page new → receipt ≡ receipt_of old step
+told_by_first old step receipt page new done =
+    let first : TakesInTurn old (both_steps step receipt page done.seen done.base) new = done.takes in
+    first.2.told
+
+look_is_alone : (old : TableValue) (page seen key : ℕ) (wished : Wished) (had : Option ℕ) (look : Receipt) (n k : ℕ) (found : Option ℕ) (new : TableValue) (step : Option Proposal)
+    → step_for page seen key wished had ≡ step → LooksOrTakes old page look (Looked n k found) new step → consolidated_behind old page step ≡ []
+look_is_alone old page seen key wished had look n k found new None is done = refl
+look_is_alone old page seen key wished had look n k found new (Some step) is done =
+    absurd (not_looked old page seen key wished had step n k found is (sym (told_by_first old step (Looked n k found) page new done)))
+
+-- where only a look was done there are no steps
+looks_take_no_steps : (old : TableValue) (page key : ℕ) (wished : Wished) (n k : ℕ) (found : Option ℕ) (new : TableValue) → IsDoneAtOnce old page key wished (Looked n k found) new → steps_at_once old page key wished ≡ []
+looks_take_no_steps old page key wished n k found new done =
+    let slot = slot_at old page in
+    let had = at key (pairs_in slot) in
+    look_is_alone old page slot.version key wished had (Looked (number_of old.book) key had) n k found new (step_for page slot.version key wished had) refl done
+
+-- the note of what was done at once stands for its steps
+pub held_for_its_steps : (old : TableValue) (page : Pid) (key : ℕ) (wished : Wished) (receipt : Receipt) (new : TableValue) → IsDoneAtOnce old page.0 key wished receipt new
+    → steps_of old (held_notes (held_for page key wished receipt)) ≡ steps_at_once old page.0 key wished
+held_for_its_steps old page key wished (Looked n k found) new done = sym (looks_take_no_steps old page.0 key wished n k found new done)
+held_for_its_steps old page key wished (Inserted n k value) new done = append-nil (steps_at_once old page.0 key wished)
+held_for_its_steps old page key wished (Deleted n k value) new done = append-nil (steps_at_once old page.0 key wished)
+held_for_its_steps old page key wished (Modified n k had value) new done = append-nil (steps_at_once old page.0 key wished)
+held_for_its_steps old page key wished (Shaped kind page_of other) new done = append-nil (steps_at_once old page.0 key wished)
+
+-- behind the notes that lead to a table, the note of what was done there at once stands for its steps
+pub pending_with : (a b : TableValue) (notes : List Note) (page : Pid) (key : ℕ) (wished : Wished) (receipt : Receipt) (new : TableValue) → LeadTo a (steps_of a notes) b → IsDoneAtOnce b page.0 key wished receipt new
+    → steps_of a (notes ++ held_notes (held_for page key wished receipt)) ≡ steps_of a notes ++ steps_at_once b page.0 key wished
+pending_with a b notes page key wished receipt new leads done =
+    steps_of-append a b notes (held_notes (held_for page key wished receipt)) leads
+    ∙ ap (λ (l : List Proposal). steps_of a notes ++ l) (held_for_its_steps b page key wished receipt new done)
+
+-- the table after a change that a copy made
+pub made_by_its_steps : (old : TableValue) (page key : ℕ) (wished : Wished) (receipt : Receipt) (new : TableValue) → IsDoneAtOnce old page key wished receipt new → new ≡ run old (steps_at_once old page key wished)
+made_by_its_steps old page key wished receipt new done = sym (runs_to old new (steps_at_once old page key wished) (done_at_once_leads old page key wished receipt new done))
+
+-- the same where the copy's answer is looked at alone
+pub made_where_some : (old new : TableValue) (change : Change) (answer : Option Receipt) (test : Bool) → IfSome answer (λ receipt. IsDoneAtOnce old change.page.0 change.key change.wished receipt new) → test ≡ is_some answer → test ≡ true → new ≡ table_with old change
+made_where_some old new change None test done is holds = absurd (cc (is, holds))
+made_where_some old new change (Some receipt) test done is holds = made_by_its_steps old change.page.0 change.key change.wished receipt new done
