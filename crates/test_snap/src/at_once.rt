@@ -279,6 +279,31 @@ struct Way {
     by_steps: bool,
 }
 
+/// Returns the outcome of the calls by a hand, beside a reader that looks after each publication.
+fn outcome_beside<R: Wait + Copy, N: Naming, D: Ledger>(
+    machine: Global,
+    tree: &ReadTree<R, N, D>,
+    share: Share<N, D>,
+    reader: &mut Reader<N>,
+    calls: &[Call],
+    way: Way,
+) -> Result<Outcome, Fail> {
+    let mut map = BTreeMap::new(machine);
+    let mut behind = Publishes {
+        machine,
+        tree,
+        reader,
+        map: &mut map,
+    };
+    let parts = (calls, way.span);
+    if way.by_steps {
+        let hook = &Steadily;
+        outcome_of(machine, &Hooked { tree, hook }, share, parts, &mut behind)
+    } else {
+        outcome_of(machine, tree, share, parts, &mut behind)
+    }
+}
+
 fn work_over_read_tree<R: Wait + Copy, N: Naming, D: Ledger>(
     rt: R,
     machine: Global,
@@ -302,20 +327,7 @@ fn work_over_read_tree<R: Wait + Copy, N: Naming, D: Ledger>(
     let (Some(share), Some(mut reader)) = (shares.pop(), readers.pop()) else {
         return Err("there are too few shares or readers".into());
     };
-    let mut map = BTreeMap::new(machine);
-    let mut behind = Publishes {
-        machine,
-        tree: &tree,
-        reader: &mut reader,
-        map: &mut map,
-    };
-    let parts = (calls, way.span);
-    let outcome = if way.by_steps {
-        let (tree, hook) = (&tree, &Steadily);
-        outcome_of(machine, &Hooked { tree, hook }, share, parts, &mut behind)?
-    } else {
-        outcome_of(machine, &tree, share, parts, &mut behind)?
-    };
+    let outcome = outcome_beside(machine, &tree, share, &mut reader, calls, way)?;
     with_leaves(machine, outcome, &tree.into_table())
 }
 
