@@ -1,3 +1,4 @@
-mod AtOnce
+pub mod AtOnce
+mod Halving
 pub mod Trees
 pub mod Answers
