@@ -1,5 +1,5 @@
 // Times puts and gets of the library beside std::map's, and absl::btree_map's where its headers are there, in one
-// process: nanoseconds of processor time a call, the median of so many rounds (the first argument, or five) in which each
+// process: nanoseconds of processor time a call, the median of n rounds (n is the first argument, or five) in which each
 // map has its turn. Processor time leaves out when other programs run.
 #include <algorithm>
 #include <cstdint>

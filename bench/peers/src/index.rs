@@ -18,7 +18,7 @@ pub trait Worker {
 
     fn delete(&mut self, key: u64) -> Option<u64>;
 
-    /// The first pairs from a key on, at most so many.
+    /// The first pairs from a key on, at most n.
     fn scan(&mut self, low: u64, limit: usize) -> Vec<(u64, u64)>;
 }
 

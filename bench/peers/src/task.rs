@@ -24,7 +24,7 @@ pub enum Work {
     /// Scans of a map that was filled in this order. Without an operation the filling is left, for
     /// the memory that it takes.
     Fill(Order),
-    /// Gets in so many of a hundred operations; of the others half are puts, half deletes.
+    /// The share of gets, in percent; of the other operations half are puts, half deletes.
     Mix { gets: u32 },
     /// The same by Zipf's distribution, so that a few keys are drawn often.
     Zipf { gets: u32 },

@@ -148,7 +148,7 @@ impl Both {
     }
 }
 
-/// Makes so many calls on a map of the kind, with keys for which it may have too few pages.
+/// Makes n calls on a map of the kind, with keys for which it may have too few pages.
 fn compare(dice: &mut Dice, settings: &Settings, calls: u64) -> Full {
     let mut both = Both::new(settings);
     let keys = MOST_KEYS.min(4 * u64::from(settings.fanout) * u64::from(settings.pages));

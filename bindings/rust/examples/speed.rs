@@ -1,5 +1,5 @@
 //! Times calls of the library beside `BTreeMap`'s, in one process: nanoseconds of processor time a call, the
-//! median of so many rounds (the first argument, or five) in which each map has its turn. Processor time leaves out
+//! median of n rounds (n is the first argument, or five) in which each map has its turn. Processor time leaves out
 //! when other programs run.
 //!
 //! `speed MAP WORK KEYS CALLS` only makes the calls, for a profile: MAP is btree or library, and WORK is put, rising,
@@ -17,7 +17,7 @@ const CHAINS: [u32; 2] = [1, 8];
 /// How many pairs a scan reads.
 const SCANNED: usize = 100;
 
-/// A scan is made for each so many keys.
+/// A scan is made for each n keys.
 const KEYS_A_SCAN: u64 = 50;
 
 const WORKS: [&str; 6] = [
@@ -152,7 +152,7 @@ fn times<M: Ordered>(new: impl Fn() -> M, keys: u64) -> [f64; WORKS.len()] {
     [put, rising, set, get, scan, delete]
 }
 
-/// Makes calls of one work on a map that has so many keys already. None where there is no such work.
+/// Makes calls of one work on a map that has n keys already. None where there is no such work.
 fn make_calls<M: Ordered>(mut map: M, work: &str, keys: u64, calls: u64) -> Option<()> {
     let anywhere = |n: u64| mixed(mixed(n) % keys);
     let order = |n: u64| if work == "rising" { n } else { mixed(n) };

@@ -15,7 +15,7 @@ usage: bench_tree STRUCTURE WORK WORKERS KEYS OPERATIONS
 STRUCTURE is alone, map (one worker both), hand, or reader (at most 16, for what only reads);
 WORK is load, rising, set, delete, scan, list, the percent of gets beside puts and deletes (100, 95, 50), the same by
 Zipf's distribution (zipf, zipf95, zipf50), and fill or fill-rising are scans after the one or other load;
-a tree with readers is published every so many CHANGES;
+a tree with readers is published every CHANGES changes;
 CHAIN is the most records of a page (1 to 32), FANOUT the most entries (4 to 64); 2 and 64 without these words.
 ";
 

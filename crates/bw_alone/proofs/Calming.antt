@@ -51,7 +51,7 @@ pub look_is_calm : (table : TableValue) (key page : ℕ) (look : Option Look) �
 look_is_calm table key page None seen has = not_nothing table key page seen has
 look_is_calm table key page (Some look) seen has = tt
 
--- the leaf that is told at once holds the key, and has the version of its view
+-- the leaf that is found at once holds the key, and has the version of its view
 pub rest_is_calm : (table : TableValue) (key : ℕ) (answer : Option View) → IfSome answer (λ view. view ≡ view_of view.pid (slot_at table view.pid.0)) → IfSome answer (λ view. IsLeafOf table key view.pid.0)
     → IfSome answer (λ view. HoldsKey table key 0 view.pid.0 × ((slot_at table view.pid.0).version ≡ view.version.0))
 rest_is_calm table key None its_view leaf = tt

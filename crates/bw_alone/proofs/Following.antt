@@ -7,16 +7,16 @@ use Rattle.bw_delta.specs.Entries.{at}
 use Rattle.bw_step.specs.declared.receipt.Receipt.{Receipt}
 use Rattle.bw_step.specs.declared.receipt.Receipt.TheVariants.{Looked}
 use Rattle.bw_step.specs.declared.view.Look.{Look}
+use Rattle.bw_step.specs.declared.survey.Book.{Book}
 use Rattle.bw_step.specs.Stages.{is_in_row}
-use Rattle.bw_step.specs.Proposals.{Proposal, insert, delete, modify, consolidate, split, term_add, grow, mark, merge, term_delete}
-use Rattle.bw_step.specs.Steps.{IsReceiptOf}
-use Rattle.bw_step.specs.Tellings.{telling_of}
+use Rattle.bw_step.specs.Proposals.{Proposal}
+use Rattle.bw_step.specs.Tellings.{Telling, change, look as looked, shape, telling_of}
 use Rattle.bw_law.specs.Slots.{pairs_in}
-use Rattle.bw_law.specs.Tables.{TableValue, slot_at, number_of, Lawful, Booked, is_leaf_in_row}
+use Rattle.bw_law.specs.Tables.{TableValue, slot_at, number_of, book_with, Lawful, Booked, is_leaf_in_row}
 use Rattle.bw_law.specs.Laws.{KeptBy}
-use Rattle.bw_law.specs.Refusals.{refusal, new_id}
-use Rattle.bw_law.specs.Effects.{after, receipt_of, pid, TakesStep}
-use Rattle.bw_law.proofs.AllSteps.{step_law}
+use Rattle.bw_law.specs.Refusals.{refusal}
+use Rattle.bw_law.specs.Effects.{after, receipt_of, TakesStep}
+use Rattle.bw_law.proofs.AllSteps.{step_law, IsNext, step_is_next}
 use Rattle.bw_law.proofs.Accepted.{Holds}
 use Rattle.bw_law.proofs.Facts.{leaf_decides}
 use Rattle.bw_table.specs.Views.{look_at}
@@ -24,18 +24,17 @@ use Rattle.bw_procedures.specs.declared.steps.Keep.{Keep}
 use Rattle.bw_procedures.specs.Seen.{is_kept, trail_after_look}
 use Rattle.bw_alone.specs.Leading.{BearsNumber, Tells, Leads, leads_stay}
 
--- a change of the map bears the next number
-step_number : (table : TableValue) (step : Proposal) → BearsNumber (telling_of (receipt_of table step)) (after table step).book
-step_number table (insert page seen key value) = omega arith
-step_number table (delete page seen key) = omega arith
-step_number table (modify page seen key value) = omega arith
-step_number table step = tt
+-- the next change bears the number that the book has with it
+bears_number : (book : Book) (told : Telling) → IsNext book told → BearsNumber told (book_with book told)
+bears_number book (change number key before after) next = sym next.1
+bears_number book (looked at key found) next = absurd next
+bears_number book shape next = tt
 
--- what an accepted step makes of the table is what its receipt tells
+-- what an accepted step makes of the table is what its receipt reports
 step_tells : (table : TableValue) (step : Proposal) → KeptBy table step → Tells (receipt_of table step) table (after table step)
-step_tells table step kept = record { map = kept.map; book = refl; number = step_number table step }
+step_tells table step kept = record { map = kept.map; book = refl; number = bears_number table.book (telling_of (receipt_of table step)) (step_is_next table step) }
 
--- a receipt that tells of the two tables leads from the one to the other
+-- a receipt that reports what the one table became leads from the one to the other
 pub leads_by : (old new : TableValue) (trail : List Receipt) (receipt : Receipt) → Tells receipt old new → Leads old trail new (trail ++ receipt ∷ [])
 leads_by old new trail receipt tells = (receipt ∷ [], refl, (new, tells, refl))
 
@@ -102,23 +101,3 @@ pub looks_lead : (table : TableValue) (page key : ℕ) (keep : Keep) (look : Opt
     → Leads table trail table (trail_after_look keep key look trail)
 looks_lead table page key keep None trail law seen = leads_stay table trail
 looks_lead table page key keep (Some look) trail law seen = kept_leads (is_kept keep look.found) table page key look trail law seen
-
--- no step changes the configuration
-pub config_kept : (old new : TableValue) (step : Proposal) (receipt : Receipt) → TakesStep old step receipt new → new.config ≡ old.config
-config_kept old new step receipt takes = ap (λ (t : TableValue). t.config) takes.leads
-
--- the receipt of an accepted step is that of the step
-is_receipt : (table : TableValue) (step : Proposal) → IsReceiptOf step (receipt_of table step)
-is_receipt table (insert page seen key value) = (refl, refl)
-is_receipt table (delete page seen key) = refl
-is_receipt table (modify page seen key value) = (refl, refl)
-is_receipt table (consolidate page seen base) = (refl, refl, refl)
-is_receipt table (split page seen separator base) = (refl, refl, pid (new_id table), refl)
-is_receipt table (term_add parent parent_seen child child_seen) = (refl, refl, refl)
-is_receipt table (grow child seen base) = (refl, refl)
-is_receipt table (mark page seen parent) = (refl, refl, refl)
-is_receipt table (merge left left_seen page page_seen) = (refl, refl, refl)
-is_receipt table (term_delete parent parent_seen child child_seen) = (refl, refl, refl)
-
-pub is_told : (old new : TableValue) (step : Proposal) (receipt : Receipt) → TakesStep old step receipt new → IsReceiptOf step receipt
-is_told old new step receipt taken = rw taken.told (is_receipt old step)

@@ -3,11 +3,12 @@ use Rattle.std.proofs.Common.{◌≡◌, ◌≢◌, ℕ, Bool, true, false, List
 use Rattle.bw_keys.specs.declared.page.Pid.{Pid}
 use Rattle.bw_chain.specs.declared.in_place.Wished.{Wished}
 use Rattle.bw_chain.specs.declared.in_place.Wished.TheVariants as wishes
+use Rattle.bw_chain.specs.InPlaces.{delta_for}
 use Rattle.bw_delta.specs.Entries.{at}
 use Rattle.bw_step.specs.declared.receipt.Receipt.{Receipt}
 use Rattle.bw_step.specs.declared.receipt.Receipt.TheVariants.{Looked, Shaped}
 use Rattle.bw_step.specs.declared.receipt.Kind.TheVariants as kinds
-use Rattle.bw_step.specs.Proposals.{Proposal, insert, delete, modify, consolidate, term_add, split as split_step}
+use Rattle.bw_step.specs.Proposals.{Proposal, insert, delete, modify, term_add, split as split_step}
 use Rattle.bw_step.specs.Tellings.{telling_of, without_shapes}
 use Rattle.bw_law.specs.Effects.{TakesStep, receipt_of, pid}
 use Rattle.bw_law.specs.Refusals.{refusal}
@@ -15,7 +16,9 @@ use Rattle.bw_law.specs.Runs.{TakesInTurn}
 use Rattle.bw_law.specs.Slots.{pairs_in}
 use Rattle.bw_law.specs.Tables.{TableValue, TellsMap, slot_at, number_of, Lawful, Booked}
 use Rattle.bw_law.proofs.AllSteps.{step_law}
-use Rattle.bw_table.specs.InPlaces.{TakesBoth, both_steps, LooksOrTakes, IsDoneAtOnce, IsSplitUnder, step_for}
+use Rattle.bw_law.proofs.TakenSteps.{turn_keeps_config}
+use Rattle.bw_table.specs.InPlaces.{TakesBoth, both_steps, LooksOrTakes, IsDoneAtOnce, IsSplitUnder, receipt_for, step_for}
+use Rattle.bw_table.proofs.Reports.{told_by_both, done_reports}
 use Rattle.bw_procedures.specs.Seen.{Seen}
 use Rattle.bw_procedures.specs.Calls.{SplitAtOnce, raised, receipts_of_shape, receipts_of_split}
 use Rattle.bw_procedures.specs.Writing.{IsReceiptFor, shapes_behind}
@@ -46,15 +49,6 @@ turn_leads (taken ∷ rest) old new trail law booked turn =
     let others : Leads turn.0 (trail ++ taken.1 ∷ []) new ((trail ++ taken.1 ∷ []) ++ receipts_in rest) = turn_leads rest turn.0 new (trail ++ taken.1 ∷ []) kept.0 kept.1 turn.3 in
     subst (λ l. Leads old trail new l) (append_assoc trail (taken.1 ∷ []) (receipts_in rest)) (leads_join old trail turn.0 (trail ++ taken.1 ∷ []) new ((trail ++ taken.1 ∷ []) ++ receipts_in rest) first others)
 
--- no step changes the configuration
-turn_keeps_config : (steps : List (Proposal × Receipt)) (old new : TableValue) → TakesInTurn old steps new → new.config ≡ old.config
-turn_keeps_config [] old new turn = ap (λ (t : TableValue). t.config) turn
-turn_keeps_config (taken ∷ rest) old new turn = turn_keeps_config rest turn.0 new turn.3 ∙ ap (λ (t : TableValue). t.config) turn.2.leads
-
--- the first of steps that were taken has its receipt
-told_first : (old new : TableValue) (step : Proposal) (receipt : Receipt) (rest : List (Proposal × Receipt)) → TakesInTurn old ((step, receipt) ∷ rest) new → receipt ≡ receipt_of old step
-told_first old new step receipt rest turn = turn.2.told
-
 module _ (old new : TableValue) (page key seen : ℕ) (receipt : Receipt) where
   abbrev behind : Receipt
   behind = Shaped kinds.Consolidate (pid page) None
@@ -62,9 +56,6 @@ module _ (old new : TableValue) (page key seen : ℕ) (receipt : Receipt) where
   -- both steps lead on
   both_lead : (trail : List Receipt) (step : Proposal) → Lawful old → Booked old → TakesBoth old step receipt page new → Leads old trail new (trail ++ receipt ∷ behind ∷ [])
   both_lead trail step law booked both = turn_leads (both_steps step receipt page both.seen both.base) old new trail law booked both.takes
-
-  told_by_both : (step : Proposal) → TakesBoth old step receipt page new → receipt ≡ receipt_of old step
-  told_by_both step both = told_first old new step receipt ((consolidate page both.seen both.base, behind) ∷ []) both.takes
 
   abbrev IsDone : Wished → Option ℕ → Type 0
   IsDone wished had = LooksOrTakes old page (Looked (number_of old.book) key had) receipt new (step_for page seen key wished had)
@@ -82,7 +73,7 @@ module _ (old new : TableValue) (page key seen : ℕ) (receipt : Receipt) where
 
       steps_lead : (step : Proposal) → shapes_behind (pid page) (receipt_of old step) ≡ behind ∷ [] → TakesBoth old step receipt page new → Leads old trail new (trail ++ receipt ∷ shapes_behind (pid page) receipt)
       steps_lead step shape both =
-          let is : shapes_behind (pid page) receipt ≡ behind ∷ [] = ap (shapes_behind (pid page)) (told_by_both step both) ∙ shape in
+          let is : shapes_behind (pid page) receipt ≡ behind ∷ [] = ap (shapes_behind (pid page)) (told_by_both old new page receipt step both) ∙ shape in
           subst (λ l. Leads old trail new (trail ++ receipt ∷ l)) (sym is) (both_lead trail step law booked both)
 
       by_wish : (w : Wished) (o : Option ℕ) → IsDone w o → Leads old trail new (trail ++ receipt ∷ shapes_behind (pid page) receipt)
@@ -93,15 +84,6 @@ module _ (old new : TableValue) (page key seen : ℕ) (receipt : Receipt) where
       by_wish wishes.Delete None d = look_leads None d
       by_wish wishes.Delete (Some o) d = steps_lead (delete page seen key) refl d
 
-  -- and its receipt is that of the wish
-  done_is_told : (wished : Wished) (had : Option ℕ) → IsDone wished had → IsReceiptFor key wished receipt
-  done_is_told (wishes.Put value) None d = subst (IsReceiptFor key (wishes.Put value)) (sym (told_by_both (insert page seen key value) d)) (refl, refl)
-  done_is_told (wishes.Put value) (Some o) d = subst (IsReceiptFor key (wishes.Put value)) (sym d.0) (refl, refl)
-  done_is_told (wishes.Set value) None d = subst (IsReceiptFor key (wishes.Set value)) (sym (told_by_both (insert page seen key value) d)) (refl, refl)
-  done_is_told (wishes.Set value) (Some o) d = subst (IsReceiptFor key (wishes.Set value)) (sym (told_by_both (modify page seen key value) d)) (refl, refl)
-  done_is_told wishes.Delete None d = subst (IsReceiptFor key wishes.Delete) (sym d.0) (refl, refl)
-  done_is_told wishes.Delete (Some o) d = subst (IsReceiptFor key wishes.Delete) (sym (told_by_both (delete page seen key) d)) refl
-
   both_keep_config : (step : Proposal) → TakesBoth old step receipt page new → new.config ≡ old.config
   both_keep_config step both = turn_keeps_config (both_steps step receipt page both.seen both.base) old new both.takes
 
@@ -109,12 +91,21 @@ module _ (old new : TableValue) (page key seen : ℕ) (receipt : Receipt) where
   done_keeps_config None look d = ap (λ (t : TableValue). t.config) d.1
   done_keeps_config (Some step) look d = both_keep_config step d
 
+-- the receipt of the record that is wished is that of the wish
+is_receipt_for : (number key : ℕ) (wished : Wished) (had : Option ℕ) → IsReceiptFor key wished (receipt_for number key had (delta_for wished key had))
+is_receipt_for number key (wishes.Put value) None = (refl, refl)
+is_receipt_for number key (wishes.Put value) (Some had) = (refl, refl)
+is_receipt_for number key (wishes.Set value) None = (refl, refl)
+is_receipt_for number key (wishes.Set value) (Some had) = (refl, refl)
+is_receipt_for number key wishes.Delete None = (refl, refl)
+is_receipt_for number key wishes.Delete (Some had) = refl
+
 module _ (old new : TableValue) (page key : ℕ) (wished : Wished) (receipt : Receipt) (done : IsDoneAtOnce old page key wished receipt new) where
   pub at_once_leads : (trail : List Receipt) → Lawful old → Booked old → TellsMap (telling_of receipt) old.slots new.slots → Leads old trail new (trail ++ receipt ∷ shapes_behind (pid page) receipt)
   at_once_leads trail law booked tells = done_leads old new page key (slot_at old page).version receipt trail wished (at key (pairs_in (slot_at old page))) law booked tells done
 
   pub at_once_is_told : IsReceiptFor key wished receipt
-  at_once_is_told = done_is_told old new page key (slot_at old page).version receipt wished (at key (pairs_in (slot_at old page))) done
+  at_once_is_told = subst (IsReceiptFor key wished) (sym (done_reports old new page key wished receipt done)) (is_receipt_for (number_of old.book) key wished (at key (pairs_in (slot_at old page))))
 
   pub at_once_keeps_config : new.config ≡ old.config
   at_once_keeps_config = done_keeps_config old new page key (slot_at old page).version receipt (step_for page (slot_at old page).version key wished (at key (pairs_in (slot_at old page)))) (Looked (number_of old.book) key (at key (pairs_in (slot_at old page)))) done

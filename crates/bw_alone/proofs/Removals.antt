@@ -103,7 +103,7 @@ removals_lose low high [] a b leads are = loses_none low high a b leads
 removals_lose low high (r ∷ rs) a b leads are =
     next_loses low high (telling_of r) (told_in rs) a.slots leads.0.slots b.slots leads.1.map are (λ at more. removals_lose at high rs leads.0 b leads.2 more)
 
--- what a trail tells more
+-- what a trail reports more
 added_is : (s t added : List Receipt) (xs : List Told) → t ≡ s ++ added → told_in t ≡ told_in s ++ xs → told_in added ≡ xs
 added_is s t added xs longer more = append_cancel_left (told_in s) (told_in added) xs (sym (told_in-append s added) ∙ (sym (ap told_in longer) ∙ more))
 

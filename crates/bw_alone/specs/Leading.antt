@@ -12,7 +12,7 @@ BearsNumber (change number key before after) book = number ≡ number_of book
 BearsNumber (look at key found) book = at ≡ number_of book
 BearsNumber shape book = Unit {0}
 
--- what a receipt tells of the table before it and after it
+-- what a receipt reports of the table before it and after it
 pub record Tells (receipt : Receipt) (old new : TableValue) : Type 0 where
   pub map : TellsMap (telling_of receipt) old.slots new.slots
   pub book : new.book ≡ book_with old.book (telling_of receipt)

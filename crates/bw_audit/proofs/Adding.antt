@@ -68,7 +68,7 @@ parts_at (t ∷ ts) (suc worker) inside =
       added = λ r. ap (λ cs. changes_of t ++ cs) (p.added r) ∙ sym (append_assoc (changes_of t) p.front (add_change (change_of r) [] ++ p.back));
     }
 
--- a receipt that tells of no change
+-- a receipt that reports no change
 pub silent_changes : (ts : List (List Receipt)) (worker : ℕ) (r : Receipt) → worker < length ts → change_of r ≡ None → all_changes (add_receipts ts worker (r ∷ [])) ≡ all_changes ts
 silent_changes ts worker r inside none =
     let p = parts_at ts worker inside in

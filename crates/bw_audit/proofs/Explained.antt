@@ -1,19 +1,17 @@
 -- The trails of every interleaving explain its table: that holds of the new one, and each turn keeps it.
 use Rattle.std.proofs.Common.{◌≡◌, ◌≢◌, ◌↔◌, ◌-◌, ◌<◌, ◌≤◌, ◌==◌, ◌++◌, ℕ, suc, true, false, cond, List, [], ◌∷◌, length, Option, Some, None, refl, arith, sym, ◌∙◌, ap, subst}
-use Rattle.std.specs.Prelude.{nat_lt, unwrap_or}
+use Rattle.std.specs.Prelude.{nat_lt}
 use Rattle.std.proofs.lemmas.Bool.Decides.{nat_tests}
 use Rattle.std.specs.List.{AllByRecursion}
-use Rattle.bw_delta.specs.Entries.{at}
 use Rattle.bw_step.specs.declared.receipt.Receipt.{Receipt}
 use Rattle.bw_step.specs.declared.receipt.Receipt.TheVariants.{Looked}
-use Rattle.bw_step.specs.Proposals.{Proposal, insert, delete, modify}
+use Rattle.bw_step.specs.Proposals.{Proposal}
 use Rattle.bw_step.specs.Tellings.{Telling, change, look, shape, telling_of}
-use Rattle.bw_law.specs.Slots.{pairs_in}
-use Rattle.bw_law.specs.Tables.{TableValue, slot_at, number_of, book_with, Lawful, Booked, Maps, SameMap, ChangesKey, TellsMap}
+use Rattle.bw_law.specs.Tables.{TableValue, number_of, book_with, Lawful, Booked, Maps, SameMap, ChangesKey, TellsMap}
 use Rattle.bw_law.specs.Laws.{KeptBy}
 use Rattle.bw_law.specs.Refusals.{refusal}
 use Rattle.bw_law.specs.Effects.{after, slots_after, receipt_of}
-use Rattle.bw_law.proofs.AllSteps.{step_law}
+use Rattle.bw_law.proofs.AllSteps.{step_law, IsNext, step_is_next}
 use Rattle.bw_audit.specs.declared.change.Change.{Change}
 use Rattle.bw_audit.specs.Changes.{all_changes, bearer, change_of, change_told, changed_by, value_at}
 use Rattle.bw_audit.specs.Legal.{AllRise, IsTrueOf, position_after, rises_from, times_borne}
@@ -64,7 +62,7 @@ same_number a b same = grind (arith, nat_tests)
 
 module _ (table : TableValue) (trails : List (List Receipt)) (is : Explains table trails) (worker : ℕ) (inside : worker < length trails) (next : TableValue) (lawful : Lawful next) (booked : Booked next) (r : Receipt)
     (up : (last : ℕ) → last ≤ length (all_changes trails) → rises_from last (telling_of r) ≡ true) where
-  -- a receipt that tells of no change, of a table with the same map
+  -- a receipt that reports no change, of a table with the same map
   keeps_silent : number_of next.book ≡ number_of table.book → SameMap table.slots next.slots → change_of r ≡ None → IsFine (all_changes trails) r → Explains next (add_receipts trails worker (r ∷ []))
   keeps_silent number map none fine =
       let old = all_changes trails in
@@ -157,14 +155,16 @@ module _ (table : TableValue) (trails : List (List Receipt)) (is : Explains tabl
       ] refl)
 
   pub step_keeps : (step : Proposal) → refusal table step ≡ None → Keeps step
-  step_keeps (insert page seen key value) accepted =
-      changed (insert page seen key value) key None (Some value) (step_law table (insert page seen key value) is.lawful is.booked accepted) refl (omega arith)
-  step_keeps (delete page seen key) accepted =
-      changed (delete page seen key) key (Some (unwrap_or (at key (pairs_in (slot_at table page))) 0)) None (step_law table (delete page seen key) is.lawful is.booked accepted) refl (omega arith)
-  step_keeps (modify page seen key value) accepted =
-      changed (modify page seen key value) key (Some (unwrap_or (at key (pairs_in (slot_at table page))) 0)) (Some value)
-      (step_law table (modify page seen key value) is.lawful is.booked accepted) refl (omega arith)
-  step_keeps step accepted = shaped step (step_law table step is.lawful is.booked accepted) refl
+  step_keeps step accepted = by_telling (telling_of (receipt_of table step)) refl (step_is_next table step)
+    where
+      kept : KeptBy table step
+      kept = step_law table step is.lawful is.booked accepted
+
+      by_telling : (told : Telling) → telling_of (receipt_of table step) ≡ told → IsNext table.book told → Keeps step
+      by_telling (change number key had has) reports next =
+          changed step key had has kept (reports ∙ ap (λ n. change n key had has) next.0) (ap (λ t. number_of (book_with table.book t)) reports ∙ next.1 ∙ next.0)
+      by_telling (look at key found) reports next = absurd next
+      by_telling shape reports next = shaped step kept reports
 
   -- a look sees what the changes so far leave
   pub look_keeps : (key : ℕ) (r : Receipt) → IsLookAt table key r → Explains table (add_receipts trails worker (r ∷ []))

@@ -52,7 +52,7 @@ pub fn replay(
     ensures fine { IsOk result → first_bad_field config ≡ None }
     ensures fault { IfErr result (IsReplayFault config) }
 {
-    // Reading the first version tells the prover that it fits its type.
+    // Reading the first version shows the prover that it fits its type.
     let _version = config.first_version;
     match Table::new(machine, machine, config) {
         Ok(table) => match take_turns(machine, table, workers, events) {

@@ -82,7 +82,7 @@ fn first_bad(index: &Index, before: &mut usize, trail: &[Receipt]) -> Option<usi
     ensures place { result ≡ first_bad index.now before.old 0 0 trail.now }
     ensures passed { IfNone result (before.new ≡ before.old + length (changes_of trail.now)) }
 {
-    // The call tells the prover that the number of changes fits its type.
+    // The call shows the prover that the number of changes fits its type.
     let _ = index.count();
     let mut last = 0;
     for (place, receipt) in trail.iter().enumerate() {

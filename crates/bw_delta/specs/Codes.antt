@@ -1,4 +1,4 @@
--- How the logic tells pages and chains apart: each is stored as one value, which gives it back.
+-- How the logic distinguishes pages and chains: each is stored as one value, from which it is read back.
 use Rattle.std.specs.Prelude.{◌≡◌, ℕ, List, Option}
 use Rattle.std.proofs.Common.{◌≢◌, ap, refl, arith, ◌⊎◌, inl, inr}
 use Rattle.std.specs.Coded.{Coded, code_by, coded×, coded⊎, coded_ℕ, coded_list, coded_option}

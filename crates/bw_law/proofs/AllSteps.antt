@@ -1,11 +1,13 @@
 -- All ten steps.
-use Rattle.std.proofs.Common.{◌≡◌, cond, List, [], ◌∷◌, Option, Some, None, is_none}
+use Rattle.std.proofs.Common.{◌≡◌, suc, cond, List, [], ◌∷◌, Option, Some, None, is_none, refl, arith}
 use Rattle.bw_step.specs.declared.refused.Refused.{Refused}
-use Rattle.bw_law.specs.Tables.{TableValue, Lawful, Booked}
+use Rattle.bw_step.specs.declared.survey.Book.{Book}
+use Rattle.bw_law.specs.Tables.{TableValue, Lawful, Booked, number_of, book_with}
 use Rattle.bw_law.specs.Refusals.{refusal}
-use Rattle.bw_law.specs.Effects.{after}
+use Rattle.bw_law.specs.Effects.{after, receipt_of}
 use Rattle.bw_law.specs.Runs.{next_table, run}
 use Rattle.bw_step.specs.Proposals.{Proposal, insert, delete, modify, consolidate, split, term_add, grow, mark, merge, term_delete}
+use Rattle.bw_step.specs.Tellings.{Telling, change, look, shape, telling_of}
 use Rattle.bw_law.specs.Laws.{StepLaw}
 use Rattle.bw_law.proofs.Accepted.{insert_accepted, found_accepted, consolidate_accepted, split_accepted, term_add_accepted, grow_accepted, mark_accepted, merge_accepted, term_delete_accepted}
 use Rattle.bw_law.proofs.InsertStep.{insert_keeps}
@@ -31,6 +33,19 @@ step_law table (grow child seen base) law booked none = grow_keeps table child s
 step_law table (mark page seen parent) law booked none = mark_keeps table page seen parent law (mark_accepted table page seen parent none) booked
 step_law table (merge left left_seen page page_seen) law booked none = merge_keeps table left left_seen page page_seen law (merge_accepted table left left_seen page page_seen none) booked
 step_law table (term_delete parent parent_seen child child_seen) law booked none = term_delete_keeps table parent parent_seen child child_seen law (term_delete_accepted table parent parent_seen child child_seen none) booked
+
+-- a change of the map has the next number, and is counted
+abbrev pub IsNext : Book → Telling → Type 0
+IsNext book (change number key before after) = (number ≡ suc (number_of book)) × (number_of (book_with book (change number key before after)) ≡ number)
+IsNext book (look at key found) = ⊥
+IsNext book shape = Unit {0}
+
+-- each step is the next change, or changes the shape alone
+pub step_is_next : (table : TableValue) (step : Proposal) → IsNext table.book (telling_of (receipt_of table step))
+step_is_next table (insert page seen key value) = (refl, omega arith)
+step_is_next table (delete page seen key) = (refl, omega arith)
+step_is_next table (modify page seen key value) = (refl, omega arith)
+step_is_next table step = tt
 
 -- a proposed step keeps the law and the book, accepted or refused
 next_keeps : (table : TableValue) (step : Proposal) → Lawful table → Booked table → Lawful (next_table table step) × Booked (next_table table step)

@@ -9,8 +9,8 @@ use Rattle.bw_step.specs.declared.refused.Refused.{Refused}
 use Rattle.bw_step.specs.declared.refused.Refused.TheVariants.{Absent, Stale, Frozen, WrongKind, OutOfRange, Present, NoKey, NotBare, BadSeparator, NotSame, WrongStage, WrongParent, TermStands, Leftmost, NotNeighbours, Deep, TooTall, TableFull, Worn}
 use Rattle.bw_step.specs.Proposals.{Proposal, insert, delete, modify, consolidate, split, term_add, grow, mark, merge, term_delete}
 use Rattle.bw_law.specs.Tables.{TableValue}
-use Rattle.bw_law.specs.Refusals.{reasons}
-use Rattle.bw_law.specs.Numbers.{number_of_refusal, refusals_of, HasNumber, AreNumbered, RefusalLaw}
+use Rattle.bw_law.specs.Refusals.{reasons, refusals_of}
+use Rattle.bw_law.specs.Numbers.{number_of_refusal, HasNumber, AreNumbered, RefusalLaw}
 
 -- a reason has its number where its test holds
 given : (test : Bool) (reason : Refused) → HasNumber (number_of_refusal reason) (when test reason)

@@ -22,6 +22,7 @@ pub mod GrowStep
 pub mod SplitStep
 pub mod MergeStep
 pub mod AllSteps
+pub mod TakenSteps
 pub mod NewTable
 pub mod Pigeonhole
 pub mod Facts

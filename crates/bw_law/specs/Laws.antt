@@ -19,7 +19,7 @@ use Rattle.bw_law.specs.Refusals.{refusal}
 use Rattle.bw_law.specs.Effects.{after, slots_after, receipt_of}
 use Rattle.bw_law.specs.Runs.{run}
 
--- what a step makes of the map: what its receipt tells
+-- what a step makes of the map: what its receipt reports
 abbrev pub MapAfter : TableValue → Proposal → Type 0
 MapAfter table step = TellsMap (telling_of (receipt_of table step)) table.slots (slots_after table step)
 

@@ -2,9 +2,9 @@
 use Rattle.std.specs.Prelude.{◌≡◌, ℕ, ◌≤◌, List, [], ◌∷◌, Option, Some, None, slice_get}
 use Rattle.bw_step.specs.declared.refused.Refused.{Refused}
 use Rattle.bw_step.specs.declared.refused.Refused.TheVariants.{Absent, Stale, Frozen, WrongKind, OutOfRange, Present, NoKey, NotBare, BadSeparator, NotSame, WrongStage, WrongParent, TermStands, Leftmost, NotNeighbours, Deep, TooTall, TableFull, Worn}
-use Rattle.bw_step.specs.Proposals.{Proposal, insert, delete, modify, consolidate, split, term_add, grow, mark, merge, term_delete}
+use Rattle.bw_step.specs.Proposals.{Proposal}
 use Rattle.bw_law.specs.Tables.{TableValue}
-use Rattle.bw_law.specs.Refusals.{reasons, refusal}
+use Rattle.bw_law.specs.Refusals.{reasons, refusals_of, refusal}
 
 abbrev pub number_of_refusal : Refused → ℕ
 number_of_refusal Absent = 1
@@ -26,19 +26,6 @@ number_of_refusal Deep = 15
 number_of_refusal TooTall = 16
 number_of_refusal TableFull = 17
 number_of_refusal Worn = 18
-
--- the refusals that a step can meet, by their numbers
-abbrev pub refusals_of : Proposal → List ℕ
-refusals_of (insert page seen key value) = 1 ∷ 2 ∷ 3 ∷ 4 ∷ 5 ∷ 6 ∷ 15 ∷ 18 ∷ []
-refusals_of (delete page seen key) = 1 ∷ 2 ∷ 3 ∷ 4 ∷ 5 ∷ 6 ∷ 15 ∷ 18 ∷ []
-refusals_of (modify page seen key value) = 1 ∷ 2 ∷ 3 ∷ 4 ∷ 5 ∷ 6 ∷ 15 ∷ 18 ∷ []
-refusals_of (consolidate page seen base) = 1 ∷ 2 ∷ 3 ∷ 4 ∷ 9 ∷ 18 ∷ []
-refusals_of (split page seen separator base) = 1 ∷ 2 ∷ 3 ∷ 4 ∷ 5 ∷ 7 ∷ 8 ∷ 9 ∷ 17 ∷ 18 ∷ []
-refusals_of (term_add parent parent_seen child child_seen) = 1 ∷ 2 ∷ 3 ∷ 4 ∷ 10 ∷ 11 ∷ 12 ∷ 15 ∷ 18 ∷ []
-refusals_of (grow child seen base) = 1 ∷ 2 ∷ 4 ∷ 9 ∷ 10 ∷ 11 ∷ 16 ∷ 17 ∷ 18 ∷ []
-refusals_of (mark page seen parent) = 1 ∷ 2 ∷ 3 ∷ 4 ∷ 10 ∷ 11 ∷ 13 ∷ 15 ∷ 18 ∷ []
-refusals_of (merge left left_seen page page_seen) = 1 ∷ 2 ∷ 3 ∷ 4 ∷ 10 ∷ 14 ∷ 15 ∷ 18 ∷ []
-refusals_of (term_delete parent parent_seen child child_seen) = 1 ∷ 2 ∷ 3 ∷ 4 ∷ 10 ∷ 11 ∷ 15 ∷ 18 ∷ []
 
 abbrev pub HasNumber : ℕ → Option Refused → Type 0
 HasNumber number None = Unit {0}

@@ -175,6 +175,19 @@ reasons table (mark page seen parent) = mark_reasons (slot_at table page) (slot_
 reasons table (merge left left_seen page page_seen) = merge_reasons (slot_at table left) (slot_at table page) left_seen page_seen page
 reasons table (term_delete parent parent_seen child child_seen) = term_delete_reasons (slot_at table parent) (slot_at table child) parent_seen child_seen
 
+-- the refusals that a step can meet, by their numbers
+abbrev pub refusals_of : Proposal → List ℕ
+refusals_of (insert page seen key value) = 1 ∷ 2 ∷ 3 ∷ 4 ∷ 5 ∷ 6 ∷ 15 ∷ 18 ∷ []
+refusals_of (delete page seen key) = 1 ∷ 2 ∷ 3 ∷ 4 ∷ 5 ∷ 6 ∷ 15 ∷ 18 ∷ []
+refusals_of (modify page seen key value) = 1 ∷ 2 ∷ 3 ∷ 4 ∷ 5 ∷ 6 ∷ 15 ∷ 18 ∷ []
+refusals_of (consolidate page seen base) = 1 ∷ 2 ∷ 3 ∷ 4 ∷ 9 ∷ 18 ∷ []
+refusals_of (split page seen separator base) = 1 ∷ 2 ∷ 3 ∷ 4 ∷ 5 ∷ 7 ∷ 8 ∷ 9 ∷ 17 ∷ 18 ∷ []
+refusals_of (term_add parent parent_seen child child_seen) = 1 ∷ 2 ∷ 3 ∷ 4 ∷ 10 ∷ 11 ∷ 12 ∷ 15 ∷ 18 ∷ []
+refusals_of (grow child seen base) = 1 ∷ 2 ∷ 4 ∷ 9 ∷ 10 ∷ 11 ∷ 16 ∷ 17 ∷ 18 ∷ []
+refusals_of (mark page seen parent) = 1 ∷ 2 ∷ 3 ∷ 4 ∷ 10 ∷ 11 ∷ 13 ∷ 15 ∷ 18 ∷ []
+refusals_of (merge left left_seen page page_seen) = 1 ∷ 2 ∷ 3 ∷ 4 ∷ 10 ∷ 14 ∷ 15 ∷ 18 ∷ []
+refusals_of (term_delete parent parent_seen child child_seen) = 1 ∷ 2 ∷ 3 ∷ 4 ∷ 10 ∷ 11 ∷ 15 ∷ 18 ∷ []
+
 -- the first reason to refuse the step
 abbrev pub refusal : TableValue → Proposal → Option Refused
 refusal table step = first_reason (reasons table step)

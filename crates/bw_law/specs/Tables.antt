@@ -35,7 +35,7 @@ slot_at table page = slot_in table.slots page
 abbrev pub number_of : Book → ℕ
 number_of book = book.inserted + book.removed + book.modified
 
--- the book with what a receipt tells: a key that got a value was inserted, one that lost its value was removed, and one that has another was modified
+-- the book with what a receipt reports: a key that got a value was inserted, one that lost its value was removed, and one that has another was modified
 abbrev pub book_with : Book → Telling → Book
 book_with book (change number key None (Some value)) = record book { inserted = book.inserted + 1 }
 book_with book (change number key (Some value) None) = record book { removed = book.removed + 1 }
@@ -132,7 +132,7 @@ pub record ChangesKey (old new : List SlotValue) (key : ℕ) (before after : Opt
   pub has : IsValueAt new key after
   pub others : (k value : ℕ) → k ≢ key → Maps new k value ↔ Maps old k value
 
--- what a receipt tells of the map before it and after it
+-- what a receipt reports of the map before it and after it
 abbrev pub TellsMap : Telling → List SlotValue → List SlotValue → Type 0
 TellsMap (change number key before after) old new = ChangesKey old new key before after
 TellsMap (look at key found) old new = IsValueAt old key found × SameMap old new

@@ -19,13 +19,13 @@ pub fn a_base_that_lacks_a_key_is_refused()
     ensures { refusal two_leaves (consolidate 1 0 (leaf 3 Top None (3 ∷ 4 ∷ []))) ≡ Some NotSame }
 {}
 
-/// An insertion gives the number of the change, and one of a key that is there its value.
+/// An insertion reports the number of the change, and one of a key that is there its value.
 pub fn an_insertion_is_numbered_or_answers_the_value()
     ensures fresh { receipt_of two_leaves (insert 1 0 9 90) ≡ Inserted 6 9 90 }
     ensures known { refusal two_leaves (insert 1 0 4 41) ≡ Some (Present 40) }
 {}
 
-/// A deletion gives the value that was there.
+/// A deletion reports the value that was there.
 pub fn a_deletion_gives_the_value_back()
     ensures taken { receipt_of two_leaves (delete 0 0 2) ≡ Deleted 6 2 20 }
     ensures left { pairs_in (slot_at (after two_leaves (delete 0 0 2)) 0) ≡ tens (1 ∷ []) }

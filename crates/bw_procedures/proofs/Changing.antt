@@ -5,7 +5,7 @@ use Rattle.bw_chain.specs.declared.in_place.Wished.{Wished}
 use Rattle.bw_chain.specs.declared.in_place.Wished.TheVariants.{Put, Set, Delete as TakeOut}
 use Rattle.bw_step.specs.declared.at_once.AtOnce.{AtOnce}
 use Rattle.bw_step.specs.Proposals.{Proposal, insert, delete, modify}
-use Rattle.bw_step.specs.Steps.{IsReceiptOf}
+use Rattle.bw_step.specs.Steps.{ChangesShape, IsReceiptOf}
 use Rattle.bw_step.specs.declared.receipt.Receipt.{Receipt}
 use Rattle.bw_step.specs.declared.receipt.Receipt.TheVariants.{Inserted, Deleted, Modified, Looked, Shaped}
 use Rattle.bw_step.specs.declared.view.Look.{Look}
@@ -20,7 +20,7 @@ use Rattle.bw_procedures.specs.declared.writing.Tried.TheVariants.{Reply, Tend, 
 use Rattle.bw_procedures.specs.Seen.{Seen, SameCounts, Grows, IsAccepted, is_kept}
 use Rattle.bw_procedures.specs.Seen.{Looked as LookTaken}
 use Rattle.bw_procedures.specs.Writing.{Attempts, AddsReceipt, IsReceiptFor, IsChangeFor, ChangedAtOnce, RecordedAtOnce, IsMadeAtOnce, MadeAtOnce, shapes_behind, effort_at_once, LookAdds, FoundBy, IsReceiptOfPut, IsDeletionOf, IsSettingOf}
-use Rattle.bw_procedures.specs.Calls.{Offered, OnlyReshapes, ChangesShape}
+use Rattle.bw_procedures.specs.Calls.{Offered, OnlyReshapes}
 use Rattle.bw_procedures.proofs.Trails.{adds_by, adds_nothing}
 use Rattle.bw_procedures.proofs.Reshaping.{counts_grow}
 

@@ -1,4 +1,4 @@
--- What one more receipt tells.
+-- What one more receipt reports.
 use Rattle.std.proofs.Common.{◌≡◌, ℕ, zero, suc, ◌<◌, List, [], ◌∷◌, ◌++◌, length, get_or, Option, Ok, refl, ap, sym, ◌∙◌, append_assoc, append-nil, arith}
 use Rattle.bw_step.specs.declared.receipt.Receipt.{Receipt}
 use Rattle.bw_step.specs.declared.receipt.Receipt.TheVariants.{Inserted, Deleted, Modified, Looked}
@@ -70,7 +70,7 @@ delete_tells key done old new more = record {
 pub get_tells : (key : ℕ) (value : Option ℕ) (old new : List Receipt) → AddsLook key (Ok value) old new → AddsTold (acts.Get key) (replies.Get value) old new
 get_tells key value old new more = record { added = looked key value ∷ []; trail = ap told_in more.1 ∙ told_in-append old (Looked more.0 key value ∷ []); answers = refl }
 
--- nothing is told of acts that have no reply
+-- nothing is reported of acts that have no reply
 pub go_none : (acts : List Act) → GoWith acts [] []
 go_none [] = refl
 go_none (act ∷ acts) = refl

@@ -3,6 +3,7 @@ use Rattle.std.proofs.Common.{◌≡◌, ◌≢◌, ℕ, Bool, true, false, zero
 use Rattle.std.specs.Prelude.{is_some}
 use Rattle.bw_keys.specs.declared.page.Pid.{Pid}
 use Rattle.bw_step.specs.Proposals.{Proposal, insert, delete, modify}
+use Rattle.bw_step.specs.Steps.{ChangesShape}
 use Rattle.bw_step.specs.declared.receipt.Kind.TheVariants as kinds
 use Rattle.bw_step.specs.declared.receipt.Receipt.{Receipt}
 use Rattle.bw_step.specs.declared.receipt.Receipt.TheVariants.{Shaped}
@@ -11,7 +12,7 @@ use Rattle.bw_step.proofs.Tellings.{without_shapes-append}
 use Rattle.bw_procedures.specs.Seen.{Seen, SameCounts, OnlyAdds, Grows, IsAccepted}
 use Rattle.bw_procedures.proofs.Trails.{adds_by, adds_then}
 use Rattle.bw_procedures.specs.declared.fault.Fault.{Fault}
-use Rattle.bw_procedures.specs.Calls.{OnlyReshapes, ReshapesWithin, IsEarned, RoseBy, ChangesShape, raised, TakesShapes, SplitAtOnce, PostedAtOnce}
+use Rattle.bw_procedures.specs.Calls.{OnlyReshapes, ReshapesWithin, IsEarned, RoseBy, raised, TakesShapes, SplitAtOnce, PostedAtOnce}
 use Rattle.bw_procedures.specs.Tending.{IsTended}
 
 pub counts_grow : (a b : Seen) → SameCounts a b → OnlyAdds a.trail b.trail → a.effort ≤ b.effort → Grows a b

@@ -2,7 +2,7 @@
 use Rattle.std.specs.Prelude.{◌≡◌, ◌≢◌, ℕ, zero, suc, ◌+◌, Bool, true, false, ◌-◌, ◌≤◌, ◌^◌, min, length, List, [], ◌∷◌, ◌++◌, Option, Some, None, Result, Ok, Err}
 use Rattle.bw_keys.specs.declared.page.Pid.{Pid}
 use Rattle.bw_delta.specs.declared.fault.NoMemory.{NoMemory}
-use Rattle.bw_step.specs.Proposals.{Proposal, insert, delete, modify, consolidate, split, term_add, grow, mark, merge, term_delete}
+use Rattle.bw_step.specs.Proposals.{Proposal}
 use Rattle.bw_step.specs.declared.receipt.Kind.{Kind}
 use Rattle.bw_step.specs.declared.receipt.Kind.TheVariants as kinds
 use Rattle.bw_step.specs.declared.receipt.Receipt.{Receipt}
@@ -136,19 +136,6 @@ abbrev pub IsAnswered : {T : Type 0} → Result (Option T) NoMemory → Type 0
 IsAnswered (Ok None) = ⊥
 IsAnswered (Ok (Some it)) = Unit {0}
 IsAnswered (Err no_memory) = Unit {0}
-
--- the step changes the tree's shape, and no pair
-abbrev pub ChangesShape : Proposal → Type 0
-ChangesShape (insert page seen key value) = ⊥
-ChangesShape (delete page seen key) = ⊥
-ChangesShape (modify page seen key value) = ⊥
-ChangesShape (consolidate page seen base) = Unit {0}
-ChangesShape (split page seen separator base) = Unit {0}
-ChangesShape (term_add parent parent_seen child child_seen) = Unit {0}
-ChangesShape (grow child seen base) = Unit {0}
-ChangesShape (mark page seen parent) = Unit {0}
-ChangesShape (merge left left_seen page page_seen) = Unit {0}
-ChangesShape (term_delete parent parent_seen child child_seen) = Unit {0}
 
 -- the count of a refusal that ends a call rose
 abbrev pub CountRose : Refused → Seen → Seen → Type 0

@@ -2,7 +2,8 @@
 
 ghost use Rattle.std.specs.Prelude.{IfOk, IfSome};
 ghost use Rattle.bw_step.specs.ProposalView.{proposal_of};
-ghost use Rattle.bw_procedures.specs.Calls.{ReshapesWithin, Reads, ChangesShape, ConsolidatesWithin};
+ghost use Rattle.bw_step.specs.Steps.{ChangesShape};
+ghost use Rattle.bw_procedures.specs.Calls.{ReshapesWithin, Reads, ConsolidatesWithin};
 
 use crate::effort::is_spent;
 use crate::fault::Fault;

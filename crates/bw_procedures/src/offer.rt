@@ -2,8 +2,9 @@
 
 ghost use Rattle.std.specs.Prelude.{◌≡◌, ◌<◌, IfOk, OnOk};
 ghost use Rattle.bw_step.specs.ProposalView.{proposal_of};
+ghost use Rattle.bw_step.specs.Steps.{ChangesShape};
 ghost use Rattle.bw_procedures.specs.Calls.{ReshapesWithin, AnswerCounts, fault_in};
-ghost use Rattle.bw_procedures.specs.Calls.{ChangesShape, Offered};
+ghost use Rattle.bw_procedures.specs.Calls.{Offered};
 
 use crate::effort::is_spent;
 use crate::fault::Fault;

@@ -107,9 +107,9 @@ pub trait Steps<A: Allocator + Copy, P: Proposes> {
         None
     }
 
-    /// Looks a key up, where the worker can find the key's leaf and look there in one step, and
-    /// nothing on the way to the leaf is unfinished. Otherwise does nothing, and returns none.
-    /// `keep` says when the look is added to the trail. Fails where the trail has no room.
+    /// Looks a key up, where the worker can find the key's leaf and look there in one step.
+    /// Otherwise does nothing, and returns none. `keep` says when the look is added to the trail.
+    /// Fails where the trail has no room.
     fn look_at_once(&mut self, _key: Key, _keep: Keep) -> Result<Option<Look>, NoMemory>
         ensures follows { follows self.old self.new }
         ensures seen { LookedAtOnce _keep _key result (seen self.old) (seen self.new) }
@@ -153,7 +153,8 @@ pub trait Steps<A: Allocator + Copy, P: Proposes> {
         _version: Version,
     ) -> Option<Result<Receipt, Denied>>
         ensures follows { follows self.old self.new }
-        ensures seen { ConsolidatedAtOnce _page.0 _version.0 result (seen self.old) (seen self.new) }
+        ensures seen { ConsolidatedAtOnce _page.0 _version.0 result
+            (seen self.old) (seen self.new) }
     {
         None
     }

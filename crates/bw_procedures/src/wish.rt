@@ -12,10 +12,9 @@ use std::alloc::Allocator;
 pub(crate) trait Wish: Copy {
     ghost use Rattle.std.specs.Prelude.{◌≡◌, ℕ};
     ghost use Rattle.bw_step.specs.ProposalView.{proposal_of};
-    ghost use Rattle.bw_step.specs.Steps.{IsReceiptOf};
+    ghost use Rattle.bw_step.specs.Steps.{ChangesShape, IsReceiptOf};
     ghost use Rattle.bw_step.specs.declared.receipt.Receipt.{Receipt};
     ghost use Rattle.bw_procedures.specs.declared.steps.Keep.{Keep};
-    ghost use Rattle.bw_procedures.specs.Calls.{ChangesShape};
     ghost use Rattle.bw_procedures.specs.Writing.{keep_for, IsChangeFor, AnswersBy};
 
     /// What the call replies.

@@ -19,13 +19,13 @@ columns_of answers = map (λ each. each.replies.items) answers
 abbrev pub StopsIn : Bool → List Act → Answers → Type 0
 StopsIn may_close acts answers = ForSome answers.stop (λ stop. (length answers.replies.items < length acts) × MayStop may_close stop)
 
--- The trail tells what goes with the acts and their replies: all of them, or, where the worker stopped, those before the act that it gave up.
+-- The trail reports what goes with the acts and their replies: all of them, or, where the worker stopped, those before the act that it gave up.
 pub record AreAnswersTo (may_close : Bool) (acts : List Act) (answers : Answers) (trail : List Receipt) : Type 0 where
   pub told : GoWith acts answers.replies.items (told_in trail)
   pub all : ForNone answers.stop (length answers.replies.items ≡ length acts)
   pub stops : StopsIn may_close acts answers
 
--- each worker's trail tells what goes with its rows and its replies, of which there are as many
+-- each worker's trail reports what goes with its rows and its replies, of which there are as many
 pub record AreAnswered (rows : List Row) (columns : List (List Reply)) (trails : List (List Receipt)) : Type 0 where
   pub full : AreFull rows columns
   pub told : (worker : ℕ) → worker < length columns → GoWith (acts_of worker rows) (slice_index_or columns worker []) (told_in (slice_index_or trails worker []))

@@ -13,7 +13,7 @@ use Rattle.nifforan_shared.specs.declared.fault.CrewFault.TheVariants.{NoMemory,
 use Rattle.bw_texts.specs.declared.trace.row.Row.{Row}
 use Rattle.bw_run.specs.Rows.{IsRowOf}
 
--- the most readers of so many workers
+-- the most readers of n workers
 abbrev pub most_readers : ℕ → ℕ
 most_readers workers = min workers 16
 
@@ -21,7 +21,7 @@ most_readers workers = min workers 16
 abbrev pub MayRun : Config → ℕ → ℕ → Type 0
 MayRun config workers readers = MayBeMade config workers × (readers ≤ most_readers workers)
 
--- so many trails were audited, with some pairs, and this is what the verdict says
+-- n trails were audited, with some pairs, and this is what the verdict says
 pub record IsBadHistory (workers worker receipt : ℕ) : Type 0 where
   pub trails : List (List Receipt)
   pub pairs : List (ℕ × ℕ)
@@ -40,7 +40,7 @@ IsRunFault config workers readers rows Memory = MayRun config workers readers
 IsRunFault config workers readers rows (Stopped worker number fault) = MayRun config workers readers × (worker < workers) × IsRowOf rows worker number
 IsRunFault config workers readers rows (Audit worker receipt) = MayRun config workers readers × IsBadHistory workers worker receipt
 
--- one of so many workers stopped at a row of its own, or found nothing to read where a reader may; or a thread or memory was wanting
+-- one of n workers stopped at a row of its own, or found nothing to read where a reader may; or a thread or memory was wanting
 abbrev pub StopsWithin : Bool → ℕ → List Row → RunFault → Type 0
 StopsWithin may_close workers rows NoReader = may_close ≡ true
 StopsWithin may_close workers rows Threads = Unit {0}
@@ -48,7 +48,7 @@ StopsWithin may_close workers rows Memory = Unit {0}
 StopsWithin may_close workers rows (Stopped worker number fault) = (worker < workers) × IsRowOf rows worker number
 StopsWithin may_close workers rows _ = ⊥
 
--- the history of so many workers was found bad, or memory was wanting
+-- the history of n workers was found bad, or memory was wanting
 abbrev pub EndsBadly : ℕ → RunFault → Type 0
 EndsBadly workers Memory = Unit {0}
 EndsBadly workers (Audit worker receipt) = IsBadHistory workers worker receipt

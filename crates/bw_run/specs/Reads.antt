@@ -8,7 +8,7 @@ use Rattle.bw_procedures.specs.declared.reply.Reply.TheVariants as replies
 use Rattle.bw_procedures.specs.declared.act.Act.{Act}
 use Rattle.bw_procedures.specs.declared.act.Act.TheVariants as acts
 
--- so many workers' readers: the first workers have one each, as long as there are any
+-- the readers of n workers: the first workers have one each, as long as there are any
 abbrev pub handed_out : {R : Type 0} → ℕ → List R → List (Option R)
 handed_out zero readers = []
 handed_out (suc n) [] = None ∷ handed_out n []
@@ -20,7 +20,7 @@ IsFoundBy reads (Some reader) key (Some look) = reads reader key look
 IsFoundBy reads None key None = Unit {0}
 IsFoundBy reads reader key look = ⊥
 
--- the reply tells what the reader found, and the receipt of that look is the one that was added
+-- the reply reports what the reader found, and the receipt of that look is the one that was added
 abbrev pub IsReadBy : (Look → Type 0) → ℕ → List Receipt → List Receipt → Reply → Type 0
 IsReadBy reads key old new reply = (look : Look) × reads look × (reply ≡ replies.Get look.found) × (new ≡ old ++ Looked look.at key look.found ∷ [])
 

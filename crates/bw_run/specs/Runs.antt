@@ -11,7 +11,7 @@ use Rattle.nifforan_shared.specs.Workers.{changes_in}
 use Rattle.bw_run.specs.declared.ending.Finished.{Finished}
 use Rattle.bw_run.specs.Rows.{acts_of, replies_to}
 
--- each worker's trail tells what goes with its rows and the replies to them
+-- each worker's trail reports what goes with its rows and the replies to them
 abbrev pub TellsItsReplies : ℕ → List Row → Finished → Type 0
 TellsItsReplies workers rows finished =
     (worker : ℕ) → worker < workers → GoWith (acts_of worker rows) (replies_to worker rows finished.replies.items) (told_in (slice_index_or (lists_of finished.trails.items) worker []))

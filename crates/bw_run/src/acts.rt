@@ -60,7 +60,7 @@ fn do_row<W: Notes, L: Looks>(hand: &mut W, reader: &mut Option<L>, act: Act) ->
     }
 }
 
-/// Keeps a reader's look as a receipt, and returns the reply that tells it.
+/// Keeps a reader's look as a receipt, and returns the reply that reports it.
 fn keep<W: Notes>(hand: &mut W, key: Key, look: Look) -> Result<Reply, NoMemory>
     ensures kept { IfOk result
         (IsReadBy (λ it. it ≡ look) key (W.seen hand.old).trail (W.seen hand.new).trail) }

@@ -15,7 +15,7 @@ use Rattle.bw_scripts.specs.declared.answer.Answer.{Answer}
 use Rattle.bw_scripts.specs.declared.answer.Answer.TheVariants as answers
 
 -- the answer to a step or a question: a step is taken or refused by the law, and what is said of the
--- table is so; `check` never foretells another answer than `install` gives
+-- table is so; `check` never foretells another answer than `install` returns
 abbrev pub IsTold : TableValue → Answer → TableValue → Type 0
 IsTold old answers.Made new = ⊥
 IsTold old (answers.BadConfig bad) new = ⊥

@@ -1,25 +1,25 @@
 //! The reading and the writing end of the published pair, and their steps.
 
-ghost use Rattle.std.specs.Prelude.{◌≡◌, ◌<◌, ◌^◌, [], IfOk, IfSome, IfNone, OnOk, OnErr};
+ghost use Rattle.std.specs.Prelude.{◌≡◌, ◌<◌, ◌^◌, [], IfOk, IfErr, OnOk, OnErr};
 ghost use Rattle.left_right.specs.Sides.{view};
 ghost use Rattle.bw_law.specs.Tables.{new_table};
-ghost use Rattle.bw_table.specs.Gets.{IsListing};
 ghost use Rattle.bw_snap.specs.Snapshots.{BeginsWith};
 ghost use Rattle.bw_snap.specs.Ends.{unpublished, Appends, MayPublish, Publishes, IsUnpublished};
-ghost use Rattle.bw_snap.specs.Answers.{IsLookIn, IsScanFrom};
+ghost use Rattle.bw_snap.specs.Answers.{IsAnswerIn};
 
 use crate::front::{Front, Naming};
 use crate::note::Note;
 use crate::proposed::List;
+use crate::question::Question;
 use crate::shown::{Backed, Sees, Shown, Takes, Tells};
 use bw_delta::NoMemory;
-use bw_keys::{Config, Key};
-use bw_step::Look;
+use bw_keys::Config;
 use bw_table::Table;
 use core::mem::replace_with;
 use left_right::reader::{Factory, Reader};
 use left_right::writer::Writer;
 use std::alloc::{AllocError, Global};
+use std::marker::PhantomData;
 use std::sync::Wait;
 
 /// The source of reading ends.
@@ -64,71 +64,37 @@ fn empty(machine: Global, config: Config, front: &Front) -> Result<Shown, NoMemo
     Ok(Shown::new(machine, table, front.again()))
 }
 
-/// What was found, and the front of the table that has it.
+/// An answer, and the front of the table that has it.
 #[derive(Drop)]
-pub struct Glance {
-    pub look: Look,
+pub struct Answered<A> {
+    pub answer: A,
     pub front: Front,
 }
 
-/// Returns what the published table has at the key, or `None` where it gave no entry.
+/// Returns what the published table answers, or the question where the table gave no entry. The type
+/// of the answer comes beside the question, since `replace_with` wants it named by an argument.
 #[inline(always)]
-pub fn read<N: Naming>(reader: ReadingEnd<N>, key: Key) -> (ReadingEnd<N>, Option<Glance>)
-    ensures look { IfSome result.1 (λ glance. IsLookIn N.config key glance.front.list glance.look) }
-    ensures announced { IfSome result.1
-        (λ glance. glance.front.announcements ≡ N.announcements) }
-    ensures seen { BeginsWith (view result.0.place) (view reader.place) }
-    ensures list { IfSome result.1 (λ glance. glance.front.list ≡ view result.0.place) }
-    ensures closed { IfNone result.1 (view result.0.place ≡ view reader.place) }
-{
-    match reader.enter_as::<Sees<N>>() {
-        Ok(reading) => {
-            let look = reading.get().table.look_up(key);
-            let front = reading.get().front.again();
-            (reading.leave(), Some(Glance { look, front }))
-        }
-        Err(reader) => (reader, None),
-    }
-}
-
-/// The pairs that were found, and the front of the table that has them.
-#[derive(Drop)]
-pub struct Scan {
-    pub pairs: Vec<(Key, u64)>,
-    pub front: Front,
-}
-
-/// Returns the table's first pairs from the key on, and its front.
-fn scan_of(shown: &Shown, low: Key, limit: usize) -> Result<Scan, NoMemory>
-    ensures pairs { IfOk result (λ scan. IsListing shown.now.table low limit scan.pairs.items) }
-    ensures front { IfOk result (λ scan. scan.front ≡ shown.now.front) }
-{
-    let mut pairs = Vec::new(shown.machine);
-    shown.table.list_from(low, limit, &mut pairs)?;
-    Ok(Scan {
-        pairs,
-        front: shown.front.again(),
-    })
-}
-
-/// Returns the published table's first pairs from the key on, or `None` where it gave no entry.
-pub fn read_pairs<N: Naming>(
+pub fn ask<N: Naming, Q: Question>(
     reader: ReadingEnd<N>,
-    part: (Key, usize),
-) -> (ReadingEnd<N>, Option<Result<Scan, NoMemory>>)
-    ensures pairs { IfSome result.1 (λ read. IfOk read (IsScanFrom N.config part.0 part.1)) }
-    ensures announced { IfSome result.1 (λ read.
-        IfOk read (λ scan. scan.front.announcements ≡ N.announcements)) }
+    asked: (Q, PhantomData<Q::Answer>),
+) -> (ReadingEnd<N>, Result<Answered<Q::Answer>, Q>)
+    ensures answer { IfOk result.1
+        (λ told. IsAnswerIn N.config (Q.answers asked.0) told.front.list told.answer) }
+    ensures announced { IfOk result.1 (λ told. told.front.announcements ≡ N.announcements) }
     ensures seen { BeginsWith (view result.0.place) (view reader.place) }
-    ensures list { IfSome result.1 (λ read. IfOk read (λ s. s.front.list ≡ view result.0.place)) }
-    ensures closed { IfNone result.1 (view result.0.place ≡ view reader.place) }
+    ensures list { IfOk result.1 (λ told. told.front.list ≡ view result.0.place) }
+    ensures closed { OnErr result.1 (view result.0.place ≡ view reader.place) }
+    ensures back { IfErr result.1 (λ question. question ≡ asked.0) }
 {
+    let (question, _answer) = asked;
     match reader.enter_as::<Sees<N>>() {
         Ok(reading) => {
-            let scan = scan_of(reading.get(), part.0, part.1);
-            (reading.leave(), Some(scan))
+            let shown = reading.get();
+            let answer = question.ask(&shown.table);
+            let front = shown.front.again();
+            (reading.leave(), Ok(Answered { answer, front }))
         }
-        Err(reader) => (reader, None),
+        Err(reader) => (reader, Err(question)),
     }
 }
 

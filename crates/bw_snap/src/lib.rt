@@ -9,6 +9,7 @@ mod front;
 mod note;
 mod proposed;
 mod published;
+mod question;
 mod read_tree;
 mod reader;
 mod shown;

@@ -2,18 +2,21 @@
 
 ghost use Rattle.std.specs.Prelude.{◌≡◌, ◌⊎◌, [], IfOk, OnOk, OnErr};
 ghost use Rattle.left_right.specs.Sides.{view};
+ghost use Rattle.bw_keys.specs.Ranges.{end_of};
 ghost use Rattle.bw_snap.specs.Snapshots.{BeginsWith};
-ghost use Rattle.bw_snap.specs.Answers.{IsFoundIn, IsLookIn, IsListedIn};
+ghost use Rattle.bw_snap.specs.Answers.{IsAnswerIn, IsFoundIn, IsLookIn, IsFirstIn, IsLastIn};
+ghost use Rattle.bw_snap.specs.Answers.{IsNextIn, IsPreviousIn, IsNumberIn, IsLenIn, IsListedIn, IsRangeIn};
 
-use crate::ends::{ReadingEnd, read, read_pairs};
+use crate::ends::{Answered, ReadingEnd, ask};
 use crate::fault::{Closed, ScanFault};
 use crate::front::{Front, Naming};
+use crate::question::{Len, Listing, LookAt, NextAt, Number, PreviousAt, Question};
 use crate::stamp::Stamp;
 use bw_delta::NoMemory;
-use bw_keys::Key;
+use bw_keys::{Fence, Key};
 use bw_step::Look;
-use core::mem::replace_with;
-use std::marker::Model;
+use core::mem::{replace, replace_with};
+use std::marker::{Model, PhantomData};
 
 /// Reads the published table, without its lock. Contracts see it as the list of steps that it has
 /// seen or learnt.
@@ -63,6 +66,22 @@ impl<N: Naming> Reader<N> {
         }
     }
 
+    /// Returns what the published table answers, which is the reader's from then on.
+    #[inline(always)]
+    fn ask<Q: Question>(&mut self, question: Q) -> Result<Q::Answer, Closed>
+        ensures seen { BeginsWith self.new self.old }
+        ensures answer { IfOk result (IsAnswerIn N.config (Q.answers question) self.new) }
+        ensures closed { OnErr result (self.new ≡ self.old) }
+    {
+        match replace_with(&mut self.inner, (question, PhantomData), ask) {
+            Ok(Answered { answer, front }) => {
+                self.front = front;
+                Ok(answer)
+            }
+            Err(_question) => Err(Closed),
+        }
+    }
+
     /// Returns the value that the key has after a list of accepted steps, which begins with all that
     /// this reader has seen and learnt. The list is the reader's from then on.
     #[inline(always)]
@@ -84,13 +103,63 @@ impl<N: Naming> Reader<N> {
         ensures look { IfOk result (IsLookIn N.config key self.new) }
         ensures closed { OnErr result (self.new ≡ self.old) }
     {
-        match replace_with(&mut self.inner, key, read) {
-            Some(glance) => {
-                self.front = glance.front;
-                Ok(glance.look)
-            }
-            None => Err(Closed),
-        }
+        self.ask(LookAt(key))
+    }
+
+    /// Returns the pair with the least key, if there is any after such a list of steps.
+    pub fn first(&mut self) -> Result<Option<(Key, u64)>, Closed>
+        ensures seen { BeginsWith self.new self.old }
+        ensures first { IfOk result (IsFirstIn N.config self.new) }
+        ensures closed { OnErr result (self.new ≡ self.old) }
+    {
+        self.next_at(0)
+    }
+
+    /// Returns the pair with the greatest key, if there is any after such a list of steps.
+    pub fn last(&mut self) -> Result<Option<(Key, u64)>, Closed>
+        ensures seen { BeginsWith self.new self.old }
+        ensures last { IfOk result (IsLastIn N.config self.new) }
+        ensures closed { OnErr result (self.new ≡ self.old) }
+    {
+        self.previous_at(Key::MAX)
+    }
+
+    /// Returns the pair with the least key at or above the key, if there is one after such a list of
+    /// steps.
+    pub fn next_at(&mut self, key: Key) -> Result<Option<(Key, u64)>, Closed>
+        ensures seen { BeginsWith self.new self.old }
+        ensures next { IfOk result (IsNextIn N.config key self.new) }
+        ensures closed { OnErr result (self.new ≡ self.old) }
+    {
+        self.ask(NextAt(key))
+    }
+
+    /// Returns the pair with the greatest key at or below the key, if there is one after such a list
+    /// of steps.
+    pub fn previous_at(&mut self, key: Key) -> Result<Option<(Key, u64)>, Closed>
+        ensures seen { BeginsWith self.new self.old }
+        ensures previous { IfOk result (IsPreviousIn N.config key self.new) }
+        ensures closed { OnErr result (self.new ≡ self.old) }
+    {
+        self.ask(PreviousAt(key))
+    }
+
+    /// Returns the number of the map's changes in such a list of steps, in constant time.
+    pub fn number(&mut self) -> Result<u64, Closed>
+        ensures seen { BeginsWith self.new self.old }
+        ensures number { IfOk result (IsNumberIn N.config self.new) }
+        ensures closed { OnErr result (self.new ≡ self.old) }
+    {
+        self.ask(Number)
+    }
+
+    /// Returns the number of pairs after such a list of steps, in constant time.
+    pub fn len(&mut self) -> Result<u64, Closed>
+        ensures seen { BeginsWith self.new self.old }
+        ensures len { IfOk result (IsLenIn N.config self.new) }
+        ensures closed { OnErr result (self.new ≡ self.old) }
+    {
+        self.ask(Len)
     }
 
     /// Fills `out` with the first pairs of the map from the key on, in the order of their keys and
@@ -105,14 +174,43 @@ impl<N: Naming> Reader<N> {
         ensures pairs { OnOk result (IsListedIn N.config low limit self.new out.new.items) }
         ensures fault { OnErr result ((self.new ≡ self.old) × (out.new ≡ out.old)) }
     {
-        match replace_with(&mut self.inner, (low, limit), read_pairs) {
-            Some(Ok(scan)) => {
-                self.front = scan.front;
-                *out = scan.pairs;
+        self.scan_range(low, Fence::Top, limit, out)
+    }
+
+    /// Does what `scan` does, with the pairs below the high. Uses the memory of `out`, unless it has
+    /// no room for as many pairs as the map has or the limit allows.
+    pub fn scan_range(
+        &mut self,
+        low: Key,
+        high: Fence,
+        limit: usize,
+        out: &mut Vec<(Key, u64)>,
+    ) -> Result<(), ScanFault>
+        ensures seen { BeginsWith self.new self.old }
+        ensures pairs { OnOk result
+            (IsRangeIn N.config low (end_of high) limit self.new out.new.items) }
+        ensures fault { OnErr result ((self.new ≡ self.old) × (out.new ≡ out.old)) }
+    {
+        let empty = Vec::new(*out.allocator());
+        let listing = Listing {
+            low,
+            high,
+            limit,
+            list: replace(out, empty),
+        };
+        match replace_with(&mut self.inner, (listing, PhantomData), ask) {
+            Ok(Answered { answer, front }) => {
+                *out = answer.list;
+                match answer.done {
+                    Ok(()) => self.front = front,
+                    Err(NoMemory) => return Err(ScanFault::NoMemory),
+                }
                 Ok(())
             }
-            Some(Err(NoMemory)) => Err(ScanFault::NoMemory),
-            None => Err(ScanFault::Closed),
+            Err(Listing { list, .. }) => {
+                *out = list;
+                Err(ScanFault::Closed)
+            }
         }
     }
 }

@@ -30,6 +30,19 @@ IsNext place key goal (Right next) = (next.level ≡ place.level) × (place.from
 IsNext place key goal (Down next) = (next.level + 1 ≡ place.level) × (goal ≤ next.level) × (next.from ≤ key)
 IsNext place key goal (Here view) = IsViewAt place key goal view
 
+-- the step changes the tree's shape, and no pair
+abbrev pub ChangesShape : Proposal → Type 0
+ChangesShape (insert page seen key value) = ⊥
+ChangesShape (delete page seen key) = ⊥
+ChangesShape (modify page seen key value) = ⊥
+ChangesShape (consolidate page seen base) = Unit {0}
+ChangesShape (split page seen separator base) = Unit {0}
+ChangesShape (term_add parent parent_seen child child_seen) = Unit {0}
+ChangesShape (grow child seen base) = Unit {0}
+ChangesShape (mark page seen parent) = Unit {0}
+ChangesShape (merge left left_seen page page_seen) = Unit {0}
+ChangesShape (term_delete parent parent_seen child child_seen) = Unit {0}
+
 -- the receipt of the step: it reports the step's kind, pages, key and value
 abbrev pub IsReceiptOf : Proposal → Receipt → Type 0
 IsReceiptOf (insert page seen key value) (Inserted number k v) = (k ≡ key) × (v ≡ value)

@@ -94,12 +94,12 @@ found_is_accepted : (slot : SlotValue) (number key had : ℕ) → IsShallowLeaf 
 found_is_accepted slot number key had page fits found =
     rw (page.posted, eq-eqb slot.version slot.version refl, page.leaf, page.within, found, not_full slot.depth page.shallow, not_last slot.version (omega (arith, page.version)), not_last number fits) refl
 
--- nor against the consolidation of a leaf
-consolidate_is_accepted : (slot : SlotValue) (base : Page) → slot.stage ≡ Posted → slot.level ≡ 0 → slot.version + 1 < 2 ^ 64 → lists_pairs base.listed ≡ true → base ≡ page_for (chain_in slot) → first_reason (consolidate_reasons slot slot.version base) ≡ None
-consolidate_is_accepted slot base posted leaf fits lists same =
-    rw (posted, eq-eqb slot.version slot.version refl, lists, leaf, same_page_tells base (page_for (chain_in slot)) same, not_last slot.version fits) refl
+-- nor against the consolidation of a posted page
+consolidate_is_accepted : (slot : SlotValue) (base : Page) → slot.stage ≡ Posted → is_other_kind base slot ≡ false → slot.version + 1 < 2 ^ 64 → base ≡ page_for (chain_in slot) → first_reason (consolidate_reasons slot slot.version base) ≡ None
+consolidate_is_accepted slot base posted kind fits same =
+    rw (posted, eq-eqb slot.version slot.version refl, kind, same_page_tells base (page_for (chain_in slot)) same, not_last slot.version fits) refl
 
-module _ (table : TableValue) (room : ℕ) (whole : IsWhole table room) (page key : ℕ) (may : MayChangeAtOnce table page key) where
+module _ {table : TableValue} {room : ℕ} (whole : IsWhole table room) {page key : ℕ} (may : MayChangeAtOnce table page key) where
   here : is_in_row (slot_at table page).stage ≡ true
   here = ap is_in_row may.leaf.posted
 
@@ -154,7 +154,7 @@ module _ (table : TableValue) (room : ℕ) (whole : IsWhole table room) (page ke
       let Accepts : SlotValue → Type 0 = λ s. first_reason (consolidate_reasons s seen base) ≡ None in
       let Fine : TableValue → Type 0 = λ t. refusal t (consolidate page seen base) ≡ None in
       let accepts : Accepts (raised delta) =
-      consolidate_is_accepted (raised delta) base may.leaf.posted may.leaf.leaf rises (is_leaf_still delta) (ap page_for (sym (chain_raised delta)))
+      consolidate_is_accepted (raised delta) base may.leaf.posted (rw (is_leaf_still delta, may.leaf.leaf) refl) rises (ap page_for (sym (chain_raised delta)))
       in
       closed table step receipt page (noted (set table.slots page (slot_with (Some delta) (slot_at table page))) receipt)
       (record {
@@ -205,10 +205,10 @@ module _ (table : TableValue) (room : ℕ) (whole : IsWhole table room) (page ke
       (ap (λ (o : Option ℕ). Deleted (suc (number_of table.book)) key (unwrap_or o 0)) found) refl
 
   -- what the code did is what was wished
-  pub done_at_once : (wished : Wished) (had : Option ℕ) (delta : Option Delta) (slots : List SlotValue) (receipt : Receipt)
+  pub done_at_once : (wished : Wished) {had : Option ℕ} {delta : Option Delta} {slots : List SlotValue} {receipt : Receipt}
       → had ≡ at key (pairs_in (slot_at table page)) → delta ≡ delta_for wished key had → slots ≡ set table.slots page (slot_with delta (slot_at table page)) → receipt ≡ told had delta
       → IsDoneAtOnce table page key wished receipt (noted slots receipt)
-  done_at_once wished had delta slots receipt found is slots_are receipt_is =
+  done_at_once wished {had} {delta} {slots} {receipt} found is slots_are receipt_is =
       let ByDelta : Option Delta → Type 0 = λ d. ComesTrue wished had d in
       let start : ComesTrue wished had delta = subst ByDelta (sym is) (comes_true wished had found) in
       let ByReceipt : Receipt → Type 0 = λ r. LooksOrTakes table page (Looked (number_of table.book) key had) r (noted (set table.slots page (slot_with delta (slot_at table page))) r) (step_for page (slot_at table page).version key wished had) in
@@ -296,11 +296,7 @@ term_add_is_accepted over under may absent =
       not_last under.version may.under_version,
     ) refl
 
-consolidate_inner_is_accepted : (slot : SlotValue) (base : Page) → slot.stage ≡ Posted → eqb slot.level 0 ≡ false → slot.version + 1 < 2 ^ 64 → lists_pairs base.listed ≡ false → base ≡ page_for (chain_in slot) → first_reason (consolidate_reasons slot slot.version base) ≡ None
-consolidate_inner_is_accepted slot base posted inner fits lists same =
-    rw (posted, eq-eqb slot.version slot.version refl, lists, inner, same_page_tells base (page_for (chain_in slot)) same, not_last slot.version fits) refl
-
-module _ (table : TableValue) (room : ℕ) (whole : IsWhole table room) (parent child : ℕ) (may : MayPostAtOnce (slot_at table parent) (slot_at table child)) where
+module _ {table : TableValue} {room : ℕ} (whole : IsWhole table room) (parent child : ℕ) (may : MayPostAtOnce (slot_at table parent) (slot_at table child)) where
   over_here : is_in_row (slot_at table parent).stage ≡ true
   over_here = ap is_in_row may.over_posted
 
@@ -356,7 +352,7 @@ module _ (table : TableValue) (room : ℕ) (whole : IsWhole table room) (parent 
       let not_a_leaf : eqb (slot_at table parent).level 0 ≡ false = let up = may.above in grind (arith, nat_tests) in
       let rises : over_raised.version + 1 < 2 ^ 64 = omega (arith, may.version) in
       let accepts : first_reason (consolidate_reasons over_raised over_raised.version over_base) ≡ None =
-      consolidate_inner_is_accepted over_raised over_base may.over_posted not_a_leaf rises lists (ap page_for (sym chain_raised_is))
+      consolidate_is_accepted over_raised over_base may.over_posted (rw (lists, not_a_leaf) refl) rises (ap page_for (sym chain_raised_is))
       in
       let in_order : set posting.slots parent (consolidated over_base over_raised) ≡ set (set table.slots parent (slot_with (Some term) (slot_at table parent))) child (with_stage Posted (slot_at table child)) =
       set-swap (set table.slots parent over_raised) parent child (consolidated over_base over_raised) (with_stage Posted (slot_at table child)) child_is_apart
@@ -410,15 +406,11 @@ split_is_accepted slot new leaving no_room separator base may staying room fits 
       not_last new.version fits,
     ) refl
 
-consolidate_any_is_accepted : (slot : SlotValue) (base : Page) → slot.stage ≡ Posted → is_other_kind base slot ≡ false → slot.version + 1 < 2 ^ 64 → base ≡ page_for (chain_in slot) → first_reason (consolidate_reasons slot slot.version base) ≡ None
-consolidate_any_is_accepted slot base posted kind fits same =
-    rw (posted, eq-eqb slot.version slot.version refl, kind, same_page_tells base (page_for (chain_in slot)) same, not_last slot.version fits) refl
-
-module _ (table : TableValue) (room : ℕ) (whole : IsWhole table room) (page separator : ℕ) (may : MaySplitAtOnce table page separator) where
+module _ {table : TableValue} {room : ℕ} (whole : IsWhole table room) {page separator : ℕ} (may : MaySplitAtOnce table page separator) where
   split_here : is_in_row (slot_at table page).stage ≡ true
   split_here = ap is_in_row may.cut.posted
 
-  split_is_inside : page < length table.slots
+  pub split_is_inside : page < length table.slots
   split_is_inside = here_is_inside table whole.lawful page split_here
 
   new_is_free : (new_id table < length table.slots) × ((slot_at table (new_id table)).stage ≡ Free)
@@ -430,14 +422,14 @@ module _ (table : TableValue) (room : ℕ) (whole : IsWhole table room) (page se
   id_is : (new : ℕ) → Some new ≡ last_id table.free → new_id table ≡ new
   id_is new is = sym (ap (λ (o : Option ℕ). unwrap_or o 0) is)
 
-  pub new_is_inside : (new : ℕ) → Some new ≡ last_id table.free → new < length table.slots
-  new_is_inside new is = let Inside : ℕ → Type 0 = λ n. n < length table.slots in subst Inside (id_is new is) new_is_free.0
+  pub new_is_inside : {new : ℕ} → Some new ≡ last_id table.free → new < length table.slots
+  new_is_inside {new} is = let Inside : ℕ → Type 0 = λ n. n < length table.slots in subst Inside (id_is new is) new_is_free.0
 
-  pub new_is_other : (new : ℕ) → Some new ≡ last_id table.free → new ≢ page
-  new_is_other new is = let Other : ℕ → Type 0 = λ n. n ≢ page in subst Other (id_is new is) new_is_apart
+  pub new_is_other : {new : ℕ} → Some new ≡ last_id table.free → new ≢ page
+  new_is_other {new} is = let Other : ℕ → Type 0 = λ n. n ≢ page in subst Other (id_is new is) new_is_apart
 
-  pub new_rises : (new : ℕ) → Some new ≡ last_id table.free → (slot_at table new).version + 1 < 2 ^ 64
-  new_rises new is = let Rises : ℕ → Type 0 = λ n. (slot_at table n).version + 1 < 2 ^ 64 in subst Rises (id_is new is) may.new_version
+  pub new_rises : {new : ℕ} → Some new ≡ last_id table.free → (slot_at table new).version + 1 < 2 ^ 64
+  new_rises {new} is = let Rises : ℕ → Type 0 = λ n. (slot_at table n).version + 1 < 2 ^ 64 in subst Rises (id_is new is) may.new_version
 
   split_chain : (chain : Records) × IsPageOf (slot_at table page) chain
   split_chain = whole.lawful.pages page split_here
@@ -458,7 +450,7 @@ module _ (table : TableValue) (room : ℕ) (whole : IsWhole table room) (page se
   own_kind : is_leaf (chain_in (slot_at table page)) ≡ eqb (slot_at table page).level 0
   own_kind = ap is_leaf split_chain_is ∙ split_chain.1.kind
 
-  module _ (base : Page) (same : base ≡ upper_part separator (page_for (chain_in (slot_at table page)))) where
+  module _ {base : Page} (same : base ≡ upper_part separator (page_for (chain_in (slot_at table page)))) where
     abbrev splitting : Proposal
     splitting = split page (slot_at table page).version separator base
 
@@ -495,7 +487,7 @@ module _ (table : TableValue) (room : ℕ) (whole : IsWhole table room) (page se
         let lower_chain : chain_in lower ≡ above cut_off (chain_in (slot_at table page)) = rw split_chain.1.its_chain refl in
         let rises : lower.version + 1 < 2 ^ 64 = omega (arith, may.cut.version) in
         let accepts : first_reason (consolidate_reasons lower lower.version lower_base) ≡ None =
-        consolidate_any_is_accepted lower lower_base may.cut.posted lower_kind rises (ap page_for (sym lower_chain))
+        consolidate_is_accepted lower lower_base may.cut.posted lower_kind rises (ap page_for (sym lower_chain))
         in
         let in_order : set halved.slots page (consolidated lower_base lower) ≡ set (set table.slots page (consolidated lower_base lower)) (new_id table) upper =
         set-swap (set table.slots page lower) page (new_id table) (consolidated lower_base lower) upper new_is_apart
@@ -504,10 +496,10 @@ module _ (table : TableValue) (room : ℕ) (whole : IsWhole table room) (page se
         two_steps table halved (record table { slots = slots; free = all_but_last table.free }) splitting (receipt_of table splitting) page lower lower_base accepted refl refl written accepts
         (ap (λ (s : List SlotValue). record table { slots = s; free = all_but_last table.free }) (slots_are ∙ sym in_order))
 
-    pub splits_at_once : (new : ℕ) → Some new ≡ last_id table.free → (slots : List SlotValue)
+    pub splits_at_once : {new : ℕ} → Some new ≡ last_id table.free → {slots : List SlotValue}
         → slots ≡ set (set table.slots page (slot_cut separator (pid new) (listed_length base.listed) (slot_at table page))) new (upper_half (slot_at table new).version separator base (slot_at table page))
         → TakesBoth table splitting (Shaped kinds.Split (pid page) (Some (pid new))) page (record table { slots = slots; free = all_but_last table.free })
-    splits_at_once new is slots slots_are =
+    splits_at_once {new} is {slots} slots_are =
         let Claim : ℕ → Type 0 = λ n.
         slots ≡ set (set table.slots page (slot_cut separator (pid n) (listed_length base.listed) (slot_at table page))) n (upper_half (slot_at table n).version separator base (slot_at table page))
         → TakesBoth table splitting (Shaped kinds.Split (pid page) (Some (pid n))) page (record table { slots = slots; free = all_but_last table.free })

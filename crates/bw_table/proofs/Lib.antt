@@ -5,6 +5,7 @@ pub mod Doing
 pub mod FreeIds
 pub mod LiveRoutes
 pub mod Reasons
+pub mod Reports
 pub mod RowWalk
 pub mod Same
 pub mod Ways
@@ -12,5 +13,6 @@ pub mod Whole
 pub mod Writes
 pub mod Gets
 pub mod Listings
+pub mod Cuts
 pub mod Rests
 pub mod Orders

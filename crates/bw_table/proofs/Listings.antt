@@ -9,7 +9,7 @@ use Rattle.bw_keys.specs.Ranges.{key_count}
 use Rattle.bw_delta.specs.Entries.{from}
 use Rattle.bw_chain.proofs.Firsts.{from_past}
 use Rattle.bw_step.specs.Stages.{is_in_row}
-use Rattle.bw_law.specs.Laws.{IsLeafOf}
+use Rattle.bw_law.specs.Laws.{IsLeafOf, IsTheMap}
 use Rattle.bw_law.specs.Rows.{Outline}
 use Rattle.bw_law.specs.Slots.{SlotValue, slot_in, pairs_in}
 use Rattle.bw_law.specs.Walks.{Linked, IsRow, IsRowOf, IsAmong, Partitions}
@@ -18,7 +18,6 @@ use Rattle.bw_law.proofs.Count.{joined_count}
 use Rattle.bw_law.proofs.Joined.{joined, EachRises, joined_rise}
 use Rattle.bw_law.proofs.MapAndTerms.{map_law, leaf_pairs_rise}
 use Rattle.bw_law.proofs.RowList.{row_of}
-use Rattle.bw_table.specs.Gets.{IsListing}
 use Rattle.bw_table.proofs.RowWalk.{IsListedBefore, at_next, listing_goes_on, whole_is_listed, joined_pairs-one, joined_pairs-append}
 
 -- Lists.
@@ -37,6 +36,12 @@ length-from low (x ∷ xs) = grind (arith, nat_tests, length-from low xs)
 
 abbrev pub pairs_from : List SlotValue → ℕ → List ℕ → List (ℕ × ℕ)
 pairs_from slots low row = from low (joined_pairs slots row)
+
+-- the first pairs of the map from the key on, and no more than the limit
+pub record AreFirstFrom (table : TableValue) (low limit : ℕ) (listed : List (ℕ × ℕ)) : Type 0 where
+  pub pairs : List (ℕ × ℕ)
+  pub map : IsTheMap table pairs
+  pub first : listed ≡ take limit (from low pairs)
 
 -- the pages before the next have these pairs, and the list is the first of them
 pub record IsListedUpTo (table : TableValue) (low limit : ℕ) (next : Option Pid) (list : List (ℕ × ℕ)) : Type 0 where
@@ -70,7 +75,7 @@ place_of (p ∷ row) page (inr among) =
     let place = place_of row page among in
     (p ∷ place.0, place.1, ap (λ (l : List ℕ). p ∷ l) place.2)
 
-joined_shares : (slots : List SlotValue) (row : List ℕ) → joined_pairs slots row ≡ joined (λ page. leaf_pairs (slot_in slots page)) row
+pub joined_shares : (slots : List SlotValue) (row : List ℕ) → joined_pairs slots row ≡ joined (λ page. leaf_pairs (slot_in slots page)) row
 joined_shares slots [] = refl
 joined_shares slots (page ∷ row) = ap (λ (es : List (ℕ × ℕ)). leaf_pairs (slot_in slots page) ++ es) (joined_shares slots row)
 
@@ -110,7 +115,7 @@ module _ (table : TableValue) (law : Lawful table) (low limit : ℕ) where
     pub next_is_in_row : (page : Pid) → next ≡ Some page → is_in_row (slot_at table page.0).stage ≡ true
     next_is_in_row page is = here page is
 
-    of_page : (page : Pid) (slot : SlotValue) → next ≡ Some page → slot ≡ slot_at table page.0 → from low (pairs_in slot) ≡ pairs_from table.slots low (page.0 ∷ [])
+    pub of_page : (page : Pid) (slot : SlotValue) → next ≡ Some page → slot ≡ slot_at table page.0 → from low (pairs_in slot) ≡ pairs_from table.slots low (page.0 ∷ [])
     of_page page slot is same =
         let there = at_next table law (pairs_from table.slots low) next page up_to.listed up_to.so_far is in
         ap (λ (s : SlotValue). from low (pairs_in s)) same ∙ ap (from low) (sym (joined_pairs-one table.slots page.0 there.in_row there.is_leaf))
@@ -150,7 +155,7 @@ module _ (table : TableValue) (law : Lawful table) (low limit : ℕ) where
         }
 
     -- the limit is reached, or no page is left
-    pub listing_is_full : limit ≤ length list → IsListing table low limit list
+    pub listing_is_full : limit ≤ length list → AreFirstFrom table low limit list
     listing_is_full full =
         let so_far = up_to.so_far in
         let row = so_far.before ++ so_far.rest in
@@ -164,7 +169,7 @@ module _ (table : TableValue) (law : Lawful table) (low limit : ℕ) where
               ∙ ap (take limit) (sym (pairs_from-append table.slots low so_far.before so_far.rest));
         }
 
-    pub listing_is_whole : next ≡ None → IsListing table low limit list
+    pub listing_is_whole : next ≡ None → AreFirstFrom table low limit list
     listing_is_whole none =
         let so_far = up_to.so_far in
         let row_is = whole_is_listed table law (pairs_from table.slots low) next up_to.listed so_far none in

@@ -32,7 +32,7 @@ pub record IsProper (table : TableValue) (place : Place) (key goal : ℕ) (go : 
   pub nearer : ComesNearer place go
   pub found : FindsPage table place key goal go
 
--- the test of a place holds just where it is on the way
+-- a place whose test holds is on the way
 there_is_on_the_way : (table : TableValue) (place : Place) (key goal : ℕ) → is_there (slot_at table place.pid.0) place key goal ≡ true → IsOnTheWay table place key goal
 there_is_on_the_way table place key goal there = record {
   in_row = grind (arith, nat_tests);
@@ -41,9 +41,6 @@ there_is_on_the_way table place key goal there = record {
   low_from = grind (arith, nat_tests);
   low_upto = grind (arith, nat_tests);
 }
-
-on_the_way_is_there : (table : TableValue) (place : Place) (key goal : ℕ) → IsOnTheWay table place key goal → is_there (slot_at table place.pid.0) place key goal ≡ true
-on_the_way_is_there table place key goal on = grind (arith, nat_tests, on.in_row, on.level, on.goal_below, on.low_from, on.low_upto)
 
 -- a page in a row isn't merged
 row_is_unmerged : (stage : Stage) → is_in_row stage ≡ true → is_merged stage ≡ false

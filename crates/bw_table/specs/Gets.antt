@@ -1,8 +1,8 @@
 -- What the map has at a key, and the way to it from the root.
 use Rattle.std.specs.Prelude.{◌≡◌, ◌↔◌, ℕ, ◌+◌, ◌-◌, ◌*◌, ◌^◌, ◌<◌, ◌≤◌, true, ◌==◌, nat_le, if◌then◌else◌, List, Option, Some, None, option_map, IfSome, IfNone, take}
 use Rattle.bw_keys.specs.declared.page.Pid.{Pid}
-use Rattle.bw_keys.specs.Ranges.{end_of}
-use Rattle.bw_delta.specs.Entries.{from, last_upto}
+use Rattle.bw_keys.specs.Ranges.{key_count, end_of}
+use Rattle.bw_delta.specs.Entries.{from, below, rises, last_upto}
 use Rattle.bw_step.specs.Stages.{is_in_row}
 use Rattle.bw_law.specs.Laws.{IsLeafOf, IsTheMap}
 use Rattle.bw_law.specs.Slots.{SlotValue}
@@ -13,11 +13,16 @@ use Rattle.bw_table.specs.Visits.{live_routes}
 abbrev pub IsMapAt : TableValue → ℕ → Option ℕ → Type 0
 IsMapAt table key found = (value : ℕ) → (found ≡ Some value) ↔ Maps table.slots key value
 
--- the first pairs of the map from the key on, in the order of their keys, and no more than the limit
-pub record IsListing (table : TableValue) (low limit : ℕ) (listed : List (ℕ × ℕ)) : Type 0 where
+-- the first pairs of the map from the low on and below the end, in the order of their keys, and no more than the limit
+pub record IsListing (table : TableValue) (low end limit : ℕ) (listed : List (ℕ × ℕ)) : Type 0 where
   pub pairs : List (ℕ × ℕ)
   pub map : IsTheMap table pairs
-  pub first : listed ≡ take limit (from low pairs)
+  pub first : listed ≡ take limit (below end (from low pairs))
+
+-- these pairs, and perhaps others at the end or past it, in the order of their keys
+pub record HasListing (table : TableValue) (low end limit : ℕ) (listed : List (ℕ × ℕ)) : Type 0 where
+  pub rise : rises 0 key_count listed ≡ true
+  pub listing : IsListing table low end limit (below end listed)
 
 -- a page in a row that begins at or below the key
 pub record IsUpTo (table : TableValue) (key page : ℕ) : Type 0 where

@@ -1,39 +1,40 @@
-//! The first pairs of the map from a key on, read along the leaf row.
+//! The first pairs of the map in a range of keys, read along the leaf row.
 
-ghost use Rattle.std.specs.Prelude.{◌≡◌, ◌+◌, ◌≤◌, ◌++◌, [], min, length, take, true, vec_capacity, OnOk, OnErr};
-ghost use Rattle.bw_delta.specs.Entries.{from};
+ghost use Rattle.std.specs.Prelude.{◌≡◌, ◌↔◌, ◌+◌, ◌≤◌, ◌++◌, [], min, length, take, true, vec_capacity, IsTrue, IfOk, OnOk, OnErr};
+ghost use Rattle.bw_keys.specs.Ranges.{key_count, end_of};
+ghost use Rattle.bw_delta.specs.Entries.{from, below, rises};
 ghost use Rattle.bw_step.specs.Stages.{is_in_row};
 ghost use Rattle.bw_law.specs.Slots.{pairs_in};
 ghost use Rattle.bw_law.specs.Tables.{pair_count};
 ghost use Rattle.bw_table.specs.SlotFacts.{HasSoundChain};
-ghost use Rattle.bw_table.specs.Gets.{IsListing};
+ghost use Rattle.bw_table.specs.Gets.{IsListing, HasListing};
 
 use crate::slot::Slot;
 use crate::table::Table;
 use bw_chain::append_first_pairs;
 use bw_delta::NoMemory;
-use bw_keys::{Key, Pid};
+use bw_keys::{Fence, Key, Pid};
 use std::alloc::Allocator;
 use std::mem::replace;
 
 impl<A: Allocator + Copy> Table<A> {
-    /// Replaces the list by the first pairs of the map from the key on, in the order of their keys,
-    /// and no more than the limit. All memory is taken first, as room for them; where it is refused
-    /// the list stays as it was.
-    pub fn list_from(
+    /// Replaces the list by the first pairs of the map from the low on and below the high, in the
+    /// order of their keys, and no more than the limit. Memory is taken first, where the list has no
+    /// room for as many pairs as the map has or the limit allows; if it is refused, the list stays as
+    /// it was.
+    pub fn list_range(
         &self,
         low: Key,
+        high: Fence,
         limit: usize,
         list: &mut Vec<(Key, u64)>,
     ) -> Result<(), NoMemory>
-        ensures listed { OnOk result (IsListing self.now low limit list.new.items) }
-        ensures unchanged { OnErr result (list.new.items ≡ list.old.items) }
+        ensures listed { OnOk result
+            (IsListing self.now low (end_of high) limit list.new.items) }
+        ensures unchanged { OnErr result (list.new ≡ list.old) }
     {
-        let room = self.pair_count().min(limit);
-        list.reserve(room.saturating_sub(list.len()))?;
-        list.clear();
-        let empty = Vec::new(*list.allocator());
-        *list = self.fill(low, limit, replace(list, empty));
+        let empty = emptied(list, self.pair_count().min(limit))?;
+        *list = cut(self.fill(low, high, limit, empty), high);
         Ok(())
     }
 
@@ -44,11 +45,12 @@ impl<A: Allocator + Copy> Table<A> {
         (self.book.inserted - self.book.removed) as usize
     }
 
-    /// The list with the pairs, which is empty and has room for them.
-    fn fill(&self, low: Key, limit: usize, list: Vec<(Key, u64)>) -> Vec<(Key, u64)>
+    /// The list, which is empty and has room for them, with the pairs, and perhaps with others of the
+    /// last leaf behind them.
+    fn fill(&self, low: Key, high: Fence, limit: usize, list: Vec<(Key, u64)>) -> Vec<(Key, u64)>
         requires empty { list.items ≡ [] }
         requires room { min (pair_count self.now.slots) limit ≤ vec_capacity list }
-        ensures { IsListing self.now low limit result.items }
+        ensures { HasListing self.now low (end_of high) limit result.items }
     {
         let mut listed = list;
         let mut next = Some(self.page_for(low));
@@ -58,13 +60,54 @@ impl<A: Allocator + Copy> Table<A> {
             }
             let slot = self.slot_in_row(pid);
             listed = slot.list_from(low, limit, listed);
+            if slot.ends_past(high) {
+                return listed;
+            }
             next = slot.summary.right;
         }
         listed
     }
 }
 
+/// The list without its pairs, if it has the room, and otherwise a new one that has it.
+fn emptied(list: &mut Vec<(Key, u64)>, room: usize) -> Result<Vec<(Key, u64)>, NoMemory>
+    ensures empty { IfOk result (λ list. list.items ≡ []) }
+    ensures room { IfOk result (λ list. room ≤ vec_capacity list) }
+    ensures unchanged { OnErr result (list.new ≡ list.old) }
+{
+    let alloc = *list.allocator();
+    if list.capacity() < room {
+        return Ok(Vec::with_capacity(alloc, room)?);
+    }
+    let mut taken = replace(list, Vec::new(alloc));
+    taken.clear();
+    Ok(taken)
+}
+
+/// The pairs below the high, of a list in the order of their keys.
+fn cut(list: Vec<(Key, u64)>, high: Fence) -> Vec<(Key, u64)>
+    requires { rises 0 key_count list.items ≡ true }
+    ensures { result.items ≡ below (end_of high) list.items }
+{
+    let mut list = list;
+    if let Fence::Key(high) = high {
+        let end = list.partition_point(|&(key, _)| key < high);
+        list.truncate(end);
+    }
+    list
+}
+
 impl<A: Allocator + Copy> Slot<A> {
+    /// Whether no key below the high lies past the page.
+    fn ends_past(&self, high: Fence) -> bool
+        ensures { IsTrue result ↔ (end_of high ≤ end_of self.now.high) }
+    {
+        match self.summary.high {
+            Fence::Key(end) => !high.is_above(end),
+            Fence::Top => true,
+        }
+    }
+
     /// The list, and behind its pairs those of the page from the key on, as many as the limit leaves.
     fn list_from(&self, low: Key, limit: usize, list: Vec<(Key, u64)>) -> Vec<(Key, u64)>
         requires in_row { is_in_row self.now.stage ≡ true }

@@ -162,9 +162,9 @@ impl<A: Allocator + Copy> Table<A> {
         })
     }
 
-    /// How many changes of the map there were.
+    /// Returns the number of changes of the map so far.
     #[inline(always)]
-    pub(crate) fn number(&self) -> u64
+    pub fn number(&self) -> u64
         ensures { result ≡ number_of self.now.book }
     {
         number_of(self.book)

@@ -1,4 +1,3 @@
 pub mod AtOnce
 mod Halving
 pub mod Trees
-pub mod Answers

@@ -75,7 +75,3 @@ closed table config totals shares kept made sum =
     let tree = tree_of table totals kept in
     let book : shared_in table.book ≡ sum_of shares = kept.book ∙ sum in
     record { config = made; tree = tree; book = book; pairs = subst (CountsPairs table) book tree.pairs }
-
--- no step changes the configuration
-pub config_kept : (old new : TableValue) (step : Proposal) (receipt : Receipt) → TakesStep old step receipt new → new.config ≡ old.config
-config_kept old new step receipt takes = ap (λ (t : TableValue). t.config) takes.leads

@@ -18,7 +18,7 @@ pub record ShareValue : Type 0 where
   pub inserted : ℕ
   pub removed : ℕ
 
--- how the logic tells shares apart
+-- how the logic distinguishes shares
 abbrev pub share_code : Coded ShareValue
 share_code = code_by (ℕ × ℕ) (coded× coded_ℕ coded_ℕ) (λ s. (s.inserted, s.removed)) (λ p. record { inserted = p.0; removed = p.1 }) (λ _. refl)
 

@@ -48,7 +48,7 @@ pub trait Shared<A: Allocator + Copy, P: Proposes> {
     fn look(&self, pid: Pid, key: Key) -> Option<Look>;
 
     /// Returns the leaf whose range holds the key, where no page on the way to it is in the middle
-    /// of a split or a merge. None also where the tree can't tell in one hold of its lock: a search
+    /// of a split or a merge. None also where the tree can't find it in one hold of its lock: a search
     /// then goes by [`visit`](Shared::visit).
     fn leaf_at_once(&self, _key: Key) -> Option<View>
         ensures leaf { IfSome result (λ view. view.level ≡ 0) }
@@ -56,8 +56,8 @@ pub trait Shared<A: Allocator + Copy, P: Proposes> {
         None
     }
 
-    /// Returns what the map has at the key, where no page on the way to its leaf is in the middle
-    /// of a split or a merge. None as in [`leaf_at_once`](Shared::leaf_at_once).
+    /// Returns what the map has at the key. None where the tree can't look it up in one hold of its
+    /// lock: a search then goes by [`visit`](Shared::visit).
     fn look_at_once(&self, _key: Key) -> Option<Look> {
         None
     }

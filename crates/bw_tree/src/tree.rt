@@ -117,9 +117,7 @@ impl<R: Wait + Drop, A: Allocator + Copy, I: MadeBy, D: Ledger> Shared<A, Step<A
 
     #[inline(always)]
     fn look_at_once(&self, key: Key) -> Option<Look> {
-        let booked = self.booked.lock(&self.rt);
-        let leaf = booked.table().leaf_at_rest(key)?;
-        booked.table().look(leaf.pid, key)
+        Some(self.booked.lock(&self.rt).table().look_up(key))
     }
 
     #[inline(always)]

@@ -61,6 +61,6 @@ by_number_told told fact first (o ∷ outputs) (t ∷ trails) has all = (has fir
 by_number_told told fact first [] (t ∷ trails) has all = absurd all
 by_number_told told fact first (o ∷ outputs) [] has all = absurd all
 
--- where each output tells its worker's number, the outputs stand by the workers' numbers
+-- where each output has its worker's number, the outputs stand by the workers' numbers
 pub numbered_by_told : {O A : Type 0} → (number : O → ℕ) (outputs : List O) (trails : List (Vec Receipt A)) → AllTold (λ worker output trail. number output ≡ worker) outputs trails → AreNumbered number 0 outputs
 numbered_by_told number outputs trails all = by_number_told (λ worker output trail. number output ≡ worker) (λ worker output. number output ≡ worker) 0 outputs trails (λ worker output trail is. is) all

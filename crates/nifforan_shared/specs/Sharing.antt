@@ -21,7 +21,7 @@ pub record IsShared {O : Type 0} (promise : Promised O) (made_by : Config) (work
   pub pairs : CountsPairs outcome.table (changes_in (lists_of outcome.trails.items))
   pub told : AllTold promise outcome.outputs.items outcome.trails.items
 
--- a tree may be made by the configuration, and shared by so many workers, of which there may be at most so many
+-- a tree may be made by the configuration, and shared by this number of workers, of at most this number
 abbrev pub MayShare : ℕ → Config → ℕ → Type 0
 MayShare most config workers = (first_bad_field config ≡ None) × (is_out_of 1 most workers ≡ false)
 

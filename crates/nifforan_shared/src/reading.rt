@@ -3,7 +3,7 @@
 ghost use Rattle.std.specs.Prelude.{◌≡◌, IfOk, length};
 
 use bw_delta::NoMemory;
-use bw_keys::Key;
+use bw_keys::{Fence, Key};
 use bw_snap::{Closed, Naming, ReadTree, ScanFault};
 use std::alloc::Global;
 use std::sync::Wait;
@@ -15,7 +15,9 @@ pub trait Reads {
     ghost use Rattle.std.specs.Prelude.{◌≡◌, List, IfOk, OnOk, OnErr};
     ghost use Rattle.bw_keys.specs.declared.config.Config.{Config};
     ghost use Rattle.bw_step.specs.Proposals.{Proposal};
-    ghost use Rattle.bw_snap.specs.Answers.{IsFoundIn, IsListedIn};
+    ghost use Rattle.bw_keys.specs.Ranges.{end_of};
+    ghost use Rattle.bw_snap.specs.Answers.{IsFoundIn, IsFirstIn, IsLastIn, IsNextIn, IsPreviousIn};
+    ghost use Rattle.bw_snap.specs.Answers.{IsNumberIn, IsLenIn, IsListedIn, IsRangeIn};
     ghost use Rattle.bw_snap.specs.Snapshots.{BeginsWith};
 
     // the configuration that the tree was made by
@@ -38,6 +40,48 @@ pub trait Reads {
         ensures found { IfOk result (IsFoundIn (made_by self.old) key (list self.new)) }
         ensures closed { OnErr result (list self.new ≡ list self.old) };
 
+    /// Returns the pair with the least key, if there is any.
+    fn first(&mut self) -> Result<Option<(Key, u64)>, Closed>
+        ensures made_by { made_by self.new ≡ made_by self.old }
+        ensures seen { BeginsWith (list self.new) (list self.old) }
+        ensures first { IfOk result (IsFirstIn (made_by self.old) (list self.new)) }
+        ensures closed { OnErr result (list self.new ≡ list self.old) };
+
+    /// Returns the pair with the greatest key, if there is any.
+    fn last(&mut self) -> Result<Option<(Key, u64)>, Closed>
+        ensures made_by { made_by self.new ≡ made_by self.old }
+        ensures seen { BeginsWith (list self.new) (list self.old) }
+        ensures last { IfOk result (IsLastIn (made_by self.old) (list self.new)) }
+        ensures closed { OnErr result (list self.new ≡ list self.old) };
+
+    /// Returns the pair with the least key at or above the key, if there is one.
+    fn next_at(&mut self, key: Key) -> Result<Option<(Key, u64)>, Closed>
+        ensures made_by { made_by self.new ≡ made_by self.old }
+        ensures seen { BeginsWith (list self.new) (list self.old) }
+        ensures next { IfOk result (IsNextIn (made_by self.old) key (list self.new)) }
+        ensures closed { OnErr result (list self.new ≡ list self.old) };
+
+    /// Returns the pair with the greatest key at or below the key, if there is one.
+    fn previous_at(&mut self, key: Key) -> Result<Option<(Key, u64)>, Closed>
+        ensures made_by { made_by self.new ≡ made_by self.old }
+        ensures seen { BeginsWith (list self.new) (list self.old) }
+        ensures previous { IfOk result (IsPreviousIn (made_by self.old) key (list self.new)) }
+        ensures closed { OnErr result (list self.new ≡ list self.old) };
+
+    /// Returns the number of the map's changes so far, in constant time.
+    fn number(&mut self) -> Result<u64, Closed>
+        ensures made_by { made_by self.new ≡ made_by self.old }
+        ensures seen { BeginsWith (list self.new) (list self.old) }
+        ensures number { IfOk result (IsNumberIn (made_by self.old) (list self.new)) }
+        ensures closed { OnErr result (list self.new ≡ list self.old) };
+
+    /// Returns the number of pairs, in constant time.
+    fn len(&mut self) -> Result<u64, Closed>
+        ensures made_by { made_by self.new ≡ made_by self.old }
+        ensures seen { BeginsWith (list self.new) (list self.old) }
+        ensures len { IfOk result (IsLenIn (made_by self.old) (list self.new)) }
+        ensures closed { OnErr result (list self.new ≡ list self.old) };
+
     /// Replaces the list by the first pairs of the map from the key on, in the order of their keys
     /// and at most `limit` of them. After a fault the list is as before.
     fn scan(&mut self, low: Key, limit: usize, out: &mut Vec<(Key, u64)>) -> Result<(), ScanFault>
@@ -45,6 +89,20 @@ pub trait Reads {
         ensures seen { BeginsWith (list self.new) (list self.old) }
         ensures pairs { OnOk result
             (IsListedIn (made_by self.old) low limit (list self.new) out.new.items) }
+        ensures fault { OnErr result ((list self.new ≡ list self.old) × (out.new ≡ out.old)) };
+
+    /// Does what `scan` does, with the pairs below the high.
+    fn scan_range(
+        &mut self,
+        low: Key,
+        high: Fence,
+        limit: usize,
+        out: &mut Vec<(Key, u64)>,
+    ) -> Result<(), ScanFault>
+        ensures made_by { made_by self.new ≡ made_by self.old }
+        ensures seen { BeginsWith (list self.new) (list self.old) }
+        ensures pairs { OnOk result
+            (IsRangeIn (made_by self.old) low (end_of high) limit (list self.new) out.new.items) }
         ensures fault { OnErr result ((list self.new ≡ list self.old) × (out.new ≡ out.old)) };
 }
 
@@ -85,7 +143,41 @@ impl<'t, R: Wait + Copy, N: Naming, D: Ledger> Reads for Reading<'t, R, N, D> {
         self.reader.get(key)
     }
 
+    fn first(&mut self) -> Result<Option<(Key, u64)>, Closed> {
+        self.reader.first()
+    }
+
+    fn last(&mut self) -> Result<Option<(Key, u64)>, Closed> {
+        self.reader.last()
+    }
+
+    fn next_at(&mut self, key: Key) -> Result<Option<(Key, u64)>, Closed> {
+        self.reader.next_at(key)
+    }
+
+    fn previous_at(&mut self, key: Key) -> Result<Option<(Key, u64)>, Closed> {
+        self.reader.previous_at(key)
+    }
+
+    fn number(&mut self) -> Result<u64, Closed> {
+        self.reader.number()
+    }
+
+    fn len(&mut self) -> Result<u64, Closed> {
+        self.reader.len()
+    }
+
     fn scan(&mut self, low: Key, limit: usize, out: &mut Vec<(Key, u64)>) -> Result<(), ScanFault> {
         self.reader.scan(low, limit, out)
+    }
+
+    fn scan_range(
+        &mut self,
+        low: Key,
+        high: Fence,
+        limit: usize,
+        out: &mut Vec<(Key, u64)>,
+    ) -> Result<(), ScanFault> {
+        self.reader.scan_range(low, high, limit, out)
     }
 }

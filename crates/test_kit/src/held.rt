@@ -1,7 +1,7 @@
 //! A worker that is held in the middle of a change while another does its task.
 
 use crate::meeting::Meeting;
-use crate::play::Worked;
+use crate::play::Played;
 use crate::worker::{Call, Reply, Task, Told, work_by_hand};
 use bw_delta::NoMemory;
 use bw_keys::Key;
@@ -58,7 +58,7 @@ impl HeldAfter {
         share: Share<S::Insertions, S::Removals>,
         worker: u32,
         task: Task<'_>,
-    ) -> Worked<S::Insertions, S::Removals, Told> {
+    ) -> Played<S::Insertions, S::Removals, Told> {
         self.begin(worker);
         let worked = work_by_hand(machine, tree, share, (worker, self), task);
         self.end(worker);

@@ -26,7 +26,7 @@ pub use held::{BESIDE_CALLS, HELD_CALLS, HELD_PAIRS, HOLDS, HeldAfter, are_both_
 pub use hooked::{Hook, Hooked};
 pub use meeting::Meeting;
 pub use pages::{Pages, seen};
-pub use play::{Ended, NoTree, Play, Turns, Worked, play_on_new_tree};
+pub use play::{Ended, NoTree, Play, Played, Turns, play_on_new_tree};
 pub use sights::{are_own_pairs, leaves_of};
 pub use tally::{Tally, partition_the_keys};
 pub use worker::{Call, Reply, Task, Told, work, work_by_hand};

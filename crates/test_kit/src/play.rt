@@ -16,7 +16,7 @@ use std::thread::{Threads, join};
 
 /// A worker's share when it is done, and its result.
 #[derive(Drop)]
-pub struct Worked<I: Ledger, D: Ledger, T> {
+pub struct Played<I: Ledger, D: Ledger, T> {
     pub share: Share<I, D>,
     pub told: T,
 }
@@ -29,7 +29,7 @@ pub trait Play<T: Drop> {
         tree: &S,
         worker: u32,
         share: Share<S::Insertions, S::Removals>,
-    ) -> Worked<S::Insertions, S::Removals, T>;
+    ) -> Played<S::Insertions, S::Removals, T>;
 }
 
 /// When the workers do it.
@@ -67,8 +67,8 @@ pub fn play_on_new_tree<R: Threads + Wait + Sync + Send + Copy, T: Drop + Send, 
 /// What two workers have done.
 #[derive(Drop)]
 struct Both<I: Ledger, D: Ledger, T> {
-    zero: Worked<I, D, T>,
-    one: Worked<I, D, T>,
+    zero: Played<I, D, T>,
+    one: Played<I, D, T>,
 }
 
 /// Runs the workers.

@@ -1,6 +1,6 @@
 //! A worker's calls, and their answers.
 
-use crate::play::Worked;
+use crate::play::Played;
 use bw_delta::NoMemory;
 use bw_keys::{Fence, Key};
 use bw_step::{Receipt, Step};
@@ -204,9 +204,9 @@ pub fn work_by_hand<S: Shared<Global, Step<Global>>, G: Gate>(
     share: Share<S::Insertions, S::Removals>,
     (worker, gate): (u32, &G),
     task: Task<'_>,
-) -> Worked<S::Insertions, S::Removals, Told> {
+) -> Played<S::Insertions, S::Removals, Told> {
     let mut hand = Hand::new(machine, machine, tree, share, worker, gate);
     let told = work(machine, &mut hand, task);
     let (share, _) = hand.finish();
-    Worked { share, told }
+    Played { share, told }
 }

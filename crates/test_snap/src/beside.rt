@@ -16,7 +16,7 @@ use std::sync::atomic::{AtomicU64, Ordering};
 use std::sync::ledger::Ledger;
 use std::test::Fail;
 use std::thread;
-use test_kit::{LARGE, Meeting, Told, Worked};
+use test_kit::{LARGE, Meeting, Played, Told};
 
 const RUNS: u64 = 20;
 
@@ -68,7 +68,7 @@ impl Crew for Beside {
         tree: &ReadTree<R, N, D>,
         worker: u32,
         share: Share<N, D>,
-    ) -> Worked<N, D, Told> {
+    ) -> Played<N, D, Told> {
         let machine = self.machine;
         let mut rng = Pcg32::seed_from_u64(
             self.run.wrapping_mul(2).wrapping_add(u64::from(worker)),
@@ -91,7 +91,7 @@ impl Crew for Beside {
         }
         self.written.fetch_add(1, Ordering::SeqCst);
         let (share, trail) = hand.finish();
-        Worked {
+        Played {
             share,
             told: Told {
                 replies: Vec::new(machine),

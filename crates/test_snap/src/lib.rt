@@ -6,6 +6,8 @@
 mod beside;
 #[cfg(test)]
 mod crew;
+#[cfg(test)]
+mod questions;
 pub mod reads;
 #[cfg(test)]
 mod seen;

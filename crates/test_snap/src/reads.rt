@@ -1,9 +1,11 @@
 //! What readers do, without a runtime value: none of these functions can wait for a lock.
 ghost use Rattle.std.specs.Prelude.{IfOk, OnOk};
-ghost use Rattle.bw_snap.specs.Answers.{IsFoundIn, IsLookIn, IsListedIn};
+ghost use Rattle.bw_keys.specs.Ranges.{end_of};
+ghost use Rattle.bw_snap.specs.Answers.{IsFoundIn, IsLookIn, IsFirstIn, IsLastIn, IsNextIn, IsPreviousIn};
+ghost use Rattle.bw_snap.specs.Answers.{IsNumberIn, IsLenIn, IsListedIn, IsRangeIn};
 ghost use Rattle.bw_snap.specs.Snapshots.{BeginsWith};
 
-use bw_keys::Key;
+use bw_keys::{Fence, Key};
 use bw_snap::{Closed, Naming, Reader, ScanFault, Stamp};
 use bw_step::Look;
 
@@ -52,4 +54,96 @@ pub fn scan_after<N: Naming>(
 {
     reader.learn(stamp);
     reader.scan(low, limit, out)
+}
+
+/// Returns the first pair, once the stamp was learnt.
+pub fn first_after<N: Naming>(
+    reader: &mut Reader<N>,
+    stamp: Stamp<N>,
+) -> Result<Option<(Key, u64)>, Closed>
+    ensures first { IfOk result (IsFirstIn N.config reader.new) }
+    ensures own { BeginsWith reader.new reader.old }
+    ensures stamp { BeginsWith reader.new stamp }
+{
+    reader.learn(stamp);
+    reader.first()
+}
+
+/// Returns the last pair, once the stamp was learnt.
+pub fn last_after<N: Naming>(
+    reader: &mut Reader<N>,
+    stamp: Stamp<N>,
+) -> Result<Option<(Key, u64)>, Closed>
+    ensures last { IfOk result (IsLastIn N.config reader.new) }
+    ensures own { BeginsWith reader.new reader.old }
+    ensures stamp { BeginsWith reader.new stamp }
+{
+    reader.learn(stamp);
+    reader.last()
+}
+
+/// Returns the first pair at or above the key, once the stamp was learnt.
+pub fn next_after<N: Naming>(
+    reader: &mut Reader<N>,
+    stamp: Stamp<N>,
+    key: Key,
+) -> Result<Option<(Key, u64)>, Closed>
+    ensures next { IfOk result (IsNextIn N.config key reader.new) }
+    ensures own { BeginsWith reader.new reader.old }
+    ensures stamp { BeginsWith reader.new stamp }
+{
+    reader.learn(stamp);
+    reader.next_at(key)
+}
+
+/// Returns the last pair at or below the key, once the stamp was learnt.
+pub fn previous_after<N: Naming>(
+    reader: &mut Reader<N>,
+    stamp: Stamp<N>,
+    key: Key,
+) -> Result<Option<(Key, u64)>, Closed>
+    ensures previous { IfOk result (IsPreviousIn N.config key reader.new) }
+    ensures own { BeginsWith reader.new reader.old }
+    ensures stamp { BeginsWith reader.new stamp }
+{
+    reader.learn(stamp);
+    reader.previous_at(key)
+}
+
+/// Returns the number of changes, once the stamp was learnt.
+pub fn number_after<N: Naming>(reader: &mut Reader<N>, stamp: Stamp<N>) -> Result<u64, Closed>
+    ensures number { IfOk result (IsNumberIn N.config reader.new) }
+    ensures own { BeginsWith reader.new reader.old }
+    ensures stamp { BeginsWith reader.new stamp }
+{
+    reader.learn(stamp);
+    reader.number()
+}
+
+/// Returns the number of pairs, once the stamp was learnt.
+pub fn len_after<N: Naming>(reader: &mut Reader<N>, stamp: Stamp<N>) -> Result<u64, Closed>
+    ensures len { IfOk result (IsLenIn N.config reader.new) }
+    ensures own { BeginsWith reader.new reader.old }
+    ensures stamp { BeginsWith reader.new stamp }
+{
+    reader.learn(stamp);
+    reader.len()
+}
+
+/// Fills `out` with the first pairs from the low on and below the high, once the stamp was learnt.
+pub fn scan_range_after<N: Naming>(
+    reader: &mut Reader<N>,
+    stamp: Stamp<N>,
+    low: Key,
+    high: Fence,
+    limit: usize,
+    out: &mut Vec<(Key, u64)>,
+) -> Result<(), ScanFault>
+    ensures pairs { OnOk result
+        (IsRangeIn N.config low (end_of high) limit reader.new out.new.items) }
+    ensures own { BeginsWith reader.new reader.old }
+    ensures stamp { BeginsWith reader.new stamp }
+{
+    reader.learn(stamp);
+    reader.scan_range(low, high, limit, out)
 }

@@ -5,16 +5,16 @@ use bw_keys::{Key, Pid};
 use bw_table::{AtOnce, Receipt, Table, Wished};
 use std::alloc::Global;
 use std::test::Fail;
-use test_kit::{Change, receipt, take_all};
+use test_kit::{Change, SMALL, receipt, take_all};
 
-/// The first pages, of which some are free.
-const PAGES: u32 = 8;
+/// The pages of a small table, of which most are free.
+const PAGES: u32 = SMALL.pages;
 
 /// The first keys, of which some have no value.
-const KEYS: Key = 12;
+const KEYS: Key = 256;
 
 /// Returns whether both tables have the same pages, pairs and counts.
-fn are_alike(one: &Table<Global>, other: &Table<Global>) -> bool {
+pub(crate) fn are_alike(one: &Table<Global>, other: &Table<Global>) -> bool {
     (0..PAGES).all(|page| one.peek(Pid(page)) == other.peek(Pid(page)))
         && (0..KEYS).all(|key| one.get(key) == other.get(key))
         && one.book() == other.book()
@@ -25,8 +25,8 @@ struct Row {
     before: &'static [Change],
     key: Key,
     wished: Wished,
-    /// The page, the number of its pairs then, and the receipt.
-    done: Option<(u32, u64, Receipt)>,
+    /// The page, the numbers of its pairs and of its records then, and the receipt.
+    done: Option<(u32, u64, u8, Receipt)>,
     /// The steps that do the same.
     steps: &'static [Change],
 }
@@ -37,21 +37,21 @@ static ROWS: [Row; 12] = [
         before: &[],
         key: 1,
         wished: Wished::Set(9),
-        done: Some((0, 2, receipt!(modified 8, 1, 1 => 9))),
+        done: Some((0, 2, 0, receipt!(modified 8, 1, 1 => 9))),
         steps: &[Change::Modify(0, 1, 9), Change::Consolidate(0)],
     },
     Row {
         before: &[],
         key: 0,
         wished: Wished::Put(9),
-        done: Some((0, 3, receipt!(inserted 8, 0 => 9))),
+        done: Some((0, 3, 0, receipt!(inserted 8, 0 => 9))),
         steps: &[Change::Insert(0, 0, 9), Change::Consolidate(0)],
     },
     Row {
         before: &[],
         key: 4,
         wished: Wished::Delete,
-        done: Some((1, 1, receipt!(deleted 8, 4))),
+        done: Some((1, 1, 0, receipt!(deleted 8, 4))),
         steps: &[Change::Delete(1, 4), Change::Consolidate(1)],
     },
     // and by a look it isn't
@@ -59,7 +59,7 @@ static ROWS: [Row; 12] = [
         before: &[],
         key: 3,
         wished: Wished::Put(9),
-        done: Some((1, 2, receipt!(looked 7, 3, Some(3)))),
+        done: Some((1, 2, 1, receipt!(looked 7, 3, Some(3)))),
         steps: &[],
     },
     // a leaf without records
@@ -67,28 +67,28 @@ static ROWS: [Row; 12] = [
         before: &[],
         key: 6,
         wished: Wished::Set(9),
-        done: Some((3, 3, receipt!(modified 8, 6, 6 => 9))),
+        done: Some((3, 3, 0, receipt!(modified 8, 6, 6 => 9))),
         steps: &[Change::Modify(3, 6, 9), Change::Consolidate(3)],
     },
     Row {
         before: &[],
         key: 8,
         wished: Wished::Set(9),
-        done: Some((3, 4, receipt!(inserted 8, 8 => 9))),
+        done: Some((3, 4, 0, receipt!(inserted 8, 8 => 9))),
         steps: &[Change::Insert(3, 8, 9), Change::Consolidate(3)],
     },
     Row {
         before: &[],
         key: 5,
         wished: Wished::Delete,
-        done: Some((3, 2, receipt!(deleted 8, 5))),
+        done: Some((3, 2, 0, receipt!(deleted 8, 5))),
         steps: &[Change::Delete(3, 5), Change::Consolidate(3)],
     },
     Row {
         before: &[],
         key: 9,
         wished: Wished::Delete,
-        done: Some((3, 3, receipt!(looked 7, 9, None))),
+        done: Some((3, 3, 0, receipt!(looked 7, 9, None))),
         steps: &[],
     },
     // another record, a second one, and a page that leaves
@@ -117,7 +117,7 @@ static ROWS: [Row; 12] = [
         before: &[Change::Mark(1, 2)],
         key: 6,
         wished: Wished::Set(9),
-        done: Some((3, 3, receipt!(modified 8, 6, 6 => 9))),
+        done: Some((3, 3, 0, receipt!(modified 8, 6, 6 => 9))),
         steps: &[Change::Modify(3, 6, 9), Change::Consolidate(3)],
     },
 ];
@@ -128,10 +128,11 @@ fn a_change_at_once_is_two_steps(rt: HostRuntime) -> Result<(), Fail> {
     for row in ROWS.iter() {
         let mut table = after(alloc, row.before)?;
         let done = table.change_at_once(row.key, row.wished);
-        let wanted = row.done.map(|(page, count, receipt)| AtOnce {
+        let wanted = row.done.map(|(page, count, depth, receipt)| AtOnce {
             page: Pid(page),
             receipt,
             count,
+            depth,
         });
         assert_eq!(rt; done, wanted);
         let mut by_steps = after(alloc, row.before)?;

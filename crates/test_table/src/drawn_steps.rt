@@ -7,7 +7,7 @@ use rand_pcg::Pcg32;
 use std::alloc::Global;
 use std::test::Fail;
 use test_kit::{
-    Ended, Pages, Play, SMALL, Tally, Turns, Worked, drawn_step, partition_the_keys,
+    Ended, Pages, Play, Played, SMALL, Tally, Turns, drawn_step, partition_the_keys,
     play_on_new_tree,
 };
 
@@ -26,7 +26,7 @@ impl Play<Tally> for Drawn {
         tree: &S,
         worker: u32,
         share: Share<S::Insertions, S::Removals>,
-    ) -> Worked<S::Insertions, S::Removals, Tally> {
+    ) -> Played<S::Insertions, S::Removals, Tally> {
         let mut rng = Pcg32::seed_from_u64(if worker == 0 { 7 } else { 8 });
         let mut share = share;
         let mut tally = Tally::NOTHING;
@@ -36,7 +36,7 @@ impl Play<Tally> for Drawn {
                 Err(_) => break,
             }
         }
-        Worked { share, told: tally }
+        Played { share, told: tally }
     }
 }
 

@@ -5,7 +5,7 @@ use bw_step::{Receipt, Step};
 use bw_tree::{Share, Shared};
 use std::alloc::Global;
 use std::test::Fail;
-use test_kit::{Change, Pages, Play, Turns, Worked, are_own_pairs, play_on_new_tree, step_of};
+use test_kit::{Change, Pages, Play, Played, Turns, are_own_pairs, play_on_new_tree, step_of};
 
 /// Puts the key with itself as value on page 0, and again if the page has changed meanwhile, at
 /// most 4 times.
@@ -36,7 +36,7 @@ impl Play<u32> for FourPuts {
         tree: &S,
         worker: u32,
         share: Share<S::Insertions, S::Removals>,
-    ) -> Worked<S::Insertions, S::Removals, u32> {
+    ) -> Played<S::Insertions, S::Removals, u32> {
         let mut share = share;
         let mut puts = 0u32;
         for key in if worker == 0 { [1, 2] } else { [3, 4] } {
@@ -44,7 +44,7 @@ impl Play<u32> for FourPuts {
                 puts = puts.saturating_add(1);
             }
         }
-        Worked { share, told: puts }
+        Played { share, told: puts }
     }
 }
 

@@ -17,6 +17,8 @@ mod histories;
 #[cfg(test)]
 mod memory;
 #[cfg(test)]
+mod recording;
+#[cfg(test)]
 mod rest;
 #[cfg(test)]
 mod stale;

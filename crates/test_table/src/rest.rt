@@ -6,18 +6,18 @@ use std::alloc::Global;
 use std::test::Fail;
 use test_kit::{Change, SMALL, THREE_LEAVES, take_all};
 
-const MARKED: [Change; 1] = [Change::Mark(1, 2)];
+pub(crate) const MARKED: [Change; 1] = [Change::Mark(1, 2)];
 
-const MERGED: [Change; 2] = [Change::Mark(1, 2), Change::Merge(0, 1)];
+pub(crate) const MERGED: [Change; 2] = [Change::Mark(1, 2), Change::Merge(0, 1)];
 
-const FREED: [Change; 3] = [
+pub(crate) const FREED: [Change; 3] = [
     Change::Mark(1, 2),
     Change::Merge(0, 1),
     Change::TermDelete(2, 1),
 ];
 
 /// The last leaf is split at the key 7.
-const SPLIT: [Change; 4] = [
+pub(crate) const SPLIT: [Change; 4] = [
     Change::Insert(3, 8, 8),
     Change::Insert(3, 9, 9),
     Change::Consolidate(3),

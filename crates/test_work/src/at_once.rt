@@ -1,8 +1,11 @@
 //! A worker alone, and a hand on a tree, look and make changes at once where a page is consolidated
-//! after each record. A hand on a tree that takes atomic steps alone makes the same drawn calls step
-//! by step. All are answered alike, leave the same receipts and spend the same effort.
+//! after each record. Where chains are longer, a hand puts records and consolidates pages at once, and a
+//! worker alone takes each step. A hand on a tree that takes atomic steps alone makes the same drawn
+//! calls step by step. All are answered alike, leave the same receipts and the same tree, and spend the
+//! same effort.
 
-use bw_keys::{Config, Fence};
+use bw_delta::NoMemory;
+use bw_keys::{Config, Fence, Pid};
 use bw_step::{Kind, Receipt, Step};
 use bw_table::Table;
 use bw_tree::{Denied, Share, Shared};
@@ -10,10 +13,12 @@ use bw_work::{Alone, Ends, Fault, Gate, Hand, Steps};
 use rand_core::{Rng, SeedableRng};
 use rand_pcg::Pcg32;
 use std::alloc::{AllocError, Global};
+use std::sync::Wait;
 use std::sync::atomic::{AtomicU64, Ordering};
 use std::test::Fail;
+use std::thread::Threads;
 use test_kit::{
-    Call, Hook, Hooked, LARGE, Pages, Play, Reply, SMALL, Task, Turns, Worked, play_on_new_tree,
+    Call, Hook, Hooked, LARGE, Pages, Play, Played, Reply, SMALL, Task, Turns, play_on_new_tree,
     work,
 };
 
@@ -22,31 +27,30 @@ const CALLS: u32 = 400;
 
 const KEYS: u32 = 48;
 
-/// Room for all keys, a table that gets full, two efforts with which tending gives up, and versions
-/// that are used up.
-static CONFIGS: [Config; 5] = [
-    Config { chain: 1, ..LARGE },
+/// The lengths of a chain at which a page is consolidated.
+static CHAINS: [u32; 4] = [1, 2, 8, 32];
+
+/// Room for all keys, a table that gets full, two efforts with which tending gives up, versions that
+/// are used up, and pages with so many entries that the longest chain is reached.
+static CONFIGS: [Config; 6] = [
+    ROOMY,
+    Config { pages: 8, ..SMALL },
+    Config { tries: 1, ..ROOMY },
+    Config { tries: 3, ..ROOMY },
     Config {
-        chain: 1,
-        pages: 8,
-        ..SMALL
-    },
-    Config {
-        chain: 1,
-        tries: 1,
-        ..LARGE
-    },
-    Config {
-        chain: 1,
-        tries: 3,
-        ..LARGE
-    },
-    Config {
-        chain: 1,
         first_version: u64::MAX - 12,
-        ..LARGE
+        ..ROOMY
+    },
+    Config {
+        fanout: 64,
+        ..ROOMY
     },
 ];
+
+const ROOMY: Config = Config {
+    pages: 256,
+    ..LARGE
+};
 
 fn drawn_call(rng: &mut Pcg32) -> Call {
     let key = u64::from(rng.next_u32() % KEYS);
@@ -94,25 +98,54 @@ fn outcome_of<S: Steps<Global, Step<Global>>>(
     }
 }
 
-/// How many of the receipts are of the tree's shape.
-fn shapes_in(trail: &[Receipt]) -> u64 {
-    let mut shapes = 0u64;
-    for receipt in trail {
-        if let Receipt::Shaped { .. } = receipt {
-            shapes = shapes.saturating_add(1);
-        }
-    }
-    shapes
+/// Returns a sum of kinds of steps, which tells their order, with one kind more.
+fn with_kind(sum: u64, kind: Kind) -> u64 {
+    let place = match kind {
+        Kind::Consolidate => 1,
+        Kind::Split => 2,
+        Kind::TermAdd => 3,
+        Kind::Grow => 4,
+        Kind::Mark => 5,
+        Kind::Merge => 6,
+        Kind::TermDelete => 7,
+    };
+    sum.wrapping_mul(31).wrapping_add(place)
 }
 
-/// The first of two hands makes the calls, the other none. The calls of its gate are counted.
+/// Returns the sum of the kinds of the receipts that are of the tree's shape.
+fn shapes_in(trail: &[Receipt]) -> u64 {
+    let mut sum = 0u64;
+    for receipt in trail {
+        if let Receipt::Shaped { kind, .. } = receipt {
+            sum = with_kind(sum, *kind);
+        }
+    }
+    sum
+}
+
+/// Returns whether both tables have the same pages, pairs and counts.
+fn are_alike(
+    machine: Global,
+    one: &Table<Global>,
+    other: &Table<Global>,
+) -> Result<bool, NoMemory> {
+    let pages = one.config().pages;
+    Ok(
+        (0..pages).all(|page| one.peek(Pid(page)) == other.peek(Pid(page)))
+            && one.pairs(machine)? == other.pairs(machine)?
+            && one.book() == other.book(),
+    )
+}
+
+/// The first of two hands makes the calls, the other none. The kinds with which its gate is called are
+/// added up.
 #[derive(Drop)]
 struct ByHand {
     machine: Global,
     calls: Vec<Call>,
     /// Whether the tree is asked for atomic steps alone.
     by_steps: bool,
-    gated: AtomicU64,
+    passed: AtomicU64,
 }
 
 /// Nothing comes between the worker and the tree, but that the tree takes nothing at once.
@@ -130,8 +163,9 @@ impl<S: Shared<Global, Step<Global>>> Hook<S> for Steadily {
 }
 
 impl Gate for ByHand {
-    fn at(&self, _worker: u32, _kind: Kind) {
-        self.gated.fetch_add(1, Ordering::SeqCst);
+    fn at(&self, _worker: u32, kind: Kind) {
+        let passed = self.passed.load(Ordering::SeqCst);
+        self.passed.store(with_kind(passed, kind), Ordering::SeqCst);
     }
 }
 
@@ -141,12 +175,12 @@ impl ByHand {
         tree: &S,
         worker: u32,
         share: Share<S::Insertions, S::Removals>,
-    ) -> Worked<S::Insertions, S::Removals, Outcome> {
+    ) -> Played<S::Insertions, S::Removals, Outcome> {
         let calls: &[Call] = if worker == 0 { &self.calls } else { &[] };
         let mut hand = Hand::new(self.machine, self.machine, tree, share, worker, self);
         let told = outcome_of(self.machine, &mut hand, calls);
         let (share, _) = hand.finish();
-        Worked { share, told }
+        Played { share, told }
     }
 }
 
@@ -156,7 +190,7 @@ impl Play<Outcome> for ByHand {
         tree: &S,
         worker: u32,
         share: Share<S::Insertions, S::Removals>,
-    ) -> Worked<S::Insertions, S::Removals, Outcome> {
+    ) -> Played<S::Insertions, S::Removals, Outcome> {
         if self.by_steps {
             let hook = &Steadily;
             self.outcome(&Hooked { tree, hook }, worker, share)
@@ -166,27 +200,73 @@ impl Play<Outcome> for ByHand {
     }
 }
 
+/// What drawn calls came to, and the table that they left.
+#[derive(Drop)]
+struct Left {
+    outcome: Outcome,
+    table: Table<Global>,
+}
+
+fn left_alone(machine: Global, config: Config, calls: &[Call]) -> Result<Left, Fail> {
+    let mut table = Table::new(machine, machine, config)?;
+    let outcome = outcome_of(
+        machine,
+        &mut Alone::new(machine, machine, &mut table),
+        calls,
+    );
+    Ok(Left { outcome, table })
+}
+
+/// Returns whether a hand comes to the same by the calls, and its gate is called for each receipt of
+/// shape.
+fn is_same_by_hand<R: Threads + Wait + Sync + Send + Copy>(
+    rt: R,
+    machine: Global,
+    config: Config,
+    left: &Left,
+    by_hand: &ByHand,
+) -> Result<bool, Fail> {
+    let ended = play_on_new_tree(rt, machine, config, Turns::OneByOne, by_hand)?;
+    let passed = by_hand.passed.load(Ordering::SeqCst);
+    Ok(
+        left.outcome == ended.zero
+            && passed == shapes_in(&left.outcome.trail)
+            && are_alike(machine, &left.table, &ended.table)?,
+    )
+}
+
+/// Makes drawn calls alone and by two hands. Returns what comes to something else, if anything does.
+fn difference<R: Threads + Wait + Sync + Send + Copy>(
+    rt: R,
+    machine: Global,
+    config: Config,
+) -> Result<Option<&'static str>, Fail> {
+    let seed = u64::from(config.chain);
+    let left = left_alone(machine, config, &drawn_calls(machine, seed)?)?;
+    for (by_steps, name) in [(false, "a hand at once"), (true, "a hand by steps")] {
+        let by_hand = ByHand {
+            machine,
+            calls: drawn_calls(machine, seed)?,
+            by_steps,
+            passed: AtomicU64::new(0),
+        };
+        if !is_same_by_hand(rt, machine, config, &left, &by_hand)? {
+            return Ok(Some(name));
+        }
+    }
+    Ok(None)
+}
+
 #[test]
-fn changes_at_once_are_those_of_the_steps(rt: HostRuntime) -> Result<(), Fail> {
+fn what_is_done_at_once_is_what_the_steps_do(rt: HostRuntime) -> Result<(), Fail> {
     let machine = rt.alloc();
-    for config in CONFIGS.iter() {
-        for seed in 0..4 {
-            for by_steps in [false, true] {
-                let calls = drawn_calls(machine, seed)?;
-                let mut table = Table::new(machine, machine, *config)?;
-                let mut alone = Alone::new(machine, machine, &mut table);
-                let at_once = outcome_of(machine, &mut alone, &calls);
-                let by_hand = ByHand {
-                    machine,
-                    calls,
-                    by_steps,
-                    gated: AtomicU64::new(0),
-                };
-                let ended = play_on_new_tree(rt, machine, *config, Turns::OneByOne, &by_hand)?;
-                assert_eq!(rt; at_once, ended.zero, "seed {seed}, by steps {by_steps}");
-                let gated = by_hand.gated.load(Ordering::SeqCst);
-                assert_eq!(rt; gated, shapes_in(&at_once.trail), "seed {seed}");
-            }
+    for chain in CHAINS.iter() {
+        for config in CONFIGS.iter() {
+            let config = Config {
+                chain: *chain,
+                ..*config
+            };
+            assert_eq!(rt; difference(rt, machine, config)?, None, "{config:?}");
         }
     }
     Ok(())

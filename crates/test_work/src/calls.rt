@@ -7,7 +7,7 @@ use bw_tree::{Share, Shared};
 use bw_work::{Alone, Calls, Fault, Hand, Open, Steps};
 use std::alloc::Global;
 use std::test::Fail;
-use test_kit::{Pages, Play, SMALL, Turns, Worked, play_on_new_tree};
+use test_kit::{Pages, Play, Played, SMALL, Turns, play_on_new_tree};
 
 /// Calls of a hand where nobody is in the way, and no page is to be consolidated, split or helped.
 #[derive(Drop)]
@@ -37,11 +37,11 @@ impl Play<Efforts> for ByHand {
         tree: &S,
         worker: u32,
         share: Share<S::Insertions, S::Removals>,
-    ) -> Worked<S::Insertions, S::Removals, Efforts> {
+    ) -> Played<S::Insertions, S::Removals, Efforts> {
         let mut hand = Hand::new(self.machine, self.machine, tree, share, worker, &Open);
         let told = efforts(&mut hand);
         let (share, _) = hand.finish();
-        Worked { share, told }
+        Played { share, told }
     }
 }
 

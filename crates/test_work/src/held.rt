@@ -9,8 +9,8 @@ use bw_work::{Del, Put};
 use std::alloc::Global;
 use std::test::Fail;
 use test_kit::{
-    BESIDE_CALLS, Call, Ended, HELD_CALLS, HOLDS, HeldAfter, Pages, Play, Reply, SMALL, Task, Told,
-    Turns, Worked, are_both_done, leaves_of, play_on_new_tree, receipt,
+    BESIDE_CALLS, Call, Ended, HELD_CALLS, HOLDS, HeldAfter, Pages, Play, Played, Reply, SMALL,
+    Task, Told, Turns, are_both_done, leaves_of, play_on_new_tree, receipt,
 };
 
 /// Each worker does a task, worker 1 while worker 0 is held.
@@ -28,7 +28,7 @@ impl Play<Told> for Both {
         tree: &S,
         worker: u32,
         share: Share<S::Insertions, S::Removals>,
-    ) -> Worked<S::Insertions, S::Removals, Told> {
+    ) -> Played<S::Insertions, S::Removals, Told> {
         let task = if worker == 0 { self.zero } else { self.one };
         self.held.work(self.machine, tree, share, worker, task)
     }

@@ -1,11 +1,19 @@
-//! A worker alone in a small heap. That what it is refused changes nothing is proved. Here calls
-//! are refused only where there is no room, and all memory is freed.
+//! A worker alone, and a hand on a tree, in a small heap. That what they are refused changes nothing is
+//! proved. Here calls are refused only where there is no room, and all memory is freed.
 
-use bw_keys::{Fence, Key};
+ghost use Rattle.std.specs.Prelude.{◌≡◌};
+ghost use Rattle.bw_tree.specs.Trees.{OpensFor};
+
+use bw_keys::{Config, Fence, Key};
+use bw_step::Step;
 use bw_table::Table;
-use bw_work::{Alone, Calls, Fault, Put};
+use bw_tree::{Blanks, MadeBy, Tree};
+use bw_work::{Alone, Calls, Fault, Hand, Open, Put, Steps};
 use linked_list_allocator::LocalHeap;
 use std::alloc::{Allocator, Global};
+use std::marker::Brand;
+use std::sync::Wait;
+use std::sync::ledger::Ledger;
 use std::test::Fail;
 use test_kit::{Call, Rooms, SMALL};
 
@@ -14,9 +22,9 @@ const MOST: Key = 300;
 
 /// Puts the keys from 1 on, each with itself as value, and returns the one for which memory was
 /// refused, or None if each had room or another answer came.
-fn put_until_refused<A: Allocator + Copy>(alone: &mut Alone<'_, A>) -> Option<Key> {
+fn put_until_refused<A: Allocator + Copy, S: Steps<A, Step<A>>>(steps: &mut S) -> Option<Key> {
     for key in 1..=MOST {
-        match alone.put(key, key) {
+        match steps.put(key, key) {
             Ok(done) if done.reply == Put::Inserted => {}
             Err(Fault::NoMemory) => return Some(key),
             _ => return None,
@@ -26,13 +34,30 @@ fn put_until_refused<A: Allocator + Copy>(alone: &mut Alone<'_, A>) -> Option<Ke
 }
 
 /// Returns whether each key from 1 on and below the end has itself as value.
-fn has_each<A: Allocator + Copy>(alone: &mut Alone<'_, A>, end: Key) -> bool {
+fn has_each<A: Allocator + Copy, S: Steps<A, Step<A>>>(steps: &mut S, end: Key) -> bool {
     for key in 1..end {
-        if alone.get(key) != Ok(Some(key)) {
+        if steps.get(key) != Ok(Some(key)) {
             return false;
         }
     }
     true
+}
+
+/// Fills a heap by puts, and returns the key that had no room, or None if an answer was wrong.
+fn fill<A: Allocator + Copy, S: Steps<A, Step<A>>>(steps: &mut S) -> Option<Key> {
+    let refused = put_until_refused(steps)?;
+    (has_each(steps, refused) && steps.get(refused) == Ok(None)).then_some(refused)
+}
+
+/// Returns the number of a table's pairs, or None if these aren't as many as the keys before the one
+/// that had no room.
+fn pairs_before<A: Allocator + Copy>(
+    machine: Global,
+    table: &Table<A>,
+    refused: Key,
+) -> Option<u64> {
+    let pairs = table.pairs(machine).ok()?.len() as u64;
+    (pairs.checked_add(1) == Some(refused)).then_some(pairs)
 }
 
 /// Fills a table in the heap, and returns the number of keys that had room, or None if an answer
@@ -40,11 +65,54 @@ fn has_each<A: Allocator + Copy>(alone: &mut Alone<'_, A>, end: Key) -> bool {
 fn fill_table(machine: Global, heap: &LocalHeap) -> Option<u64> {
     let mut table = Table::new(machine, heap, SMALL).ok()?;
     let mut alone = Alone::new(machine, heap, &mut table);
-    let refused = put_until_refused(&mut alone)?;
-    let is_kept = has_each(&mut alone, refused) && alone.get(refused) == Ok(None);
+    let refused = fill(&mut alone)?;
     alone.finish();
-    let pairs = table.pairs(machine).ok()?.len() as u64;
-    (is_kept && pairs.checked_add(1) == Some(refused)).then_some(pairs)
+    pairs_before(machine, &table, refused)
+}
+
+/// Fills a tree in the heap by a hand, as `fill_table` does a table.
+fn fill_tree<R: Wait + Copy, I: MadeBy, D: Ledger>(
+    rt: R,
+    machine: Global,
+    heap: &LocalHeap,
+    config: Config,
+    blanks: Blanks,
+) -> Option<u64>
+    requires ledgers { OpensFor I.Ledger I.config D.Ledger config blanks }
+{
+    let (tree, mut shares) = Tree::<R, &LocalHeap, I, D>::new(
+        rt, machine, heap, config, blanks,
+    ).ok()?;
+    let mut hand = Hand::new(machine, heap, &tree, shares.pop()?, 0, &Open);
+    let refused = fill(&mut hand)?;
+    let (share, _) = hand.finish();
+    shares.push(share).ok()?;
+    pairs_before(machine, &tree.close(shares).ok()?, refused)
+}
+
+/// The lengths of a chain at which a page is consolidated: a hand makes changes at once, puts records
+/// at once and consolidates pages at once.
+static CHAINS: [u32; 3] = [1, 2, 8];
+
+#[test]
+fn a_hand_keeps_what_was_inserted_in_a_full_heap(rt: HostRuntime) -> Result<(), Fail> {
+    for chain in CHAINS.iter() {
+        let heap = LocalHeap::new(rt.alloc(), 4096)?;
+        let config = Config {
+            chain: *chain,
+            ..SMALL
+        };
+        let pairs = fill_tree::<HostRuntime, Brand, Brand>(
+            rt,
+            rt.alloc(),
+            &heap,
+            config,
+            Blanks::new(1),
+        ).ok_or("another answer")?;
+        assert!(rt; pairs > 1, "chain {chain}");
+        assert_eq!(rt; heap.used(), 0);
+    }
+    Ok(())
 }
 
 #[test]

@@ -12,8 +12,9 @@ use std::sync::Wait;
 use std::sync::atomic::{AtomicU64, Ordering};
 use std::sync::ledger::Ledger;
 use std::test::Fail;
+use std::thread::Threads;
 use test_kit::{
-    Change, Ended, Hook, Hooked, Pages, Play, Task, Told, Turns, Worked, leaves_of,
+    Change, Ended, Hook, Hooked, Pages, Play, Played, Task, Told, Turns, leaves_of,
     play_on_new_tree, step_of, take, work, work_by_hand,
 };
 
@@ -37,6 +38,8 @@ fn leave<S: Shared<Global, Step<Global>> + Pages<Global>>(
 struct ByHand {
     machine: Global,
     row: &'static Row,
+    /// Whether the tree is asked for atomic steps alone; otherwise none are counted.
+    by_steps: bool,
     accepted: AtomicU64,
     gated: AtomicU64,
 }
@@ -81,9 +84,10 @@ impl ByHand {
     fn has_counted(&self) -> bool {
         let accepted = self.accepted.load(Ordering::SeqCst);
         let gated = self.gated.load(Ordering::SeqCst);
-        self.row
-            .steps
-            .is_none_or(|steps| steps == (accepted, gated))
+        match self.row.steps {
+            Some((steps, calls)) => calls == gated && (!self.by_steps || steps == accepted),
+            None => true,
+        }
     }
 }
 
@@ -93,10 +97,15 @@ impl Play<Told> for ByHand {
         tree: &S,
         worker: u32,
         share: Share<S::Insertions, S::Removals>,
-    ) -> Worked<S::Insertions, S::Removals, Told> {
+    ) -> Played<S::Insertions, S::Removals, Told> {
         let machine = self.machine;
-        let hooked = Hooked { tree, hook: self };
-        let mut worked = work_by_hand(machine, &hooked, share, (worker, self), self.task(worker));
+        let task = self.task(worker);
+        let mut worked = if self.by_steps {
+            let hooked = Hooked { tree, hook: self };
+            work_by_hand(machine, &hooked, share, (worker, self), task)
+        } else {
+            work_by_hand(machine, tree, share, (worker, self), task)
+        };
         if worker == 0 && leave(machine, tree, &mut worked.share, self.row.unfinished).is_none() {
             worked.told.fault = Some(Fault::NoMemory);
         }
@@ -161,32 +170,43 @@ fn a_worker_alone_does_the_rows(rt: HostRuntime) -> Result<(), Fail> {
     Ok(())
 }
 
+/// Has workers do the row on a tree.
+fn do_by_hand<R: Threads + Wait + Abort + Sync + Send + Copy>(
+    rt: R,
+    machine: Global,
+    row: &'static Row,
+    by_steps: bool,
+) -> Result<(), Fail> {
+    let play = ByHand {
+        machine,
+        row,
+        by_steps,
+        accepted: AtomicU64::new(0),
+        gated: AtomicU64::new(0),
+    };
+    let Ended {
+        mut table,
+        zero,
+        one,
+    } = play_on_new_tree(rt, machine, row.config, Turns::OneByOne, &play)?;
+    let (told, other) = if row.unfinished.is_empty() {
+        (zero, one)
+    } else {
+        (one, zero)
+    };
+    assert!(rt;
+        other.is_plain() && play.has_counted(),
+        "{}: {other:?}",
+        row.name
+    );
+    expect(&rt, machine, row, &told, &mut table)
+}
+
 #[test]
 fn workers_do_the_rows_by_hand(rt: HostRuntime) -> Result<(), Fail> {
-    let machine = rt.alloc();
     for row in ROWS.iter() {
-        let play = ByHand {
-            machine,
-            row,
-            accepted: AtomicU64::new(0),
-            gated: AtomicU64::new(0),
-        };
-        let Ended {
-            mut table,
-            zero,
-            one,
-        } = play_on_new_tree(rt, machine, row.config, Turns::OneByOne, &play)?;
-        let (told, other) = if row.unfinished.is_empty() {
-            (zero, one)
-        } else {
-            (one, zero)
-        };
-        assert!(rt;
-            other.is_plain() && play.has_counted(),
-            "{}: {other:?}",
-            row.name
-        );
-        expect(&rt, machine, row, &told, &mut table)?;
+        do_by_hand(rt, rt.alloc(), row, true)?;
+        do_by_hand(rt, rt.alloc(), row, false)?;
     }
     Ok(())
 }

@@ -1,6 +1,7 @@
 use Rattle.std.proofs.Common.{rules, refl}
 use Rattle.bw_step.specs.ProposalView.{proposal_of}
-use Rattle.bw_alone.proofs.Following.{config_kept, is_told, step_leads}
+use Rattle.bw_law.proofs.TakenSteps.{config_kept, is_told}
+use Rattle.bw_alone.proofs.Following.{step_leads}
 use Rattle.bw_alone.proofs.sole.SoleStepsStep.install.Goals as goal
 
 pub returns-in-Ok-clause-follows : goal.returns-in-Ok-clause-follows

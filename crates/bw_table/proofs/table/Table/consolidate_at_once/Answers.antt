@@ -4,9 +4,11 @@ use Rattle.bw_table.proofs.table.Table.consolidate_at_once.Goals as goal
 
 pub consolidate-requires : goal.consolidate-requires
 consolidate-requires g c =
-    anew_is_accepted c.args.self.now c.args.page.0 c.args.seen.0 _ c.slot.ensures.lawful (rw c.in-Some.ensures.there at c.in_default-may_be_made_anew.ensures) c.in-Ok.ensures.made
+    let fine = rw c.in-Some.ensures.there at c.in_default-may_be_made_anew.ensures in
+    anew_is_accepted c.args.self.now c.args.page.0 c.args.seen.0 _ c.slot.ensures.lawful fine c.in-Ok.ensures.made
 
 pub returns-clause-done : goal.returns-clause-done
 returns-clause-done g c =
-    let accepted = anew_is_accepted c.args.self.now c.args.page.0 c.args.seen.0 _ c.slot.ensures.lawful (rw c.in-Some.ensures.there at c.in_default-may_be_made_anew.ensures) c.in-Ok.ensures.made in
+    let fine = rw c.in-Some.ensures.there at c.in_default-may_be_made_anew.ensures in
+    let accepted = anew_is_accepted c.args.self.now c.args.page.0 c.args.seen.0 _ c.slot.ensures.lawful fine c.in-Ok.ensures.made in
     (_, (_, accepted, c.consolidate.ensures, refl))

@@ -26,7 +26,7 @@ leaves-smaller g c =
     let table = c.args.self.now in
     let page = c.in-Some.pid in
     let slot = c.page-slot.ensures in
-    let here = at_next table slot.lawful (map (leaf_at table.slots)) c.leaves.next page c.leaves.leaves.items c.leaves.invariant c.in-Some.is in
+    let here = at_next table slot.lawful _ _ page _ c.leaves.invariant c.in-Some.is in
     fewer_keys_left table slot.lawful c.leaves.next c.slot.inside.summary.right page here.in_row c.in-Some.is (ap (λ (s : SlotValue). s.right) (c.slot.view_is ∙ slot.there))
 
 pub returns : goal.returns

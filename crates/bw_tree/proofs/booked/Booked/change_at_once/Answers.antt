@@ -1,4 +1,5 @@
-use Rattle.bw_tree.proofs.AtOnce.{at_once_counts, at_once_is_told}
+use Rattle.bw_table.proofs.Reports.{done_reports}
+use Rattle.bw_tree.proofs.AtOnce.{at_once_counts}
 use Rattle.bw_tree.proofs.booked.Booked.change_at_once.Goals as goal
 
 pub invariant_of-self-2 : goal.invariant_of-self-2
@@ -9,4 +10,4 @@ invariant_of-self-2 g c =
 pub returns-clause-receipt : goal.returns-clause-receipt
 returns-clause-receipt g c =
     let done = c.in_ok-done.done in
-    at_once_is_told _ _ done.page.0 c.args.key c.args.wished done.receipt c.in_ok-done.ensures.done
+    (_, _, done_reports _ _ done.page.0 c.args.key c.args.wished done.receipt c.in_ok-done.ensures.done)

@@ -1,6 +1,6 @@
 use Rattle.std.proofs.Common.{refl, sym, ◌∙◌}
-use Rattle.bw_tree.proofs.Answers.{is_told}
-use Rattle.bw_tree.proofs.Trees.{book_kept, map_after, config_kept}
+use Rattle.bw_law.proofs.TakenSteps.{config_kept, is_told}
+use Rattle.bw_tree.proofs.Trees.{book_kept, map_after}
 use Rattle.bw_tree.proofs.booked.Booked.install.Goals as goal
 
 pub invariant_of-self-2 : goal.invariant_of-self-2

@@ -1,5 +1,6 @@
 use Rattle.std.proofs.Common.{sym}
-use Rattle.bw_tree.proofs.AtOnce.{record_counts, record_is_told}
+use Rattle.bw_table.proofs.Reports.{record_reports}
+use Rattle.bw_tree.proofs.AtOnce.{record_counts}
 use Rattle.bw_tree.proofs.booked.Booked.record_at_once.Goals as goal
 
 pub invariant_of-self-2 : goal.invariant_of-self-2
@@ -10,7 +11,7 @@ invariant_of-self-2 g c =
 pub returns-clause-receipt : goal.returns-clause-receipt
 returns-clause-receipt g c =
     let done = c.in_ok-done.done in
-    record_is_told _ _ done.page.0 c.args.key c.args.wished done.receipt c.in_ok-done.ensures.done
+    (_, _, record_reports _ _ done.page.0 c.args.key c.args.wished done.receipt c.in_ok-done.ensures.done)
 
 pub returns-clause-done : goal.returns-clause-done
 returns-clause-done g c = rw (sym c.self.view_is) c.in_ok-done.ensures.done

@@ -1,9 +1,0 @@
-use Rattle.std.proofs.Common.{rules}
-use Rattle.bw_snap.proofs.Seats.{reads}
-use Rattle.bw_snap.proofs.ends.read.Goals as goal
-
-pub enter_as-requires : goal.enter_as-requires
-enter_as-requires g c x = reads g.N.MadeBy.config g.N.Naming.announcements _ _ x
-
-pub returns-in-Ok-clause-look : goal.returns-in-Ok-clause-look
-returns-in-Ok-clause-look g c = search rules

@@ -1,0 +1,537 @@
+//! A record at once is a look and one step, and a consolidation at once is a copy, the page made of
+//! it and one step.
+
+use crate::at_once::are_alike;
+use crate::rest::{FREED, MARKED, MERGED, SPLIT, after};
+use bw_delta::{NoMemory, Spare};
+use bw_keys::{Config, Key, Pid, Version};
+use bw_step::Denied;
+use bw_table::{AtOnce, Go, Receipt, Refused, Table, View, Wished};
+use linked_list_allocator::LocalHeap;
+use rand_core::{Rng, SeedableRng};
+use rand_pcg::Pcg32;
+use std::alloc::Global;
+use std::collections::BTreeMap;
+use std::test::Fail;
+use test_kit::{
+    Change, Rooms, SMALL, THREE_LEAVES, drawn_step, growing_heaps, receipt, seen, step_of,
+    step_with, take_all,
+};
+
+/// The most places of a walk in a small table.
+const LONGEST_WALK: u32 = 1000;
+
+/// Returns the leaf that a walk for the key comes to, unless it meets something unfinished.
+fn walk(table: &Table<Global>, key: Key) -> Option<View> {
+    let mut place = table.root();
+    for _ in 0..LONGEST_WALK {
+        let next = table.visit(place, key, 0);
+        if next.todo.is_some() {
+            return None;
+        }
+        match next.go {
+            Go::Right(on) | Go::Down(on) => place = on,
+            Go::Here(view) => return Some(view),
+            Go::Gone => return None,
+        }
+    }
+    None
+}
+
+/// Returns the change that carries out the wish on the page, if the key has this value or none.
+fn change_for(page: u32, key: Key, wished: Wished, found: Option<u64>) -> Option<Change> {
+    match (wished, found.is_some()) {
+        (Wished::Put(value), false) => Some(Change::Insert(page, key, value)),
+        (Wished::Put(_), true) => None,
+        (Wished::Set(value), false) => Some(Change::Insert(page, key, value)),
+        (Wished::Set(value), true) => Some(Change::Modify(page, key, value)),
+        (Wished::Delete, false) => None,
+        (Wished::Delete, true) => Some(Change::Delete(page, key)),
+    }
+}
+
+/// Walks to the key's leaf, looks, and takes the step. None where there is no leaf, and where the step
+/// is refused.
+fn record_by_steps(
+    alloc: Global,
+    table: &mut Table<Global>,
+    key: Key,
+    wished: Wished,
+) -> Result<Option<AtOnce>, NoMemory> {
+    let Some(leaf) = walk(table, key) else {
+        return Ok(None);
+    };
+    let Some(look) = table.look(leaf.pid, key) else {
+        return Ok(None);
+    };
+    let looked = receipt!(looked look.at, key, look.found);
+    let taken = match change_for(leaf.pid.0, key, wished, look.found) {
+        None => Some(looked),
+        Some(change) => {
+            let step = step_of(alloc, table, change)?;
+            table.install(step).ok()
+        }
+    };
+    let (Some(receipt), Some(view)) = (taken, table.peek(leaf.pid)) else {
+        return Ok(None);
+    };
+    Ok(Some(AtOnce {
+        page: leaf.pid,
+        receipt,
+        count: view.count,
+        depth: view.depth,
+    }))
+}
+
+/// Copies the page, makes it anew of the copy, and takes the step.
+fn consolidate_by_steps(
+    alloc: Global,
+    table: &mut Table<Global>,
+    page: u32,
+    version: Version,
+) -> Result<Result<Receipt, Denied>, NoMemory> {
+    let step = step_with(alloc, table, Change::Consolidate(page), (version, version))?;
+    match table.install(step) {
+        Ok(receipt) => Ok(Ok(receipt)),
+        Err(reason) => Ok(Err(Denied::Refused(reason))),
+    }
+}
+
+struct Row {
+    /// Steps on the tree of three leaves, of which the first two have the record of their split.
+    before: &'static [Change],
+    key: Key,
+    wished: Wished,
+    /// The page, the numbers of its pairs and of its records then, and the receipt.
+    done: Option<(u32, u64, u8, Receipt)>,
+    /// The step that does the same.
+    steps: &'static [Change],
+}
+
+static ROWS: [Row; 14] = [
+    Row {
+        before: &[],
+        key: 1,
+        wished: Wished::Set(9),
+        done: Some((0, 2, 2, receipt!(modified 8, 1, 1 => 9))),
+        steps: &[Change::Modify(0, 1, 9)],
+    },
+    Row {
+        before: &[],
+        key: 0,
+        wished: Wished::Put(9),
+        done: Some((0, 3, 2, receipt!(inserted 8, 0 => 9))),
+        steps: &[Change::Insert(0, 0, 9)],
+    },
+    Row {
+        before: &[],
+        key: 4,
+        wished: Wished::Delete,
+        done: Some((1, 1, 2, receipt!(deleted 8, 4))),
+        steps: &[Change::Delete(1, 4)],
+    },
+    Row {
+        before: &[],
+        key: 8,
+        wished: Wished::Set(9),
+        done: Some((3, 4, 1, receipt!(inserted 8, 8 => 9))),
+        steps: &[Change::Insert(3, 8, 9)],
+    },
+    // nothing to do
+    Row {
+        before: &[],
+        key: 3,
+        wished: Wished::Put(9),
+        done: Some((1, 2, 1, receipt!(looked 7, 3, Some(3)))),
+        steps: &[],
+    },
+    Row {
+        before: &[],
+        key: 9,
+        wished: Wished::Delete,
+        done: Some((3, 3, 0, receipt!(looked 7, 9, None))),
+        steps: &[],
+    },
+    // above other records
+    Row {
+        before: &[Change::Insert(3, 8, 8)],
+        key: 8,
+        wished: Wished::Set(9),
+        done: Some((3, 4, 2, receipt!(modified 9, 8, 8 => 9))),
+        steps: &[Change::Modify(3, 8, 9)],
+    },
+    Row {
+        before: &[Change::Insert(0, 0, 0), Change::Delete(0, 2)],
+        key: 2,
+        wished: Wished::Put(9),
+        done: Some((0, 3, 4, receipt!(inserted 10, 2 => 9))),
+        steps: &[Change::Insert(0, 2, 9)],
+    },
+    // a page that leaves, a term of one that was taken in, and a page without a term
+    Row {
+        before: &MARKED,
+        key: 4,
+        wished: Wished::Set(9),
+        done: None,
+        steps: &[],
+    },
+    Row {
+        before: &MARKED,
+        key: 4,
+        wished: Wished::Put(9),
+        done: None,
+        steps: &[],
+    },
+    Row {
+        before: &MERGED,
+        key: 4,
+        wished: Wished::Delete,
+        done: None,
+        steps: &[],
+    },
+    Row {
+        before: &SPLIT,
+        key: 7,
+        wished: Wished::Set(9),
+        done: None,
+        steps: &[],
+    },
+    // and the leaves beside them
+    Row {
+        before: &MARKED,
+        key: 6,
+        wished: Wished::Set(9),
+        done: Some((3, 3, 1, receipt!(modified 8, 6, 6 => 9))),
+        steps: &[Change::Modify(3, 6, 9)],
+    },
+    Row {
+        before: &SPLIT,
+        key: 6,
+        wished: Wished::Delete,
+        done: Some((3, 1, 2, receipt!(deleted 10, 6))),
+        steps: &[Change::Delete(3, 6)],
+    },
+];
+
+#[test]
+fn a_record_at_once_is_one_step(rt: HostRuntime) -> Result<(), Fail> {
+    let alloc = rt.alloc();
+    for row in ROWS.iter() {
+        let mut table = after(alloc, row.before)?;
+        let done = table.record_at_once(row.key, row.wished, Spare::new(alloc)?);
+        let wanted = row.done.map(|(page, count, depth, receipt)| AtOnce {
+            page: Pid(page),
+            receipt,
+            count,
+            depth,
+        });
+        assert_eq!(rt; done, wanted, "key {}", row.key);
+        let mut by_steps = after(alloc, row.before)?;
+        take_all(alloc, &mut by_steps, row.steps)?;
+        assert!(rt; are_alike(&table, &by_steps), "key {}", row.key);
+    }
+    Ok(())
+}
+
+/// The version that a page begins with, the records on the leaf, of which the first inserts key 6, a
+/// wish for that key, and whether it is carried out.
+static EDGES: [(u64, u64, Wished, bool); 9] = [
+    (0, 63, Wished::Set(9), true),
+    (0, 63, Wished::Delete, true),
+    (0, 64, Wished::Set(9), false),
+    (0, 64, Wished::Delete, false),
+    // a look needs no room
+    (0, 64, Wished::Put(9), true),
+    (u64::MAX - 1, 0, Wished::Put(9), true),
+    (u64::MAX - 1, 1, Wished::Set(9), false),
+    (u64::MAX - 1, 1, Wished::Put(9), true),
+    (u64::MAX, 0, Wished::Delete, true),
+];
+
+/// Returns a table of one leaf with this number of records.
+fn with_records(
+    alloc: Global,
+    first_version: Version,
+    records: u64,
+) -> Result<Table<Global>, Fail> {
+    let config = Config {
+        first_version: first_version.0,
+        ..SMALL
+    };
+    let mut table = Table::new(alloc, alloc, config)?;
+    for number in 0..records {
+        let change = match number {
+            0 => Change::Insert(0, 6, 6),
+            _ => Change::Modify(0, 6, number),
+        };
+        take_all(alloc, &mut table, &[change])?;
+    }
+    Ok(table)
+}
+
+#[test]
+fn a_leaf_takes_64_records_and_as_many_as_it_has_versions(rt: HostRuntime) -> Result<(), Fail> {
+    let alloc = rt.alloc();
+    for (version, records, wished, is_done) in EDGES.iter() {
+        let mut table = with_records(alloc, Version(*version), *records)?;
+        let mut by_steps = with_records(alloc, Version(*version), *records)?;
+        let done = table.record_at_once(6, *wished, Spare::new(alloc)?);
+        let wanted = record_by_steps(alloc, &mut by_steps, 6, *wished)?;
+        assert_eq!(rt; done, wanted);
+        assert_eq!(rt; done.is_some(), *is_done, "{records} records");
+        assert!(rt; are_alike(&table, &by_steps));
+    }
+    Ok(())
+}
+
+/// Some steps on the tree of three leaves, a page, how much older the version is that was seen, and
+/// why the consolidation is refused.
+static ANEW: [(&[Change], u32, u64, Option<Refused>); 13] = [
+    // a leaf with the record of its split, the root with the record of a term, a leaf without records
+    (&[], 0, 0, None),
+    (&[], 2, 0, None),
+    (&[], 3, 0, None),
+    // a leaf that has taken in another one
+    (&MERGED, 0, 0, None),
+    (&[Change::Insert(0, 0, 0)], 0, 1, Some(Refused::Stale)),
+    (&[], 2, 2, Some(Refused::Stale)),
+    // past the end, never used, used before, taken in
+    (&[], 64, 0, Some(Refused::Absent)),
+    (&[], 63, 0, Some(Refused::Absent)),
+    (&FREED, 1, 0, Some(Refused::Absent)),
+    (&MERGED, 1, 0, Some(Refused::Absent)),
+    (&MARKED, 1, 0, Some(Refused::Frozen)),
+    // the version is looked at first
+    (&MARKED, 1, 1, Some(Refused::Stale)),
+    (&SPLIT, 4, 0, None),
+];
+
+/// Returns the receipt of the page's consolidation, or the refusal.
+fn answer_for(page: u32, refused: Option<Refused>) -> Result<Receipt, Denied> {
+    match refused {
+        Some(reason) => Err(Denied::Refused(reason)),
+        None => Ok(Receipt::Shaped {
+            kind: bw_table::Kind::Consolidate,
+            page: Pid(page),
+            other: None,
+        }),
+    }
+}
+
+#[test]
+fn a_consolidation_at_once_is_one_step(rt: HostRuntime) -> Result<(), Fail> {
+    let alloc = rt.alloc();
+    for (before, page, older, refused) in ANEW.iter() {
+        let mut table = after(alloc, before)?;
+        let mut by_steps = after(alloc, before)?;
+        let version = Version(seen(&table, *page).0.saturating_sub(*older));
+        let answer = table.consolidate_at_once(alloc, Pid(*page), version);
+        assert_eq!(rt; answer, answer_for(*page, *refused), "page {page}");
+        assert_eq!(rt;
+            answer,
+            consolidate_by_steps(alloc, &mut by_steps, *page, version)?
+        );
+        assert!(rt; are_alike(&table, &by_steps), "page {page}");
+    }
+    Ok(())
+}
+
+/// The version that a page begins with, how much older the one is that was seen, and why the
+/// consolidation is refused.
+static WORN: [(u64, u64, Option<Refused>); 3] = [
+    (u64::MAX - 1, 0, None),
+    (u64::MAX, 0, Some(Refused::Worn)),
+    (u64::MAX, 1, Some(Refused::Stale)),
+];
+
+#[test]
+fn a_page_is_made_anew_while_it_has_versions(rt: HostRuntime) -> Result<(), Fail> {
+    let alloc = rt.alloc();
+    for (first, older, refused) in WORN.iter() {
+        let mut table = with_records(alloc, Version(*first), 0)?;
+        let mut by_steps = with_records(alloc, Version(*first), 0)?;
+        let version = Version(first.saturating_sub(*older));
+        let answer = table.consolidate_at_once(alloc, Pid(0), version);
+        assert_eq!(rt; answer, answer_for(0, *refused));
+        assert_eq!(rt;
+            answer,
+            consolidate_by_steps(alloc, &mut by_steps, 0, version)?
+        );
+        assert!(rt; are_alike(&table, &by_steps));
+    }
+    Ok(())
+}
+
+/// Consolidates a leaf into each heap. The first has room for a tree of three leaves. Where memory is
+/// short the leaf stays as it was.
+fn consolidated_in_each<'a>(machine: Global, heaps: &'a [LocalHeap]) -> Result<Rooms, Fail> {
+    let (ample, tight) = heaps.split_first().ok_or("no heap")?;
+    let mut rooms = Rooms::NONE;
+    for heap in tight {
+        let mut table = Table::new(machine, ample, SMALL)?;
+        take_all(ample, &mut table, &THREE_LEAVES)?;
+        let before = table.peek(Pid(0));
+        let made = match table.consolidate_at_once(heap, Pid(0), seen(&table, 0)) {
+            Ok(_) => true,
+            Err(Denied::NoMemory) if table.peek(Pid(0)) == before => false,
+            Err(_) => return Err("another answer".into()),
+        };
+        drop(table);
+        rooms.count(made, heap);
+    }
+    Ok(rooms)
+}
+
+#[test]
+fn a_consolidation_at_once_may_be_refused_memory(rt: HostRuntime) -> Result<(), Fail> {
+    let heaps = growing_heaps(rt.alloc(), 50)?;
+    let rooms = consolidated_in_each(rt.alloc(), &heaps)?;
+    assert!(rt; rooms.are_fair(), "{rooms:?}");
+    Ok(())
+}
+
+/// The number of drawn acts, and that of their keys and pages, of which some are past the end.
+const ACTS: u32 = 2000;
+
+const KEYS: u32 = 256;
+
+const IDS: u32 = SMALL.pages + 2;
+
+/// Two tables to which the same is done, one at once and one by steps, and a map that follows the
+/// receipts.
+#[derive(Drop)]
+struct Twins {
+    at_once: Table<Global>,
+    by_steps: Table<Global>,
+    map: BTreeMap<Key, u64>,
+}
+
+/// Makes the receipt's change in the map, and returns whether the map had what it says.
+fn follows(map: &mut BTreeMap<Key, u64>, receipt: Receipt) -> Result<bool, Fail> {
+    Ok(match receipt {
+        Receipt::Inserted { key, value, .. } => map.insert(key, value)?.is_none(),
+        Receipt::Modified {
+            key,
+            old,
+            value,
+            ..
+        } => map.insert(key, value)? == Some(old),
+        Receipt::Deleted { key, value, .. } => map.remove(&key) == Some(value),
+        Receipt::Looked { key, found, .. } => map.get(&key).copied() == found,
+        Receipt::Shaped { .. } => true,
+    })
+}
+
+fn drawn_wish(rng: &mut Pcg32) -> Wished {
+    let value = rng.next_u64();
+    match rng.next_u32() % 4 {
+        0 => Wished::Set(value),
+        1 => Wished::Delete,
+        _ => Wished::Put(value),
+    }
+}
+
+/// Returns what the map has at the key once the wish is carried out.
+fn wanted(map: &BTreeMap<Key, u64>, key: Key, wished: Wished) -> Option<u64> {
+    match wished {
+        Wished::Put(value) => Some(map.get(&key).copied().unwrap_or(value)),
+        Wished::Set(value) => Some(value),
+        Wished::Delete => None,
+    }
+}
+
+impl Twins {
+    /// Carries out a wish, and consolidates the leaf where its chain is long then. Returns whether the
+    /// tables answer alike, and as the map does.
+    fn record(&mut self, alloc: Global, chain: u8, key: Key, wished: Wished) -> Result<bool, Fail> {
+        let done = self.at_once.record_at_once(key, wished, Spare::new(alloc)?);
+        if done != record_by_steps(alloc, &mut self.by_steps, key, wished)? {
+            return Ok(false);
+        }
+        let Some(done) = done else {
+            return Ok(true);
+        };
+        let wanted = wanted(&self.map, key, wished);
+        if !follows(&mut self.map, done.receipt)? || self.map.get(&key).copied() != wanted {
+            return Ok(false);
+        }
+        if done.depth < chain {
+            return Ok(true);
+        }
+        let version = seen(&self.at_once, done.page.0);
+        self.consolidate(alloc, done.page.0, version)
+    }
+
+    /// Consolidates a page, and returns whether the tables answer alike.
+    fn consolidate(&mut self, alloc: Global, page: u32, version: Version) -> Result<bool, Fail> {
+        let answer = self.at_once.consolidate_at_once(alloc, Pid(page), version);
+        Ok(answer == consolidate_by_steps(alloc, &mut self.by_steps, page, version)?)
+    }
+
+    /// Takes a drawn step on both tables, and returns whether they answer alike, and as the map does.
+    fn step(&mut self, alloc: Global, seed: u64) -> Result<bool, Fail> {
+        let step = drawn_step(&mut Pcg32::seed_from_u64(seed), alloc, &self.at_once)?;
+        let twin = drawn_step(&mut Pcg32::seed_from_u64(seed), alloc, &self.by_steps)?;
+        let answer = self.at_once.install(step);
+        if answer != self.by_steps.install(twin) {
+            return Ok(false);
+        }
+        match answer {
+            Ok(receipt) => follows(&mut self.map, receipt),
+            Err(_) => Ok(true),
+        }
+    }
+
+    /// Does a drawn act, and returns whether it is answered alike.
+    fn act(&mut self, alloc: Global, chain: u8, rng: &mut Pcg32) -> Result<bool, Fail> {
+        match rng.next_u32() % 16 {
+            0..=8 => {
+                let key = u64::from(rng.next_u32() % KEYS);
+                self.record(alloc, chain, key, drawn_wish(rng))
+            }
+            9..=10 => {
+                let page = rng.next_u32() % IDS;
+                let older = u64::from(rng.next_u32() % 8 == 0);
+                let version = Version(seen(&self.at_once, page).0.saturating_sub(older));
+                self.consolidate(alloc, page, version)
+            }
+            _ => self.step(alloc, rng.next_u64()),
+        }
+    }
+
+    /// Returns whether the tables are alike, and have the map's pairs.
+    fn are_alike(&self, machine: Global) -> Result<bool, Fail> {
+        let pairs = self.at_once.pairs(machine)?;
+        Ok(
+            are_alike(&self.at_once, &self.by_steps)
+                && pairs
+                    .iter()
+                    .copied()
+                    .eq(self.map.iter().map(|(key, value)| (*key, *value))),
+        )
+    }
+}
+
+#[test]
+fn drawn_acts_at_once_are_those_of_the_steps(rt: HostRuntime) -> Result<(), Fail> {
+    let alloc = rt.alloc();
+    for chain in [1, 2, 8, 64] {
+        let mut rng = Pcg32::seed_from_u64(u64::from(chain));
+        let mut twins = Twins {
+            at_once: Table::new(alloc, alloc, SMALL)?,
+            by_steps: Table::new(alloc, alloc, SMALL)?,
+            map: BTreeMap::new(alloc),
+        };
+        for act in 0..ACTS {
+            assert!(rt;
+                twins.act(alloc, chain, &mut rng)?,
+                "chain {chain}, act {act}"
+            );
+            if act % 16 == 0 {
+                assert!(rt; twins.are_alike(alloc)?, "chain {chain}, act {act}");
+            }
+        }
+        assert!(rt; twins.are_alike(alloc)?, "chain {chain}");
+    }
+    Ok(())
+}
