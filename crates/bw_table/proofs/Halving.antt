@@ -2,7 +2,7 @@
 use Rattle.std.proofs.Common.{◌≡◌, ℕ, Bool, false, List, [], ◌∷◌, ◌++◌, Option, Some, None, Ok, refl}
 use Rattle.std.specs.Prelude.{nat_lt, is_none}
 use Rattle.bw_keys.specs.Reasons.{when, first_reason}
-use Rattle.bw_delta.specs.Pages.{Page, Listed, pairs_of, routes_of, lists_pairs, listed_from, upper_part}
+use Rattle.bw_delta.specs.Pages.{Page, upper_part}
 use Rattle.bw_delta.specs.Entries.{at}
 use Rattle.bw_delta.specs.Sound.{page_for}
 use Rattle.bw_step.specs.declared.refused.Refused.{Refused}
@@ -15,6 +15,7 @@ use Rattle.bw_law.proofs.SameTests.{same_page_tells}
 use Rattle.bw_table.specs.Answers.{fine_unless}
 use Rattle.bw_table.specs.InPlaces.{halving, halving_reasons}
 use Rattle.bw_table.proofs.Consolidating.{none_at_all, not_absent, kind_of_page}
+use Rattle.bw_table.proofs.InPlaces.{upper_lists_alike}
 
 -- a reason that doesn't hold changes nothing among others that don't
 none_among : (before rest : List (Option Refused)) (here : Option Refused) → first_reason (before ++ rest) ≡ None → here ≡ None → first_reason (before ++ here ∷ rest) ≡ None
@@ -27,11 +28,6 @@ none_then : (before rest : List (Option Refused)) → first_reason before ≡ No
 none_then [] rest is none = none
 none_then (None ∷ before) rest is none = none_then before rest is none
 none_then (Some reason ∷ before) rest is none = absurd (cc is)
-
--- a part of a page lists what the page does
-part_kind : (separator : ℕ) (listed : Listed) → lists_pairs (listed_from separator listed) ≡ lists_pairs listed
-part_kind separator (pairs_of es) = refl
-part_kind separator (routes_of es) = refl
 
 module _ (table : TableValue) (page seen separator : ℕ) (law : Lawful table) where
   abbrev slot : SlotValue
@@ -53,7 +49,7 @@ module _ (table : TableValue) (page seen separator : ℕ) (law : Lawful table) w
   halving_is_accepted opens fine =
       let none = none_at_all (first_reason (open_reasons slot seen)) opens in
       let rest = none_at_all (first_reason (halving_reasons slot (slot_at table (new_id table)) leaving (is_none (last_id table.free)) separator)) fine in
-      let kind : is_other_kind upper slot ≡ false = rw (part_kind separator (page_for (chain_in slot)).listed) (kind_of_page table page law (not_absent (is_in_row slot.stage) _ none)) in
+      let kind : is_other_kind upper slot ≡ false = rw (upper_lists_alike separator (page_for (chain_in slot)).listed) (kind_of_page table page law (not_absent (is_in_row slot.stage) _ none)) in
       let room = room_reasons slot (slot_at table (new_id table)) (is_none (last_id table.free)) in
       none_then (open_reasons slot seen) _ none
       (none_among [] _ (when (is_other_kind upper slot) _) (none_among first_three room _ rest (rw (same_page_tells upper upper refl) refl)) (rw kind refl))
