@@ -24,7 +24,7 @@ const KEYS: u32 = 48;
 
 /// Room for all keys, a table that gets full, two efforts with which tending gives up, and versions
 /// that are used up.
-static CONFIGS: [Config; 5] = [
+pub(crate) static CONFIGS: [Config; 5] = [
     Config { chain: 1, ..LARGE },
     Config {
         chain: 1,
@@ -60,7 +60,7 @@ fn drawn_call(rng: &mut Pcg32) -> Call {
     }
 }
 
-fn drawn_calls(machine: Global, seed: u64) -> Result<Vec<Call>, AllocError> {
+pub(crate) fn drawn_calls(machine: Global, seed: u64) -> Result<Vec<Call>, AllocError> {
     let mut rng = Pcg32::seed_from_u64(seed);
     let mut calls = Vec::new(machine);
     for _ in 0..CALLS {
