@@ -4,4 +4,4 @@ use Rattle.bw_procedures.specs.contracts.past.Past.{the_row}
 
 pub sync : IsSync the_row
 unfolding part_of
-sync = record { shared = λ d b o κ. λ q vs. (cell_keyless q (raw_all the_row.mir) vs b o, ((λ _. (tt, (tt, tt))), tt)) }
+sync = record { shared = λ d b o κ. λ q vs. (cell_keyless q (raw_all the_row.mir) vs b o, ((λ _. (tt, tt)), tt)) }
