@@ -1,9 +1,10 @@
 -- What was done at once is done by the steps that its note stands for.
 use Rattle.std.proofs.Common.{◌≡◌, ℕ, List, [], ◌∷◌, ◌++◌, refl, ap, sym, ◌∙◌, subst, Some, None, Option, append-nil}
-use Rattle.std.specs.Prelude.{Bool, true, is_some, IfSome}
+use Rattle.std.specs.Prelude.{Bool, true, is_some, IfSome, Result, Ok, Err, is_ok, IfOk}
 use Rattle.bw_delta.specs.Entries.{at}
 use Rattle.bw_delta.specs.Pages.{Page}
 use Rattle.bw_keys.specs.declared.page.Pid.{Pid}
+use Rattle.bw_keys.specs.declared.page.Version.{Version}
 use Rattle.bw_chain.specs.declared.in_place.Wished.{Wished}
 use Rattle.bw_chain.specs.declared.in_place.Wished.TheVariants as wishes
 use Rattle.bw_step.specs.declared.receipt.Kind.TheVariants as kinds
@@ -16,9 +17,11 @@ use Rattle.bw_law.specs.Runs.{run, TakesInTurn}
 use Rattle.bw_law.specs.Slots.{pairs_in}
 use Rattle.bw_law.specs.Tables.{TableValue, slot_at, number_of}
 use Rattle.bw_law.proofs.Accepted.{consolidate_accepted}
-use Rattle.bw_table.specs.InPlaces.{step_for, both_steps, TakesBoth, LooksOrTakes, IsDoneAtOnce}
-use Rattle.bw_snap.specs.Notes.{consolidation_of, consolidated_behind, steps_at_once, held_for, held_notes, steps_of, table_with}
+use Rattle.bw_step.specs.declared.fault.Denied.{Denied}
+use Rattle.bw_table.specs.InPlaces.{step_for, both_steps, TakesBoth, LooksOrTakes, IsDoneAtOnce, IsConsolidatedAtOnce}
+use Rattle.bw_snap.specs.Notes.{consolidation_of, consolidated_behind, steps_at_once, steps_for, held_for, held_notes, steps_of, table_with}
 use Rattle.bw_snap.specs.declared.note.Change.{Change}
+use Rattle.bw_snap.specs.declared.note.Change.TheVariants as changes
 use Rattle.bw_snap.specs.declared.note.Note.{Note}
 use Rattle.bw_snap.specs.Snapshots.{LeadTo}
 use Rattle.bw_snap.proofs.Notes.{steps_of-append, runs_to}
@@ -102,6 +105,23 @@ pub made_by_its_steps : (old : TableValue) (page key : ℕ) (wished : Wished) (r
 made_by_its_steps old page key wished receipt new done = sym (runs_to old new (steps_at_once old page key wished) (done_at_once_leads old page key wished receipt new done))
 
 -- the same where the copy's answer is looked at alone
-pub made_where_some : (old new : TableValue) (change : Change) (answer : Option Receipt) (test : Bool) → IfSome answer (λ receipt. IsDoneAtOnce old change.page.0 change.key change.wished receipt new) → test ≡ is_some answer → test ≡ true → new ≡ table_with old change
-made_where_some old new change None test done is holds = absurd (cc (is, holds))
-made_where_some old new change (Some receipt) test done is holds = made_by_its_steps old change.page.0 change.key change.wished receipt new done
+pub made_where_some : (old new : TableValue) (page : Pid) (key : ℕ) (wished : Wished) (answer : Option Receipt) (test : Bool)
+    → IfSome answer (λ receipt. IsDoneAtOnce old page.0 key wished receipt new) → test ≡ is_some answer → test ≡ true → new ≡ table_with old (changes.Write page key wished)
+made_where_some old new page key wished None test done is holds = absurd (cc (is, holds))
+made_where_some old new page key wished (Some receipt) test done is holds = made_by_its_steps old page.0 key wished receipt new done
+
+-- a page that was consolidated at once is where the consolidation of it as it was leads
+pub anew_leads : (old : TableValue) (page seen : ℕ) (new : TableValue) (receipt : Receipt) → IsConsolidatedAtOnce old page seen new receipt → LeadTo old (consolidation_of old page ∷ []) new
+anew_leads old page seen new receipt done =
+    subst (λ (c : Proposal). LeadTo old (c ∷ []) new) (consolidates_as_it_is old page seen done.0 done.1.1) (done.1.1, done.1.3 ∙ done.1.2.leads)
+
+-- the table after a consolidation that a copy made
+pub anew_where_ok : (old new : TableValue) (page : Pid) (seen : Version) (answer : Result Receipt Denied) (test : Bool)
+    → IfOk answer (IsConsolidatedAtOnce old page.0 seen.0 new) → test ≡ is_ok answer → test ≡ true → new ≡ table_with old (changes.Consolidation page seen)
+anew_where_ok old new page seen (Err denied) test done is holds = absurd (cc (is, holds))
+anew_where_ok old new page seen (Ok receipt) test done is holds = sym (runs_to old new (consolidation_of old page.0 ∷ []) (anew_leads old page.0 seen.0 new receipt done))
+
+-- behind the notes that lead to a table, one that is held back stands for its steps there
+pub pending_with_held : (a b : TableValue) (notes : List Note) (change : Change) → LeadTo a (steps_of a notes) b → steps_of a (notes ++ held_notes (Some change)) ≡ steps_of a notes ++ steps_for b change
+pending_with_held a b notes change leads =
+    steps_of-append a b notes (held_notes (Some change)) leads ∙ ap (λ (l : List Proposal). steps_of a notes ++ l) (append-nil (steps_for b change))

@@ -16,6 +16,7 @@ use Rattle.bw_law.specs.Tables.{TableValue, slot_at}
 use Rattle.bw_table.specs.InPlaces.{step_for}
 use Rattle.bw_snap.specs.Fronts.{Announced}
 use Rattle.bw_snap.specs.declared.note.Change.{Change}
+use Rattle.bw_snap.specs.declared.note.Change.TheVariants as changes
 use Rattle.bw_snap.specs.declared.note.Note.{Note}
 use Rattle.bw_snap.specs.declared.note.Note.TheVariants as notes
 
@@ -34,8 +35,10 @@ steps_at_once table page key wished =
     let slot = slot_at table page in
     consolidated_behind table page (step_for page slot.version key wished (at key (pairs_in slot)))
 
+-- the steps that what was done at once on a page stands for
 abbrev pub steps_for : TableValue → Change → List Proposal
-steps_for table change = steps_at_once table change.page.0 change.key change.wished
+steps_for table (changes.Write page key wished) = steps_at_once table page.0 key wished
+steps_for table (changes.Consolidation page seen) = consolidation_of table page.0 ∷ []
 
 -- the table after a change
 abbrev pub table_with : TableValue → Change → TableValue
@@ -61,7 +64,7 @@ steps_of table (note ∷ rest) = let steps = noted_steps table note in steps ++ 
 -- the change by which the copies carry out what was done at once: none for a look
 abbrev pub held_for : Pid → ℕ → Wished → Receipt → Option Change
 held_for page key wished (receipts.Looked at k found) = None
-held_for page key wished receipt = Some (record { page = page; key = key; wished = wished })
+held_for page key wished receipt = Some (changes.Write page key wished)
 
 abbrev pub held_note : ℕ → Wished → AtOnce → Option Change
 held_note key wished done = held_for done.page key wished done.receipt

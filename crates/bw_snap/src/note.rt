@@ -2,12 +2,11 @@
 
 use crate::front::Front;
 use bw_chain::Wished;
-use bw_keys::{Key, Pid};
+use bw_keys::{Key, Pid, Version};
 use bw_step::Step;
 use std::alloc::Global;
 
-/// A step of the table, a change that it made at once, or the announced list of all steps up to
-/// here.
+/// A step of the table, what it did at once on a page, or the announced list of all steps up to here.
 #[derive(Drop)]
 pub enum Note {
     Step(Step<Global>),
@@ -15,11 +14,11 @@ pub enum Note {
     Mark(Front),
 }
 
-/// A wish that was carried out on a leaf, which was consolidated behind that. It has no memory of its
-/// own.
+/// What a table did at once on a page. It has no memory of its own.
 #[derive(Clone, Copy)]
-pub struct Change {
-    pub page: Pid,
-    pub key: Key,
-    pub wished: Wished,
+pub enum Change {
+    /// A wish was carried out on a leaf, which was consolidated behind that.
+    Write { page: Pid, key: Key, wished: Wished },
+    /// The page was consolidated where it lies.
+    Consolidation { page: Pid, seen: Version },
 }

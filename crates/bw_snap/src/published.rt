@@ -7,11 +7,11 @@ ghost use Rattle.bw_step.specs.Steps.{IsReceiptOf};
 ghost use Rattle.bw_law.specs.Laws.{MapAfter};
 ghost use Rattle.bw_law.specs.Refusals.{refusal};
 ghost use Rattle.bw_law.specs.Tables.{new_table};
-ghost use Rattle.bw_table.specs.InPlaces.{IsDoneAtOnce};
-ghost use Rattle.bw_tree.specs.Shares.{no_changes, CountsIn, CountsAtOnce, IsReceiptAtOnce};
+ghost use Rattle.bw_table.specs.InPlaces.{IsDoneAtOnce, IsConsolidatedAtOnce};
+ghost use Rattle.bw_tree.specs.Shares.{no_changes, CountsIn, CountsAtOnce, IsReceiptAtOnce, IsConsolidationOf};
 ghost use Rattle.bw_tree.specs.Trees.{IsTree, IsClosed, Leads, OpensFor};
 ghost use Rattle.bw_snap.specs.Ends.{noted_since};
-ghost use Rattle.bw_snap.specs.Notes.{steps_at_once, held_note};
+ghost use Rattle.bw_snap.specs.Notes.{consolidation_of, steps_at_once, held_note};
 ghost use Rattle.bw_snap.specs.Trees.{IsPublished, IsDenialOf, IsSnapFault, MayBeRead, is_bad_reader_number, published_as_it_is};
 
 use crate::ends::{WritingEnd, advance, append, begin, newcomer, surely_told};
@@ -22,7 +22,7 @@ use crate::reader::Reader;
 use crate::stamp::Stamp;
 use bw_chain::Wished;
 use bw_delta::NoMemory;
-use bw_keys::{Config, Key};
+use bw_keys::{Config, Key, Pid, Version};
 use bw_step::{AtOnce, Denied, Receipt, Step};
 use bw_table::Table;
 use bw_tree::{Blanks, Booked, MadeBy, MissingShare, NewFault, Share};
@@ -212,6 +212,33 @@ impl<R: Wait + Drop, N: Naming, D: Ledger> Published<R, N, D> {
         Some(done)
     }
 
+    /// Consolidates the page where it lies, as `Booked::consolidate_at_once` does, and leaves that
+    /// pending for the published copies, each of which takes memory for the page. Want of memory is
+    /// reported also where there is none for the note of the change before.
+    pub fn consolidate_at_once(
+        &mut self,
+        machine: Global,
+        page: Pid,
+        seen: Version,
+    ) -> Result<Receipt, Denied>
+        ensures done { IfOk result
+            (IsConsolidatedAtOnce self.old.table page.0 seen.0 self.new.table) }
+        ensures receipt { IfOk result (IsConsolidationOf page) }
+        ensures steps { OnOk result (self.new.pending
+            ≡ self.old.pending ++ consolidation_of self.old.table page.0 ∷ []) }
+        ensures published { OnOk result (self.new.published ≡ self.old.published) }
+        ensures list { OnOk result (self.new.list ≡ self.old.list) }
+        ensures unchanged { OnErr result (self.new ≡ self.old) }
+    {
+        match settle(&mut self.writer, &mut self.held) {
+            Ok(()) => {}
+            Err(NoMemory) => return Err(Denied::NoMemory),
+        }
+        let receipt = self.booked.consolidate_at_once(machine, page, seen)?;
+        self.held = Some(Change::Consolidation { page, seen });
+        Ok(receipt)
+    }
+
     /// Publishes what is pending, and returns a stamp of the list that was published. Fails where
     /// memory is refused, and where there are `MAX_STAMPS` stamps. The stamp's place is reserved
     /// before anything is published, so that none is missing afterwards.
@@ -304,7 +331,7 @@ fn note_of(key: Key, wished: Wished, done: AtOnce) -> Option<Change>
         Receipt::Inserted { .. }
         | Receipt::Deleted { .. }
         | Receipt::Modified { .. }
-        | Receipt::Shaped { .. } => Some(Change {
+        | Receipt::Shaped { .. } => Some(Change::Write {
             page: done.page,
             key,
             wished,

@@ -182,6 +182,19 @@ impl<R: Wait + Copy, N: Naming, D: Ledger> Shared<Global, Step<Global>> for Read
             .change_at_once(share, key, wished)
     }
 
+    fn consolidate_at_once(
+        &self,
+        alloc: Global,
+        page: Pid,
+        seen: Version,
+    ) -> Option<Result<Receipt, Denied>> {
+        Some(
+            self.published
+                .lock(&self.rt)
+                .consolidate_at_once(alloc, page, seen),
+        )
+    }
+
     #[inline(always)]
     fn copy_page(
         &self,

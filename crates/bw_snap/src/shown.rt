@@ -55,7 +55,7 @@ impl Absorb<Note> for Shown {
                 take(&mut self.table, twin);
             }
             Note::Change(change) => {
-                if !carry_out(&mut self.table, *change) {
+                if !carry_out(self.machine, &mut self.table, *change) {
                     return Err(AllocError);
                 }
             }
@@ -70,7 +70,7 @@ impl Absorb<Note> for Shown {
         match note {
             Note::Step(step) => take(&mut self.table, step),
             Note::Change(change) => {
-                if !carry_out(&mut self.table, change) {
+                if !carry_out(self.machine, &mut self.table, change) {
                     return Err(Note::Change(change));
                 }
             }
@@ -89,13 +89,16 @@ fn take(table: &mut Table<Global>, step: Step<Global>)
 
 /// Makes the change as the locked table did. Returns whether it was made: a copy that is where the
 /// locked table was is short of nothing but memory.
-fn carry_out(table: &mut Table<Global>, change: Change) -> bool
+fn carry_out(machine: Global, table: &mut Table<Global>, change: Change) -> bool
     ensures done { result ≡ true → table.new ≡ table_with table.old change }
     ensures unchanged { result ≡ false → table.new ≡ table.old }
 {
-    table
-        .change_leaf(change.page, change.key, change.wished)
-        .is_some()
+    match change {
+        Change::Write { page, key, wished } => table.change_leaf(page, key, wished).is_some(),
+        Change::Consolidation { page, seen } => {
+            table.consolidate_at_once(machine, page, seen).is_ok()
+        }
+    }
 }
 
 /// The rule of what is published, over what readers, stamps and the writing end have seen. Each of
