@@ -1,5 +1,5 @@
 -- What the published copies absorb.
-use Rattle.std.specs.Prelude.{ℕ, List, [], ◌∷◌, ◌++◌, Option, Some, None}
+use Rattle.std.specs.Prelude.{ℕ, List, [], ◌∷◌, ◌++◌, Option, Some, None, option_to_list}
 use Rattle.bw_delta.specs.Entries.{at}
 use Rattle.bw_delta.specs.Sound.{page_for}
 use Rattle.bw_keys.specs.declared.page.Pid.{Pid}
@@ -36,6 +36,12 @@ steps_at_once table page key wished =
     consolidated_behind table page (step_for page slot.version key wished (at key (pairs_in slot)))
 
 -- the steps that what was done at once on a page stands for
+-- the step that carries out the wish for the key on the page, if there is anything to do
+abbrev pub steps_recorded : TableValue → ℕ → ℕ → Wished → List Proposal
+steps_recorded table page key wished =
+    let slot = slot_at table page in
+    option_to_list (step_for page slot.version key wished (at key (pairs_in slot)))
+
 abbrev pub steps_for : TableValue → Change → List Proposal
 steps_for table (changes.Write page key wished) = steps_at_once table page.0 key wished
 steps_for table (changes.Consolidation page seen) = consolidation_of table page.0 ∷ []

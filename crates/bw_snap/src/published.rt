@@ -7,11 +7,11 @@ ghost use Rattle.bw_step.specs.Steps.{IsReceiptOf};
 ghost use Rattle.bw_law.specs.Laws.{MapAfter};
 ghost use Rattle.bw_law.specs.Refusals.{refusal};
 ghost use Rattle.bw_law.specs.Tables.{new_table};
-ghost use Rattle.bw_table.specs.InPlaces.{IsDoneAtOnce, IsConsolidatedAtOnce};
+ghost use Rattle.bw_table.specs.InPlaces.{IsDoneAtOnce, IsRecordedAtOnce, IsConsolidatedAtOnce};
 ghost use Rattle.bw_tree.specs.Shares.{no_changes, CountsIn, CountsAtOnce, IsReceiptAtOnce, IsConsolidationOf};
 ghost use Rattle.bw_tree.specs.Trees.{IsTree, IsClosed, Leads, OpensFor};
 ghost use Rattle.bw_snap.specs.Ends.{noted_since};
-ghost use Rattle.bw_snap.specs.Notes.{consolidation_of, steps_at_once, held_note};
+ghost use Rattle.bw_snap.specs.Notes.{consolidation_of, steps_recorded, steps_at_once, held_note};
 ghost use Rattle.bw_snap.specs.Trees.{IsPublished, IsDenialOf, IsSnapFault, MayBeRead, is_bad_reader_number, published_as_it_is};
 
 use crate::ends::{WritingEnd, advance, append, begin, newcomer, surely_told};
@@ -21,10 +21,10 @@ use crate::note::{Change, Note};
 use crate::reader::Reader;
 use crate::stamp::Stamp;
 use bw_chain::Wished;
-use bw_delta::NoMemory;
+use bw_delta::{NoMemory, Spare};
 use bw_keys::{Config, Key, Pid, Version};
 use bw_step::{AtOnce, Denied, Receipt, Step};
-use bw_table::Table;
+use bw_table::{Table, receipt_of, step_for};
 use bw_tree::{Blanks, Booked, MadeBy, MissingShare, NewFault, Share};
 use std::alloc::Global;
 use std::marker::Model;
@@ -210,6 +210,41 @@ impl<R: Wait + Drop, N: Naming, D: Ledger> Published<R, N, D> {
         let done = self.booked.change_at_once(share, key, wished)?;
         self.held = note_of(key, wished, done);
         Some(done)
+    }
+
+    /// Looks the key up, and puts the record of the change that is wished on its leaf, as
+    /// `Booked::record_at_once` does, and leaves a twin of that step pending for the published copies.
+    /// Returns `None` and changes nothing also where memory is refused.
+    #[inline(always)]
+    pub fn record_at_once(
+        &mut self,
+        share: &mut Share<N, D>,
+        key: Key,
+        wished: Wished,
+        (spare, other): (Spare<Global>, Spare<Global>),
+    ) -> Option<AtOnce>
+        ensures done { IfSome result (λ it.
+            IsRecordedAtOnce self.old.table it.page.0 key wished it.receipt self.new.table) }
+        ensures receipt { IfSome result (λ it. IsReceiptAtOnce key wished it.receipt) }
+        ensures steps { IfSome result (λ it. self.new.pending
+            ≡ self.old.pending ++ steps_recorded self.old.table it.page.0 key wished) }
+        ensures published { IfSome result (λ it. self.new.published ≡ self.old.published) }
+        ensures list { IfSome result (λ it. self.new.list ≡ self.old.list) }
+        ensures unchanged { IfNone result (self.new ≡ self.old) }
+        ensures share { CountsAtOnce share.old share.new result }
+    {
+        let leaf = self.table().leaf_at_rest(key)?;
+        let look = self.table().look(leaf.pid, key)?;
+        let step = step_for(leaf, key, wished, look.found, spare);
+        let twin = step_for(leaf, key, wished, look.found, other);
+        let receipt = match (step, twin) {
+            (Some(step), Some(twin)) => match self.install(share, step, twin) {
+                Ok(receipt) => receipt,
+                Err(_) => return None,
+            },
+            _ => receipt_of(key, look),
+        };
+        Some(self.table().at_once(leaf.pid, receipt))
     }
 
     /// Consolidates the page where it lies, as `Booked::consolidate_at_once` does, and leaves that

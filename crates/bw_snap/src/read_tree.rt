@@ -13,7 +13,7 @@ use crate::published::Published;
 use crate::reader::Reader;
 use crate::stamp::Stamp;
 use bw_chain::Wished;
-use bw_delta::{Chain, NoMemory};
+use bw_delta::{Chain, NoMemory, Spare};
 use bw_keys::{Config, Key, Pid, Version};
 use bw_step::{AtOnce, CopyFault, Denied, Look, Next, Place, Receipt, Step, View};
 use bw_table::Table;
@@ -180,6 +180,20 @@ impl<R: Wait + Copy, N: Naming, D: Ledger> Shared<Global, Step<Global>> for Read
         self.published
             .lock(&self.rt)
             .change_at_once(share, key, wished)
+    }
+
+    #[inline(always)]
+    fn record_at_once(
+        &self,
+        alloc: Global,
+        share: &mut Share<N, D>,
+        key: Key,
+        wished: Wished,
+    ) -> Option<AtOnce> {
+        let spares = (Spare::new(alloc).ok()?, Spare::new(self.machine).ok()?);
+        self.published
+            .lock(&self.rt)
+            .record_at_once(share, key, wished, spares)
     }
 
     fn consolidate_at_once(

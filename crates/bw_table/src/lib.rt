@@ -26,4 +26,5 @@ pub use bw_step::{
 };
 pub use fault::NewFault;
 pub use leaf::LeafRef;
+pub use steps::{receipt_of, step_for};
 pub use table::Table;

@@ -24,6 +24,7 @@ mod term_delete;
 
 use crate::table::Table;
 use bw_step::{Receipt, Refused, Step};
+pub use recording::{receipt_of, step_for};
 use std::alloc::Allocator;
 
 impl<A: Allocator + Copy> Table<A> {

@@ -44,9 +44,9 @@ impl<A: Allocator + Copy> Table<A> {
         Some(self.at_once(leaf.pid, receipt))
     }
 
-    /// What was done at once on a page.
+    /// Returns what was done at once on the page, by its receipt.
     #[inline(always)]
-    pub(super) fn at_once(&self, page: Pid, receipt: Receipt) -> AtOnce
+    pub fn at_once(&self, page: Pid, receipt: Receipt) -> AtOnce
         ensures page { result.page ≡ page }
         ensures receipt { result.receipt ≡ receipt }
         ensures count { result.count ≡ (slot_at self.now page.0).count }
@@ -102,10 +102,10 @@ fn may_be_made_anew<A: Allocator + Copy>(slot: &Slot<A>, seen: Version) -> Resul
     Ok(())
 }
 
-/// The step that carries out the wish for a key of the leaf that has this value, or none. No step
-/// where there is nothing to do.
+/// Returns the step that carries out the wish for a key of the leaf, which has this value or none.
+/// Returns `None` where there is nothing to do.
 #[inline(always)]
-fn step_for<A: Allocator + Copy>(
+pub fn step_for<A: Allocator + Copy>(
     leaf: View,
     key: Key,
     wished: Wished,
@@ -140,9 +140,9 @@ fn step_for<A: Allocator + Copy>(
     }
 }
 
-/// The receipt of a look for the key.
+/// Returns the receipt of a look for the key.
 #[inline(always)]
-fn receipt_of(key: Key, look: Look) -> Receipt
+pub fn receipt_of(key: Key, look: Look) -> Receipt
     ensures { result ≡ Looked look.at key look.found }
 {
     Receipt::Looked {
