@@ -1,8 +1,10 @@
 -- What steps that change only the tree's shape leave.
-use Rattle.std.proofs.Common.{◌≢◌, ℕ, zero, suc, ◌+◌, ◌<◌, ◌≤◌, ◌^◌, List, [], ◌∷◌, ◌++◌, length, Option, Some, None, Result, Ok, Err, IfErr, OnOk, refl, sym, ap, subst, ◌∙◌, append-nil, arith}
+use Rattle.std.proofs.Common.{◌≡◌, ◌≢◌, ℕ, Bool, true, false, zero, suc, ◌+◌, ◌<◌, ◌≤◌, ◌^◌, List, [], ◌∷◌, ◌++◌, length, Option, Some, None, Result, Ok, Err, IfErr, OnOk, refl, sym, ap, subst, ◌∙◌, append-nil, arith}
+use Rattle.std.specs.Prelude.{is_some}
 use Rattle.bw_keys.specs.declared.page.Pid.{Pid}
 use Rattle.bw_step.specs.Proposals.{Proposal, insert, delete, modify}
 use Rattle.bw_step.specs.Steps.{ChangesShape}
+use Rattle.bw_step.specs.declared.receipt.Kind.TheVariants as kinds
 use Rattle.bw_step.specs.declared.receipt.Receipt.{Receipt}
 use Rattle.bw_step.specs.declared.receipt.Receipt.TheVariants.{Shaped}
 use Rattle.bw_step.specs.Tellings.{without_shapes}
@@ -10,7 +12,7 @@ use Rattle.bw_step.proofs.Tellings.{without_shapes-append}
 use Rattle.bw_procedures.specs.Seen.{Seen, SameCounts, OnlyAdds, Grows, IsAccepted}
 use Rattle.bw_procedures.proofs.Trails.{adds_by, adds_then}
 use Rattle.bw_procedures.specs.declared.fault.Fault.{Fault}
-use Rattle.bw_procedures.specs.Calls.{OnlyReshapes, ReshapesWithin, IsEarned, RoseBy, raised, TakesShapes, SplitAtOnce}
+use Rattle.bw_procedures.specs.Calls.{OnlyReshapes, ReshapesWithin, IsEarned, RoseBy, raised, TakesShapes, SplitAtOnce, PostedAtOnce}
 use Rattle.bw_procedures.specs.Tending.{IsTended}
 
 pub counts_grow : (a b : Seen) → SameCounts a b → OnlyAdds a.trail b.trail → a.effort ≤ b.effort → Grows a b
@@ -67,7 +69,7 @@ shapes_taken (receipt ∷ rest) a b some h =
 
 -- a page that was split at once brings the effort nearer to the limit
 pub split_tends : (limit : ℕ) (split : Option Pid) (a b c : Seen) → limit < 2 ^ 64 → OnlyReshapes a b → b.effort + 4 ≤ limit → SplitAtOnce split b c → IsTended limit (Ok split) a c
-split_tends limit None a b c fits before covered same = let Tended : Seen → Type 0 = λ s. IsTended limit (Ok None) a s in subst Tended (sym same) (before, tt)
+split_tends limit None a b c fits before covered same = let Tended : Seen → Type 0 = λ s. IsTended {T = Pid} limit (Ok None) a s in subst Tended (sym same) (before, tt)
 split_tends limit (Some page) a b c fits before covered split =
     let taken = shapes_taken split.0 b c split.1 split.2 in
     let x = before.grows in
@@ -78,3 +80,12 @@ split_tends limit (Some page) a b c fits before covered split =
       },
       omega (arith, x.effort, taken.1),
     )
+
+-- one step that changes only the shape, taken at once, brings the effort nearer to the limit
+pub shape_tends : {T : Type 0} → (limit : ℕ) (receipt : Receipt) (made : T) (a b : Seen) → limit < 2 ^ 64 → a.effort < limit → TakesShapes (receipt ∷ []) a b → IsTended {T = T} limit (Ok (Some made)) a b
+shape_tends limit receipt made a b fits before taken = let done = shapes_taken (receipt ∷ []) a b (λ is. cc is) taken in (done.0, omega (arith, done.1))
+
+-- a page that was named in its parent at once costs one effort
+pub posted_costs : (child : Pid) (parent : Option Pid) (a b : Seen) → PostedAtOnce child parent a b → is_some parent ≡ true → OnlyReshapes a b × RoseBy 1 a.effort b.effort
+posted_costs child None a b same some = absurd (cc some)
+posted_costs child (Some parent) a b taken some = shapes_taken (Shaped kinds.TermAdd parent (Some child) ∷ []) a b (λ is. cc is) taken

@@ -9,6 +9,8 @@ use Rattle.bw_step.specs.declared.receipt.Receipt.{Receipt}
 use Rattle.bw_step.specs.declared.receipt.Receipt.TheVariants as receipts
 use Rattle.bw_step.specs.declared.refused.Refused.{Refused}
 use Rattle.bw_step.specs.declared.refused.Refused.TheVariants as reasons
+use Rattle.bw_step.specs.declared.fault.Denied.{Denied}
+use Rattle.bw_step.specs.declared.fault.Denied.TheVariants as denied
 use Rattle.bw_step.specs.declared.view.Look.{Look}
 use Rattle.bw_step.specs.declared.view.View.{View}
 use Rattle.bw_step.specs.Steps.{IsReceiptOf}
@@ -17,7 +19,7 @@ use Rattle.bw_procedures.specs.declared.fault.Fault.{Fault}
 use Rattle.bw_procedures.specs.declared.fault.Fault.TheVariants.{Contended, NoMemory as NoRoom, TableFull, TooTall, Worn}
 use Rattle.bw_procedures.specs.declared.offer.Answer.{Answer}
 use Rattle.bw_procedures.specs.declared.offer.Answer.TheVariants as answers
-use Rattle.bw_procedures.specs.Seen.{Seen, one_more, SameButEffort, SameCounts, Grows}
+use Rattle.bw_procedures.specs.Seen.{Seen, one_more, IsRefused, SameButEffort, SameCounts, Grows}
 use Rattle.bw_procedures.specs.Facts.{Fact, holds, fresh}
 
 -- a count rose by n, or is at its end
@@ -65,6 +67,18 @@ pub record TakesShapes (receipts : List Receipt) (old new : Seen) : Type 0 where
 abbrev pub SplitAtOnce : Option Pid → Seen → Seen → Type 0
 SplitAtOnce None old new = new ≡ old
 SplitAtOnce (Some page) old new = (receipts : List Receipt) × (receipts ≢ []) × TakesShapes receipts old new
+
+-- a step that changes only the tree's shape was taken at once, and its receipt added at the cost of one effort; or it was denied, or nothing was done
+abbrev pub ShapedAtOnce : {T : Type 0} → (T → Receipt) → Option (Result T Denied) → Seen → Seen → Type 0
+ShapedAtOnce receipt_of None old new = new ≡ old
+ShapedAtOnce receipt_of (Some (Ok it)) old new = TakesShapes (receipt_of it ∷ []) old new
+ShapedAtOnce receipt_of (Some (Err (denied.Refused reason))) old new = IsRefused reason old new
+ShapedAtOnce receipt_of (Some (Err denied.NoMemory)) old new = new ≡ old
+
+-- a page was named in its parent at once, at the cost of one effort, or nothing was done
+abbrev pub PostedAtOnce : Pid → Option Pid → Seen → Seen → Type 0
+PostedAtOnce child None old new = new ≡ old
+PostedAtOnce child (Some parent) old new = TakesShapes (receipts.Shaped kinds.TermAdd parent (Some child) ∷ []) old new
 
 -- no receipt and no count: only the effort may have risen
 pub record OnlySpends (old new : Seen) : Type 0 where

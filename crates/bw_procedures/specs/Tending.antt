@@ -1,16 +1,15 @@
 -- How far tending goes.
 use Rattle.std.specs.Prelude.{ℕ, ◌-◌, ◌<◌, Option, Some, None, Result, Ok, Err}
-use Rattle.bw_keys.specs.declared.page.Pid.{Pid}
 use Rattle.bw_procedures.specs.declared.fault.Fault.{Fault}
 use Rattle.bw_procedures.specs.Seen.{Seen}
 use Rattle.bw_procedures.specs.Calls.{OnlyReshapes, IsEarned}
 
--- tending goes on with another page only where an accepted step brought the effort nearer to the limit
-abbrev pub GoesOnWithin : ℕ → Seen → Seen → Option Pid → Type 0
+-- tending goes on, with another page or the term of a new one, only where an accepted step brought the effort nearer to the limit
+abbrev pub GoesOnWithin : {T : Type 0} → ℕ → Seen → Seen → Option T → Type 0
 GoesOnWithin limit old new None = Unit {0}
-GoesOnWithin limit old new (Some page) = limit - new.effort < limit - old.effort
+GoesOnWithin limit old new (Some next) = limit - new.effort < limit - old.effort
 
 -- one page was tended: nothing but the tree's shape changed, and otherwise the fault is earned
-abbrev pub IsTended : ℕ → Result (Option Pid) Fault → Seen → Seen → Type 0
+abbrev pub IsTended : {T : Type 0} → ℕ → Result (Option T) Fault → Seen → Seen → Type 0
 IsTended limit (Ok next) old new = OnlyReshapes old new × GoesOnWithin limit old new next
 IsTended limit (Err fault) old new = OnlyReshapes old new × IsEarned limit old new fault

@@ -46,7 +46,7 @@ pub(crate) fn offer<A: Allocator + Copy, S: Steps<A, Step<A>>>(
 }
 
 /// Returns the fault that a refusal is, if it is one.
-fn fault_of(reason: Refused) -> Option<Fault>
+pub(crate) fn fault_of(reason: Refused) -> Option<Fault>
     ensures { result ≡ fault_in reason }
 {
     match reason {

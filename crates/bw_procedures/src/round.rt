@@ -1,11 +1,12 @@
 //! One round of help: it proposes the step that brings an unfinished change on, or leads to the
 //! round that has to come first.
 
-ghost use Rattle.std.specs.Prelude.{◌≡◌, ◌+◌, ◌<◌, IsTrue, IfOk};
+ghost use Rattle.std.specs.Prelude.{◌≡◌, ◌+◌, ◌<◌, true, false, Ok, IsTrue, IfOk};
 ghost use Rattle.bw_procedures.specs.Calls.{ReshapesWithin};
 ghost use Rattle.bw_procedures.specs.Rounds.{IsRound, IsFree, NextBelow, rank, kind_rank};
 
 use crate::consolidation::consolidation;
+use crate::effort::is_spent;
 use crate::fault::Fault;
 use crate::offer::{Answer, reshape};
 use crate::steps::Steps;
@@ -114,6 +115,24 @@ fn make_room<A: Allocator + Copy, S: Steps<A, Step<A>>>(
     Ok(Turn::Over)
 }
 
+/// Names an unposted page in its parent in one step, if the worker can and has effort left, and returns
+/// whether it did.
+fn post_in_place<A: Allocator + Copy, S: Steps<A, Step<A>>>(
+    steps: &mut S,
+    limit: u64,
+    page: Pid,
+) -> bool
+    ensures follows { S.follows steps.old steps.new }
+    ensures posted { result ≡ true
+        → ReshapesWithin 1 limit (Ok Turn.Over) (S.seen steps.old) (S.seen steps.new) }
+    ensures unposted { result ≡ false → S.seen steps.new ≡ S.seen steps.old }
+{
+    if is_spent(steps, limit) {
+        return false;
+    }
+    steps.add_term_at_once(page).is_some()
+}
+
 /// The round that names an unposted page in its parent, or puts a new root over it.
 fn post<A: Allocator + Copy, S: Steps<A, Step<A>>>(
     steps: &mut S,
@@ -125,6 +144,9 @@ fn post<A: Allocator + Copy, S: Steps<A, Step<A>>>(
     ensures round { IsRound rung (kind_rank (Todo.Post page)) limit result
         (S.seen steps.old) (S.seen steps.new) }
 {
+    if post_in_place(steps, limit, page) {
+        return Ok(Turn::Over);
+    }
     let Some(view) = steps.peek(page) else {
         return Ok(Turn::Idle);
     };

@@ -55,7 +55,9 @@ pub struct Ends {
 ///
 /// `P` is the step over `A`.
 pub trait Steps<A: Allocator + Copy, P: Proposes> {
-    ghost use Rattle.std.specs.Prelude.{◌≡◌, ◌≤◌, ℕ, List, true, false, None, Ok, IfOk, IfSome};
+    ghost use Rattle.std.specs.Prelude.{◌≡◌, ◌≤◌, ℕ, List, true, false, None, Some, Ok, IfOk, IfSome};
+    ghost use Rattle.bw_step.specs.declared.receipt.Kind.TheVariants as kinds;
+    ghost use Rattle.bw_step.specs.declared.receipt.Receipt.TheVariants.{Shaped};
     ghost use Rattle.bw_step.specs.declared.refused.Refused.TheVariants as reasons;
     ghost use Rattle.bw_delta.specs.Records.{bare};
     ghost use Rattle.bw_delta.specs.Entries.{from};
@@ -63,7 +65,7 @@ pub trait Steps<A: Allocator + Copy, P: Proposes> {
     ghost use Rattle.bw_step.specs.Steps.{IsNext};
     ghost use Rattle.bw_procedures.specs.Seen.{Seen, ends_of, Visited, Looked, LookedAtOnce, Copied};
     ghost use Rattle.bw_procedures.specs.Seen.{Installed, Idled, IsRefused};
-    ghost use Rattle.bw_procedures.specs.Calls.{IsAtLevel, SplitAtOnce};
+    ghost use Rattle.bw_procedures.specs.Calls.{IsAtLevel, SplitAtOnce, ShapedAtOnce, PostedAtOnce};
     ghost use Rattle.bw_procedures.specs.Writing.{ChangedAtOnce, RecordedAtOnce, ConsolidatedAtOnce};
     ghost use Rattle.bw_procedures.specs.Facts.{Fact, quiet, on_the_way, holds, fresh};
     ghost use Rattle.bw_procedures.specs.Facts.{CalmNext, CalmPeek, CalmLook, CalmCopy, CalmAnew};
@@ -153,6 +155,25 @@ pub trait Steps<A: Allocator + Copy, P: Proposes> {
         ensures follows { follows self.old self.new }
         ensures seen { ConsolidatedAtOnce _page.0 _version.0 result
             (seen self.old) (seen self.new) }
+    {
+        None
+    }
+
+    /// Splits the page in half where it lies, if the worker can, and it still has the version that was
+    /// seen. Returns the separator and the new page. None, and nothing done, where the worker can't.
+    fn halve_at_once(&mut self, _page: Pid, _version: Version) -> Option<Result<(Key, Pid), Denied>>
+        ensures follows { follows self.old self.new }
+        ensures seen { ShapedAtOnce (λ term. Shaped kinds.Split _page (Some term.1)) result
+            (seen self.old) (seen self.new) }
+    {
+        None
+    }
+
+    /// Names an unposted page in its parent, if the worker can find the parent in the same step and
+    /// the step isn't refused, and returns the parent. Otherwise does nothing, and returns none.
+    fn add_term_at_once(&mut self, _child: Pid) -> Option<Pid>
+        ensures follows { follows self.old self.new }
+        ensures seen { PostedAtOnce _child result (seen self.old) (seen self.new) }
     {
         None
     }

@@ -9,14 +9,14 @@ use crate::consolidation::consolidate;
 use crate::effort::{covers, is_spent};
 use crate::fault::Fault;
 use crate::helping::help_within;
-use crate::offer::{Answer, reshape};
+use crate::offer::{Answer, fault_of, reshape};
 use crate::round::parent_of;
 use crate::steps::Steps;
 use crate::walk::walk;
 use bw_chain::{HalveFault, halve};
 use bw_delta::{Base, Chain, Node, Spare};
 use bw_keys::{Key, Pid};
-use bw_step::{CopyFault, Mark, Receipt, Split, Stage, Step, Todo, View};
+use bw_step::{CopyFault, Denied, Mark, Receipt, Split, Stage, Step, Todo, View};
 use std::alloc::Allocator;
 
 /// What a split, the term of its page and the two consolidations behind them cost.
@@ -147,6 +147,45 @@ fn split_page<A: Allocator + Copy, S: Steps<A, Step<A>>>(
         settle(steps, limit, Pending::Post(new))?;
         return page_above(steps, limit, view.level, view.low);
     }
+    match split_off(steps, limit, view)? {
+        Some(term) => Ok(after_split(steps, limit, view.level, term)?),
+        None => Ok(None),
+    }
+}
+
+/// Moves the upper half of the page to a new one, and returns the separator and the new page. None where
+/// the page has changed, and where the step is refused.
+fn split_off<A: Allocator + Copy, S: Steps<A, Step<A>>>(
+    steps: &mut S,
+    limit: u64,
+    view: View,
+) -> Result<Option<(Key, Pid)>, Fault>
+    ensures follows { S.follows steps.old steps.new }
+    ensures tended { IsTended limit result (S.seen steps.old) (S.seen steps.new) }
+{
+    if is_spent(steps, limit) {
+        return split_by_copy(steps, limit, view);
+    }
+    match steps.halve_at_once(view.pid, view.version) {
+        Some(Ok(term)) => Ok(Some(term)),
+        Some(Err(Denied::NoMemory)) => Err(Fault::NoMemory),
+        Some(Err(Denied::Refused(reason))) => match fault_of(reason) {
+            Some(fault) => Err(fault),
+            None => Ok(None),
+        },
+        None => split_by_copy(steps, limit, view),
+    }
+}
+
+/// The same by a copy of the page, of which the step is made and proposed.
+fn split_by_copy<A: Allocator + Copy, S: Steps<A, Step<A>>>(
+    steps: &mut S,
+    limit: u64,
+    view: View,
+) -> Result<Option<(Key, Pid)>, Fault>
+    ensures follows { S.follows steps.old steps.new }
+    ensures tended { IsTended limit result (S.seen steps.old) (S.seen steps.new) }
+{
     let chain = match steps.copy_page(view.pid, view.version) {
         Ok(chain) => chain,
         Err(CopyFault::NoMemory) => return Err(Fault::NoMemory),
@@ -166,8 +205,13 @@ fn split_page<A: Allocator + Copy, S: Steps<A, Step<A>>>(
         spare,
     });
     match reshape(steps, limit, step)? {
-        Answer::Accepted(receipt) => Ok(after_split(steps, limit, view.level, separator, receipt)?),
-        Answer::Refused(_) => Ok(None),
+        Answer::Accepted(
+            Receipt::Shaped {
+                other: Some(new),
+                ..
+            },
+        ) => Ok(Some((separator, new))),
+        _ => Ok(None),
     }
 }
 
@@ -206,19 +250,12 @@ fn after_split<A: Allocator + Copy, S: Steps<A, Step<A>>>(
     steps: &mut S,
     limit: u64,
     level: u8,
-    separator: Key,
-    receipt: Receipt,
+    term: (Key, Pid),
 ) -> Result<Option<Pid>, Fault>
     ensures follows { S.follows steps.old steps.new }
     ensures reshapes { ReshapesWithin 0 limit result (S.seen steps.old) (S.seen steps.new) }
 {
-    let Receipt::Shaped {
-        other: Some(page),
-        ..
-    } = receipt
-    else {
-        return Ok(None);
-    };
+    let (separator, page) = term;
     settle(steps, limit, Pending::Post(page))?;
     page_above(steps, limit, level, separator)
 }

@@ -374,18 +374,20 @@ whole_if_posted table room parent child true new whole posted =
     whole_both table room parent (Shaped kinds.TermAdd (pid parent) (Some child)) new (term_add parent (slot_at table parent).version child.0 (slot_at table child.0).version) whole posted
 whole_if_posted table room parent child false new whole posted = let Whole : TableValue → Type 0 = λ t. IsWhole t room in subst Whole (sym posted) whole
 
-kind_fits : (leaf : Bool) (level : ℕ) → leaf ≡ eqb level 0 → cond leaf (nat_lt 0 level) (eqb level 0) ≡ false
+-- what a level's pages list
+pub kind_fits : (leaf : Bool) (level : ℕ) → leaf ≡ eqb level 0 → cond leaf (nat_lt 0 level) (eqb level 0) ≡ false
 kind_fits true level is = grind (arith, nat_tests)
 kind_fits false level is = sym is
 
-lists_as_the_chain : (chain : Records) → lists_pairs (page_for chain).listed ≡ is_leaf chain
+pub lists_as_the_chain : (chain : Records) → lists_pairs (page_for chain).listed ≡ is_leaf chain
 lists_as_the_chain chain = by_kind (is_leaf chain)
   where
     by_kind : (leaf : Bool) → lists_pairs (listed_for leaf chain) ≡ leaf
     by_kind true = refl
     by_kind false = refl
 
-upper_lists_alike : (separator : ℕ) (l : Listed) → lists_pairs (listed_from separator l) ≡ lists_pairs l
+-- a part of a page lists what the page does
+pub upper_lists_alike : (separator : ℕ) (l : Listed) → lists_pairs (listed_from separator l) ≡ lists_pairs l
 upper_lists_alike separator (pairs_of es) = refl
 upper_lists_alike separator (routes_of es) = refl
 

@@ -1,4 +1,5 @@
 mod Consolidating
+mod Halving
 pub mod InPlaces
 pub mod Doing
 pub mod FreeIds

@@ -1,24 +1,27 @@
 -- A change of a key and the consolidation of its page, one behind the other, as one call does them.
-use Rattle.std.specs.Prelude.{◌≡◌, ℕ, suc, ◌+◌, ◌-◌, ◌<◌, ◌≤◌, ◌^◌, Bool, true, false, List, [], ◌∷◌, slice_set, Option, Some, None, unwrap_or}
+use Rattle.std.specs.Prelude.{◌≡◌, ℕ, suc, ◌+◌, ◌-◌, ◌<◌, ◌≤◌, ◌^◌, nat_lt, Bool, true, false, List, [], ◌∷◌, slice_set, Option, Some, None, unwrap_or}
 use Rattle.bw_keys.specs.declared.page.Pid.{Pid}
 use Rattle.bw_keys.specs.Ranges.{is_within}
+use Rattle.bw_keys.specs.Reasons.{when}
 use Rattle.bw_delta.specs.declared.chain.Delta.{Delta}
 use Rattle.bw_delta.specs.declared.chain.Delta.TheVariants as deltas
 use Rattle.bw_delta.specs.Entries.{at}
 use Rattle.bw_delta.specs.Fence.{fences}
-use Rattle.bw_delta.specs.Pages.{Page, listed_length}
+use Rattle.bw_delta.specs.Pages.{Page, listed_length, upper_part}
 use Rattle.bw_delta.specs.Records.{above}
 use Rattle.bw_delta.specs.Sound.{LiesIn, page_for}
-use Rattle.bw_chain.specs.Pages.Halves.{listed_key_at}
+use Rattle.bw_chain.specs.Pages.Halves.{listed_key_at, listed_middle_key}
 use Rattle.bw_chain.specs.declared.in_place.Wished.{Wished}
 use Rattle.bw_chain.specs.declared.in_place.Wished.TheVariants as wishes
 use Rattle.bw_step.specs.declared.receipt.Kind.TheVariants as kinds
 use Rattle.bw_step.specs.declared.receipt.Receipt.{Receipt}
 use Rattle.bw_step.specs.declared.receipt.Receipt.TheVariants.{Inserted, Deleted, Modified, Looked, Shaped}
+use Rattle.bw_step.specs.declared.refused.Refused.{Refused}
+use Rattle.bw_step.specs.declared.refused.Refused.TheVariants.{OutOfRange, NotBare, BadSeparator}
 use Rattle.bw_step.specs.declared.view.Stage.TheVariants.{Posted, Unposted}
 use Rattle.bw_step.specs.Proposals.{Proposal, insert, delete, modify, consolidate, split, term_add}
 use Rattle.bw_law.specs.Effects.{with_record, with_stage, cut_before, upper_half, consolidated, pid}
-use Rattle.bw_law.specs.Refusals.{is_bad_key, is_leaving_at, last_id, new_id}
+use Rattle.bw_law.specs.Refusals.{is_bad_key, is_leaving_at, is_outside, last_id, new_id, room_reasons}
 use Rattle.bw_law.specs.Runs.{TakesInTurn}
 use Rattle.bw_law.specs.Slots.{SlotValue, slot_in, chain_in, pairs_in, routes_in}
 use Rattle.bw_law.specs.Tables.{TableValue, slot_at, number_of}
@@ -154,6 +157,26 @@ IsRecordedAtOnce old page key wished receipt new =
 -- the page was consolidated by a step that is not refused
 abbrev pub IsConsolidatedAtOnce : TableValue → ℕ → ℕ → TableValue → Receipt → Type 0
 IsConsolidatedAtOnce old page seen new receipt = (base : Page) × TakesInTurn old ((consolidate page seen base, receipt) ∷ []) new
+
+-- the split of a page at a separator: the new page takes the page's entries from there on
+abbrev pub halving : TableValue → ℕ → ℕ → ℕ → Proposal
+halving table page seen separator = split page seen separator (upper_part separator (page_for (chain_in (slot_at table page))))
+
+-- the reasons not to split an open page at a separator, but for those of a wrong base
+abbrev pub halving_reasons : SlotValue → SlotValue → Bool → Bool → ℕ → List (Option Refused)
+halving_reasons slot new child_leaving no_room separator =
+    when (is_outside slot separator) OutOfRange ∷ when (nat_lt 0 slot.depth) NotBare
+    ∷ when (is_bad_key slot child_leaving separator) BadSeparator ∷ room_reasons slot new no_room
+
+-- the page was split at the key of its middle entry, by a step that is not refused; this is the term of the new page
+pub record IsHalvedAtOnce (old : TableValue) (page seen : ℕ) (term : ℕ × Pid) (new : TableValue) : Type 0 where
+  pub middle : listed_middle_key (page_for (chain_in (slot_at old page))).listed ≡ Some term.0
+  pub takes : TakesInTurn old ((halving old page seen term.0, Shaped kinds.Split (pid page) (Some term.1)) ∷ []) new
+
+-- the page was named in the parent by a step that is not refused
+abbrev pub IsPostedByOne : TableValue → Pid → Pid → TableValue → Type 0
+IsPostedByOne old parent child new =
+    (parent_seen : ℕ) × (child_seen : ℕ) × TakesInTurn old ((term_add parent.0 parent_seen child.0 child_seen, Shaped kinds.TermAdd parent (Some child)) ∷ []) new
 
 -- the page that ends before the separator, consolidated, where this many of its entries go to the new page
 abbrev pub slot_cut : ℕ → Pid → ℕ → SlotValue → SlotValue

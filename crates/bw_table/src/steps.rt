@@ -11,6 +11,7 @@ mod at_once;
 mod consolidate;
 mod delete;
 mod grow;
+mod halving;
 mod insert;
 mod mark;
 mod merge;

@@ -20,11 +20,11 @@ use Rattle.bw_tree.specs.Trees.{IsBookOf}
 use Rattle.bw_tree.proofs.Trees.{book_kept}
 
 -- what is kept of a tree: its book, and its configuration
-abbrev IsKept : Config → TableValue → ShareValue → Type 0
+abbrev pub IsKept : Config → TableValue → ShareValue → Type 0
 IsKept made table totals = IsBookOf table totals × (table.config ≡ made)
 
 -- each of the steps taken is counted
-counts_in_turn : (steps : List (Proposal × Receipt)) (old new : TableValue) (made : Config) (totals : ShareValue)
+pub counts_in_turn : (steps : List (Proposal × Receipt)) (old new : TableValue) (made : Config) (totals : ShareValue)
     → IsKept made old totals → TakesInTurn old steps new → IsKept made new (fold (λ share (taken : Proposal × Receipt). counted share taken.1) totals steps)
 counts_in_turn [] old new made totals kept turn = subst (λ t. IsKept made t totals) (sym turn) kept
 counts_in_turn (taken ∷ rest) old new made totals kept turn =

@@ -1,2 +1,3 @@
-mod AtOnce
+pub mod AtOnce
+mod Halving
 pub mod Trees

@@ -6,7 +6,7 @@ ghost use Rattle.bw_step.specs.ProposalView.{proposal_of};
 ghost use Rattle.bw_law.specs.Tables.{new_table, TellsMap};
 ghost use Rattle.bw_law.specs.Laws.{MapAfter};
 ghost use Rattle.bw_law.specs.Refusals.{refusal};
-ghost use Rattle.bw_table.specs.InPlaces.{IsDoneAtOnce, IsRecordedAtOnce, IsConsolidatedAtOnce};
+ghost use Rattle.bw_table.specs.InPlaces.{IsDoneAtOnce, IsRecordedAtOnce, IsConsolidatedAtOnce, IsHalvedAtOnce, IsPostedByOne};
 ghost use Rattle.bw_tree.specs.Shares.{no_changes, CountsIn, CountsAtOnce, IsReceiptAtOnce, IsConsolidationOf};
 ghost use Rattle.bw_step.specs.Steps.{IsReceiptOf};
 ghost use Rattle.bw_step.specs.Tellings.{telling_of};
@@ -157,6 +157,28 @@ impl<A: Allocator + Copy, I: MadeBy, D: Ledger> Booked<A, I, D> {
         ensures denied { OnErr result (self.new ≡ self.old) }
     {
         self.table.consolidate_at_once(alloc, page, seen)
+    }
+
+    /// Splits the page in half where it lies, as `Table::halve_at_once` does.
+    pub fn halve_at_once(
+        &mut self,
+        alloc: A,
+        page: Pid,
+        seen: Version,
+    ) -> Result<(Key, Pid), Denied>
+        ensures done { IfOk result (λ term.
+            IsHalvedAtOnce self.old page.0 seen.0 term self.new) }
+        ensures denied { OnErr result (self.new ≡ self.old) }
+    {
+        self.table.halve_at_once(alloc, page, seen)
+    }
+
+    /// Names an unposted page in its parent, as `Table::add_term_at_once` does.
+    pub fn add_term_at_once(&mut self, child: Pid, spare: Spare<A>) -> Option<Pid>
+        ensures done { IfSome result (λ parent. IsPostedByOne self.old parent child self.new) }
+        ensures unchanged { IfNone result (self.new ≡ self.old) }
+    {
+        self.table.add_term_at_once(child, spare)
     }
 
     /// Returns the table, and asks for no share. So nothing ties its book to the shares.

@@ -108,6 +108,25 @@ pub trait Shared<A: Allocator + Copy, P: Proposes> {
         None
     }
 
+    /// Splits the page in half where it lies, if it still has the version that was seen, and returns
+    /// the separator and the new page. None, and nothing done, where the tree can't do that in one hold
+    /// of its lock.
+    fn halve_at_once(
+        &self,
+        _alloc: A,
+        _page: Pid,
+        _seen: Version,
+    ) -> Option<Result<(Key, Pid), Denied>> {
+        None
+    }
+
+    /// Names an unposted page in its parent, which is found in the same hold of the lock, and returns
+    /// the parent. The record's memory is had before the lock is taken. None, and nothing done, where
+    /// there is none, where the step is refused, and where the tree can't do that in one hold.
+    fn add_term_at_once(&self, _alloc: A, _child: Pid) -> Option<Pid> {
+        None
+    }
+
     /// Returns a copy of the page's chain, if the page is in a row and still has the version that
     /// was seen.
     fn copy_page(&self, alloc: A, pid: Pid, seen: Version) -> Result<Chain<A>, CopyFault>

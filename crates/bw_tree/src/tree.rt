@@ -154,6 +154,20 @@ impl<R: Wait + Drop, A: Allocator + Copy, I: MadeBy, D: Ledger> Shared<A, Step<A
         )
     }
 
+    fn halve_at_once(
+        &self,
+        alloc: A,
+        page: Pid,
+        seen: Version,
+    ) -> Option<Result<(Key, Pid), Denied>> {
+        Some(self.booked.lock(&self.rt).halve_at_once(alloc, page, seen))
+    }
+
+    fn add_term_at_once(&self, alloc: A, child: Pid) -> Option<Pid> {
+        let spare = Spare::new(alloc).ok()?;
+        self.booked.lock(&self.rt).add_term_at_once(child, spare)
+    }
+
     #[inline(always)]
     fn copy_page(&self, alloc: A, pid: Pid, seen: Version) -> Result<Chain<A>, CopyFault> {
         self.booked

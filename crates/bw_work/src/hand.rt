@@ -214,6 +214,43 @@ impl<'t, A: Allocator + Copy, S: Shared<A, Step<A>>, G: Gate> Steps<A, Step<A>>
         }
     }
 
+    fn halve_at_once(&mut self, page: Pid, version: Version) -> Option<Result<(Key, Pid), Denied>> {
+        if self.account.reserve().is_err() {
+            return Some(Err(Denied::NoMemory));
+        }
+        let answer = self.tree.halve_at_once(self.alloc, page, version)?;
+        match answer {
+            Ok((separator, new)) => {
+                self.account.accepted(Receipt::Shaped {
+                    kind: Kind::Split,
+                    page,
+                    other: Some(new),
+                });
+                self.gate.at(self.worker, Kind::Split);
+                Some(Ok((separator, new)))
+            }
+            Err(Denied::NoMemory) => Some(Err(Denied::NoMemory)),
+            Err(Denied::Refused(reason)) => {
+                self.account.refused(reason);
+                Some(Err(Denied::Refused(reason)))
+            }
+        }
+    }
+
+    fn add_term_at_once(&mut self, child: Pid) -> Option<Pid> {
+        if self.account.reserve().is_err() {
+            return None;
+        }
+        let parent = self.tree.add_term_at_once(self.alloc, child)?;
+        self.account.accepted(Receipt::Shaped {
+            kind: Kind::TermAdd,
+            page: parent,
+            other: Some(child),
+        });
+        self.gate.at(self.worker, Kind::TermAdd);
+        Some(parent)
+    }
+
     #[inline(always)]
     fn visit(&mut self, place: Place, key: Key, goal: u8) -> Next {
         let next = self.tree.visit(place, key, goal);

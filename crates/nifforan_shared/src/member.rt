@@ -120,6 +120,14 @@ impl<'t, S: Shared<Global, Step<Global>>, G: Gate> Steps<Global, Step<Global>>
         self.hand.consolidate_at_once(page, version)
     }
 
+    fn halve_at_once(&mut self, page: Pid, version: Version) -> Option<Result<(Key, Pid), Denied>> {
+        self.hand.halve_at_once(page, version)
+    }
+
+    fn add_term_at_once(&mut self, child: Pid) -> Option<Pid> {
+        self.hand.add_term_at_once(child)
+    }
+
     fn visit(&mut self, place: Place, key: Key, goal: u8) -> Next {
         self.hand.visit(place, key, goal)
     }

@@ -1,6 +1,6 @@
 //! What is done at once is what its steps do one after the other.
 
-use crate::rest::after;
+use crate::rest::{FULL, after};
 use bw_keys::{Key, Pid};
 use bw_table::{AtOnce, Receipt, Table, Wished};
 use std::alloc::Global;
@@ -141,13 +141,6 @@ fn a_change_at_once_is_two_steps(rt: HostRuntime) -> Result<(), Fail> {
     }
     Ok(())
 }
-
-/// The last leaf has the keys from 5 to 9.
-const FULL: [Change; 3] = [
-    Change::Insert(3, 8, 8),
-    Change::Insert(3, 9, 9),
-    Change::Consolidate(3),
-];
 
 /// The root takes a term only where it has no record. Where it does: the new page, and whether it is posted.
 static SPLITS: [(&[Change], Option<(u32, bool)>, &[Change]); 3] = [

@@ -11,6 +11,8 @@ mod drawn_steps;
 #[cfg(test)]
 mod four_puts;
 #[cfg(test)]
+mod halving;
+#[cfg(test)]
 mod handed_out;
 #[cfg(test)]
 mod histories;

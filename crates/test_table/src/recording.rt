@@ -1,7 +1,8 @@
 //! A record at once is a look and one step, and a consolidation at once is a copy, the page made of
-//! it and one step.
+//! it and one step. Drawn acts of these, and splits and terms at once between them, are those of steps.
 
 use crate::at_once::are_alike;
+use crate::halving::{add_term_by_steps, halve_by_steps};
 use crate::rest::{FREED, MARKED, MERGED, SPLIT, after};
 use bw_delta::{NoMemory, Spare};
 use bw_keys::{Config, Key, Pid, Version};
@@ -404,6 +405,9 @@ struct Twins {
     at_once: Table<Global>,
     by_steps: Table<Global>,
     map: BTreeMap<Key, u64>,
+    /// How many pages were split in half at once, and how many named.
+    halved: u32,
+    posted: u32,
 }
 
 /// Makes the receipt's change in the map, and returns whether the map had what it says.
@@ -468,6 +472,22 @@ impl Twins {
         Ok(answer == consolidate_by_steps(alloc, &mut self.by_steps, page, version)?)
     }
 
+    /// Splits a page in half, and returns whether the tables answer alike.
+    fn halve(&mut self, alloc: Global, page: u32, version: Version) -> Result<bool, Fail> {
+        let answer = self.at_once.halve_at_once(alloc, Pid(page), version);
+        self.halved = self.halved.saturating_add(u32::from(answer.is_ok()));
+        Ok(answer == halve_by_steps(alloc, &mut self.by_steps, page, version)?)
+    }
+
+    /// Names a page in its parent, and returns whether the tables answer alike.
+    fn post(&mut self, alloc: Global, child: u32) -> Result<bool, Fail> {
+        let parent = self
+            .at_once
+            .add_term_at_once(Pid(child), Spare::new(alloc)?);
+        self.posted = self.posted.saturating_add(u32::from(parent.is_some()));
+        Ok(parent == add_term_by_steps(alloc, &mut self.by_steps, child)?)
+    }
+
     /// Takes a drawn step on both tables, and returns whether they answer alike, and as the map does.
     fn step(&mut self, alloc: Global, seed: u64) -> Result<bool, Fail> {
         let step = drawn_step(&mut Pcg32::seed_from_u64(seed), alloc, &self.at_once)?;
@@ -489,12 +509,17 @@ impl Twins {
                 let key = u64::from(rng.next_u32() % KEYS);
                 self.record(alloc, chain, key, drawn_wish(rng))
             }
-            9..=10 => {
+            9..=11 => {
                 let page = rng.next_u32() % IDS;
                 let older = u64::from(rng.next_u32() % 8 == 0);
                 let version = Version(seen(&self.at_once, page).0.saturating_sub(older));
-                self.consolidate(alloc, page, version)
+                if rng.next_u32() % 2 == 0 {
+                    self.consolidate(alloc, page, version)
+                } else {
+                    self.halve(alloc, page, version)
+                }
             }
+            12 => self.post(alloc, rng.next_u32() % IDS),
             _ => self.step(alloc, rng.next_u64()),
         }
     }
@@ -515,12 +540,15 @@ impl Twins {
 #[test]
 fn drawn_acts_at_once_are_those_of_the_steps(rt: HostRuntime) -> Result<(), Fail> {
     let alloc = rt.alloc();
+    let (mut halved, mut posted) = (0u32, 0u32);
     for chain in [1, 2, 8, 64] {
         let mut rng = Pcg32::seed_from_u64(u64::from(chain));
         let mut twins = Twins {
             at_once: Table::new(alloc, alloc, SMALL)?,
             by_steps: Table::new(alloc, alloc, SMALL)?,
             map: BTreeMap::new(alloc),
+            halved: 0,
+            posted: 0,
         };
         for act in 0..ACTS {
             assert!(rt;
@@ -532,6 +560,9 @@ fn drawn_acts_at_once_are_those_of_the_steps(rt: HostRuntime) -> Result<(), Fail
             }
         }
         assert!(rt; twins.are_alike(alloc)?, "chain {chain}");
+        halved = halved.saturating_add(twins.halved);
+        posted = posted.saturating_add(twins.posted);
     }
+    assert!(rt; halved > 0 && posted > 0, "{halved} split, {posted} named");
     Ok(())
 }

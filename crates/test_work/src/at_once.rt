@@ -271,3 +271,25 @@ fn what_is_done_at_once_is_what_the_steps_do(rt: HostRuntime) -> Result<(), Fail
     }
     Ok(())
 }
+
+/// Returns whether the receipts have one of the kind.
+fn have(trail: &[Receipt], wanted: Kind) -> bool {
+    trail.iter().any(|receipt| matches!(receipt, Receipt::Shaped { kind, .. } if *kind == wanted))
+}
+
+#[test]
+fn the_drawn_calls_split_pages_and_name_them(rt: HostRuntime) -> Result<(), Fail> {
+    let machine = rt.alloc();
+    for chain in CHAINS.iter() {
+        let calls = drawn_calls(machine, u64::from(*chain))?;
+        let config = Config {
+            chain: *chain,
+            ..ROOMY
+        };
+        let trail = left_alone(machine, config, &calls)?.outcome.trail;
+        for kind in [Kind::Split, Kind::TermAdd, Kind::Mark, Kind::Consolidate] {
+            assert!(rt; have(&trail, kind), "chain {chain}, {kind:?}");
+        }
+    }
+    Ok(())
+}

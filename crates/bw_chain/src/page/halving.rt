@@ -1,4 +1,4 @@
-ghost use Rattle.std.specs.Prelude.{◌≡◌, ◌↔◌, ◌<◌, ◌≤◌, length, drop, Some, IfOk, IsErrOf};
+ghost use Rattle.std.specs.Prelude.{◌≡◌, ◌↔◌, ◌<◌, ◌≤◌, length, drop, Some, IfOk, IfSome, IfNone, IsErrOf};
 ghost use Rattle.bw_delta.specs.Pages.{listed_length, upper_part};
 ghost use Rattle.bw_delta.specs.PageView.{listed};
 ghost use Rattle.bw_chain.specs.Pages.Halves.{listed_middle_key, listed_key_at, listed_behind, key_at};
@@ -32,6 +32,22 @@ pub fn halve<A: Allocator + Copy>(alloc: A, base: &Base<A>) -> Result<(Key, Base
         return Err(HalveFault::TooSmall);
     }
     part_from(alloc, base, middle, 0)
+}
+
+/// Returns the separator at which the upper half of a base page begins, if the page has two entries
+/// or more. It takes no memory.
+pub fn middle_key<A: Allocator + Copy>(base: &Base<A>) -> Option<Key>
+    ensures key { IfSome result (λ key. listed_middle_key base.now.listed ≡ Some key) }
+    ensures small { IfNone result (listed_length base.now.listed < 2) }
+{
+    let middle = base.len() / 2;
+    if middle == 0 {
+        return None;
+    }
+    match &base.entries {
+        Entries::Pairs(pairs) => Some(pairs[middle].0),
+        Entries::Routes(routes) => Some(routes[middle].0),
+    }
 }
 
 /// Returns the part of a base page from the entry with the number on, counted from 0, and the

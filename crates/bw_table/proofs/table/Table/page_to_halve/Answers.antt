@@ -1,0 +1,23 @@
+use Rattle.std.proofs.Common.{◌≡◌, Bool, None, Ok, unwrap_or, ap, sym, subst, ◌∙◌}
+use Rattle.std.specs.Prelude.{option_copied}
+use Rattle.bw_keys.specs.Reasons.{first_reason}
+use Rattle.bw_law.specs.Refusals.{refusal}
+use Rattle.bw_law.specs.Slots.{SlotValue}
+use Rattle.bw_table.specs.Answers.{fine_unless}
+use Rattle.bw_table.specs.InPlaces.{halving, halving_reasons}
+use Rattle.bw_table.proofs.Halving.{halving_is_accepted}
+use Rattle.bw_table.proofs.Whole.{by_new_slot}
+use Rattle.bw_table.proofs.table.Table.page_to_halve.Goals as goal
+
+pub returns-clause-accepted : goal.returns-clause-accepted
+returns-clause-accepted g c =
+    let table = c.args.self.now in
+    let there = c.in-Some.ensures.there in
+    let key = c.in-Some-middle_key.separator in
+    let fine =
+    by_new_slot table (option_copied c.new_slot.result) (Ok c.in_ok-may_halve.field-0)
+    (λ (new : SlotValue) (no_room : Bool). fine_unless (first_reason (halving_reasons c.in-Some.slot.now new c.is_leaving_at-child_leaving.result no_room key)))
+    c.new_slot.ensures c.in_ok-may_halve.ensures
+    in
+    let accepted = halving_is_accepted table c.args.page.0 c.args.seen.0 key c.slot.ensures.lawful (rw there at c.in_ok-check_open.ensures) (rw (c.is_leaving_at-child_leaving.ensures, there) at fine) in
+    λ separator is. subst (λ s. refusal table (halving table c.args.page.0 c.args.seen.0 s) ≡ None) (ap (λ o. unwrap_or o 0) (sym c.in-Some-middle_key.ensures.key ∙ is)) accepted

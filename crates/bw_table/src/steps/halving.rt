@@ -1,0 +1,167 @@
+//! A page split in half where it lies, and the new page named in its parent: each one step.
+
+ghost use Rattle.std.specs.Prelude.{◌≡◌, None, Some, is_none, unwrap_or, option_copied, ℕ, true, IfOk, IfSome, IfNone, OnErr};
+ghost use Rattle.bw_delta.specs.Sound.{page_for};
+ghost use Rattle.bw_chain.specs.Pages.Halves.{listed_middle_key};
+ghost use Rattle.bw_step.specs.Stages.{is_in_row};
+ghost use Rattle.bw_law.specs.Refusals.{refusal};
+ghost use Rattle.bw_law.specs.Slots.{SlotValue, chain_in};
+ghost use Rattle.bw_law.specs.Tables.{slot_at};
+ghost use Rattle.bw_table.specs.Answers.{AnswersFirst};
+ghost use Rattle.bw_table.specs.InPlaces.{IsHalvedAtOnce, IsPostedByOne, halving, halving_reasons};
+ghost use Rattle.bw_table.specs.SlotFacts.{HasSoundChain};
+
+use crate::slot::Slot;
+use crate::steps::shared::{check_open, check_room};
+use crate::table::Table;
+use bw_chain::{halve, middle_key};
+use bw_delta::{Base, Node, Spare};
+use bw_keys::{Key, Pid, Version};
+use bw_step::{Denied, Go, Receipt, Refused, Split, Stage, Step, TermAdd, View};
+use std::alloc::Allocator;
+
+impl<A: Allocator + Copy> Table<A> {
+    /// Splits the page in half where it lies, if it still has the version that was seen. Returns the
+    /// separator and the new page. No memory is taken for a split that is refused.
+    pub fn halve_at_once(
+        &mut self,
+        alloc: A,
+        page: Pid,
+        seen: Version,
+    ) -> Result<(Key, Pid), Denied>
+        ensures done { IfOk result (λ term.
+            IsHalvedAtOnce self.old page.0 seen.0 term self.new) }
+        ensures denied { OnErr result (self.new ≡ self.old) }
+    {
+        let base = match self.page_to_halve(page, seen) {
+            Ok(base) => base,
+            Err(reason) => return Err(Denied::Refused(reason)),
+        };
+        let (Ok((separator, base)), Ok(spare)) = (halve(alloc, base), Spare::new(alloc)) else {
+            return Err(Denied::NoMemory);
+        };
+        let receipt = self.split(Split {
+            page,
+            seen,
+            separator,
+            base,
+            spare,
+        });
+        match receipt {
+            Receipt::Shaped {
+                other: Some(new),
+                ..
+            } => Ok((separator, new)),
+            _ => unreachable!(),
+        }
+    }
+
+    /// The base of the page, if the page may be split in half, or why it may not.
+    fn page_to_halve(&self, page: Pid, seen: Version) -> Result<&Base<A>, Refused>
+        ensures page { IfOk result (λ base.
+            base.now ≡ page_for (chain_in (slot_at self.now page.0))) }
+        ensures accepted { IfOk result (λ base. (separator : ℕ)
+            → listed_middle_key base.now.listed ≡ Some separator
+            → refusal self.now (halving self.now page.0 seen.0 separator) ≡ None) }
+    {
+        let Some(slot) = self.slot(page) else {
+            return Err(Refused::Absent);
+        };
+        check_open(slot, seen)?;
+        let Some(base) = slot.bare_page() else {
+            return Err(Refused::NotBare);
+        };
+        let Some(separator) = middle_key(base) else {
+            return Err(Refused::BadSeparator);
+        };
+        let child_leaving = self.is_leaving_at(slot, separator);
+        may_halve(slot, self.new_slot(), child_leaving, separator)?;
+        Ok(base)
+    }
+}
+
+/// Why an open page can't be split at the separator, where the new page takes a slot if one is free, and
+/// the child that is routed at the separator may be leaving.
+fn may_halve<A: Allocator + Copy>(
+    slot: &Slot<A>,
+    new: Option<&Slot<A>>,
+    child_leaving: bool,
+    separator: Key,
+) -> Result<(), Refused>
+    requires in_row { is_in_row slot.now.stage ≡ true }
+    requires sound { HasSoundChain slot.now }
+    // Where there is no slot for the new page, any other may stand in its place.
+    ensures { let new = option_copied new.entry in (other : SlotValue)
+        → AnswersFirst (halving_reasons slot.now (unwrap_or new other) child_leaving (is_none new)
+        separator) result }
+{
+    if !slot.holds(separator) {
+        return Err(Refused::OutOfRange);
+    }
+    if slot.summary.depth > 0 {
+        return Err(Refused::NotBare);
+    }
+    if !slot.is_later_key(separator) || child_leaving {
+        return Err(Refused::BadSeparator);
+    }
+    check_room(slot, new)
+}
+
+impl<A: Allocator + Copy> Slot<A> {
+    /// The base page, where no record stands over it.
+    fn bare_page(&self) -> Option<&Base<A>>
+        ensures { IfSome result (λ base. base.now ≡ page_for (chain_in self.now)) }
+    {
+        match &self.chain {
+            Some(chain) => match &chain.node {
+                Node::Bare(base) => Some(base),
+                Node::Above(_, _) | Node::Merged(_, _, _) => None,
+            },
+            None => None,
+        }
+    }
+}
+
+impl<A: Allocator + Copy> Table<A> {
+    /// Names an unposted page in the page of the next level whose range holds its low, and returns that
+    /// page. Returns `None` and changes nothing where there is no such page, and where the term is
+    /// refused.
+    pub fn add_term_at_once(&mut self, child: Pid, spare: Spare<A>) -> Option<Pid>
+        ensures done { IfSome result (λ parent.
+            IsPostedByOne self.old parent child self.new) }
+        ensures unchanged { IfNone result (self.new ≡ self.old) }
+    {
+        let view = self.peek(child)?;
+        if view.stage != Stage::Unposted {
+            return None;
+        }
+        let parent = self.page_above(view)?;
+        let step = Step::TermAdd(TermAdd {
+            parent: parent.pid,
+            parent_seen: parent.version,
+            child,
+            child_seen: view.version,
+            spare,
+        });
+        match self.install(step) {
+            Ok(_) => Some(parent.pid),
+            Err(_) => None,
+        }
+    }
+
+    /// The page of the next level whose range holds the page's low.
+    fn page_above(&self, under: View) -> Option<View> {
+        let goal = under.level.checked_add(1)?;
+        let mut place = self.root();
+        if goal > place.level {
+            return None;
+        }
+        'up: loop {
+            match self.visit(place, under.low, goal).go {
+                Go::Right(next) | Go::Down(next) => place = next,
+                Go::Here(view) => return Some(view),
+                Go::Gone => return None,
+            }
+        }
+    }
+}
