@@ -12,7 +12,8 @@ usage: bench_tree STRUCTURE WORK WORKERS KEYS OPERATIONS
        bench_tree pending WORK KEYS
        bench_tree tallies KEYS OPERATIONS
        bench_tree pages CHAIN FANOUT, and one of the first five behind it
-STRUCTURE is alone, map (one worker both), hand, or reader (at most 16, for what only reads);
+STRUCTURE is alone, map (one worker both), hand, giving-up (hands that keep no receipt), or reader (at most 16, for what
+only reads);
 WORK is load, rising, set, delete, scan, list, the percent of gets beside puts and deletes (100, 95, 50), the same by
 Zipf's distribution (zipf, zipf95, zipf50), and fill or fill-rising are scans after the one or other load;
 a tree with readers is published every CHANGES changes;

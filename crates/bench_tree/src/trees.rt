@@ -12,10 +12,10 @@ use crate::task::Task;
 use crate::work::{fill, work};
 use bw_keys::Config;
 use bw_snap::MAX_READERS;
-use bw_step::Step;
+use bw_step::{Receipt, Step};
 use bw_table::Table;
 use bw_tree::{Blanks, MadeBy, Share, Shared, Tree};
-use bw_work::{Alone, Hand, Open};
+use bw_work::{Alone, GivenUp, Hand, Open, Trail};
 use std::alloc::Global;
 use std::marker::Brand;
 use std::sync::Wait;
@@ -33,15 +33,18 @@ pub(crate) enum Structure {
     Map,
     /// By workers that share it, each in a thread of its own.
     Hand,
+    /// By such workers, who give their receipts up.
+    GivingUp,
     /// By readers of what was published, each in a thread of its own.
     Reader,
 }
 
 impl Structure {
-    pub(crate) const ALL: [Structure; 4] = [
+    pub(crate) const ALL: [Structure; 5] = [
         Structure::Alone,
         Structure::Map,
         Structure::Hand,
+        Structure::GivingUp,
         Structure::Reader,
     ];
 
@@ -50,6 +53,7 @@ impl Structure {
             Structure::Alone => "alone",
             Structure::Map => "map",
             Structure::Hand => "hand",
+            Structure::GivingUp => "giving-up",
             Structure::Reader => "reader",
         }
     }
@@ -67,7 +71,7 @@ impl Structure {
     pub(crate) fn is_for(self, task: &Task) -> bool {
         match self {
             Structure::Alone | Structure::Map => task.workers == 1,
-            Structure::Hand => true,
+            Structure::Hand | Structure::GivingUp => true,
             Structure::Reader => task.work.only_reads() && task.workers <= MAX_READERS,
         }
     }
@@ -82,7 +86,8 @@ impl Structure {
         match self {
             Structure::Alone => run_alone(&rt, alloc, task),
             Structure::Map => run_map(&rt, alloc, task),
-            Structure::Hand => run_shared(rt, alloc, task),
+            Structure::Hand => run_shared::<Vec<Receipt>, R>(rt, alloc, task),
+            Structure::GivingUp => run_shared::<GivenUp, R>(rt, alloc, task),
             Structure::Reader => Ok(try_readers(rt, alloc, task, Trial::Reads, 1)?.timed),
         }
     }
@@ -148,18 +153,19 @@ pub(crate) fn fill_by_hand<S: Shared<Global, Step<Global>>>(
     Ok(share)
 }
 
-fn run_shared<R: Clock + Threads + Wait + Sync + Send + Copy>(
+fn run_shared<L: Trail, R: Clock + Threads + Wait + Sync + Send + Copy>(
     rt: R,
     alloc: Global,
     task: &Task,
 ) -> Result<Timed, Stop> {
     let blanks = Blanks::new(task.workers);
-    shared::<Brand, Brand, R>(rt, alloc, task, task.config, blanks)
+    shared::<Brand, Brand, L, R>(rt, alloc, task, task.config, blanks)
 }
 
 fn shared<
     I: MadeBy + Send + Sync,
     D: Ledger + Send + Sync,
+    L: Trail,
     R: Clock + Threads + Wait + Sync + Send + Copy,
 >(rt: R, alloc: Global, task: &Task, config: Config, blanks: Blanks) -> Result<Timed, Stop>
     requires ledgers { OpensFor I.Ledger I.config D.Ledger config blanks }
@@ -175,7 +181,7 @@ fn shared<
     }
     let keys = task.known_keys(alloc, order)?;
     let start = Instant::now(&rt)?;
-    let tally = work_together(&rt, alloc, &tree, task, keys.as_slice(), shares)?;
+    let tally = work_together::<I, D, L, R>(&rt, alloc, &tree, task, keys.as_slice(), shares)?;
     let seconds = start.elapsed(&rt)?.as_secs_f64();
     Ok(Timed { tally, seconds })
 }
@@ -184,6 +190,7 @@ fn shared<
 fn work_together<
     I: MadeBy + Send + Sync,
     D: Ledger + Send + Sync,
+    L: Trail,
     R: Threads + Wait + Sync + Send + Copy,
 >(
     rt: &R,
@@ -196,8 +203,9 @@ fn work_together<
     thread::scope(thread::scope_env(), rt, |scope| -> Result<Tally, Stop> {
         let mut handles = Vec::new(alloc);
         for (share, worker) in shares.into_iter().zip(0u32..) {
-            let Ok(handle) = scope.spawn(move || work_at(tree, alloc, task, worker, keys, share))
-            else {
+            let Ok(handle) = scope.spawn(move || work_at::<_, L>(
+                tree, alloc, task, worker, keys, share,
+            )) else {
                 return Err(Stop::Wrong);
             };
             if handles.push(handle).is_err() {
@@ -213,7 +221,7 @@ fn work_together<
 }
 
 /// Runs one worker.
-fn work_at<S: Shared<Global, Step<Global>>>(
+fn work_at<S: Shared<Global, Step<Global>>, L: Trail>(
     tree: &S,
     alloc: Global,
     task: &Task,
@@ -221,6 +229,6 @@ fn work_at<S: Shared<Global, Step<Global>>>(
     keys: &[u32],
     share: Share<S::Insertions, S::Removals>,
 ) -> Result<Tally, Stop> {
-    let mut hand = Hand::new(alloc, alloc, tree, share, worker, &Open);
+    let mut hand = Hand::with_trail(L::empty(alloc), alloc, tree, share, worker, &Open);
     work(&mut hand, alloc, task, worker, keys)
 }

@@ -285,6 +285,11 @@ impl<A: Allocator + Copy, H: Holds<Table<A>>> Steps<A, Step<A>> for Sole<A, H> {
     fn trail(&self) -> &[Receipt] {
         self.account.trail()
     }
+
+    #[inline(always)]
+    fn trail_len(&self) -> usize {
+        self.account.trail_len()
+    }
 }
 
 /// Returns the number of the first entry that goes to the new page when the page is split: in the

@@ -1,6 +1,6 @@
 //! What a worker keeps of the atomic steps that it took.
 
-ghost use Rattle.std.specs.Prelude.{◌≡◌, ◌+◌, ◌<◌, [], OnOk, length, vec_capacity};
+ghost use Rattle.std.specs.Prelude.{◌≡◌, ◌+◌, ◌<◌, [], OnOk, length};
 ghost use Rattle.bw_procedures.specs.Calls.{receipts_of_shape, receipts_of_split};
 ghost use Rattle.bw_procedures.specs.Seen.{ends_of, one_more};
 ghost use Rattle.bw_procedures.specs.Accounts.{after_at_once, after_one, after_shapes, after_visit};
@@ -8,28 +8,27 @@ ghost use Rattle.bw_procedures.specs.Accounts.{after_look, after_copy};
 ghost use Rattle.bw_procedures.specs.Accounts.{after_receipt, after_refusal};
 
 use crate::steps::{Ends, Keep};
+use crate::trail::Trail;
 use bw_delta::NoMemory;
 use bw_keys::{Config, Key, Pid};
 use bw_step::{AtOnce, CopyFault, Go, Kind, Look, Receipt, Refused};
 use std::alloc::Global;
 use std::marker::Model;
-use std::mem;
 
 /// A worker's account: its configuration, the receipts on its trail, its effort, and how often a
 /// refusal ended a call. Effort and counts stay at 2^64 - 1 once there.
 ///
 /// A worker reports each atomic step to its account, by the step's method here. A receipt is added
-/// only where [`Account::reserve`] made room for it before the step.
+/// only where [`Account::reserve`] made room for it before the step. `T` says what becomes of it.
 #[derive(Drop)]
-pub struct Account {
+pub struct Account<T: Trail = Vec<Receipt>> {
     config: Config,
-    trail: Vec<Receipt>,
+    trail: T,
     effort: u64,
     ends: Ends,
 }
 
-impl Model for Account {
-    ghost use Rattle.std.specs.Prelude.{vec_capacity};
+impl<T: Trail> Model for Account<T> {
     ghost use Rattle.bw_procedures.specs.Accounts.{AccountValue};
 
     ghost Value = { AccountValue };
@@ -37,13 +36,13 @@ impl Model for Account {
     ghost view = { λ a. record {
       seen = record {
         config = a.config;
-        trail = a.trail.items;
+        trail = T.added a.trail;
         effort = a.effort;
         full = a.ends.full;
         tall = a.ends.tall;
         worn = a.ends.worn;
       };
-      room = vec_capacity a.trail;
+      room = T.room a.trail;
     } };
 }
 
@@ -57,9 +56,23 @@ impl Account {
         ensures effort { result.seen.effort ≡ 0 }
         ensures ends { ends_of result.seen ≡ record { full = 0; tall = 0; worn = 0 } }
     {
+        Account::with_trail(Vec::new(machine), config)
+    }
+}
+
+impl<T: Trail> Account<T> {
+    /// Makes the account of a worker that has spent no effort, and whose receipts are those of the
+    /// trail.
+    #[inline(always)]
+    pub fn with_trail(trail: T, config: Config) -> Account<T>
+        ensures config { result.seen.config ≡ config }
+        ensures trail { result.seen.trail ≡ T.added trail }
+        ensures effort { result.seen.effort ≡ 0 }
+        ensures ends { ends_of result.seen ≡ record { full = 0; tall = 0; worn = 0 } }
+    {
         Account {
             config,
-            trail: Vec::new(machine),
+            trail,
             effort: 0,
             ends: Ends::default(),
         }
@@ -89,19 +102,27 @@ impl Account {
         self.ends
     }
 
-    /// Returns the receipts of the steps that were taken, in their order.
+    /// Returns the receipts that are kept of the steps that were taken, in their order.
     #[inline(always)]
     pub fn trail(&self) -> &[Receipt]
-        ensures { result.now ≡ self.now.seen.trail }
+        ensures { result.now ≡ T.kept self.now.seen.trail }
     {
-        &self.trail
+        self.trail.receipts()
+    }
+
+    /// Returns the number of receipts on the trail.
+    #[inline(always)]
+    pub fn trail_len(&self) -> usize
+        ensures { result ≡ length self.now.seen.trail }
+    {
+        self.trail.count()
     }
 
     /// Returns the trail.
     #[inline(always)]
-    pub fn into_trail(self) -> Vec<Receipt>
-        ensures trail { result.items ≡ self.seen.trail }
-        ensures room { vec_capacity result ≡ self.room }
+    pub fn into_trail(self) -> T
+        ensures trail { T.added result ≡ self.seen.trail }
+        ensures room { T.room result ≡ self.room }
     {
         let Account { trail, .. } = self;
         trail
@@ -111,12 +132,11 @@ impl Account {
     /// same memory region. The trails returned, one behind the other and with that of
     /// [`into_trail`](Account::into_trail) as the last, are the trail that `into_trail` alone would
     /// have returned.
-    pub fn take_trail(&mut self) -> Vec<Receipt>
-        ensures trail { result.items ≡ self.old.seen.trail }
+    pub fn take_trail(&mut self) -> T
+        ensures trail { T.added result ≡ self.old.seen.trail }
         ensures rest { self.new.seen ≡ record self.old.seen { trail = [] } }
     {
-        let empty = Vec::new(*self.trail.allocator());
-        mem::replace(&mut self.trail, empty)
+        self.trail.take()
     }
 
     /// Forgets the receipts, the effort and the counts, and goes on as a worker that has taken no
@@ -135,7 +155,7 @@ impl Account {
             ends,
             ..
         } = self;
-        trail.clear();
+        trail.forget();
         *effort = 0;
         *ends = Ends::default();
     }
@@ -146,8 +166,7 @@ impl Account {
         ensures seen { self.new.seen ≡ self.old.seen }
         ensures room { OnOk result (length self.new.seen.trail < self.new.room) }
     {
-        self.trail.reserve(1)?;
-        Ok(())
+        self.trail.make_room(1)
     }
 
     /// Makes room for two more receipts, as [`reserve`](Account::reserve) for one.
@@ -156,8 +175,7 @@ impl Account {
         ensures seen { self.new.seen ≡ self.old.seen }
         ensures room { OnOk result (length self.new.seen.trail + 1 < self.new.room) }
     {
-        self.trail.reserve(2)?;
-        Ok(())
+        self.trail.make_room(2)
     }
 
     /// Makes room for four more receipts, as [`reserve`](Account::reserve) for one.
@@ -165,8 +183,7 @@ impl Account {
         ensures seen { self.new.seen ≡ self.old.seen }
         ensures room { OnOk result (length self.new.seen.trail + 3 < self.new.room) }
     {
-        self.trail.reserve(4)?;
-        Ok(())
+        self.trail.make_room(4)
     }
 
     /// Reports that a key was looked at, or changed and its page consolidated, which costs effort.
@@ -175,11 +192,11 @@ impl Account {
         requires { length self.old.seen.trail + 1 < self.old.room }
         ensures { self.new.seen ≡ after_at_once done self.old.seen }
     {
-        self.trail.push_reserved(done.receipt);
+        self.trail.add(done.receipt);
         if let Receipt::Looked { .. } = done.receipt {
             return;
         }
-        self.trail.push_reserved(Receipt::Shaped {
+        self.trail.add(Receipt::Shaped {
             kind: Kind::Consolidate,
             page: done.page,
             other: None,
@@ -193,7 +210,7 @@ impl Account {
         requires { length self.old.seen.trail < self.old.room }
         ensures { self.new.seen ≡ after_one done.receipt self.old.seen }
     {
-        self.trail.push_reserved(done.receipt);
+        self.trail.add(done.receipt);
     }
 
     /// Reports that a page was split and consolidated, and then the new page named in the parent
@@ -216,12 +233,12 @@ impl Account {
             ≡ after_shapes (receipts_of_shape kind page other) self.old.seen }
         ensures room { self.new.room ≡ self.old.room }
     {
-        self.trail.push_reserved(Receipt::Shaped {
+        self.trail.add(Receipt::Shaped {
             kind,
             page,
             other: Some(other),
         });
-        self.trail.push_reserved(Receipt::Shaped {
+        self.trail.add(Receipt::Shaped {
             kind: Kind::Consolidate,
             page,
             other: None,
@@ -260,7 +277,7 @@ impl Account {
             return;
         };
         if keep.keeps(look.found) {
-            self.trail.push_reserved(Receipt::Looked {
+            self.trail.add(Receipt::Looked {
                 at: look.at,
                 key,
                 found: look.found,
@@ -271,7 +288,7 @@ impl Account {
     /// Reports that a page was copied, or made anew, which costs effort where it was absent or has
     /// changed.
     #[inline(always)]
-    pub fn copied<T>(&mut self, copy: &Result<T, CopyFault>)
+    pub fn copied<C>(&mut self, copy: &Result<C, CopyFault>)
         ensures { self.new.seen ≡ after_copy copy.now self.old.seen }
     {
         match copy {
@@ -288,7 +305,7 @@ impl Account {
         requires { length self.old.seen.trail < self.old.room }
         ensures { self.new.seen ≡ after_receipt receipt self.old.seen }
     {
-        self.trail.push_reserved(receipt);
+        self.trail.add(receipt);
         if let Receipt::Shaped { .. } = receipt {
             self.effort = self.effort.saturating_add(1);
         }

@@ -34,7 +34,7 @@ pub(crate) fn add<A: Allocator + Copy, S: Steps<A, Step<A>>>(
     requires { removed + more ≤ length (S.seen steps.now).trail }
     ensures { result ≡ removed + more }
 {
-    let _ = steps.trail().len();
+    let _ = steps.trail_len();
     removed + more
 }
 

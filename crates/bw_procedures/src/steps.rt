@@ -55,8 +55,9 @@ pub struct Ends {
 ///
 /// `P` is the step over `A`.
 pub trait Steps<A: Allocator + Copy, P: Proposes> {
-    ghost use Rattle.std.specs.Prelude.{◌≡◌, ◌≤◌, ℕ, List, true, false, None, Some, Ok, IfOk, IfSome};
+    ghost use Rattle.std.specs.Prelude.{◌≡◌, ◌≤◌, ℕ, List, true, false, None, Some, Ok, IfOk, IfSome, length};
     ghost use Rattle.bw_step.specs.declared.receipt.Kind.TheVariants as kinds;
+    ghost use Rattle.bw_step.specs.declared.receipt.Receipt.{Receipt as Told};
     ghost use Rattle.bw_step.specs.declared.receipt.Receipt.TheVariants.{Shaped};
     ghost use Rattle.bw_step.specs.declared.refused.Refused.TheVariants as reasons;
     ghost use Rattle.bw_delta.specs.Records.{bare};
@@ -73,6 +74,9 @@ pub trait Steps<A: Allocator + Copy, P: Proposes> {
 
     // the worker's configuration, its trail, its effort and its counts
     ghost seen: { Self → Seen };
+
+    // which receipts of its trail the worker keeps: all of them, or none
+    ghost kept: { List Told → List Told } = { λ trail. trail };
 
     // the receipts by which the second's trail is longer lead from one state to another
     ghost follows: { Self → Self → Type 0 };
@@ -277,9 +281,14 @@ pub trait Steps<A: Allocator + Copy, P: Proposes> {
     fn ends(&self) -> Ends
         ensures { result ≡ ends_of (seen self.now) };
 
-    /// Returns the receipts of the steps that were taken, in their order.
+    /// Returns the receipts of the steps that were taken, in their order, or none where the worker
+    /// gives them up.
     fn trail(&self) -> &[Receipt]
-        ensures { result.now ≡ (seen self.now).trail };
+        ensures { result.now ≡ kept (seen self.now).trail };
+
+    /// Returns the number of receipts on the trail, whether or not they are kept.
+    fn trail_len(&self) -> usize
+        ensures { result ≡ length (seen self.now).trail };
 
     // laws
     ghost stays: { (s : Self) → follows s s };

@@ -60,7 +60,7 @@ all_answered rows may_close answers trails told none =
 pub stops_told : {A : Type 0} → (rows : List Row) (may_close : Bool) (answers : List Answers) (trails : List (Vec Receipt A)) → AreTold (λ worker. AreAnswersTo may_close (acts_of worker rows)) 0 answers (lists_of trails)
     → ByNumber (λ worker. StopsIn may_close (acts_of worker rows)) 0 answers
 stops_told rows may_close answers trails told =
-    by_number_told (λ worker. AreAnswersTo may_close (acts_of worker rows)) (λ worker. StopsIn may_close (acts_of worker rows)) 0 answers trails (λ worker each trail are. are.stops) told
+    by_number_told (λ trail. trail.items) (λ worker. AreAnswersTo may_close (acts_of worker rows)) (λ worker. StopsIn may_close (acts_of worker rows)) 0 answers trails (λ worker each trail are. are.stops) told
 
 -- the fact of the worker at a place
 pub by_number_at : {X : Type 0} → (fact : ℕ → X → Type 0) (first : ℕ) (xs : List X) (place : ℕ) (d : X) → ByNumber fact first xs → place < length xs → fact (first + place) (get_or xs place d)

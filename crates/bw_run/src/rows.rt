@@ -13,7 +13,7 @@ use crate::fault::RunFault;
 use crate::kits::{Kit, kits_for};
 use crate::looks::Looks;
 use crate::stopping::check_stops;
-use bw_step::Step;
+use bw_step::{Receipt, Step};
 use bw_texts::Row;
 use bw_tree::{Share, Shared};
 use bw_work::Gate;
@@ -35,6 +35,9 @@ impl<'r, L: Looks + Drop> Task<Kit<L>> for Rows<'r> {
     ghost use Rattle.bw_run.specs.Answers.{AreAnswersTo};
 
     type Output = Answers;
+
+    // the audit asks for all of them
+    type Trail = Vec<Receipt>;
 
     ghost given = { λ task worker kit. kit.acts.items ≡ acts_of worker task.rows.now };
 

@@ -1,6 +1,6 @@
 //! One worker's hand on a tree that others share.
 
-ghost use Rattle.std.specs.Prelude.{◌≡◌, [], Some, Ok, OnOk, OnErr, vec_capacity};
+ghost use Rattle.std.specs.Prelude.{◌≡◌, [], Some, Ok, OnOk, OnErr};
 ghost use Rattle.bw_step.specs.ProposalView.{proposal_of};
 ghost use Rattle.bw_procedures.specs.declared.steps.Keep.TheVariants as keeps;
 ghost use Rattle.bw_procedures.specs.Seen.{Installed, Looked, ends_of};
@@ -10,7 +10,7 @@ use crate::gate::Gate;
 use bw_chain::Wished;
 use bw_delta::{Chain, NoMemory};
 use bw_keys::{Config, Key, Pid, Version};
-use bw_procedures::{Account, Ends, Keep, Steps};
+use bw_procedures::{Account, Ends, Keep, Steps, Trail};
 use bw_step::{AtOnce, CopyFault, Denied, Kind, Look, Next, Place, Receipt, Step, View};
 use bw_tree::{Share, Shared};
 use std::alloc::{Allocator, Global};
@@ -21,7 +21,9 @@ use std::alloc::{Allocator, Global};
 /// Its trail keeps a receipt, of some 40 bytes, for each accepted step and each look. So a worker
 /// that lives long calls [`take_trail`](Hand::take_trail) from time to time. The trails that it
 /// gets, one behind the other and with that of [`finish`](Hand::finish) as the last, are the trail
-/// that `finish` alone would have returned. An auditor wants all of them.
+/// that `finish` alone would have returned. An auditor wants all of them. Where nobody will ask for
+/// the receipts, a worker [with a trail](Hand::with_trail) of [`GivenUp`](crate::GivenUp)
+/// takes the same steps and asks for no memory for them.
 ///
 /// The tree's `close` wants the share of each worker. A worker that returns early, as by a `?`
 /// between two calls, drops its hand with the share in it. So have a function do the work with a
@@ -36,13 +38,13 @@ use std::alloc::{Allocator, Global};
 ///
 /// Where a share is lost all the same, the tree's `into_table` returns the table.
 #[derive(Drop)]
-pub struct Hand<'t, A: Allocator + Copy, S: Shared<A, Step<A>>, G: Gate> {
+pub struct Hand<'t, A: Allocator + Copy, S: Shared<A, Step<A>>, G: Gate, T: Trail = Vec<Receipt>> {
     tree: &'t S,
     gate: &'t G,
     alloc: A,
     worker: u32,
     share: Share<S::Insertions, S::Removals>,
-    account: Account,
+    account: Account<T>,
 }
 
 impl<'t, A: Allocator + Copy, S: Shared<A, Step<A>>, G: Gate> Hand<'t, A, S, G> {
@@ -63,13 +65,35 @@ impl<'t, A: Allocator + Copy, S: Shared<A, Step<A>>, G: Gate> Hand<'t, A, S, G> 
         ensures effort { result.account.seen.effort ≡ 0 }
         ensures ends { ends_of result.account.seen ≡ record { full = 0; tall = 0; worn = 0 } }
     {
+        Hand::with_trail(Vec::new(machine), alloc, tree, share, worker, gate)
+    }
+}
+
+impl<'t, A: Allocator + Copy, S: Shared<A, Step<A>>, G: Gate, T: Trail> Hand<'t, A, S, G, T> {
+    /// A worker with the receipts of the trail, which says what becomes of further ones. Its chains
+    /// will lie in `alloc`.
+    pub fn with_trail(
+        trail: T,
+        alloc: A,
+        tree: &'t S,
+        share: Share<S::Insertions, S::Removals>,
+        worker: u32,
+        gate: &'t G,
+    ) -> Hand<'t, A, S, G, T>
+        ensures share { result.share ≡ share }
+        ensures worker { result.worker ≡ worker }
+        ensures config { result.account.seen.config ≡ S.made_by tree.now }
+        ensures trail { result.account.seen.trail ≡ T.added trail }
+        ensures effort { result.account.seen.effort ≡ 0 }
+        ensures ends { ends_of result.account.seen ≡ record { full = 0; tall = 0; worn = 0 } }
+    {
         Hand {
             tree,
             gate,
             alloc,
             worker,
             share,
-            account: Account::new(machine, tree.config()),
+            account: Account::with_trail(trail, tree.config()),
         }
     }
 
@@ -89,8 +113,8 @@ impl<'t, A: Allocator + Copy, S: Shared<A, Step<A>>, G: Gate> Hand<'t, A, S, G> 
 
     /// Returns the receipts since the last `take_trail`, in their order, and goes on with an empty
     /// trail. See [`Hand`] for when to call it.
-    pub fn take_trail(&mut self) -> Vec<Receipt>
-        ensures trail { result.items ≡ self.old.account.seen.trail }
+    pub fn take_trail(&mut self) -> T
+        ensures trail { T.added result ≡ self.old.account.seen.trail }
         ensures rest { self.new.account.seen ≡ record self.old.account.seen { trail = [] } }
         ensures share { self.new.share ≡ self.old.share }
         ensures worker { self.new.worker ≡ self.old.worker }
@@ -100,21 +124,23 @@ impl<'t, A: Allocator + Copy, S: Shared<A, Step<A>>, G: Gate> Hand<'t, A, S, G> 
 
     /// Returns the share and the receipts, in their order: all of them, or those since the last
     /// [`take_trail`](Hand::take_trail).
-    pub fn finish(self) -> (Share<S::Insertions, S::Removals>, Vec<Receipt>)
+    pub fn finish(self) -> (Share<S::Insertions, S::Removals>, T)
         ensures share { result.0 ≡ self.entry.share }
-        ensures trail { result.1.items ≡ self.entry.account.seen.trail }
-        ensures room { vec_capacity result.1 ≡ self.entry.account.room }
+        ensures trail { T.added result.1 ≡ self.entry.account.seen.trail }
+        ensures room { T.room result.1 ≡ self.entry.account.room }
     {
         let Hand { share, account, .. } = self;
         (share, account.into_trail())
     }
 }
 
-impl<'t, A: Allocator + Copy, S: Shared<A, Step<A>>, G: Gate> Steps<A, Step<A>>
-    for Hand<'t, A, S, G> {
+impl<'t, A: Allocator + Copy, S: Shared<A, Step<A>>, G: Gate, T: Trail> Steps<A, Step<A>>
+    for Hand<'t, A, S, G, T> {
     ghost use Rattle.bw_work.specs.Hands.{Sums, sums_stay, sums_join};
 
     ghost seen = { λ h. h.account.seen };
+
+    ghost kept = { T.kept };
 
     // the share is raised by the receipts that were added
     ghost follows = { λ a b. Sums a.account.seen.trail a.share b.account.seen.trail b.share };
@@ -320,6 +346,11 @@ impl<'t, A: Allocator + Copy, S: Shared<A, Step<A>>, G: Gate> Steps<A, Step<A>>
     #[inline(always)]
     fn trail(&self) -> &[Receipt] {
         self.account.trail()
+    }
+
+    #[inline(always)]
+    fn trail_len(&self) -> usize {
+        self.account.trail_len()
     }
 }
 

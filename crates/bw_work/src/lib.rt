@@ -7,7 +7,8 @@ mod hand;
 
 pub use bw_alone::Alone;
 pub use bw_procedures::{
-    Act, Calls, Cleared, Del, Done, Ends, Fault, Keep, Put, Reply, Set, Slice, Steps, do_act,
+    Act, Calls, Cleared, Del, Done, Ends, Fault, GivenUp, Keep, Put, Reply, Set, Slice, Steps,
+    Trail, do_act,
 };
 pub use gate::{Gate, Open};
 pub use hand::Hand;

@@ -4,14 +4,16 @@
 
 use anyhow::Result;
 use nifforan_shared::{
-    Calls, Config, Fault, Job, ReadingJob, Reads, Worker, share, share_with_readers,
+    Calls, Config, Fault, GivenUp, Job, ReadingJob, Reads, Worker, share, share_with_readers,
 };
 
-/// Puts a thousand keys by each worker.
+/// Puts a thousand keys by each worker. Nobody will ask for the receipts.
 struct Fill;
 
 impl Job for Fill {
     type Output = Result<(), Fault>;
+
+    type Trail = GivenUp;
 
     fn work<W: Worker>(&self, worker: u32, hand: &mut W) -> Result<(), Fault> {
         let first = 1000 * u64::from(worker);
@@ -25,6 +27,8 @@ impl Job for Fill {
 /// Does the same, and returns what each worker's reader finds at the first of its keys.
 impl ReadingJob for Fill {
     type Output = Result<Option<u64>, Fault>;
+
+    type Trail = GivenUp;
 
     fn work<W: Worker, R: Reads>(
         &self,

@@ -1,10 +1,9 @@
 -- Workers by their numbers, and one more of them behind the others.
-use Rattle.std.proofs.Common.{◌≡◌, ℕ, ◌+◌, ◌≤◌, List, [], ◌∷◌, ◌++◌, length, map, Vec, false, ap, sym, subst, ◌∙◌, append_assoc, arith}
+use Rattle.std.proofs.Common.{◌≡◌, ℕ, ◌+◌, ◌≤◌, List, [], ◌∷◌, ◌++◌, length, map, false, ap, sym, subst, ◌∙◌, append_assoc, arith}
 use Rattle.std.proofs.lemmas.Bool.Decides.{nat_tests}
 use Rattle.std.proofs.lemmas.List.{map-append}
 use Rattle.bw_keys.specs.Limits.{is_out_of}
 use Rattle.bw_step.specs.declared.receipt.Receipt.{Receipt}
-use Rattle.bw_step.specs.Trails.{lists_of}
 use Rattle.bw_tree.specs.Shares.{ShareValue}
 use Rattle.nifforan_shared.specs.Workers.{Promised, AllTold, AreNumbered, AreTold, ByNumber, share_by}
 
@@ -38,29 +37,31 @@ by_number_map fact has first (x ∷ xs) all = (all.0, by_number_map fact has (fi
 pub by_number_of : {S K : Type 0} → (fact : ℕ → K → Type 0) (has : S → K) (first : ℕ) (xs : List S) (ys : List K) → map has xs ≡ ys → ByNumber fact first ys → ByNumber (λ worker x. fact worker (has x)) first xs
 by_number_of fact has first xs ys same all = by_number_map fact has first xs (subst (ByNumber fact first) (sym same) all)
 
-told_each : {X O : Type 0} → (told : Promised O) (output : X → O) (trail : X → List Receipt) (first : ℕ) (xs : List X) → ByNumber (λ worker x. told worker (output x) (trail x)) first xs → AreTold told first (map output xs) (map trail xs)
-told_each told output trail first [] all = tt
-told_each told output trail first (x ∷ xs) all = (all.0, told_each told output trail (first + 1) xs all.1)
+told_each : {X O L : Type 0} → (added : L → List Receipt) (told : Promised O) (output : X → O) (trail : X → L) (first : ℕ) (xs : List X) → ByNumber (λ worker x. told worker (output x) (added (trail x))) first xs
+    → AreTold told first (map output xs) (map added (map trail xs))
+told_each added told output trail first [] all = tt
+told_each added told output trail first (x ∷ xs) all = (all.0, told_each added told output trail (first + 1) xs all.1)
 
 -- what is promised of each worker is so of the lists of what they bring back
-pub all_told : {X O A : Type 0} → (told : Promised O) (output : X → O) (trail : X → List Receipt) (xs : List X) (outputs : List O) (trails : List (Vec Receipt A)) → outputs ≡ map output xs → lists_of trails ≡ map trail xs
-    → ByNumber (λ worker x. told worker (output x) (trail x)) 0 xs → AllTold told outputs trails
-all_told {O = O} told output trail xs outputs trails one two all =
-    subst (λ (os : List O). AreTold told 0 os (lists_of trails)) (sym one) (subst (λ (ts : List (List Receipt)). AreTold told 0 (map output xs) ts) (sym two) (told_each told output trail 0 xs all))
+pub all_told : {X O L : Type 0} → (added : L → List Receipt) (told : Promised O) (output : X → O) (trail : X → L) (xs : List X) (outputs : List O) (trails : List L) → outputs ≡ map output xs → trails ≡ map trail xs
+    → ByNumber (λ worker x. told worker (output x) (added (trail x))) 0 xs → AllTold added told outputs trails
+all_told {O = O} {L = L} added told output trail xs outputs trails one two all =
+    subst (λ (os : List O). AreTold told 0 os (map added trails)) (sym one) (subst (λ (ts : List L). AreTold told 0 (map output xs) (map added ts)) (sym two) (told_each added told output trail 0 xs all))
 
-pub counted_more : {A : Type 0} → (shares more : List ShareValue) (trails trailed : List (Vec Receipt A)) (share : ShareValue) (trail : Vec Receipt A)
-    → more ≡ shares ++ share ∷ [] → trailed ≡ trails ++ trail ∷ [] → shares ≡ map (λ trail. share_by trail.items) trails → share ≡ share_by trail.items → more ≡ map (λ trail. share_by trail.items) trailed
-counted_more {A = A} shares more trails trailed share trail one two same is =
-    one ∙ ((λ j. same j ++ is j ∷ []) ∙ sym (ap (map (λ trail. share_by trail.items)) two ∙ map-append (λ trail. share_by trail.items) trails (trail ∷ [])))
+pub counted_more : {L : Type 0} → (added : L → List Receipt) (shares more : List ShareValue) (trails trailed : List L) (share : ShareValue) (trail : L)
+    → more ≡ shares ++ share ∷ [] → trailed ≡ trails ++ trail ∷ [] → shares ≡ map (λ trail. share_by (added trail)) trails → share ≡ share_by (added trail) → more ≡ map (λ trail. share_by (added trail)) trailed
+counted_more added shares more trails trailed share trail one two same is =
+    one ∙ ((λ j. same j ++ is j ∷ []) ∙ sym (ap (map (λ trail. share_by (added trail))) two ∙ map-append (λ trail. share_by (added trail)) trails (trail ∷ [])))
 
 -- a fact that the promise has of each worker's number and output, whatever its trail
-pub by_number_told : {O A : Type 0} → (told : Promised O) (fact : ℕ → O → Type 0) (first : ℕ) (outputs : List O) (trails : List (Vec Receipt A))
-    → ((worker : ℕ) (output : O) (trail : List Receipt) → told worker output trail → fact worker output) → AreTold told first outputs (lists_of trails) → ByNumber fact first outputs
-by_number_told told fact first [] [] has all = tt
-by_number_told told fact first (o ∷ outputs) (t ∷ trails) has all = (has first o t.items all.0, by_number_told told fact (first + 1) outputs trails has all.1)
-by_number_told told fact first [] (t ∷ trails) has all = absurd all
-by_number_told told fact first (o ∷ outputs) [] has all = absurd all
+pub by_number_told : {O L : Type 0} → (added : L → List Receipt) (told : Promised O) (fact : ℕ → O → Type 0) (first : ℕ) (outputs : List O) (trails : List L)
+    → ((worker : ℕ) (output : O) (trail : List Receipt) → told worker output trail → fact worker output) → AreTold told first outputs (map added trails) → ByNumber fact first outputs
+by_number_told added told fact first [] [] has all = tt
+by_number_told added told fact first (o ∷ outputs) (t ∷ trails) has all = (has first o (added t) all.0, by_number_told added told fact (first + 1) outputs trails has all.1)
+by_number_told added told fact first [] (t ∷ trails) has all = absurd all
+by_number_told added told fact first (o ∷ outputs) [] has all = absurd all
 
 -- where each output has its worker's number, the outputs stand by the workers' numbers
-pub numbered_by_told : {O A : Type 0} → (number : O → ℕ) (outputs : List O) (trails : List (Vec Receipt A)) → AllTold (λ worker output trail. number output ≡ worker) outputs trails → AreNumbered number 0 outputs
-numbered_by_told number outputs trails all = by_number_told (λ worker output trail. number output ≡ worker) (λ worker output. number output ≡ worker) 0 outputs trails (λ worker output trail is. is) all
+pub numbered_by_told : {O L : Type 0} → (added : L → List Receipt) (number : O → ℕ) (outputs : List O) (trails : List L) → AllTold added (λ worker output trail. number output ≡ worker) outputs trails
+    → AreNumbered number 0 outputs
+numbered_by_told added number outputs trails all = by_number_told added (λ worker output trail. number output ≡ worker) (λ worker output. number output ≡ worker) 0 outputs trails (λ worker output trail is. is) all

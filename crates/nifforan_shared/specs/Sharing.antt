@@ -1,8 +1,8 @@
 -- When a tree may be shared, what it comes to, and which fault says what.
-use Rattle.std.specs.Prelude.{◌≡◌, ℕ, true, false, List, length, Some, None}
+use Rattle.std.specs.Prelude.{◌≡◌, ℕ, true, false, List, length, map, Some, None}
 use Rattle.bw_keys.specs.declared.config.Config.{Config}
 use Rattle.bw_keys.specs.Limits.{first_bad_field, is_out_of}
-use Rattle.bw_step.specs.Trails.{lists_of}
+use Rattle.bw_step.specs.declared.receipt.Receipt.{Receipt}
 use Rattle.bw_tree.specs.Trees.{IsTree, CountsPairs}
 use Rattle.nifforan_shared.specs.declared.outcome.Outcome.{Outcome}
 use Rattle.nifforan_shared.specs.declared.fault.CrewFault.{CrewFault}
@@ -12,14 +12,15 @@ use Rattle.nifforan_shared.specs.declared.fault.ShareFault.TheVariants.{BadConfi
 use Rattle.nifforan_shared.specs.Workers.{Promised, AllTold, changes_in}
 
 -- What a tree comes to that workers shared: a lawful table, made by the configuration; an output and a trail of each worker, of which the
--- promise holds; and as many pairs as all trails have insertions, less their removals.
-pub record IsShared {O : Type 0} (promise : Promised O) (made_by : Config) (workers : ℕ) (outcome : Outcome O) : Type 0 where
+-- promise holds; and as many pairs as all trails have insertions, less their removals. A trail has the receipts that were added to it, whether or
+-- not they were kept.
+pub record IsShared {O L : Type 0} (added : L → List Receipt) (promise : Promised O) (made_by : Config) (workers : ℕ) (outcome : Outcome O L) : Type 0 where
   pub tree : IsTree outcome.table
   pub config : outcome.table.config ≡ made_by
   pub outputs : length outcome.outputs.items ≡ workers
   pub trails : length outcome.trails.items ≡ workers
-  pub pairs : CountsPairs outcome.table (changes_in (lists_of outcome.trails.items))
-  pub told : AllTold promise outcome.outputs.items outcome.trails.items
+  pub pairs : CountsPairs outcome.table (changes_in (map added outcome.trails.items))
+  pub told : AllTold added promise outcome.outputs.items outcome.trails.items
 
 -- a tree may be made by the configuration, and shared by this number of workers, of at most this number
 abbrev pub MayShare : ℕ → Config → ℕ → Type 0

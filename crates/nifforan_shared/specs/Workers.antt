@@ -1,8 +1,7 @@
 -- Workers by their numbers, and what their trails tell.
-use Rattle.std.specs.Prelude.{◌≡◌, ◌+◌, ℕ, List, [], ◌∷◌, fold, map, Vec, Ok, Some}
+use Rattle.std.specs.Prelude.{◌≡◌, ◌+◌, ℕ, List, [], ◌∷◌, fold, map, Ok, Some}
 use Rattle.bw_step.specs.declared.receipt.Receipt.{Receipt}
 use Rattle.bw_step.specs.declared.view.Look.{Look}
-use Rattle.bw_step.specs.Trails.{lists_of}
 use Rattle.bw_tree.specs.Shares.{ShareValue, counted, no_changes, sum_of}
 use Rattle.bw_procedures.specs.declared.steps.Keep.TheVariants.{Always}
 use Rattle.bw_procedures.specs.Seen.{Seen, Looked}
@@ -34,9 +33,9 @@ AreTold told worker [] [] = Unit {0}
 AreTold told worker (output ∷ outputs) (trail ∷ trails) = told worker output trail × AreTold told (worker + 1) outputs trails
 AreTold told worker outputs trails = ⊥
 
--- the promise holds of all workers
-abbrev pub AllTold : {O A : Type 0} → Promised O → List O → List (Vec Receipt A) → Type 0
-AllTold told outputs trails = AreTold told 0 outputs (lists_of trails)
+-- the promise holds of all workers, to whose trails these receipts were added
+abbrev pub AllTold : {O L : Type 0} → (L → List Receipt) → Promised O → List O → List L → Type 0
+AllTold added told outputs trails = AreTold told 0 outputs (map added trails)
 
 -- the look was added to the trail, and nothing else has changed
 abbrev pub AddsNote : ℕ → Look → Seen → Seen → Type 0

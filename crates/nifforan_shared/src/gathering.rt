@@ -1,10 +1,10 @@
 //! What all workers bring back.
 
 ghost use Rattle.std.specs.Prelude.{◌≡◌, ◌≤◌, [], IfOk, length, map, vec_capacity};
-ghost use Rattle.bw_step.specs.Trails.{lists_of};
 ghost use Rattle.nifforan_shared.specs.Workers.{share_by};
 
 use bw_delta::NoMemory;
+use bw_procedures::Trail;
 use bw_step::Receipt;
 use bw_tree::Share;
 use std::alloc::Global;
@@ -12,27 +12,27 @@ use std::sync::ledger::Ledger;
 
 /// What a worker brings back. Its share is the sum of its trail.
 #[derive(Drop)]
-pub struct Worked<I: Ledger, D: Ledger, O> {
+pub struct Worked<I: Ledger, D: Ledger, O, L: Trail> {
     pub share: Share<I, D>,
-    pub trail: Vec<Receipt>,
+    pub trail: L,
     pub output: O,
-    ghost counted: { share ≡ share_by trail.items },
+    ghost counted: { share ≡ share_by (L.added trail) },
 }
 
 /// The workers' shares, trails and outputs, by the workers' numbers.
 #[derive(Drop)]
-pub struct Gathered<I: Ledger, D: Ledger, O> {
+pub struct Gathered<I: Ledger, D: Ledger, O, L: Trail = Vec<Receipt>> {
     pub shares: Vec<Share<I, D>>,
-    pub trails: Vec<Vec<Receipt>>,
+    pub trails: Vec<L>,
     pub outputs: Vec<O>,
     ghost trailed: { length trails.items ≡ length shares.items },
     ghost answered: { length outputs.items ≡ length shares.items },
-    ghost counted: { shares.items ≡ map (λ trail. share_by trail.items) trails.items },
+    ghost counted: { shares.items ≡ map (λ trail. share_by (L.added trail)) trails.items },
 }
 
-impl<I: Ledger, D: Ledger, O: Drop> Gathered<I, D, O> {
+impl<I: Ledger, D: Ledger, O: Drop, L: Trail> Gathered<I, D, O, L> {
     /// Makes room for what `workers` workers bring back.
-    pub fn with_room(machine: Global, workers: usize) -> Result<Gathered<I, D, O>, NoMemory>
+    pub fn with_room(machine: Global, workers: usize) -> Result<Gathered<I, D, O, L>, NoMemory>
         ensures empty { IfOk result (λ room. room.shares.items ≡ []) }
         ensures shares { IfOk result (λ room. workers ≤ vec_capacity room.shares) }
         ensures trails { IfOk result (λ room. workers ≤ vec_capacity room.trails) }
@@ -48,16 +48,16 @@ impl<I: Ledger, D: Ledger, O: Drop> Gathered<I, D, O> {
 
 /// Sorts what the workers bring back into the room. Asks for no memory, so that what was done isn't
 /// given up for want of it.
-pub fn gather<I: Ledger, D: Ledger, O: Drop>(
-    room: Gathered<I, D, O>,
-    all: Vec<Worked<I, D, O>>,
-) -> Gathered<I, D, O>
+pub fn gather<I: Ledger, D: Ledger, O: Drop, L: Trail>(
+    room: Gathered<I, D, O, L>,
+    all: Vec<Worked<I, D, O, L>>,
+) -> Gathered<I, D, O, L>
     requires empty { room.shares.items ≡ [] }
     requires shares { length all.items ≤ vec_capacity room.shares }
     requires trails { length all.items ≤ vec_capacity room.trails }
     requires outputs { length all.items ≤ vec_capacity room.outputs }
     ensures count { length result.shares.items ≡ length all.items }
-    ensures trails { lists_of result.trails.items ≡ map (λ worked. worked.trail.items) all.items }
+    ensures trails { result.trails.items ≡ map (λ worked. worked.trail) all.items }
     ensures outputs { result.outputs.items ≡ map (λ worked. worked.output) all.items }
 {
     let Gathered {

@@ -10,6 +10,7 @@ use crate::gathering::{Gathered, Worked, gather};
 use crate::member::Member;
 use crate::seats::{Seat, seats_of};
 use crate::task::Task;
+use bw_procedures::Trail;
 use bw_step::Step;
 use bw_tree::{Share, Shared};
 use bw_work::Gate;
@@ -33,18 +34,19 @@ impl<
     D: Ledger,
     K: Drop,
     O: Drop,
+    L: Trail,
     T: Shared<Global, Step<Global>, Insertions = I, Removals = D>,
     G: Gate,
-    J: Task<K, Output = O>,
+    J: Task<K, Output = O, Trail = L>,
 > Part<Seat<I, D, K>> for OnTree<'t, T, G, J> {
-    type Output = Worked<I, D, O>;
+    type Output = Worked<I, D, O, L>;
 
     ghost given = { λ part worker seat. J.given part.task.now worker seat.kit };
 
     ghost told = { λ part worker worked.
-        J.told part.task.now worker worked.output worked.trail.items };
+        J.told part.task.now worker worked.output (L.added worked.trail) };
 
-    fn run(&self, worker: u32, seat: Seat<I, D, K>) -> Worked<I, D, O> {
+    fn run(&self, worker: u32, seat: Seat<I, D, K>) -> Worked<I, D, O, L> {
         let Seat { share, kit } = seat;
         let mut hand = Member::new(self.machine, self.tree, share, worker, self.gate);
         let output = self.task.run(worker, &mut hand, kit);
@@ -68,9 +70,10 @@ pub fn work_all<
     D: Ledger + Send + Sync,
     K: Drop + Send,
     O: Drop + Send,
+    L: Trail + Send,
     T: Shared<Global, Step<Global>, Insertions = I, Removals = D> + Sync,
     G: Gate + Sync,
-    J: Task<K, Output = O> + Sync,
+    J: Task<K, Output = O, Trail = L> + Sync,
     R: Threads + Wait + Sync,
 >(
     rt: &R,
@@ -80,14 +83,14 @@ pub fn work_all<
     task: &J,
     shares: Vec<Share<I, D>>,
     kits: Vec<K>,
-) -> Result<Gathered<I, D, O>, CrewFault>
+) -> Result<Gathered<I, D, O, L>, CrewFault>
     requires few { length kits.items ≤ 64 }
     requires shares { length shares.items ≡ length kits.items }
     requires new { All (λ share. share ≡ no_changes) shares.items }
     requires given { ByNumber (J.given task.now) 0 kits.items }
     ensures count { IfOk result (λ all. length all.shares.items ≡ length kits.items) }
     ensures told { IfOk result (λ all.
-        AllTold (J.told task.now) all.outputs.items all.trails.items) }
+        AllTold L.added (J.told task.now) all.outputs.items all.trails.items) }
 {
     let room = Gathered::with_room(machine, kits.len())?;
     let seats = seats_of(machine, shares, kits)?;

@@ -2,6 +2,7 @@
 
 use crate::reading::Reads;
 use crate::worker::Worker;
+use bw_procedures::Trail;
 
 /// What each worker of a tree does, in a thread of its own.
 pub trait Job {
@@ -10,6 +11,11 @@ pub trait Job {
 
     /// What a worker brings back.
     type Output: Drop;
+
+    /// What becomes of the receipts of a worker's steps. `Vec<Receipt>` keeps each, of some 40
+    /// bytes, to the end; [`GivenUp`](crate::GivenUp) keeps none, for a job whose receipts nobody
+    /// will ask for.
+    type Trail: Trail;
 
     // what the job promises of a worker's number, of what that worker brings back, and of its trail
     ghost told: { Self → Promised Self.Output } = { λ job worker output trail. Unit {0} };
@@ -29,6 +35,11 @@ pub trait ReadingJob {
 
     /// What a worker brings back.
     type Output: Drop;
+
+    /// What becomes of the receipts of a worker's steps. `Vec<Receipt>` keeps each, of some 40
+    /// bytes, to the end; [`GivenUp`](crate::GivenUp) keeps none, for a job whose receipts nobody
+    /// will ask for.
+    type Trail: Trail;
 
     // what the job promises of a worker's number, of what that worker brings back, and of its trail
     ghost told: { Self → Promised Self.Output } = { λ job worker output trail. Unit {0} };

@@ -8,7 +8,7 @@ use crate::worker::Notes;
 use bw_chain::Wished;
 use bw_delta::{Chain, NoMemory};
 use bw_keys::{Config, Key, Pid, Version};
-use bw_procedures::{Ends, Keep, Steps};
+use bw_procedures::{Ends, Keep, Steps, Trail};
 use bw_step::{AtOnce, CopyFault, Denied, Look, Next, Place, Receipt, Step, View};
 use bw_tree::{Share, Shared};
 use bw_work::{Gate, Hand};
@@ -18,11 +18,11 @@ use std::marker::Model;
 /// A hand on a tree that others share. All that it makes lies in the machine's memory. Contracts
 /// see it as what a worker's account is.
 #[derive(Drop)]
-pub struct Member<'t, S: Shared<Global, Step<Global>>, G: Gate> {
-    hand: Hand<'t, Global, S, G>,
+pub struct Member<'t, S: Shared<Global, Step<Global>>, G: Gate, L: Trail> {
+    hand: Hand<'t, Global, S, G, L>,
 }
 
-impl<'t, S: Shared<Global, Step<Global>>, G: Gate> Model for Member<'t, S, G> {
+impl<'t, S: Shared<Global, Step<Global>>, G: Gate, L: Trail> Model for Member<'t, S, G, L> {
     ghost use Rattle.std.specs.Prelude.{[]};
     ghost use Rattle.bw_procedures.specs.Seen.{Seen};
     ghost use Rattle.bw_tree.specs.Shares.{no_changes};
@@ -35,7 +35,7 @@ impl<'t, S: Shared<Global, Step<Global>>, G: Gate> Model for Member<'t, S, G> {
     ghost invariant = { λ m. Sums [] no_changes m.hand.account.seen.trail m.hand.share };
 }
 
-impl<'t, S: Shared<Global, Step<Global>>, G: Gate> Member<'t, S, G> {
+impl<'t, S: Shared<Global, Step<Global>>, G: Gate, L: Trail> Member<'t, S, G, L> {
     /// Makes a worker that has taken no step yet, with a share of nothing.
     pub fn new(
         machine: Global,
@@ -43,28 +43,30 @@ impl<'t, S: Shared<Global, Step<Global>>, G: Gate> Member<'t, S, G> {
         share: Share<S::Insertions, S::Removals>,
         worker: u32,
         gate: &'t G,
-    ) -> Member<'t, S, G>
+    ) -> Member<'t, S, G, L>
         requires { share ≡ no_changes }
         ensures { result.trail ≡ [] }
     {
         Member {
-            hand: Hand::new(machine, machine, tree, share, worker, gate),
+            hand: Hand::with_trail(L::empty(machine), machine, tree, share, worker, gate),
         }
     }
 
     /// Returns the share and the trail.
-    pub fn finish(self) -> (Share<S::Insertions, S::Removals>, Vec<Receipt>)
-        ensures trail { result.1.items ≡ self.entry.trail }
-        ensures share { result.0 ≡ share_by result.1.items }
+    pub fn finish(self) -> (Share<S::Insertions, S::Removals>, L)
+        ensures trail { L.added result.1 ≡ self.entry.trail }
+        ensures share { result.0 ≡ share_by (L.added result.1) }
     {
         let Member { hand, .. } = self;
         hand.finish()
     }
 }
 
-impl<'t, S: Shared<Global, Step<Global>>, G: Gate> Steps<Global, Step<Global>>
-    for Member<'t, S, G> {
+impl<'t, S: Shared<Global, Step<Global>>, G: Gate, L: Trail> Steps<Global, Step<Global>>
+    for Member<'t, S, G, L> {
     ghost seen = { λ m. m };
+
+    ghost kept = { L.kept };
 
     // what its share is raised by is the member's own law
     ghost follows = { λ a b. Unit {0} };
@@ -163,9 +165,13 @@ impl<'t, S: Shared<Global, Step<Global>>, G: Gate> Steps<Global, Step<Global>>
     fn trail(&self) -> &[Receipt] {
         self.hand.trail()
     }
+
+    fn trail_len(&self) -> usize {
+        self.hand.trail_len()
+    }
 }
 
-impl<'t, S: Shared<Global, Step<Global>>, G: Gate> Notes for Member<'t, S, G> {
+impl<'t, S: Shared<Global, Step<Global>>, G: Gate, L: Trail> Notes for Member<'t, S, G, L> {
     fn note(&mut self, key: Key, look: Look) -> Result<(), NoMemory> {
         self.hand.note(key, look)
     }

@@ -4,11 +4,12 @@ use std::alloc::Global;
 
 /// What is left of a tree once all its workers have ended.
 #[derive(Drop)]
-pub struct Outcome<T> {
+pub struct Outcome<O, L = Vec<Receipt>> {
     /// The tree's table.
     pub table: Table<Global>,
     /// What each worker's job returned, by the workers' numbers.
-    pub outputs: Vec<T>,
-    /// Each worker's receipts, in their order.
-    pub trails: Vec<Vec<Receipt>>,
+    pub outputs: Vec<O>,
+    /// What became of each worker's receipts, by the workers' numbers: as a rule a list of them, in
+    /// their order.
+    pub trails: Vec<L>,
 }

@@ -12,6 +12,7 @@ use crate::outcome::Outcome;
 use crate::reading::readings_of;
 use crate::task::{ByHand, WithReader};
 use bw_keys::{Config, MAX_WORKERS};
+use bw_procedures::Trail;
 use bw_snap::{Announcements, MAX_READERS, Naming, ReadTree};
 use bw_tree::{Blanks, MadeBy, Tree};
 use bw_work::Open;
@@ -27,21 +28,27 @@ use std::thread::Threads;
 /// A job that ends early costs nothing: what it returns stands in [`outputs`](Outcome::outputs),
 /// and the table has all that was done by then.
 ///
-/// Each worker keeps a receipt, of some 40 bytes, for each accepted step and each look, to the end.
-pub fn share<O: Drop + Send, J: Job<Output = O> + Sync, R: Threads + Wait + Sync + Send + Copy>(
+/// The job says what becomes of the receipts of each worker's accepted steps and looks
+/// ([`Trail`](Job::Trail)).
+pub fn share<
+    O: Drop + Send,
+    L: Trail + Send,
+    J: Job<Output = O, Trail = L> + Sync,
+    R: Threads + Wait + Sync + Send + Copy,
+>(
     rt: R,
     machine: Global,
     config: Config,
     workers: u32,
     job: &J,
-) -> Result<Outcome<O>, ShareFault>
-    ensures shared { IfOk result (IsShared (J.told job.now) config workers) }
+) -> Result<Outcome<O, L>, ShareFault>
+    ensures shared { IfOk result (IsShared L.added (J.told job.now) config workers) }
     ensures fine { IsOk result → MayShare 64 config workers }
     ensures fault { IfErr result (IsShareFault 64 config workers) }
 {
     check(config, workers, MAX_WORKERS)?;
     let blanks = Blanks::new(workers);
-    share_locked::<Brand, Brand, O, J, R>(rt, machine, config, blanks, job)
+    share_locked::<Brand, Brand, O, L, J, R>(rt, machine, config, blanks, job)
 }
 
 /// Shares a new tree among `workers` workers, 1 to `MAX_READERS`, as [`share`] does. Each of them
@@ -49,17 +56,24 @@ pub fn share<O: Drop + Send, J: Job<Output = O> + Sync, R: Threads + Wait + Sync
 /// What the workers change isn't read so before one of them publishes it.
 pub fn share_with_readers<
     O: Drop + Send,
-    J: ReadingJob<Output = O> + Sync,
+    L: Trail + Send,
+    J: ReadingJob<Output = O, Trail = L> + Sync,
     R: Threads + Wait + Sync + Send + Copy,
->(rt: R, machine: Global, config: Config, workers: u32, job: &J) -> Result<Outcome<O>, ShareFault>
-    ensures shared { IfOk result (IsShared (J.told job.now) config workers) }
+>(
+    rt: R,
+    machine: Global,
+    config: Config,
+    workers: u32,
+    job: &J,
+) -> Result<Outcome<O, L>, ShareFault>
+    ensures shared { IfOk result (IsShared L.added (J.told job.now) config workers) }
     ensures fine { IsOk result → MayShare 16 config workers }
     ensures fault { IfErr result (IsShareFault 16 config workers) }
 {
     check(config, workers, MAX_READERS)?;
     let blanks = Blanks::new(workers);
     let announcements = Announcements::new();
-    share_read::<Brand, Brand, O, J, R>(rt, machine, config, workers, blanks, announcements, job)
+    share_read::<Brand, Brand, O, L, J, R>(rt, machine, config, workers, blanks, announcements, job)
 }
 
 /// Returns the first fault that is there before any thread starts, want of memory apart.
@@ -82,12 +96,19 @@ fn share_locked<
     I: MadeBy + Send + Sync,
     D: Ledger + Send + Sync,
     O: Drop + Send,
-    J: Job<Output = O> + Sync,
+    L: Trail + Send,
+    J: Job<Output = O, Trail = L> + Sync,
     R: Threads + Wait + Sync + Send + Copy,
->(rt: R, machine: Global, config: Config, blanks: Blanks, job: &J) -> Result<Outcome<O>, ShareFault>
+>(
+    rt: R,
+    machine: Global,
+    config: Config,
+    blanks: Blanks,
+    job: &J,
+) -> Result<Outcome<O, L>, ShareFault>
     requires ledgers { OpensFor I.Ledger I.config D.Ledger config blanks }
     requires made { MayShare 64 config blanks.workers }
-    ensures shared { IfOk result (IsShared (J.told job.now) config blanks.workers) }
+    ensures shared { IfOk result (IsShared L.added (J.told job.now) config blanks.workers) }
     ensures fault { IfErr result (IsShareFault 64 config blanks.workers) }
 {
     let Ok((tree, shares)) = Tree::<R, Global, I, D>::new(rt, machine, machine, config, blanks)
@@ -116,7 +137,8 @@ fn share_read<
     N: Naming + Send + Sync,
     D: Ledger + Send + Sync,
     O: Drop + Send,
-    J: ReadingJob<Output = O> + Sync,
+    L: Trail + Send,
+    J: ReadingJob<Output = O, Trail = L> + Sync,
     R: Threads + Wait + Sync + Send + Copy,
 >(
     rt: R,
@@ -126,12 +148,12 @@ fn share_read<
     blanks: Blanks,
     announcements: Announcements,
     job: &J,
-) -> Result<Outcome<O>, ShareFault>
+) -> Result<Outcome<O, L>, ShareFault>
     requires announcements { announcements.seen.book ≡ N.announcements }
     requires ledgers { OpensFor N.Ledger N.config D.Ledger config blanks }
     requires workers { blanks.workers ≡ workers }
     requires made { MayShare 16 config workers }
-    ensures shared { IfOk result (IsShared (J.told job.now) config workers) }
+    ensures shared { IfOk result (IsShared L.added (J.told job.now) config workers) }
     ensures fault { IfErr result (IsShareFault 16 config workers) }
 {
     let made = ReadTree::<R, N, D>::with_readers(

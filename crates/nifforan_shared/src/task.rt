@@ -3,6 +3,7 @@
 use crate::job::{Job, ReadingJob};
 use crate::reading::Reading;
 use crate::worker::Notes;
+use bw_procedures::Trail;
 use bw_snap::Naming;
 use std::sync::Wait;
 use std::sync::ledger::Ledger;
@@ -14,6 +15,9 @@ pub trait Task<K> {
 
     /// What a worker brings back.
     type Output: Drop;
+
+    /// What becomes of the receipts of a worker's steps.
+    type Trail: Trail;
 
     // the kit is one for the worker with this number
     ghost given: { Self → ℕ → K → Type 0 } = { λ task worker kit. Unit {0} };
@@ -38,6 +42,8 @@ pub struct ByHand<'j, J> {
 impl<'j, J: Job> Task<()> for ByHand<'j, J> {
     type Output = J::Output;
 
+    type Trail = J::Trail;
+
     ghost told = { λ task. J.told task.job.now };
 
     fn run<W: Notes>(&self, worker: u32, hand: &mut W, _kit: ()) -> J::Output {
@@ -54,6 +60,8 @@ pub struct WithReader<'j, J> {
 impl<'j, 't, J: ReadingJob, R: Wait + Copy, N: Naming, D: Ledger> Task<Reading<'t, R, N, D>>
     for WithReader<'j, J> {
     type Output = J::Output;
+
+    type Trail = J::Trail;
 
     ghost told = { λ task. J.told task.job.now };
 

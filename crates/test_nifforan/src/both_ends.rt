@@ -1,7 +1,7 @@
 //! Ranges read from both ends, beside the kit's map, over leaves on which records stand.
 
 use nifforan::{Fence, Map, Pairs};
-use nifforan_shared::{Calls as _, Config, Job, Worker, share};
+use nifforan_shared::{Calls as _, Config, GivenUp, Job, Worker, share};
 use rand_core::{Rng, SeedableRng};
 use rand_pcg::Pcg32;
 use std::alloc::{AllocError, Global};
@@ -58,6 +58,8 @@ impl Calls {
 
 impl Job for Calls {
     type Output = bool;
+
+    type Trail = GivenUp;
 
     fn work<W: Worker>(&self, _worker: u32, hand: &mut W) -> bool {
         let mut rng = Pcg32::seed_from_u64(self.seed);

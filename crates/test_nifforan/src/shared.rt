@@ -4,8 +4,8 @@ ghost use Rattle.std.specs.Prelude.{◌≡◌, ◌<◌, IfOk};
 ghost use Rattle.nifforan_shared.specs.Workers.{AreNumbered};
 
 use nifforan_shared::{
-    Calls as _, Config, Del, Done, Fault, Fence, Job, Outcome, Put, ReadingJob, Reads, ScanFault,
-    Set, ShareFault, Steps, Worker, share, share_with_readers,
+    Calls as _, Config, Del, Done, Fault, Fence, GivenUp, Job, Outcome, Put, ReadingJob, Reads,
+    Receipt, ScanFault, Set, ShareFault, Steps, Worker, share, share_with_readers,
 };
 use std::alloc::Global;
 use std::sync::Wait;
@@ -32,6 +32,8 @@ struct Part {
 
 impl Job for Calls {
     type Output = Part;
+
+    type Trail = Vec<Receipt>;
 
     ghost told = { λ calls worker part trail. part.worker ≡ worker };
 
@@ -70,6 +72,8 @@ fn call_each<W: Worker>(hand: &mut W, first: u64) -> Answers
 /// Each worker publishes its own keys and lists the first five from its fourth on.
 impl ReadingJob for Calls {
     type Output = Result<Vec<(u64, u64)>, ScanFault>;
+
+    type Trail = GivenUp;
 
     fn work<W: Worker, R: Reads>(
         &self,

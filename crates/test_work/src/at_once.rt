@@ -32,7 +32,7 @@ static CHAINS: [u32; 4] = [1, 2, 8, 32];
 
 /// Room for all keys, a table that gets full, two efforts with which tending gives up, versions that
 /// are used up, and pages with so many entries that the longest chain is reached.
-static CONFIGS: [Config; 6] = [
+pub(crate) static CONFIGS: [Config; 6] = [
     ROOMY,
     Config { pages: 8, ..SMALL },
     Config { tries: 1, ..ROOMY },
@@ -64,7 +64,7 @@ fn drawn_call(rng: &mut Pcg32) -> Call {
     }
 }
 
-fn drawn_calls(machine: Global, seed: u64) -> Result<Vec<Call>, AllocError> {
+pub(crate) fn drawn_calls(machine: Global, seed: u64) -> Result<Vec<Call>, AllocError> {
     let mut rng = Pcg32::seed_from_u64(seed);
     let mut calls = Vec::new(machine);
     for _ in 0..CALLS {

@@ -9,6 +9,8 @@ mod at_once;
 #[cfg(test)]
 mod calls;
 #[cfg(test)]
+mod given_up;
+#[cfg(test)]
 mod held;
 #[cfg(test)]
 mod memory;

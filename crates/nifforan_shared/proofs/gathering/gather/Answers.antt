@@ -1,5 +1,5 @@
 use Rattle.std.proofs.Common.{rules, ◌≡◌, ◌∷◌, ◌+◌, [], length, map, ap, ◌∙◌, append_assoc, arith, length-append}
-use Rattle.nifforan_shared.proofs.Workers.{counted_more, one_more_has}
+use Rattle.nifforan_shared.proofs.Workers.{counted_more}
 use Rattle.nifforan_shared.proofs.gathering.gather.Goals as goal
 
 pub loop-worked-preserved : goal.loop-worked-preserved
@@ -21,9 +21,9 @@ loop-worked-preserved g c =
       room_for_shares = rw c.push_reserved.ensures.capacity inv.room_for_shares;
       room_for_trails = rw c.push_reserved-in-loop-worked.ensures.capacity inv.room_for_trails;
       room_for_outputs = rw c.push_reserved-in-loop-worked-2.ensures.capacity inv.room_for_outputs;
-      trails = rw trails (one_more_has (λ trail. trail.items) c.loop-worked.trails.items worked.trail (map (λ it. it.trail.items) rest) _ trails_so_far);
+      trails = rw trails (append_assoc c.loop-worked.trails.items (worked.trail ∷ []) (map (λ it. it.trail) rest) ∙ trails_so_far);
       outputs = rw outputs (append_assoc c.loop-worked.outputs.items (worked.output ∷ []) (map (λ it. it.output) rest) ∙ outputs_so_far);
       trailed = omega (arith, more, longer, inv.trailed);
       answered = omega (arith, more, larger, inv.answered);
-      counted = counted_more c.loop-worked.shares.items c.push_reserved.new.self.items c.loop-worked.trails.items c.push_reserved-in-loop-worked.new.self.items worked.share worked.trail shares trails inv.counted worked.counted;
+      counted = counted_more g.L.Trail.added c.loop-worked.shares.items c.push_reserved.new.self.items c.loop-worked.trails.items c.push_reserved-in-loop-worked.new.self.items worked.share worked.trail shares trails inv.counted worked.counted;
     }

@@ -9,9 +9,9 @@ invariant-loop-worked g l = record {
   room_for_shares : length l.fn.all.items ≤ vec_capacity l.shares;
   room_for_trails : length l.fn.all.items ≤ vec_capacity l.trails;
   room_for_outputs : length l.fn.all.items ≤ vec_capacity l.outputs;
-  trails : map (λ trail. trail.items) l.trails.items ++ map (λ worked. worked.trail.items) l.worked-iterator.rest.items ≡ map (λ worked. worked.trail.items) l.fn.all.items;
+  trails : l.trails.items ++ map (λ worked. worked.trail) l.worked-iterator.rest.items ≡ map (λ worked. worked.trail) l.fn.all.items;
   outputs : l.outputs.items ++ map (λ worked. worked.output) l.worked-iterator.rest.items ≡ map (λ worked. worked.output) l.fn.all.items;
   trailed : length l.trails.items ≡ length l.shares.items;
   answered : length l.outputs.items ≡ length l.shares.items;
-  counted : l.shares.items ≡ map (λ trail. share_by trail.items) l.trails.items;
+  counted : l.shares.items ≡ map (λ trail. share_by (g.L.Trail.added trail)) l.trails.items;
 }

@@ -8,4 +8,4 @@ run_all-requires-clause-given g c κs within =
 
 pub returns-clause-told : goal.returns-clause-told
 returns-clause-told g c =
-    all_told (g.J.Task.told c.args.task.now) (λ worked. worked.output) (λ worked. worked.trail.items) c.in_ok-all.all.items c.gather.result.outputs.items c.gather.result.trails.items c.gather.ensures.outputs c.gather.ensures.trails c.in_ok-all.ensures.told
+    all_told g.L.Trail.added (g.J.Task.told c.args.task.now) (λ worked. worked.output) (λ worked. worked.trail) c.in_ok-all.all.items c.gather.result.outputs.items c.gather.result.trails.items c.gather.ensures.outputs c.gather.ensures.trails c.in_ok-all.ensures.told

@@ -22,6 +22,6 @@ returns-clause-shared g c =
       config = closed.config ∙ c.requires.ledgers.made;
       outputs = all.answered ∙ (c.in_ok-shares.ensures.count ∙ many);
       trails = all.trailed ∙ (c.in_ok-shares.ensures.count ∙ many);
-      pairs = counts_trails c.in-Ok-close.table all.shares.items all.trails.items all.counted closed.pairs;
+      pairs = counts_trails g.L.Trail.added c.in-Ok-close.table all.shares.items all.trails.items all.counted closed.pairs;
       told = c.in_ok-shares.ensures.told;
     }
