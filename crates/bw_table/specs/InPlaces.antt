@@ -1,5 +1,5 @@
 -- A change of a key and the consolidation of its page, one behind the other, as one call does them.
-use Rattle.std.specs.Prelude.{◌≡◌, ℕ, suc, ◌+◌, ◌-◌, ◌<◌, ◌≤◌, ◌^◌, nat_lt, Bool, true, false, List, [], ◌∷◌, slice_set, Option, Some, None, unwrap_or}
+use Rattle.std.specs.Prelude.{◌≡◌, ℕ, suc, ◌+◌, ◌-◌, ◌<◌, ◌≤◌, ◌^◌, nat_lt, Bool, true, false, List, [], ◌∷◌, ◌++◌, slice_set, Option, Some, None, is_none, unwrap_or}
 use Rattle.bw_keys.specs.declared.page.Pid.{Pid}
 use Rattle.bw_keys.specs.Ranges.{is_within}
 use Rattle.bw_keys.specs.Reasons.{when}
@@ -21,7 +21,7 @@ use Rattle.bw_step.specs.declared.refused.Refused.TheVariants.{OutOfRange, NotBa
 use Rattle.bw_step.specs.declared.view.Stage.TheVariants.{Posted, Unposted}
 use Rattle.bw_step.specs.Proposals.{Proposal, insert, delete, modify, consolidate, split, term_add}
 use Rattle.bw_law.specs.Effects.{with_record, with_stage, cut_before, upper_half, consolidated, pid}
-use Rattle.bw_law.specs.Refusals.{is_bad_key, is_leaving_at, is_outside, last_id, new_id, room_reasons}
+use Rattle.bw_law.specs.Refusals.{is_bad_key, is_leaving_at, is_outside, last_id, new_id, open_reasons, room_reasons}
 use Rattle.bw_law.specs.Runs.{TakesInTurn}
 use Rattle.bw_law.specs.Slots.{SlotValue, slot_in, chain_in, pairs_in, routes_in}
 use Rattle.bw_law.specs.Tables.{TableValue, slot_at, number_of}
@@ -158,6 +158,10 @@ IsRecordedAtOnce old page key wished receipt new =
 abbrev pub IsConsolidatedAtOnce : TableValue → ℕ → ℕ → TableValue → Receipt → Type 0
 IsConsolidatedAtOnce old page seen new receipt = (base : Page) × TakesInTurn old ((consolidate page seen base, receipt) ∷ []) new
 
+-- the consolidation of a page as it is
+abbrev pub consolidating : TableValue → ℕ → ℕ → Proposal
+consolidating table page seen = consolidate page seen (page_for (chain_in (slot_at table page)))
+
 -- the split of a page at a separator: the new page takes the page's entries from there on
 abbrev pub halving : TableValue → ℕ → ℕ → ℕ → Proposal
 halving table page seen separator = split page seen separator (upper_part separator (page_for (chain_in (slot_at table page))))
@@ -167,6 +171,15 @@ abbrev pub halving_reasons : SlotValue → SlotValue → Bool → Bool → ℕ �
 halving_reasons slot new child_leaving no_room separator =
     when (is_outside slot separator) OutOfRange ∷ when (nat_lt 0 slot.depth) NotBare
     ∷ when (is_bad_key slot child_leaving separator) BadSeparator ∷ room_reasons slot new no_room
+
+-- the reasons not to split a page in half where it lies: at the key of its middle entry, if it has two entries
+abbrev pub half_reasons : TableValue → ℕ → ℕ → List (Option Refused)
+half_reasons table page seen =
+    let slot = slot_at table page in
+    let listed = (page_for (chain_in slot)).listed in
+    let separator = unwrap_or (listed_middle_key listed) 0 in
+    open_reasons slot seen ++ when (nat_lt 0 slot.depth) NotBare ∷ when (nat_lt (listed_length listed) 2) BadSeparator
+    ∷ halving_reasons slot (slot_at table (new_id table)) (is_leaving_at table.slots (at separator (routes_in slot))) (is_none (last_id table.free)) separator
 
 -- the page was split at the key of its middle entry, by a step that is not refused; this is the term of the new page
 pub record IsHalvedAtOnce (old : TableValue) (page seen : ℕ) (term : ℕ × Pid) (new : TableValue) : Type 0 where

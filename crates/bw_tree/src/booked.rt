@@ -5,8 +5,11 @@ ghost use Rattle.std.specs.Prelude.{IsOk, IfOk, IfErr, OnOk, OnErr, IfSome, IfNo
 ghost use Rattle.bw_step.specs.ProposalView.{proposal_of};
 ghost use Rattle.bw_law.specs.Tables.{new_table, TellsMap};
 ghost use Rattle.bw_law.specs.Laws.{MapAfter};
+ghost use Rattle.bw_keys.specs.Reasons.{first_reason};
 ghost use Rattle.bw_law.specs.Refusals.{refusal};
+ghost use Rattle.bw_table.specs.Answers.{IsDenialFor};
 ghost use Rattle.bw_table.specs.InPlaces.{IsDoneAtOnce, IsRecordedAtOnce, IsConsolidatedAtOnce, IsHalvedAtOnce, IsPostedByOne};
+ghost use Rattle.bw_table.specs.InPlaces.{consolidating, half_reasons};
 ghost use Rattle.bw_tree.specs.Shares.{no_changes, CountsIn, CountsAtOnce, IsReceiptAtOnce, IsConsolidationOf};
 ghost use Rattle.bw_step.specs.Steps.{IsReceiptOf};
 ghost use Rattle.bw_step.specs.Tellings.{telling_of};
@@ -154,7 +157,9 @@ impl<A: Allocator + Copy, I: MadeBy, D: Ledger> Booked<A, I, D> {
     ) -> Result<Receipt, Denied>
         ensures done { IfOk result (IsConsolidatedAtOnce self.old page.0 seen.0 self.new) }
         ensures receipt { IfOk result (IsConsolidationOf page) }
-        ensures denied { OnErr result (self.new ≡ self.old) }
+        ensures denied { IfErr result
+            (IsDenialFor (refusal self.old (consolidating self.old page.0 seen.0))) }
+        ensures unchanged { OnErr result (self.new ≡ self.old) }
     {
         self.table.consolidate_at_once(alloc, page, seen)
     }
@@ -168,7 +173,9 @@ impl<A: Allocator + Copy, I: MadeBy, D: Ledger> Booked<A, I, D> {
     ) -> Result<(Key, Pid), Denied>
         ensures done { IfOk result (λ term.
             IsHalvedAtOnce self.old page.0 seen.0 term self.new) }
-        ensures denied { OnErr result (self.new ≡ self.old) }
+        ensures denied { IfErr result
+            (IsDenialFor (first_reason (half_reasons self.old page.0 seen.0))) }
+        ensures unchanged { OnErr result (self.new ≡ self.old) }
     {
         self.table.halve_at_once(alloc, page, seen)
     }

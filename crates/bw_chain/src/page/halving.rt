@@ -1,4 +1,4 @@
-ghost use Rattle.std.specs.Prelude.{◌≡◌, ◌↔◌, ◌<◌, ◌≤◌, length, drop, Some, IfOk, IfSome, IfNone, IsErrOf};
+ghost use Rattle.std.specs.Prelude.{◌≡◌, ◌↔◌, ◌<◌, ◌≤◌, length, drop, Some, None, IfOk, IfSome, IsErrOf};
 ghost use Rattle.bw_delta.specs.Pages.{listed_length, upper_part};
 ghost use Rattle.bw_delta.specs.PageView.{listed};
 ghost use Rattle.bw_chain.specs.Pages.Halves.{listed_middle_key, listed_key_at, listed_behind, key_at};
@@ -38,7 +38,7 @@ pub fn halve<A: Allocator + Copy>(alloc: A, base: &Base<A>) -> Result<(Key, Base
 /// or more. It takes no memory.
 pub fn middle_key<A: Allocator + Copy>(base: &Base<A>) -> Option<Key>
     ensures key { IfSome result (λ key. listed_middle_key base.now.listed ≡ Some key) }
-    ensures small { IfNone result (listed_length base.now.listed < 2) }
+    ensures small { (result ≡ None) ↔ (listed_length base.now.listed < 2) }
 {
     let middle = base.len() / 2;
     if middle == 0 {

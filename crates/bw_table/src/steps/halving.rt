@@ -1,14 +1,16 @@
 //! A page split in half where it lies, and the new page named in its parent: each one step.
 
-ghost use Rattle.std.specs.Prelude.{◌≡◌, None, Some, is_none, unwrap_or, option_copied, ℕ, true, IfOk, IfSome, IfNone, OnErr};
+ghost use Rattle.std.specs.Prelude.{◌≡◌, None, Some, is_none, unwrap_or, option_copied, ℕ, true, ◌<◌, IfOk, IfErr, IfSome, IfNone, OnOk, OnErr};
+ghost use Rattle.bw_delta.specs.Records.{Records, depth};
 ghost use Rattle.bw_delta.specs.Sound.{page_for};
+ghost use Rattle.bw_keys.specs.Reasons.{first_reason};
 ghost use Rattle.bw_chain.specs.Pages.Halves.{listed_middle_key};
 ghost use Rattle.bw_step.specs.Stages.{is_in_row};
 ghost use Rattle.bw_law.specs.Refusals.{refusal};
 ghost use Rattle.bw_law.specs.Slots.{SlotValue, chain_in};
 ghost use Rattle.bw_law.specs.Tables.{slot_at};
-ghost use Rattle.bw_table.specs.Answers.{AnswersFirst};
-ghost use Rattle.bw_table.specs.InPlaces.{IsHalvedAtOnce, IsPostedByOne, halving, halving_reasons};
+ghost use Rattle.bw_table.specs.Answers.{AnswersFirst, IsDenialFor};
+ghost use Rattle.bw_table.specs.InPlaces.{IsHalvedAtOnce, IsPostedByOne, half_reasons, halving, halving_reasons};
 ghost use Rattle.bw_table.specs.SlotFacts.{HasSoundChain};
 
 use crate::slot::Slot;
@@ -31,7 +33,9 @@ impl<A: Allocator + Copy> Table<A> {
     ) -> Result<(Key, Pid), Denied>
         ensures done { IfOk result (λ term.
             IsHalvedAtOnce self.old page.0 seen.0 term self.new) }
-        ensures denied { OnErr result (self.new ≡ self.old) }
+        ensures denied { IfErr result
+            (IsDenialFor (first_reason (half_reasons self.old page.0 seen.0))) }
+        ensures unchanged { OnErr result (self.new ≡ self.old) }
     {
         let base = match self.page_to_halve(page, seen) {
             Ok(base) => base,
@@ -63,6 +67,10 @@ impl<A: Allocator + Copy> Table<A> {
         ensures accepted { IfOk result (λ base. (separator : ℕ)
             → listed_middle_key base.now.listed ≡ Some separator
             → refusal self.now (halving self.now page.0 seen.0 separator) ≡ None) }
+        ensures fine { OnOk result
+            (first_reason (half_reasons self.now page.0 seen.0) ≡ None) }
+        ensures refused { IfErr result (λ reason.
+            first_reason (half_reasons self.now page.0 seen.0) ≡ Some reason) }
     {
         let Some(slot) = self.slot(page) else {
             return Err(Refused::Absent);
@@ -110,7 +118,11 @@ fn may_halve<A: Allocator + Copy>(
 impl<A: Allocator + Copy> Slot<A> {
     /// The base page, where no record stands over it.
     fn bare_page(&self) -> Option<&Base<A>>
-        ensures { IfSome result (λ base. base.now ≡ page_for (chain_in self.now)) }
+        ensures page { IfSome result (λ base. base.now ≡ page_for (chain_in self.now)) }
+        ensures bare { IfSome result (λ base. (records : Records)
+            → self.now.chain ≡ Some records → depth records ≡ 0) }
+        ensures above { IfNone result ((records : Records)
+            → self.now.chain ≡ Some records → 0 < depth records) }
     {
         match &self.chain {
             Some(chain) => match &chain.node {

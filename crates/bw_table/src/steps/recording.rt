@@ -1,12 +1,12 @@
 //! A look for a key and the record of its change, or a page made anew where it lies: each one step.
 
-ghost use Rattle.std.specs.Prelude.{◌≡◌, ◌++◌, ◌∷◌, [], option_map, IfSome, IfNone, IfOk, OnErr};
+ghost use Rattle.std.specs.Prelude.{◌≡◌, ◌++◌, ◌∷◌, [], option_map, IfSome, IfNone, IfOk, IfErr, OnErr};
 ghost use Rattle.bw_step.specs.ProposalView.{proposal_of};
 ghost use Rattle.bw_step.specs.declared.receipt.Receipt.TheVariants.{Looked};
-ghost use Rattle.bw_law.specs.Refusals.{open_reasons, worn};
+ghost use Rattle.bw_law.specs.Refusals.{open_reasons, refusal, worn};
 ghost use Rattle.bw_law.specs.Tables.{slot_at};
-ghost use Rattle.bw_table.specs.Answers.{AnswersFirst};
-ghost use Rattle.bw_table.specs.InPlaces.{IsRecordedAtOnce, IsConsolidatedAtOnce, step_for};
+ghost use Rattle.bw_table.specs.Answers.{AnswersFirst, IsDenialFor};
+ghost use Rattle.bw_table.specs.InPlaces.{IsRecordedAtOnce, IsConsolidatedAtOnce, consolidating, step_for};
 
 use crate::slot::Slot;
 use crate::steps::shared::check_open;
@@ -64,7 +64,8 @@ impl<A: Allocator + Copy> Table<A> {
         }
     }
 
-    /// Consolidates the page where it lies, if it still has the version that was seen.
+    /// Consolidates the page where it lies, if it still has the version that was seen. No memory is
+    /// taken for a step that is refused.
     pub fn consolidate_at_once(
         &mut self,
         alloc: A,
@@ -72,7 +73,9 @@ impl<A: Allocator + Copy> Table<A> {
         seen: Version,
     ) -> Result<Receipt, Denied>
         ensures done { IfOk result (IsConsolidatedAtOnce self.old page.0 seen.0 self.new) }
-        ensures denied { OnErr result (self.new ≡ self.old) }
+        ensures denied { IfErr result
+            (IsDenialFor (refusal self.old (consolidating self.old page.0 seen.0))) }
+        ensures unchanged { OnErr result (self.new ≡ self.old) }
     {
         let Some(slot) = self.slot(page) else {
             return Err(Denied::Refused(Refused::Absent));
@@ -83,8 +86,7 @@ impl<A: Allocator + Copy> Table<A> {
         let base = match self.consolidated_page(alloc, page, seen) {
             Ok(base) => base,
             Err(CopyFault::NoMemory) => return Err(Denied::NoMemory),
-            Err(CopyFault::Absent) => return Err(Denied::Refused(Refused::Absent)),
-            Err(CopyFault::Stale) => return Err(Denied::Refused(Refused::Stale)),
+            Err(CopyFault::Absent | CopyFault::Stale) => unreachable!(),
         };
         Ok(self.consolidate(Consolidate { page, seen, base }))
     }
