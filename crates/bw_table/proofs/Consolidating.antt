@@ -76,8 +76,8 @@ module _ (table : TableValue) (page seen : ℕ) (law : Lawful table) where
   anew_is_refused reason told =
       some_between (open_reasons its seen) _ _ (worn (its ∷ [])) reason
       (λ none.
-        let kind : is_other_kind (page_for (chain_in its)) its ≡ false = kind_of_page table page law (not_absent (is_in_row its.stage) _ none) in
-        (rw kind refl, rw (same_page_tells (page_for (chain_in its)) (page_for (chain_in its)) refl) refl))
+      let kind : is_other_kind (page_for (chain_in its)) its ≡ false = kind_of_page table page law (not_absent (is_in_row its.stage) _ none) in
+      (rw kind refl, rw (same_page_tells (page_for (chain_in its)) (page_for (chain_in its)) refl) refl))
       (the_reason reason _ told)
 
   -- and is accepted as it is, otherwise

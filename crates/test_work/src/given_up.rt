@@ -12,7 +12,7 @@ use std::collections::BTreeMap;
 use std::sync::Wait;
 use std::test::Fail;
 use std::thread::Threads;
-use test_kit::{Call, LARGE, Pages, Play, Reply, Task, Turns, Worked, play_on_new_tree, work};
+use test_kit::{Call, LARGE, Pages, Play, Played, Reply, Task, Turns, play_on_new_tree, work};
 
 /// The first of two hands makes the calls, the other none.
 #[derive(Drop)]
@@ -46,7 +46,7 @@ fn leave<S: Shared<Global, Step<Global>>, T: Trail>(
     machine: Global,
     mut hand: Hand<'_, Global, S, Open, T>,
     calls: &[Call],
-) -> Worked<S::Insertions, S::Removals, Left> {
+) -> Played<S::Insertions, S::Removals, Left> {
     let told = work(machine, &mut hand, Task::calls(calls));
     let receipts = hand.trail_len();
     let taken = hand.take_trail();
@@ -58,7 +58,7 @@ fn leave<S: Shared<Global, Step<Global>>, T: Trail>(
         receipts,
     };
     let (share, rest) = hand.finish();
-    Worked {
+    Played {
         share,
         told: Left {
             outcome,
@@ -74,7 +74,7 @@ impl Play<Left> for Drawn {
         tree: &S,
         worker: u32,
         share: Share<S::Insertions, S::Removals>,
-    ) -> Worked<S::Insertions, S::Removals, Left> {
+    ) -> Played<S::Insertions, S::Removals, Left> {
         let calls: &[Call] = if worker == 0 { &self.calls } else { &[] };
         if self.gives_up {
             let trail = GivenUp::new();
