@@ -28,4 +28,4 @@ finish-requires-clause-workers g c =
 pub finish-requires-clause-counted : goal.finish-requires-clause-counted
 finish-requires-clause-counted g c =
     let all = c.in_ok-shares.field-0 in
-    counts_trails c.in-Ok-close.table all.shares.items all.trails.items all.counted c.in-Ok-close.ensures.closed.pairs
+    counts_trails (λ trail. trail.items) c.in-Ok-close.table all.shares.items all.trails.items all.counted c.in-Ok-close.ensures.closed.pairs
