@@ -124,7 +124,7 @@ fn shapes_in(trail: &[Receipt]) -> u64 {
 }
 
 /// Returns whether both tables have the same pages, pairs and counts.
-fn are_alike(
+pub(crate) fn are_alike(
     machine: Global,
     one: &Table<Global>,
     other: &Table<Global>,

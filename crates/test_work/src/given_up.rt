@@ -1,10 +1,9 @@
 //! A hand that keeps its receipts and one that gives them up make the same drawn calls, each on a
 //! tree of its own. All but what is kept is the same for both, and a plain map says the replies.
 
-use crate::at_once::{CONFIGS, drawn_calls};
+use crate::at_once::{CONFIGS, are_alike, drawn_calls};
 use bw_keys::{Config, Fence};
 use bw_step::Step;
-use bw_table::Table;
 use bw_tree::{Share, Shared};
 use bw_work::{Del, Ends, Fault, GivenUp, Hand, Open, Put, Set, Steps, Trail};
 use std::alloc::{AllocError, Global};
@@ -12,7 +11,9 @@ use std::collections::BTreeMap;
 use std::sync::Wait;
 use std::test::Fail;
 use std::thread::Threads;
-use test_kit::{Call, LARGE, Pages, Play, Played, Reply, Task, Turns, play_on_new_tree, work};
+use test_kit::{
+    Call, Ended, LARGE, Pages, Play, Played, Reply, Task, Turns, play_on_new_tree, work,
+};
 
 /// The first of two hands makes the calls, the other none.
 #[derive(Drop)]
@@ -41,30 +42,43 @@ struct Left {
     rest: usize,
 }
 
-/// Makes the calls, takes the trail, and finishes.
-fn leave<S: Shared<Global, Step<Global>>, T: Trail>(
-    machine: Global,
-    mut hand: Hand<'_, Global, S, Open, T>,
-    calls: &[Call],
-) -> Played<S::Insertions, S::Removals, Left> {
-    let told = work(machine, &mut hand, Task::calls(calls));
-    let receipts = hand.trail_len();
-    let taken = hand.take_trail();
-    let outcome = Outcome {
-        replies: told.replies,
-        fault: told.fault,
-        effort: hand.effort(),
-        ends: hand.ends(),
-        receipts,
-    };
-    let (share, rest) = hand.finish();
-    Played {
-        share,
-        told: Left {
-            outcome,
-            kept: taken.receipts().len(),
-            rest: rest.count(),
-        },
+impl Left {
+    /// Whether this many receipts were kept of the calls, and none behind them.
+    fn has_kept(&self, receipts: usize) -> bool {
+        self.kept == receipts && self.rest == 0
+    }
+}
+
+impl Drawn {
+    /// Makes the calls by a hand with the trail, takes the trail, and finishes.
+    fn leave<S: Shared<Global, Step<Global>>, T: Trail>(
+        &self,
+        trail: T,
+        tree: &S,
+        worker: u32,
+        share: Share<S::Insertions, S::Removals>,
+    ) -> Played<S::Insertions, S::Removals, Left> {
+        let calls: &[Call] = if worker == 0 { &self.calls } else { &[] };
+        let mut hand = Hand::with_trail(trail, self.machine, tree, share, worker, &Open);
+        let told = work(self.machine, &mut hand, Task::calls(calls));
+        let receipts = hand.trail_len();
+        let taken = hand.take_trail();
+        let outcome = Outcome {
+            replies: told.replies,
+            fault: told.fault,
+            effort: hand.effort(),
+            ends: hand.ends(),
+            receipts,
+        };
+        let (share, rest) = hand.finish();
+        Played {
+            share,
+            told: Left {
+                outcome,
+                kept: taken.receipts().len(),
+                rest: rest.count(),
+            },
+        }
     }
 }
 
@@ -75,23 +89,12 @@ impl Play<Left> for Drawn {
         worker: u32,
         share: Share<S::Insertions, S::Removals>,
     ) -> Played<S::Insertions, S::Removals, Left> {
-        let calls: &[Call] = if worker == 0 { &self.calls } else { &[] };
         if self.gives_up {
-            let trail = GivenUp::new();
-            let hand = Hand::with_trail(trail, self.machine, tree, share, worker, &Open);
-            leave(self.machine, hand, calls)
+            self.leave(GivenUp::new(), tree, worker, share)
         } else {
-            let hand = Hand::new(self.machine, self.machine, tree, share, worker, &Open);
-            leave(self.machine, hand, calls)
+            self.leave(Vec::new(self.machine), tree, worker, share)
         }
     }
-}
-
-/// A table as text: its leaves, its book and its pairs.
-fn shown(machine: Global, table: &Table<Global>) -> Result<String, Fail> {
-    let survey = table.survey(machine)?;
-    let pairs = table.pairs(machine)?;
-    Ok(format!(in machine; "{survey}\n{pairs:?}")?)
 }
 
 /// Takes the keys of a range out of the map, and returns how many it had.
@@ -102,8 +105,10 @@ fn take_out(
     high: u64,
 ) -> Result<u64, AllocError> {
     let mut keys = Vec::new(machine);
-    for pair in map.range(low..high) {
-        keys.push(*pair.0)?;
+    for (key, _) in map.iter() {
+        if (low..high).contains(key) {
+            keys.push(*key)?;
+        }
     }
     for key in keys.iter() {
         map.remove(key);
@@ -142,6 +147,22 @@ fn plain_replies(machine: Global, calls: &[Call]) -> Result<Vec<Reply>, Fail> {
     Ok(replies)
 }
 
+/// Makes the calls by a hand of one kind.
+fn play_drawn<R: Threads + Wait + Sync + Send + Copy>(
+    rt: R,
+    machine: Global,
+    config: Config,
+    seed: u64,
+    gives_up: bool,
+) -> Result<Ended<Left>, Fail> {
+    let drawn = Drawn {
+        machine,
+        calls: drawn_calls(machine, seed)?,
+        gives_up,
+    };
+    Ok(play_on_new_tree(rt, machine, config, Turns::OneByOne, &drawn)?)
+}
+
 /// Makes the calls by a hand of each kind, and compares them. Returns the replies.
 fn replies_alike<R: Threads + Wait + Sync + Send + Copy>(
     rt: R,
@@ -149,19 +170,14 @@ fn replies_alike<R: Threads + Wait + Sync + Send + Copy>(
     config: Config,
     seed: u64,
 ) -> Result<Vec<Reply>, Fail> {
-    let mut drawn = Drawn {
-        machine,
-        calls: drawn_calls(machine, seed)?,
-        gives_up: false,
-    };
-    let keeping = play_on_new_tree(rt, machine, config, Turns::OneByOne, &drawn)?;
-    drawn.gives_up = true;
-    let giving_up = play_on_new_tree(rt, machine, config, Turns::OneByOne, &drawn)?;
-    let is_same = keeping.zero.outcome == giving_up.zero.outcome
-        && shown(machine, &keeping.table)? == shown(machine, &giving_up.table)?;
-    let kept = (keeping.zero.kept, keeping.zero.rest);
-    let given_up = (giving_up.zero.kept, giving_up.zero.rest);
-    if !is_same || kept != (keeping.zero.outcome.receipts, 0) || given_up != (0, 0) {
+    let keeping = play_drawn(rt, machine, config, seed, false)?;
+    let giving_up = play_drawn(rt, machine, config, seed, true)?;
+    if !keeping.zero.has_kept(keeping.zero.outcome.receipts) || !giving_up.zero.has_kept(0) {
+        return Err("other receipts are kept".into());
+    }
+    if keeping.zero.outcome != giving_up.zero.outcome
+        || !are_alike(machine, &keeping.table, &giving_up.table)?
+    {
         return Err("they differ".into());
     }
     Ok(giving_up.zero.outcome.replies)
