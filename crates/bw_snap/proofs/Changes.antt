@@ -1,24 +1,27 @@
 -- What was done at once is done by the steps that its note stands for.
 use Rattle.std.proofs.Common.{◌≡◌, ℕ, List, [], ◌∷◌, ◌++◌, refl, ap, sym, ◌∙◌, subst, Some, None, Option, append-nil}
-use Rattle.std.specs.Prelude.{Bool, true, is_some, IfSome}
+use Rattle.std.specs.Prelude.{Bool, true, is_some, IfSome, Result, Ok, Err, is_ok, IfOk, option_map, option_to_list}
 use Rattle.bw_delta.specs.Entries.{at}
 use Rattle.bw_delta.specs.Pages.{Page}
 use Rattle.bw_keys.specs.declared.page.Pid.{Pid}
+use Rattle.bw_keys.specs.declared.page.Version.{Version}
 use Rattle.bw_chain.specs.declared.in_place.Wished.{Wished}
 use Rattle.bw_chain.specs.declared.in_place.Wished.TheVariants as wishes
+use Rattle.bw_step.specs.declared.fault.Denied.{Denied}
 use Rattle.bw_step.specs.declared.receipt.Kind.TheVariants as kinds
 use Rattle.bw_step.specs.declared.receipt.Receipt.{Receipt}
 use Rattle.bw_step.specs.declared.receipt.Receipt.TheVariants.{Inserted, Deleted, Modified, Looked, Shaped}
-use Rattle.bw_step.specs.Proposals.{Proposal, consolidate}
+use Rattle.bw_step.specs.Proposals.{Proposal, consolidate, term_add}
 use Rattle.bw_law.specs.Effects.{after, TakesStep, receipt_of, pid}
 use Rattle.bw_law.specs.Refusals.{refusal}
 use Rattle.bw_law.specs.Runs.{run, TakesInTurn}
 use Rattle.bw_law.specs.Slots.{pairs_in}
 use Rattle.bw_law.specs.Tables.{TableValue, slot_at, number_of}
-use Rattle.bw_law.proofs.Accepted.{consolidate_accepted}
-use Rattle.bw_table.specs.InPlaces.{step_for, both_steps, TakesBoth, LooksOrTakes, IsDoneAtOnce}
-use Rattle.bw_snap.specs.Notes.{consolidation_of, consolidated_behind, steps_at_once, held_for, held_notes, steps_of, table_with}
+use Rattle.bw_law.proofs.Accepted.{consolidate_accepted, term_add_accepted}
+use Rattle.bw_table.specs.InPlaces.{step_for, both_steps, TakesBoth, LooksOrTakes, IsDoneAtOnce, LooksOrTakesOne, IsRecordedAtOnce, IsConsolidatedAtOnce, IsHalvedAtOnce, IsPostedByOne, consolidating, halving}
+use Rattle.bw_snap.specs.Notes.{consolidation_of, consolidated_behind, steps_at_once, step_recorded, term_of, split_in_half, steps_for, held_for, held_record, held_notes, steps_of, table_with}
 use Rattle.bw_snap.specs.declared.note.Change.{Change}
+use Rattle.bw_snap.specs.declared.note.Change.TheVariants as changes
 use Rattle.bw_snap.specs.declared.note.Note.{Note}
 use Rattle.bw_snap.specs.Snapshots.{LeadTo}
 use Rattle.bw_snap.proofs.Notes.{steps_of-append, runs_to}
@@ -102,6 +105,81 @@ pub made_by_its_steps : (old : TableValue) (page key : ℕ) (wished : Wished) (r
 made_by_its_steps old page key wished receipt new done = sym (runs_to old new (steps_at_once old page key wished) (done_at_once_leads old page key wished receipt new done))
 
 -- the same where the copy's answer is looked at alone
-pub made_where_some : (old new : TableValue) (change : Change) (answer : Option Receipt) (test : Bool) → IfSome answer (λ receipt. IsDoneAtOnce old change.page.0 change.key change.wished receipt new) → test ≡ is_some answer → test ≡ true → new ≡ table_with old change
-made_where_some old new change None test done is holds = absurd (cc (is, holds))
-made_where_some old new change (Some receipt) test done is holds = made_by_its_steps old change.page.0 change.key change.wished receipt new done
+pub made_where_some : (old new : TableValue) (page : Pid) (key : ℕ) (wished : Wished) (answer : Option Receipt) (test : Bool)
+    → IfSome answer (λ receipt. IsDoneAtOnce old page.0 key wished receipt new) → test ≡ is_some answer → test ≡ true → new ≡ table_with old (changes.Write page key wished)
+made_where_some old new page key wished None test done is holds = absurd (cc (is, holds))
+made_where_some old new page key wished (Some receipt) test done is holds = made_by_its_steps old page.0 key wished receipt new done
+
+-- behind the notes that lead to a table, a note that is held back stands for its steps there
+pub pending_with_held : (a b : TableValue) (notes : List Note) (change : Change) → LeadTo a (steps_of a notes) b → steps_of a (notes ++ held_notes (Some change)) ≡ steps_of a notes ++ steps_for b change
+pending_with_held a b notes change leads =
+    steps_of-append a b notes (held_notes (Some change)) leads ∙ ap (λ (l : List Proposal). steps_of a notes ++ l) (append-nil (steps_for b change))
+
+-- one step that a table takes leads where the table is then
+one_leads : (old : TableValue) (step : Proposal) (receipt : Receipt) (new : TableValue) → TakesInTurn old ((step, receipt) ∷ []) new → LeadTo old (step ∷ []) new
+one_leads old step receipt new takes = (takes.1, takes.3 ∙ takes.2.leads)
+
+looks_or_leads : (old : TableValue) (look receipt : Receipt) (new : TableValue) (step : Option Proposal) → LooksOrTakesOne old look receipt new step → LeadTo old (option_to_list step) new
+looks_or_leads old look receipt new None done = done.1
+looks_or_leads old look receipt new (Some step) done = one_leads old step receipt new done
+
+-- the record that was put on a page at once is where its step leads
+pub recorded_leads : (old : TableValue) (page key : ℕ) (wished : Wished) (receipt : Receipt) (new : TableValue) → IsRecordedAtOnce old page key wished receipt new → LeadTo old (step_recorded old page key wished) new
+recorded_leads old page key wished receipt new done =
+    let slot = slot_at old page in
+    let had = at key (pairs_in slot) in
+    looks_or_leads old (Looked (number_of old.book) key had) receipt new (step_for page slot.version key wished had) done
+
+-- the receipt tells which step it was
+record_of_receipt : (old : TableValue) (page : Pid) (key : ℕ) (wished : Wished) (had : Option ℕ) (n : ℕ) (receipt : Receipt) (new : TableValue)
+    → LooksOrTakesOne old (Looked n key had) receipt new (step_for page.0 (slot_at old page.0).version key wished had)
+    → steps_of old (held_notes (held_record page receipt)) ≡ option_to_list (step_for page.0 (slot_at old page.0).version key wished had)
+record_of_receipt old page key (wishes.Put value) None n receipt new done = rw done.2.told refl
+record_of_receipt old page key (wishes.Put value) (Some had) n receipt new done = rw done.0 refl
+record_of_receipt old page key (wishes.Set value) None n receipt new done = rw done.2.told refl
+record_of_receipt old page key (wishes.Set value) (Some had) n receipt new done = rw done.2.told refl
+record_of_receipt old page key wishes.Delete None n receipt new done = rw done.0 refl
+record_of_receipt old page key wishes.Delete (Some had) n receipt new done = rw done.2.told refl
+
+-- behind the notes that lead to a table, the note of the record that was put there at once stands for its step
+pub pending_with_record : (a b : TableValue) (notes : List Note) (page : Pid) (key : ℕ) (wished : Wished) (receipt : Receipt) (new : TableValue) → LeadTo a (steps_of a notes) b → IsRecordedAtOnce b page.0 key wished receipt new
+    → steps_of a (notes ++ held_notes (held_record page receipt)) ≡ steps_of a notes ++ step_recorded b page.0 key wished
+pending_with_record a b notes page key wished receipt new leads done =
+    steps_of-append a b notes (held_notes (held_record page receipt)) leads
+    ∙ ap (λ (l : List Proposal). steps_of a notes ++ l) (record_of_receipt b page key wished (at key (pairs_in (slot_at b page.0))) (number_of b.book) receipt new done)
+
+-- a page that was consolidated at once is where the consolidation of it as it was leads
+pub consolidated_leads : (old : TableValue) (page seen : ℕ) (new : TableValue) (receipt : Receipt) → IsConsolidatedAtOnce old page seen new receipt → LeadTo old (consolidating old page seen ∷ []) new
+consolidated_leads old page seen new receipt done =
+    subst (λ (base : Page). LeadTo old (consolidate page seen base ∷ []) new) (consolidate_accepted old page seen done.0 done.1.1).same
+    (one_leads old (consolidate page seen done.0) receipt new done.1)
+
+-- the table after a consolidation that a copy made
+pub consolidated_where_ok : (old new : TableValue) (page : Pid) (seen : Version) (answer : Result Receipt Denied) (test : Bool)
+    → IfOk answer (IsConsolidatedAtOnce old page.0 seen.0 new) → test ≡ is_ok answer → test ≡ true → new ≡ table_with old (changes.Consolidation page seen)
+consolidated_where_ok old new page seen (Err denied) test done is holds = absurd (cc (is, holds))
+consolidated_where_ok old new page seen (Ok receipt) test done is holds = sym (runs_to old new (consolidating old page.0 seen.0 ∷ []) (consolidated_leads old page.0 seen.0 new receipt done))
+
+-- a page that was split in half at once is where its split leads
+pub halved_leads : (old : TableValue) (page seen : ℕ) (term : ℕ × Pid) (new : TableValue) → IsHalvedAtOnce old page seen term new → LeadTo old (halving old page seen term.0 ∷ []) new
+halved_leads old page seen term new done = one_leads old (halving old page seen term.0) (Shaped kinds.Split (pid page) (Some term.1)) new done.takes
+
+-- which is the split at its middle
+pub halved_in_the_middle : (old : TableValue) (page seen : ℕ) (term : ℕ × Pid) (new : TableValue) → IsHalvedAtOnce old page seen term new → split_in_half old page seen ≡ halving old page seen term.0 ∷ []
+halved_in_the_middle old page seen term new done = ap (λ (middle : Option ℕ). option_to_list (option_map (halving old page seen) middle)) done.middle
+
+-- the table after a page that a copy split in half
+pub halved_where_ok : (old new : TableValue) (page : Pid) (seen : Version) (answer : Result (ℕ × Pid) Denied) (test : Bool)
+    → IfOk answer (λ term. IsHalvedAtOnce old page.0 seen.0 term new) → test ≡ is_ok answer → test ≡ true → new ≡ table_with old (changes.Half page seen)
+halved_where_ok old new page seen (Err denied) test done is holds = absurd (cc (is, holds))
+halved_where_ok old new page seen (Ok term) test done is holds =
+    sym (ap (run old) (halved_in_the_middle old page.0 seen.0 term new done) ∙ runs_to old new (halving old page.0 seen.0 term.0 ∷ []) (halved_leads old page.0 seen.0 term new done))
+
+-- the term that a parent takes at once is that of both pages as they were
+pub posted_leads : (old : TableValue) (parent child : Pid) (new : TableValue) → IsPostedByOne old parent child new → LeadTo old (term_of old parent.0 child.0 ∷ []) new
+posted_leads old parent child new done =
+    let takes = done.2 in
+    let may = (term_add_accepted old parent.0 done.0 child.0 done.1 takes.1).change in
+    subst (λ (seen : ℕ). LeadTo old (term_add parent.0 seen child.0 (slot_at old child.0).version ∷ []) new) (sym may.open_parent.fresh)
+    (subst (λ (seen : ℕ). LeadTo old (term_add parent.0 done.0 child.0 seen ∷ []) new) (sym may.child_fresh)
+    (one_leads old (term_add parent.0 done.0 child.0 done.1) (Shaped kinds.TermAdd parent (Some child)) new takes))

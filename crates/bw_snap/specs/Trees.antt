@@ -1,7 +1,8 @@
 -- What the lock of a tree with readers keeps, and what its calls answer.
-use Rattle.std.specs.Prelude.{◌≡◌, ℕ, Bool, true, false, List, [], Some, None}
+use Rattle.std.specs.Prelude.{◌≡◌, ℕ, Bool, true, false, List, [], Option, Some, None}
 use Rattle.bw_keys.specs.declared.config.Config.{Config}
 use Rattle.bw_keys.specs.Limits.{first_bad_field, is_out_of}
+use Rattle.bw_step.specs.declared.refused.Refused.{Refused}
 use Rattle.bw_step.specs.Proposals.{Proposal}
 use Rattle.bw_law.specs.Refusals.{refusal}
 use Rattle.bw_law.specs.Tables.{TableValue}
@@ -32,6 +33,11 @@ pub record IsPublished (config : Config) (value : PublishedValue) : Type 0 where
 abbrev pub IsDenialOf : TableValue → Proposal → Denied → Type 0
 IsDenialOf table step (denials.Refused reason) = refusal table step ≡ Some reason
 IsDenialOf table step denials.NoMemory = refusal table step ≡ None
+
+-- the reason to refuse a step, which is told unless memory is wanting before it is looked at
+abbrev pub IsReasonUnlessWant : Option Refused → Denied → Type 0
+IsReasonUnlessWant reason (denials.Refused refused) = reason ≡ Some refused
+IsReasonUnlessWant reason denials.NoMemory = Unit {0}
 
 -- there are no readers, or too many
 abbrev pub is_bad_reader_number : ℕ → Bool

@@ -13,7 +13,7 @@ use crate::published::Published;
 use crate::reader::Reader;
 use crate::stamp::Stamp;
 use bw_chain::Wished;
-use bw_delta::{Chain, NoMemory};
+use bw_delta::{Chain, NoMemory, Spare};
 use bw_keys::{Config, Key, Pid, Version};
 use bw_step::{AtOnce, CopyFault, Denied, Look, Next, Place, Receipt, Step, View};
 use bw_table::Table;
@@ -180,6 +180,51 @@ impl<R: Wait + Copy, N: Naming, D: Ledger> Shared<Global, Step<Global>> for Read
         self.published
             .lock(&self.rt)
             .change_at_once(share, key, wished)
+    }
+
+    #[inline(always)]
+    fn record_at_once(
+        &self,
+        alloc: Global,
+        share: &mut Share<N, D>,
+        key: Key,
+        wished: Wished,
+    ) -> Option<AtOnce> {
+        let spare = Spare::new(alloc).ok()?;
+        self.published
+            .lock(&self.rt)
+            .record_at_once(share, key, wished, spare)
+    }
+
+    fn consolidate_at_once(
+        &self,
+        alloc: Global,
+        page: Pid,
+        seen: Version,
+    ) -> Option<Result<Receipt, Denied>> {
+        Some(
+            self.published
+                .lock(&self.rt)
+                .consolidate_at_once(alloc, page, seen),
+        )
+    }
+
+    fn halve_at_once(
+        &self,
+        alloc: Global,
+        page: Pid,
+        seen: Version,
+    ) -> Option<Result<(Key, Pid), Denied>> {
+        Some(
+            self.published
+                .lock(&self.rt)
+                .halve_at_once(alloc, page, seen),
+        )
+    }
+
+    fn add_term_at_once(&self, alloc: Global, child: Pid) -> Option<Pid> {
+        let spare = Spare::new(alloc).ok()?;
+        self.published.lock(&self.rt).add_term_at_once(child, spare)
     }
 
     #[inline(always)]

@@ -3,12 +3,13 @@
 ghost use Rattle.std.specs.Prelude.{◌≡◌, true, false};
 ghost use Rattle.bw_step.specs.ProposalView.{proposal_of};
 ghost use Rattle.bw_law.specs.Runs.{next_table};
-ghost use Rattle.bw_snap.specs.Notes.{table_with};
+ghost use Rattle.bw_snap.specs.Notes.{step_of, table_with};
 
 use crate::front::{Front, Naming};
-use crate::note::{Change, Note};
+use crate::note::{Change, Note, Record};
 use crate::proposed::List;
 use atomic_table::{Join, Split};
+use bw_delta::Spare;
 use bw_step::Step;
 use bw_table::Table;
 use crossbeam_utils::rule::{Outcome, Protocol};
@@ -55,7 +56,7 @@ impl Absorb<Note> for Shown {
                 take(&mut self.table, twin);
             }
             Note::Change(change) => {
-                if !carry_out(&mut self.table, *change) {
+                if !carry_out(self.machine, &mut self.table, *change) {
                     return Err(AllocError);
                 }
             }
@@ -70,7 +71,7 @@ impl Absorb<Note> for Shown {
         match note {
             Note::Step(step) => take(&mut self.table, step),
             Note::Change(change) => {
-                if !carry_out(&mut self.table, change) {
+                if !carry_out(self.machine, &mut self.table, change) {
                     return Err(Note::Change(change));
                 }
             }
@@ -87,15 +88,35 @@ fn take(table: &mut Table<Global>, step: Step<Global>)
     let _ = table.install(step);
 }
 
-/// Makes the change as the locked table did. Returns whether it was made: a copy that is where the
-/// locked table was is short of nothing but memory.
-fn carry_out(table: &mut Table<Global>, change: Change) -> bool
+/// Does what the locked table did. Returns whether it was done: a copy that is where the locked table
+/// was is short of nothing but memory.
+fn carry_out(machine: Global, table: &mut Table<Global>, change: Change) -> bool
     ensures done { result ≡ true → table.new ≡ table_with table.old change }
     ensures unchanged { result ≡ false → table.new ≡ table.old }
 {
-    table
-        .change_leaf(change.page, change.key, change.wished)
-        .is_some()
+    match change {
+        Change::Write { page, key, wished } => table.change_leaf(page, key, wished).is_some(),
+        Change::Record(recorded) => put(machine, table, recorded),
+        Change::Consolidation { page, seen } => {
+            table.consolidate_at_once(machine, page, seen).is_ok()
+        }
+        Change::Half { page, seen } => table.halve_at_once(machine, page, seen).is_ok(),
+    }
+}
+
+/// Puts the record on its page. Returns whether there was memory for it.
+fn put(machine: Global, table: &mut Table<Global>, recorded: Record) -> bool
+    ensures done { result ≡ true → table.new ≡ next_table table.old (step_of table.old recorded) }
+    ensures unchanged { result ≡ false → table.new ≡ table.old }
+{
+    let Ok(spare) = Spare::new(machine) else {
+        return false;
+    };
+    let Some(step) = recorded.step(table, spare) else {
+        return false;
+    };
+    take(table, step);
+    true
 }
 
 /// The rule of what is published, over what readers, stamps and the writing end have seen. Each of

@@ -1,4 +1,4 @@
-//! A hand on a tree with readers makes changes at once, and each is noted for the published copies.
+//! What a hand on a tree with readers does in one hold of the lock is noted for the published copies.
 //! It is answered as a hand on a tree without readers, and as one that goes step by step, and leaves
 //! the same receipts and leaves. Its replies, and what readers find, are those of a plain map.
 
@@ -29,11 +29,12 @@ const KEYS: u32 = 48;
 /// The number of calls between two publications.
 const SPANS: [usize; 3] = [1, 7, 100];
 
-/// Room for all keys, with a page that is consolidated after each record and one that isn't, a table
+/// Room for all keys, with a page that is consolidated after each record and two that aren't, a table
 /// that gets full, and versions that are used up.
-static CONFIGS: [Config; 4] = [
+static CONFIGS: [Config; 5] = [
     Config { chain: 1, ..LARGE },
     Config { chain: 2, ..LARGE },
+    Config { chain: 8, ..LARGE },
     Config {
         chain: 1,
         pages: 8,
@@ -404,7 +405,13 @@ fn drop_new_tree<R: Wait + Copy>(
 #[test]
 fn a_tree_is_dropped_with_changes_that_are_pending(rt: HostRuntime) -> Result<(), Fail> {
     let machine = rt.alloc();
-    let calls = [Call::Put(0, 5), Call::Set(0, 6), Call::Put(1, 7)];
-    assert_eq!(rt; drop_new_tree(rt, machine, CONFIGS[0], &calls)?, None);
+    for config in CONFIGS.iter() {
+        let calls = drawn_calls(machine, u64::from(config.chain))?;
+        assert_eq!(rt;
+            drop_new_tree(rt, machine, *config, &calls)?,
+            None,
+            "{config:?}"
+        );
+    }
     Ok(())
 }

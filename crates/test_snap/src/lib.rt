@@ -1,7 +1,10 @@
 //! Tests of a reader in a thread of its own beside two workers: what it sees while one of them is
-//! held, and while both write and publish all the time. Tests of the room for stamps, too.
+//! held, and while both write and publish all the time. Tests of the room for stamps, and of what is
+//! done in one hold of the lock, too.
 #![tactic(auto)]
 
+#[cfg(test)]
+mod answers;
 #[cfg(test)]
 mod at_once;
 #[cfg(test)]

@@ -1,0 +1,341 @@
+//! A tree with readers is asked for all that may be done in one hold of its lock, and answers as a tree
+//! without readers. What readers find then is what a plain map has.
+
+ghost use Rattle.std.specs.Prelude.{◌≡◌};
+ghost use Rattle.bw_tree.specs.Trees.{OpensFor};
+
+use bw_keys::{Config, Fence, Key, Pid, Version};
+use bw_snap::{Announcements, Naming, ReadTree, Reader};
+use bw_step::{AtOnce, Denied, Look, Receipt, Step, View};
+use bw_table::{Table, Wished};
+use bw_tree::{Blanks, MadeBy, Share, Shared, Tree};
+use bw_work::{Calls, Hand, Open, Steps};
+use rand_core::{Rng, SeedableRng};
+use rand_pcg::Pcg32;
+use std::alloc::Global;
+use std::collections::BTreeMap;
+use std::marker::Brand;
+use std::sync::Wait;
+use std::sync::ledger::Ledger;
+use std::test::Fail;
+use test_kit::{LARGE, leaves_of};
+
+/// The number of drawn questions.
+const QUESTIONS: u32 = 500;
+
+/// The number of questions between two publications.
+const SPAN: u32 = 11;
+
+/// Half of the keys have values before the questions.
+const KEYS: u64 = 64;
+
+/// The questions are for pages below this one.
+const PAGES: u32 = 40;
+
+const CHAINS: [u32; 3] = [1, 2, 8];
+
+/// What a tree is asked to do. The page of a consolidation and of a split is named by its version, or by
+/// the one behind it.
+#[derive(Clone, Copy)]
+enum Question {
+    Leaf(Key),
+    Look(Key),
+    Change(Key, Wished),
+    Record(Key, Wished),
+    Consolidate(Pid, bool),
+    Halve(Pid, bool),
+    AddTerm(Pid),
+}
+
+/// Its answer.
+#[derive(Clone, Copy, Debug, PartialEq, Eq)]
+enum Answer {
+    Leaf(Option<View>),
+    Look(Option<Look>),
+    Change(Option<AtOnce>),
+    Record(Option<AtOnce>),
+    Consolidate(Option<Result<Receipt, Denied>>),
+    Halve(Option<Result<(Key, Pid), Denied>>),
+    AddTerm(Option<Pid>),
+}
+
+fn drawn_wish(rng: &mut Pcg32) -> Wished {
+    let value = u64::from(rng.next_u32());
+    match rng.next_u32() % 3 {
+        0 => Wished::Put(value),
+        1 => Wished::Set(value),
+        _ => Wished::Delete,
+    }
+}
+
+fn drawn_question(rng: &mut Pcg32) -> Question {
+    let key = u64::from(rng.next_u32()) % KEYS;
+    let page = Pid(rng.next_u32() % PAGES);
+    let is_stale = rng.next_u32() % 8 == 0;
+    match rng.next_u32() % 8 {
+        0 => Question::Leaf(key),
+        1 => Question::Look(key),
+        2 => Question::Change(key, drawn_wish(rng)),
+        3 => Question::Record(key, drawn_wish(rng)),
+        4 => Question::Consolidate(page, is_stale),
+        5 => Question::Halve(page, is_stale),
+        _ => Question::AddTerm(page),
+    }
+}
+
+/// Returns the page's version, or the one behind it.
+fn version_of<S: Shared<Global, Step<Global>>>(tree: &S, page: Pid, is_stale: bool) -> Version {
+    let version = match tree.peek(page) {
+        Some(view) => view.version,
+        None => Version(0),
+    };
+    Version(version.0.wrapping_add(u64::from(is_stale)))
+}
+
+fn ask<S: Shared<Global, Step<Global>>>(
+    machine: Global,
+    tree: &S,
+    share: &mut Share<S::Insertions, S::Removals>,
+    question: Question,
+) -> Answer {
+    match question {
+        Question::Leaf(key) => Answer::Leaf(tree.leaf_at_once(key)),
+        Question::Look(key) => Answer::Look(tree.look_at_once(key)),
+        Question::Change(key, wished) => Answer::Change(tree.change_at_once(share, key, wished)),
+        Question::Record(key, wished) => {
+            Answer::Record(tree.record_at_once(machine, share, key, wished))
+        }
+        Question::Consolidate(page, is_stale) => {
+            let version = version_of(tree, page, is_stale);
+            Answer::Consolidate(tree.consolidate_at_once(machine, page, version))
+        }
+        Question::Halve(page, is_stale) => {
+            let version = version_of(tree, page, is_stale);
+            Answer::Halve(tree.halve_at_once(machine, page, version))
+        }
+        Question::AddTerm(page) => Answer::AddTerm(tree.add_term_at_once(machine, page)),
+    }
+}
+
+/// Makes the wish come true in a plain map.
+fn carry_out(map: &mut BTreeMap<Key, u64>, key: Key, wished: Wished) -> Result<(), Fail> {
+    match wished {
+        Wished::Put(value) if map.get(&key).is_none() => drop(map.insert(key, value)?),
+        Wished::Put(_) => {}
+        Wished::Set(value) => drop(map.insert(key, value)?),
+        Wished::Delete => drop(map.remove(&key)),
+    }
+    Ok(())
+}
+
+/// What is done behind each part of the questions.
+trait Behind {
+    fn pass(&mut self, map: &BTreeMap<Key, u64>) -> Result<(), Fail>;
+}
+
+#[derive(Drop)]
+struct Nothing;
+
+impl Behind for Nothing {
+    fn pass(&mut self, _map: &BTreeMap<Key, u64>) -> Result<(), Fail> {
+        Ok(())
+    }
+}
+
+/// The tree is published, and its reader finds the pairs of the plain map.
+#[derive(Drop)]
+struct Publishes<'t, R: Wait + Copy, N: Naming, D: Ledger> {
+    machine: Global,
+    tree: &'t ReadTree<R, N, D>,
+    reader: &'t mut Reader<N>,
+}
+
+impl<'t, R: Wait + Copy, N: Naming, D: Ledger> Behind for Publishes<'t, R, N, D> {
+    fn pass(&mut self, map: &BTreeMap<Key, u64>) -> Result<(), Fail> {
+        let stamp = self.tree.publish()?;
+        self.reader.learn(stamp);
+        let mut pairs = Vec::new(self.machine);
+        self.reader.scan(0, KEYS as usize, &mut pairs)?;
+        let mut wanted = Vec::new(self.machine);
+        for (key, value) in map.iter() {
+            wanted.push((*key, *value))?;
+        }
+        if pairs == wanted {
+            Ok(())
+        } else {
+            Err("a reader finds other pairs than a plain map".into())
+        }
+    }
+}
+
+/// Puts every second key, and returns the share.
+fn fill<S: Shared<Global, Step<Global>>>(
+    machine: Global,
+    tree: &S,
+    share: Share<S::Insertions, S::Removals>,
+    map: &mut BTreeMap<Key, u64>,
+) -> Result<Share<S::Insertions, S::Removals>, Fail> {
+    let mut hand = Hand::new(machine, machine, tree, share, 0, &Open);
+    for half in 0..KEYS / 2 {
+        let key = 2 * half;
+        hand.put(key, half)?;
+        map.insert(key, half)?;
+    }
+    let (share, _) = hand.finish();
+    Ok(share)
+}
+
+/// Returns the answers to the drawn questions.
+fn answers_of<S: Shared<Global, Step<Global>>, B: Behind>(
+    machine: Global,
+    tree: &S,
+    share: Share<S::Insertions, S::Removals>,
+    seed: u64,
+    behind: &mut B,
+) -> Result<Vec<Answer>, Fail> {
+    let mut rng = Pcg32::seed_from_u64(seed);
+    let mut map = BTreeMap::new(machine);
+    let mut share = fill(machine, tree, share, &mut map)?;
+    let mut answers = Vec::new(machine);
+    for asked in 0..QUESTIONS {
+        let question = drawn_question(&mut rng);
+        let answer = ask(machine, tree, &mut share, question);
+        if let (
+            Question::Change(key, wished) | Question::Record(key, wished),
+            Answer::Change(Some(_)) | Answer::Record(Some(_)),
+        ) = (question, answer)
+        {
+            carry_out(&mut map, key, wished)?;
+        }
+        answers.push(answer)?;
+        if asked % SPAN == SPAN - 1 {
+            behind.pass(&map)?;
+        }
+    }
+    Ok(answers)
+}
+
+/// The answers, and the leaves that are left.
+#[derive(Debug, PartialEq, Eq, Drop)]
+struct Outcome {
+    answers: Vec<Answer>,
+    leaves: Vec<(Key, Fence, u64)>,
+}
+
+fn outcome_of(
+    machine: Global,
+    answers: Vec<Answer>,
+    table: &Table<Global>,
+) -> Result<Outcome, Fail> {
+    Ok(Outcome {
+        answers,
+        leaves: leaves_of(machine, table)?,
+    })
+}
+
+fn ask_tree_of<R: Wait + Copy, I: MadeBy, D: Ledger>(
+    rt: R,
+    machine: Global,
+    config: Config,
+    blanks: Blanks,
+    seed: u64,
+) -> Result<Outcome, Fail>
+    requires ledgers { OpensFor I.Ledger I.config D.Ledger config blanks }
+{
+    let (tree, mut shares) = Tree::<R, Global, I, D>::new(rt, machine, machine, config, blanks)?;
+    let Some(share) = shares.pop() else {
+        return Err("there is no share".into());
+    };
+    let answers = answers_of(machine, &tree, share, seed, &mut Nothing)?;
+    outcome_of(machine, answers, &tree.into_table())
+}
+
+fn ask_tree<R: Wait + Copy>(
+    rt: R,
+    machine: Global,
+    config: Config,
+    seed: u64,
+) -> Result<Outcome, Fail> {
+    let blanks = Blanks::new(1);
+    ask_tree_of::<R, Brand, Brand>(rt, machine, config, blanks, seed)
+}
+
+fn ask_read_tree_of<R: Wait + Copy, N: Naming, D: Ledger>(
+    rt: R,
+    machine: Global,
+    config: Config,
+    names: (Blanks, Announcements),
+    seed: u64,
+) -> Result<Outcome, Fail>
+    requires announcements { names.1.seen.book ≡ N.announcements }
+    requires ledgers { OpensFor N.Ledger N.config D.Ledger config names.0 }
+{
+    let (blanks, announcements) = names;
+    let (tree, mut shares, mut readers) = ReadTree::<R, N, D>::with_readers(
+        rt,
+        machine,
+        config,
+        blanks,
+        announcements,
+        1,
+    )?;
+    let (Some(share), Some(mut reader)) = (shares.pop(), readers.pop()) else {
+        return Err("there are too few shares or readers".into());
+    };
+    let mut behind = Publishes {
+        machine,
+        tree: &tree,
+        reader: &mut reader,
+    };
+    let answers = answers_of(machine, &tree, share, seed, &mut behind)?;
+    outcome_of(machine, answers, &tree.into_table())
+}
+
+fn ask_read_tree<R: Wait + Copy>(
+    rt: R,
+    machine: Global,
+    config: Config,
+    seed: u64,
+) -> Result<Outcome, Fail> {
+    let names = (Blanks::new(1), Announcements::new());
+    ask_read_tree_of::<R, Brand, Brand>(rt, machine, config, names, seed)
+}
+
+/// Returns how often a tree changed a leaf, put a record, consolidated a page, split one and named one.
+fn done_of(answers: &[Answer]) -> [u32; 5] {
+    let mut done = [0u32; 5];
+    for answer in answers {
+        let kind = match *answer {
+            Answer::Change(Some(_)) => 0,
+            Answer::Record(Some(_)) => 1,
+            Answer::Consolidate(Some(Ok(_))) => 2,
+            Answer::Halve(Some(Ok(_))) => 3,
+            Answer::AddTerm(Some(_)) => 4,
+            _ => continue,
+        };
+        done[kind] = done[kind].wrapping_add(1);
+    }
+    done
+}
+
+#[test]
+fn a_tree_with_readers_answers_what_one_without_does(rt: HostRuntime) -> Result<(), Fail> {
+    let machine = rt.alloc();
+    for chain in CHAINS {
+        let config = Config { chain, ..LARGE };
+        for seed in 0..3 {
+            let alone = ask_tree(rt, machine, config, seed)?;
+            let done = done_of(&alone.answers);
+            assert!(rt;
+                done.iter().all(|times| *times > 0),
+                "chain {chain}, {done:?}"
+            );
+            assert_eq!(rt;
+                ask_read_tree(rt, machine, config, seed)?,
+                alone,
+                "chain {chain}"
+            );
+        }
+    }
+    Ok(())
+}
