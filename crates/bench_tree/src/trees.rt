@@ -12,10 +12,10 @@ use crate::task::Task;
 use crate::work::{fill, work};
 use bw_keys::Config;
 use bw_snap::MAX_READERS;
-use bw_step::{Receipt, Step};
+use bw_step::Step;
 use bw_table::Table;
 use bw_tree::{Blanks, MadeBy, Share, Shared, Tree};
-use bw_work::{Alone, GivenUp, Hand, Open, Trail};
+use bw_work::{Alone, GivenUp, Hand, Open};
 use std::alloc::Global;
 use std::marker::Brand;
 use std::sync::Wait;
@@ -86,8 +86,8 @@ impl Structure {
         match self {
             Structure::Alone => run_alone(&rt, alloc, task),
             Structure::Map => run_map(&rt, alloc, task),
-            Structure::Hand => run_shared::<Vec<Receipt>, R>(rt, alloc, task),
-            Structure::GivingUp => run_shared::<GivenUp, R>(rt, alloc, task),
+            Structure::Hand => run_shared(rt, alloc, task, false),
+            Structure::GivingUp => run_shared(rt, alloc, task, true),
             Structure::Reader => Ok(try_readers(rt, alloc, task, Trial::Reads, 1)?.timed),
         }
     }
@@ -153,21 +153,28 @@ pub(crate) fn fill_by_hand<S: Shared<Global, Step<Global>>>(
     Ok(share)
 }
 
-fn run_shared<L: Trail, R: Clock + Threads + Wait + Sync + Send + Copy>(
+fn run_shared<R: Clock + Threads + Wait + Sync + Send + Copy>(
     rt: R,
     alloc: Global,
     task: &Task,
+    gives_up: bool,
 ) -> Result<Timed, Stop> {
     let blanks = Blanks::new(task.workers);
-    shared::<Brand, Brand, L, R>(rt, alloc, task, task.config, blanks)
+    shared::<Brand, Brand, R>(rt, alloc, task, task.config, blanks, gives_up)
 }
 
 fn shared<
     I: MadeBy + Send + Sync,
     D: Ledger + Send + Sync,
-    L: Trail,
     R: Clock + Threads + Wait + Sync + Send + Copy,
->(rt: R, alloc: Global, task: &Task, config: Config, blanks: Blanks) -> Result<Timed, Stop>
+>(
+    rt: R,
+    alloc: Global,
+    task: &Task,
+    config: Config,
+    blanks: Blanks,
+    gives_up: bool,
+) -> Result<Timed, Stop>
     requires ledgers { OpensFor I.Ledger I.config D.Ledger config blanks }
 {
     let order = task.order(alloc)?;
@@ -181,7 +188,7 @@ fn shared<
     }
     let keys = task.known_keys(alloc, order)?;
     let start = Instant::now(&rt)?;
-    let tally = work_together::<I, D, L, R>(&rt, alloc, &tree, task, keys.as_slice(), shares)?;
+    let tally = work_together(&rt, alloc, &tree, task, keys.as_slice(), shares, gives_up)?;
     let seconds = start.elapsed(&rt)?.as_secs_f64();
     Ok(Timed { tally, seconds })
 }
@@ -190,7 +197,6 @@ fn shared<
 fn work_together<
     I: MadeBy + Send + Sync,
     D: Ledger + Send + Sync,
-    L: Trail,
     R: Threads + Wait + Sync + Send + Copy,
 >(
     rt: &R,
@@ -199,12 +205,13 @@ fn work_together<
     task: &Task,
     keys: &[u32],
     shares: Vec<Share<I, D>>,
+    gives_up: bool,
 ) -> Result<Tally, Stop> {
     thread::scope(thread::scope_env(), rt, |scope| -> Result<Tally, Stop> {
         let mut handles = Vec::new(alloc);
         for (share, worker) in shares.into_iter().zip(0u32..) {
-            let Ok(handle) = scope.spawn(move || work_at::<_, L>(
-                tree, alloc, task, worker, keys, share,
+            let Ok(handle) = scope.spawn(move || work_at(
+                tree, alloc, task, worker, keys, share, gives_up,
             )) else {
                 return Err(Stop::Wrong);
             };
@@ -220,15 +227,21 @@ fn work_together<
     })
 }
 
-/// Runs one worker.
-fn work_at<S: Shared<Global, Step<Global>>, L: Trail>(
+/// Runs one worker, who may give its receipts up.
+fn work_at<S: Shared<Global, Step<Global>>>(
     tree: &S,
     alloc: Global,
     task: &Task,
     worker: u32,
     keys: &[u32],
     share: Share<S::Insertions, S::Removals>,
+    gives_up: bool,
 ) -> Result<Tally, Stop> {
-    let mut hand = Hand::with_trail(L::empty(alloc), alloc, tree, share, worker, &Open);
-    work(&mut hand, alloc, task, worker, keys)
+    if gives_up {
+        let mut hand = Hand::with_trail(GivenUp::new(), alloc, tree, share, worker, &Open);
+        work(&mut hand, alloc, task, worker, keys)
+    } else {
+        let mut hand = Hand::new(alloc, alloc, tree, share, worker, &Open);
+        work(&mut hand, alloc, task, worker, keys)
+    }
 }

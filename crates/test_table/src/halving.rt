@@ -246,18 +246,20 @@ static NO_PAGE_LEFT: [Change; 12] = [
     Change::Split(3),
 ];
 
+fn without_a_page_left(alloc: Global) -> Result<Table<Global>, Fail> {
+    let mut table = Table::new(alloc, alloc, Config { pages: 8, ..SMALL })?;
+    take_all(alloc, &mut table, &THREE_LEAVES)?;
+    take_all(alloc, &mut table, &NO_PAGE_LEFT)?;
+    Ok(table)
+}
+
 #[test]
 fn a_full_table_splits_nothing(rt: HostRuntime) -> Result<(), Fail> {
     let alloc = rt.alloc();
-    let config = Config { pages: 8, ..SMALL };
     // Of the last but one the keys 7 and 8 are left, of the first one key.
     for (page, reason) in [(6, Refused::TableFull), (3, Refused::NotBare)] {
-        let mut table = Table::new(alloc, alloc, config)?;
-        let mut by_steps = Table::new(alloc, alloc, config)?;
-        for one in [&mut table, &mut by_steps] {
-            take_all(alloc, one, &THREE_LEAVES)?;
-            take_all(alloc, one, &NO_PAGE_LEFT)?;
-        }
+        let mut table = without_a_page_left(alloc)?;
+        let mut by_steps = without_a_page_left(alloc)?;
         let version = seen(&table, page);
         let answer = halved_alike(alloc, &mut table, &mut by_steps, (page, version))?;
         assert_eq!(rt; answer, Some(Err(Denied::Refused(reason))), "page {page}");
@@ -320,18 +322,21 @@ static ROUNDS: [(&[Change], u32, Option<u32>); 3] = [
     (&[Change::Consolidate(2)], 32, None),
 ];
 
+fn after_rounds(alloc: Global, before: &[Change], rounds: u32) -> Result<Table<Global>, Fail> {
+    let mut table = after(alloc, &SPLIT)?;
+    take_all(alloc, &mut table, before)?;
+    for _ in 0..rounds {
+        take_all(alloc, &mut table, &ROUND)?;
+    }
+    Ok(table)
+}
+
 #[test]
 fn a_parent_takes_64_records(rt: HostRuntime) -> Result<(), Fail> {
     let alloc = rt.alloc();
     for (before, rounds, parent) in ROUNDS.iter() {
-        let mut table = after(alloc, &SPLIT)?;
-        let mut by_steps = after(alloc, &SPLIT)?;
-        for one in [&mut table, &mut by_steps] {
-            take_all(alloc, one, before)?;
-            for _ in 0..*rounds {
-                take_all(alloc, one, &ROUND)?;
-            }
-        }
+        let mut table = after_rounds(alloc, before, *rounds)?;
+        let mut by_steps = after_rounds(alloc, before, *rounds)?;
         let answer = posted_alike(alloc, &mut table, &mut by_steps, 4)?;
         assert_eq!(rt; answer, Some(parent.map(Pid)), "{rounds} rounds");
     }
