@@ -1,6 +1,8 @@
 //! A job that keeps its receipts and one that gives them up make the same drawn calls. What each
 //! worker brings back and the table are the same, and the kit's map says the replies.
 
+ghost use Rattle.std.specs.Prelude.{◌<◌};
+
 use nifforan_shared::{
     Calls as _, Config, Del, Fault, GivenUp, Job, Receipt, Set, Trail, Worker, share,
 };
