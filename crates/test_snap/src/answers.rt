@@ -260,6 +260,22 @@ fn ask_tree<R: Wait + Copy>(
     ask_tree_of::<R, Brand, Brand>(rt, machine, config, blanks, seed)
 }
 
+/// Returns the answers of a tree with a reader, which looks after each publication.
+fn answers_beside<R: Wait + Copy, N: Naming, D: Ledger>(
+    machine: Global,
+    tree: &ReadTree<R, N, D>,
+    share: Share<N, D>,
+    reader: &mut Reader<N>,
+    seed: u64,
+) -> Result<Vec<Answer>, Fail> {
+    let mut behind = Publishes {
+        machine,
+        tree,
+        reader,
+    };
+    answers_of(machine, tree, share, seed, &mut behind)
+}
+
 fn ask_read_tree_of<R: Wait + Copy, N: Naming, D: Ledger>(
     rt: R,
     machine: Global,
@@ -282,12 +298,7 @@ fn ask_read_tree_of<R: Wait + Copy, N: Naming, D: Ledger>(
     let (Some(share), Some(mut reader)) = (shares.pop(), readers.pop()) else {
         return Err("there are too few shares or readers".into());
     };
-    let mut behind = Publishes {
-        machine,
-        tree: &tree,
-        reader: &mut reader,
-    };
-    let answers = answers_of(machine, &tree, share, seed, &mut behind)?;
+    let answers = answers_beside(machine, &tree, share, &mut reader, seed)?;
     outcome_of(machine, answers, &tree.into_table())
 }
 
