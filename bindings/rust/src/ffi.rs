@@ -13,8 +13,6 @@ pub const TOO_TALL: u32 = 9;
 pub const WORN: u32 = 10;
 pub const CONTENDED: u32 = 11;
 pub const BAD_SIZE: u32 = 12;
-pub const FROZEN: u32 = 13;
-pub const NOT_FROZEN: u32 = 14;
 pub const SHARED: u32 = 15;
 
 #[repr(C)]

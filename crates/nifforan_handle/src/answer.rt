@@ -195,9 +195,7 @@ impl Found {
     {
         Found {
             status: CLOSED,
-            found: false,
-            key: 0,
-            value: 0,
+            ..Found::of(None)
         }
     }
 

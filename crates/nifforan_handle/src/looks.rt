@@ -122,7 +122,8 @@ impl Handle {
     pub fn read(&mut self, alloc: Global, low: u64, high: High, pairs: &mut [Pair]) -> Read
         ensures closed { (map_in self.old.held ≡ None) ↔ (result.status ≡ CLOSED) }
         ensures open { (map_in self.old.held ≢ None) ↔ (result.status ≡ OK) }
-        ensures reads { ReadsInto (pairs_between low high self.old.held) result pairs.old pairs.new }
+        ensures reads { ReadsInto (pairs_between low high self.old.held) result
+            pairs.old pairs.new }
         ensures unchanged { self.new.held ≡ self.old.held }
     {
         let Some(held) = self.take(alloc) else {

@@ -14,7 +14,8 @@ use std::alloc::Global;
 
 pub(crate) fn forwards(map: &Map<Global>, low: Key, high: Fence, places: &mut [Pair]) -> Read
     ensures status { result.status ≡ OK }
-    ensures reads { ReadsInto (within low (end_of high) map.now.pairs) result places.old places.new }
+    ensures reads { ReadsInto (within low (end_of high) map.now.pairs) result
+        places.old places.new }
 {
     let mut left = map.range(low, high);
     let count = fill(&mut left, places);
