@@ -16,8 +16,8 @@
  *     handles may be made at once, by any threads, also where the handles share a frozen map;
  *   - pointers are valid, aligned and not null, also `pairs` where `room` is 0; `pairs` has `room` places; what a call
  *     writes overlaps none of its other arguments;
- *   - the program's malloc, realloc and free are one allocator's, with blocks aligned to 16 bytes. Where threads make
- *     calls at once, they may be called so too.
+ *   - the program's malloc, realloc and free are one allocator's, with blocks aligned to 16 bytes, and where threads make
+ *     calls at once, threads may call these three at once too.
  * A map that is never closed is never freed.
  *
  * A range of keys goes from its low on, which is in it, up to its high, which is NOT in it: NIFFORAN_BELOW(9) ends right
