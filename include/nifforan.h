@@ -21,8 +21,8 @@
  * A map that is never closed is never freed.
  *
  * A range of keys goes from its low on, which is in it, up to its high, which is NOT in it: NIFFORAN_BELOW(9) ends right
- * below the key 9, and NIFFORAN_TOP past all keys. It is so in each call with a high, and in all languages. A range whose
- * high doesn't lie above its low has no keys.
+ * below the key 9, and NIFFORAN_TOP past all keys. It is so in each call with a high, in C, C++ and Rattle; Rust says so
+ * itself, by `..9` and `..=9`. A range whose high doesn't lie above its low has no keys.
  *
  * Link with libnifforan_c.a and liblibc_c.a; bindings/check shows how they are made. */
 #ifndef NIFFORAN_H

@@ -66,10 +66,6 @@ protected:
     Reads() = default;
     explicit Reads(nifforan handle) noexcept : handle(handle) {}
     Reads(Reads &&other) noexcept : handle(other.let_go()) {}
-    Reads &operator=(Reads &&other) noexcept {
-        std::swap(handle, other.handle);
-        return *this;
-    }
     // The handle, which is closed here from now on.
     nifforan let_go() noexcept { return std::exchange(handle, nifforan{nullptr}); }
     static void check(std::uint32_t status) {
