@@ -12,11 +12,11 @@ use Rattle.std_alloc.proofs.SendSync.{quiet, lies}
 use Rattle.nifforan_handle.specs.Owned.{held_row, null_or_boxed}
 use Rattle.nifforan_handle.specs.declared.held.Held.TheVariants.{Closed}
 use Rattle.nifforan_handle.specs.contracts.handle.Handle.{the_row, the_type}
-use Rattle.nifforan_handle.proofs.held.Held.TheSendSync.{the_send as held}
+use Rattle.nifforan_handle.proofs.Crossing.{Held-send}
 
 either : (p : Ptr) (x : held_row.Denot) (is_null : Bool) → Keyless (null_or_boxed held_row Closed p x is_null)
 either p x true = λ at is. tt
-either p x false = λ alloc. (lies held_row held p x, heap.frees.frees alloc (raw (lone held_row.mir)) p)
+either p x false = λ alloc. (lies held_row Held-send p x, heap.frees.frees alloc (raw (lone held_row.mir)) p)
 
 pub send : IsSend the_row
 send =
