@@ -185,7 +185,7 @@ impl Both {
         assert_eq!(self.map.len(), self.plain.len());
     }
 
-    /// The map frozen, and read by threads at once, each through one of its own; then it is changed again.
+    /// The map frozen, and read by threads at once, each through one of its own; then it is thawed.
     fn frozen(self) {
         let Both { map, plain, .. } = self;
         let mine = map.freeze().expect("there is memory");
@@ -198,8 +198,10 @@ impl Both {
                 scope.spawn(|| same_pairs(its, &plain));
             }
         });
-        let mut map = mine.thaw().expect("the others are gone");
-        assert_eq!(map.clear(..), Ok(plain.len() as u64));
+        let map = mine.thaw().expect("the others are gone");
+        assert!(map
+            .iter()
+            .eq(plain.iter().map(|(key, value)| (*key, *value))));
     }
 }
 
