@@ -1,18 +1,28 @@
-/* Nifforan: an ordered map from uint64_t keys to uint64_t values, in memory, for one thread at a time.
+/* Nifforan: an ordered map from uint64_t keys to uint64_t values, in memory. A map is used by one thread at a time; a
+ * frozen map is read by many at once, through a handle each.
  *
  * A handle is eight bytes of the caller's. It begins as NIFFORAN_CLOSED, nifforan_create opens it, and
  * nifforan_close closes it. A call on a closed handle, or nifforan_create on an open one, does nothing and
  * says so by its status.
  *
  * What the library proves of a call holds as long as the caller keeps to this:
- *   - a handle's word is written by these calls alone, and begins as zero;
+ *   - a handle's word is written by these calls alone, and begins as zero. They write it also where they only read the
+ *     map, so no call takes a handle as const;
  *   - an open handle is not copied. To move it, copy it and set the old one to (nifforan)NIFFORAN_CLOSED, in
- *     C++ to nifforan NIFFORAN_CLOSED;
- *   - one call at a time, on the thread that opened the handle, and none from a signal handler;
+ *     C++ to nifforan NIFFORAN_CLOSED. nifforan_share makes another handle on a frozen map;
+ *   - one call at a time on each handle, and none from a signal handler. A handle may go to any thread: that it is
+ *     `Send` is proved. Who hands it over sees to it that the calls of the one thread come before those of the other:
+ *     by a lock, by the start or the join of a thread, or by a sequentially consistent atomic. Calls on different
+ *     handles may be made at once, by any threads, also where the handles share a frozen map;
  *   - pointers are valid, aligned and not null, also `pairs` where `room` is 0; `pairs` has `room` places; what a call
  *     writes overlaps none of its other arguments;
- *   - the program's malloc, realloc and free are one allocator's, with blocks aligned to 16 bytes.
+ *   - the program's malloc, realloc and free are one allocator's, with blocks aligned to 16 bytes, and where threads make
+ *     calls at once, threads may call these three at once too.
  * A map that is never closed is never freed.
+ *
+ * A range of keys goes from its low on, which is in it, up to its high, which is NOT in it: NIFFORAN_BELOW(9) ends right
+ * below the key 9, and NIFFORAN_TOP past all keys. It is so in each call with a high, in C, C++ and Rattle; Rust says so
+ * itself, by `..9` and `..=9`. A range whose high doesn't lie above its low has no keys.
  *
  * Link with libnifforan_c.a and liblibc_c.a; bindings/check shows how they are made. */
 #ifndef NIFFORAN_H
@@ -26,11 +36,18 @@
 extern "C" {
 #endif
 
+/* The version of this header, 10000 times its first number, 100 times its second, and its third; and as a text. */
+#define NIFFORAN_VERSION 200
+#define NIFFORAN_VERSION_TEXT "0.2.0"
+
+/* The version of the library that the program is linked with, as NIFFORAN_VERSION. */
+uint32_t nifforan_version(void);
+
 /* What came of a call. */
 enum {
     NIFFORAN_OK = 0,
-    NIFFORAN_CLOSED_HANDLE = 1, /* the handle holds no map */
-    NIFFORAN_OPEN_HANDLE = 2,   /* nifforan_create: the handle holds a map already */
+    NIFFORAN_CLOSED_HANDLE = 1, /* the handle has no map */
+    NIFFORAN_OPEN_HANDLE = 2,   /* nifforan_create, nifforan_share: the handle to open has a map already */
     NIFFORAN_BAD_FANOUT = 3,    /* nifforan_create: a setting is out of its range; this is the first such one */
     NIFFORAN_BAD_CHAIN = 4,
     NIFFORAN_BAD_PAGES = 5,
@@ -40,8 +57,20 @@ enum {
                                 pairs go in all the same, and pages grow longer than their fanout */
     NIFFORAN_TOO_TALL = 9,   /* the tree has its greatest height */
     NIFFORAN_WORN = 10,      /* the version of a page, or the number of changes, is used up (2^64) */
-    NIFFORAN_CONTENDED = 11  /* the call took all tries that its settings allow it */
+    NIFFORAN_CONTENDED = 11, /* the call took all tries that its settings allow it */
+    NIFFORAN_BAD_SIZE = 12,  /* nifforan_create: the settings have another size than in the library's version */
+    NIFFORAN_FROZEN = 13,    /* the map is frozen: no call changes it, nor freezes it again */
+    NIFFORAN_NOT_FROZEN = 14, /* nifforan_share, nifforan_thaw: the map is not frozen */
+    NIFFORAN_SHARED = 15      /* nifforan_thaw: other handles have the map too */
 };
+
+typedef struct nifforan_text {
+    char text[64]; /* ends with a 0 */
+} nifforan_text;
+
+/* What a status means, in a few words: printf("%s\n", nifforan_status_text(status).text) in C11 or C++; in C99 keep the
+ * answer in a variable first. */
+nifforan_text nifforan_status_text(uint32_t status);
 
 typedef struct nifforan {
     void *at; /* private */
@@ -52,6 +81,7 @@ typedef struct nifforan {
 
 /* What a map is made by. */
 typedef struct nifforan_settings {
+    size_t size;            /* sizeof(nifforan_settings), by which a later library knows which fields there are */
     uint32_t fanout;        /* the pairs that a page may have before it is split, 4 to 64 */
     uint32_t chain;         /* the changes that a page may carry before it is written anew, 1 to 32 */
     uint32_t pages;         /* the pages that the map has room for, 8 to 65536, at 156 bytes each, taken by
@@ -63,7 +93,21 @@ typedef struct nifforan_settings {
 } nifforan_settings;
 
 /* The usual settings: nifforan_settings settings = NIFFORAN_USUAL_SETTINGS; */
-#define NIFFORAN_USUAL_SETTINGS { 64, 1, 16384, 1000, 0 }
+#define NIFFORAN_USUAL_SETTINGS { sizeof(nifforan_settings), 64, 1, 16384, 1000, 0 }
+
+/* Where a range of keys ends; the key itself is not in the range. */
+typedef struct nifforan_high {
+    uint64_t key;
+    bool is_top; /* the range has all keys from its low on, and `key` is ignored */
+} nifforan_high;
+
+#ifdef __cplusplus
+#define NIFFORAN_BELOW(key) (nifforan_high{ (key), false })
+#define NIFFORAN_TOP (nifforan_high{ 0, true })
+#else
+#define NIFFORAN_BELOW(key) ((nifforan_high){ (key), false })
+#define NIFFORAN_TOP ((nifforan_high){ 0, true })
+#endif
 
 /* What a call on one key answers. */
 typedef struct nifforan_reply {
@@ -84,6 +128,14 @@ typedef struct nifforan_cleared {
     uint64_t removed; /* how many keys were taken out, in either case */
 } nifforan_cleared;
 
+/* What a call that looks for one pair answers. */
+typedef struct nifforan_found {
+    uint32_t status; /* NIFFORAN_OK or NIFFORAN_CLOSED_HANDLE */
+    bool found;      /* whether there is such a pair */
+    uint64_t key;    /* its key and its value, or 0 */
+    uint64_t value;
+} nifforan_found;
+
 typedef struct nifforan_pair {
     uint64_t key;
     uint64_t value;
@@ -91,20 +143,42 @@ typedef struct nifforan_pair {
 
 typedef struct nifforan_read_answer {
     size_t count;    /* how many pairs were written */
-    uint64_t next;   /* the key of the next pair, from which to go on, or 0 */
+    uint64_t next;   /* the key of the next pair of the range, or 0 */
     bool has_next;   /* whether there is a next pair */
     uint32_t status; /* NIFFORAN_OK or NIFFORAN_CLOSED_HANDLE */
 } nifforan_read_answer;
 
-/* Opens an empty map. With any status but NIFFORAN_OK the handle stays as it was: NIFFORAN_OPEN_HANDLE where it holds a
- * map, else the NIFFORAN_BAD_.. of the first setting out of its range, else NIFFORAN_NO_MEMORY. */
+/* Opens an empty map. With any status but NIFFORAN_OK the handle stays as it was: NIFFORAN_OPEN_HANDLE where it has a
+ * map, else NIFFORAN_BAD_SIZE where the settings have another size than in the library, else the NIFFORAN_BAD_.. of the
+ * first setting out of its range, else NIFFORAN_NO_MEMORY. */
 uint32_t nifforan_create(nifforan *map, const nifforan_settings *settings);
+
+/* ---- Calls that look at a map, frozen or not. They take no memory, and give NIFFORAN_OK on each open handle. */
 
 /* How many pairs the map has. It takes no time to speak of. */
 nifforan_count nifforan_pairs(nifforan *map);
 
-/* The value at the key. It takes no memory, and gives NIFFORAN_OK on each open handle. */
+/* The value at the key. */
 nifforan_reply nifforan_get(nifforan *map, uint64_t key);
+
+/* The pair with the least key, and with the greatest. */
+nifforan_found nifforan_first(nifforan *map);
+nifforan_found nifforan_last(nifforan *map);
+
+/* The pair with the least key at or above this one, and with the greatest at or below it. */
+nifforan_found nifforan_next_at(nifforan *map, uint64_t key);
+nifforan_found nifforan_previous_at(nifforan *map, uint64_t key);
+
+/* Writes the pairs of the range from `low` up to `high` to `pairs`, in the order of their keys, until `room` of them are
+ * written or none is left. The whole map: begin with the range from 0 to NIFFORAN_TOP, and while there is a next pair, go
+ * on from low = `next`. The map may be changed between two calls. */
+nifforan_read_answer nifforan_read(nifforan *map, uint64_t low, nifforan_high high, nifforan_pair *pairs, size_t room);
+
+/* The same backwards: the pair with the greatest key of the range comes first. While there is a next pair, go on with the
+ * high below the last key that was written, NIFFORAN_BELOW(pairs[count - 1].key). */
+nifforan_read_answer nifforan_read_back(nifforan *map, uint64_t low, nifforan_high high, nifforan_pair *pairs, size_t room);
+
+/* ---- Calls that change a map. On a frozen map they change nothing, and answer NIFFORAN_FROZEN. */
 
 /* Gives the key the value, unless the key is there: then it keeps the value that it has, which the reply tells. */
 nifforan_reply nifforan_put(nifforan *map, uint64_t key, uint64_t value);
@@ -115,17 +189,28 @@ nifforan_reply nifforan_set(nifforan *map, uint64_t key, uint64_t value);
 /* Takes the key out, if it is there. The reply tells the value that it had. */
 nifforan_reply nifforan_delete(nifforan *map, uint64_t key);
 
-/* Takes out the keys from low to high, both included; none where high is below low. Where it ends early, as many of
- * them are out as it tells, and no others. It ends early also where the care for the pages is cut short, which then
- * stands in `status`. The same call takes out those that are left: begin it again while it removes any. */
-nifforan_cleared nifforan_clear(nifforan *map, uint64_t low, uint64_t high);
+/* Takes out the keys of the range from `low` up to `high`. Where it ends early, as many of them are out as it tells, and
+ * no others. It ends early also where the care for the pages is cut short, which then stands in `status`. The same call
+ * takes out those that are left: begin it again while it removes any. */
+nifforan_cleared nifforan_clear(nifforan *map, uint64_t low, nifforan_high high);
 
-/* Writes the pairs from the key on to `pairs`, in the order of their keys, until `room` of them are written or none
- * is left. The whole map: begin at key 0, and go on from `next` while there is a next pair. The map may be changed
- * between two calls. It takes no memory, and gives NIFFORAN_OK on each open handle. */
-nifforan_read_answer nifforan_read(nifforan *map, uint64_t key, nifforan_pair *pairs, size_t room);
+/* ---- Frozen maps, which many threads read at once without a lock, through a handle each. */
 
-/* Closes the handle, and frees its map. A closed handle stays closed. */
+/* Freezes the map: from now on no call changes it, and nifforan_share opens more handles on it. With any status but
+ * NIFFORAN_OK all stays as it was: NIFFORAN_CLOSED_HANDLE, NIFFORAN_FROZEN where it is frozen already, or
+ * NIFFORAN_NO_MEMORY. */
+uint32_t nifforan_freeze(nifforan *map);
+
+/* Opens `other`, which is closed, on the same frozen map: give it to another thread. With any status but NIFFORAN_OK
+ * `other` stays as it was: NIFFORAN_OPEN_HANDLE where it has a map, else NIFFORAN_CLOSED_HANDLE where `map` has none,
+ * NIFFORAN_NOT_FROZEN, or NIFFORAN_NO_MEMORY. Each handle on the map is closed by itself; the last one frees it. */
+uint32_t nifforan_share(nifforan *map, nifforan *other);
+
+/* Takes the frozen map back, to change it again. This must be the last handle that has it: with NIFFORAN_SHARED, as with
+ * NIFFORAN_CLOSED_HANDLE and NIFFORAN_NOT_FROZEN, all stays as it was. */
+uint32_t nifforan_thaw(nifforan *map);
+
+/* Closes the handle, and frees its map, unless it is frozen and other handles have it. A closed handle stays closed. */
 void nifforan_close(nifforan *map);
 
 #ifdef __cplusplus

@@ -51,7 +51,7 @@ public:
     // with room for the keys, also where pages are a quarter full
     explicit Library(std::uint64_t keys) {
         const auto pages = static_cast<std::uint32_t>(std::clamp<std::uint64_t>(keys / 16, 64, 65536));
-        const nifforan_settings settings = { 64, CHAIN, pages, 1000, 0 };
+        const nifforan_settings settings = { sizeof(nifforan_settings), 64, CHAIN, pages, 1000, 0 };
         must(nifforan_create(&handle, &settings) == NIFFORAN_OK);
     }
     ~Library() { nifforan_close(&handle); }

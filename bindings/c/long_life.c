@@ -1,4 +1,5 @@
-/* A map that is opened, sees 100,000 calls, and is closed: run under valgrind. The calls' answers are compared elsewhere. */
+/* A map that is opened, sees 100,000 calls, is frozen, shared and thawed now and then, and is closed: run under valgrind. The
+ * calls' answers are compared elsewhere. */
 #include <inttypes.h>
 #include <stdio.h>
 
@@ -11,6 +12,16 @@ static uint64_t mixed(uint64_t n) {
     n *= 0xff51afd7ed558ccdu;
     n ^= n >> 33;
     return n;
+}
+
+/* The map is frozen, and taken back by another handle. */
+static bool goes_on(nifforan *map) {
+    nifforan other = NIFFORAN_CLOSED;
+    if (nifforan_freeze(map) != NIFFORAN_OK || nifforan_share(map, &other) != NIFFORAN_OK) return false;
+    if (nifforan_thaw(map) != NIFFORAN_SHARED || nifforan_pairs(map).pairs != nifforan_pairs(&other).pairs) return false;
+    nifforan_close(map);
+    *map = other;
+    return nifforan_thaw(map) == NIFFORAN_OK;
 }
 
 int main(void) {
@@ -37,9 +48,12 @@ int main(void) {
             if (nifforan_get(&map, key).status != NIFFORAN_OK) return 5;
             break;
         default:
-            if (n % 500 < 8 && nifforan_clear(&map, key, key + 20).status != NIFFORAN_OK) return 6;
-            if (nifforan_read(&map, key, pairs, 5).status != NIFFORAN_OK) return 7;
+            if (n % 500 < 8 && nifforan_clear(&map, key, NIFFORAN_BELOW(key + 21)).status != NIFFORAN_OK) return 6;
+            if (nifforan_read(&map, key, NIFFORAN_TOP, pairs, 5).status != NIFFORAN_OK) return 7;
+            if (nifforan_read_back(&map, 0, NIFFORAN_BELOW(key), pairs, 5).status != NIFFORAN_OK) return 8;
+            if (nifforan_previous_at(&map, key).status != NIFFORAN_OK) return 9;
         }
+        if (n % 1000 == 999 && !goes_on(&map)) return 10;
     }
     printf("%d calls, %" PRIu64 " pairs\n", CALLS, nifforan_pairs(&map).pairs);
     nifforan_close(&map);

@@ -68,7 +68,7 @@ static void same_pairs(nifforan *map) {
     const uint64_t before = requests;
     uint64_t key = 0, seen = 0;
     do {
-        read = nifforan_read(map, key, pairs, 7);
+        read = nifforan_read(map, key, NIFFORAN_TOP, pairs, 7);
         MUST(read.status == NIFFORAN_OK);
         for (size_t i = 0; i < read.count; i++) {
             MUST(pairs[i].key < KEYS && plain.is_there[pairs[i].key] && plain.value[pairs[i].key] == pairs[i].value);
@@ -99,17 +99,18 @@ static void take_out(uint64_t key) {
     plain.is_there[key] = false;
 }
 
-/* Takes out what a clear says: all keys of the range, or as many as it took out before it was refused memory. */
+/* Takes out what a clear says: all keys from the low on and below the high, or as many as it took out before it was
+ * refused memory. */
 static uint32_t clear(nifforan *map, uint64_t low, uint64_t high) {
-    const nifforan_cleared cleared = nifforan_clear(map, low, high);
+    const nifforan_cleared cleared = nifforan_clear(map, low, NIFFORAN_BELOW(high));
     uint64_t removed = 0;
-    for (uint64_t key = low; key <= high && key < KEYS; key++) {
+    for (uint64_t key = low; key < high && key < KEYS; key++) {
         if (!plain.is_there[key] || nifforan_get(map, key).found) continue;
         take_out(key);
         removed++;
     }
     MUST(cleared.removed == removed);
-    for (uint64_t key = low; cleared.status == NIFFORAN_OK && key <= high && key < KEYS; key++) MUST(!plain.is_there[key]);
+    for (uint64_t key = low; cleared.status == NIFFORAN_OK && key < high && key < KEYS; key++) MUST(!plain.is_there[key]);
     return cleared.status;
 }
 
@@ -148,6 +149,20 @@ static nifforan_reply call_on_key(nifforan *map, uint64_t key) {
     return reply;
 }
 
+/* Freezes the map, shares it, and takes it back. Where one of the two is refused memory, the map is as before. */
+static uint32_t freeze_and_thaw(nifforan *map) {
+    nifforan other = NIFFORAN_CLOSED;
+    uint32_t status = nifforan_freeze(map);
+    MUST(nifforan_thaw(map) == (status == NIFFORAN_OK ? NIFFORAN_OK : NIFFORAN_NOT_FROZEN));
+    if (status != NIFFORAN_OK) return status;
+    if (nifforan_freeze(map) != NIFFORAN_OK) return NIFFORAN_NO_MEMORY;
+    status = nifforan_share(map, &other);
+    MUST((other.at != NULL) == (status == NIFFORAN_OK));
+    nifforan_close(&other);
+    MUST(nifforan_thaw(map) == NIFFORAN_OK);
+    return status;
+}
+
 /* How many calls said that they were refused memory. */
 static uint64_t told;
 
@@ -157,8 +172,11 @@ static bool call(nifforan *map) {
     const uint64_t key = throw_of(KEYS);
     const bool may_meet = requests < refused_at;
     nifforan_reply reply = { NIFFORAN_OK, NIFFORAN_OK, false, 0 };
-    if (throw_of(100) == 0)
-        reply.status = clear(map, key, key + throw_of(20));
+    const uint64_t kind = throw_of(200);
+    if (kind < 2)
+        reply.status = clear(map, key, key + throw_of(21));
+    else if (kind == 2)
+        reply.status = freeze_and_thaw(map);
     else
         reply = call_on_key(map, key);
     const bool met = may_meet && requests >= refused_at;
@@ -172,7 +190,7 @@ static bool call(nifforan *map) {
 /* Whether a request was refused. */
 static bool refuse(uint64_t at) {
     nifforan map = NIFFORAN_CLOSED;
-    const nifforan_settings settings = { 4, 2, 1024, 1000, 0 };
+    const nifforan_settings settings = { sizeof(nifforan_settings), 4, 2, 1024, 1000, 0 };
     memset(&plain, 0, sizeof plain);
     requests = 0;
     refused_at = at;

@@ -1,8 +1,9 @@
 /* Statuses as the header tells them: of closed and open handles, of settings, of a map whose pages have no version left or
- * that has no page left, and of keys and rooms at their limits. */
+ * that has no page left, of keys and rooms at their limits, and of frozen maps. */
 #include <inttypes.h>
 #include <stdio.h>
 #include <stdlib.h>
+#include <string.h>
 
 #include "nifforan.h"
 
@@ -14,20 +15,31 @@
         }                                                      \
     } while (0)
 
+#define SIZE sizeof(nifforan_settings)
+
 static const nifforan_settings usual = NIFFORAN_USUAL_SETTINGS;
 
 /* Each call says so, and writes no pair. */
 static void is_closed(nifforan *map) {
     nifforan_pair place[1] = { { 5, 6 } };
-    const nifforan_read_answer read = nifforan_read(map, 0, place, 1);
+    const nifforan_read_answer read = nifforan_read(map, 0, NIFFORAN_TOP, place, 1);
+    const nifforan_read_answer back = nifforan_read_back(map, 0, NIFFORAN_TOP, place, 1);
+    nifforan other = NIFFORAN_CLOSED;
     MUST(map->at == NULL);
     MUST(nifforan_pairs(map).status == NIFFORAN_CLOSED_HANDLE);
     MUST(nifforan_get(map, 1).status == NIFFORAN_CLOSED_HANDLE);
     MUST(nifforan_put(map, 1, 2).status == NIFFORAN_CLOSED_HANDLE);
     MUST(nifforan_set(map, 1, 2).status == NIFFORAN_CLOSED_HANDLE);
     MUST(nifforan_delete(map, 1).status == NIFFORAN_CLOSED_HANDLE);
-    MUST(nifforan_clear(map, 0, UINT64_MAX).status == NIFFORAN_CLOSED_HANDLE);
+    MUST(nifforan_clear(map, 0, NIFFORAN_TOP).status == NIFFORAN_CLOSED_HANDLE);
+    MUST(nifforan_first(map).status == NIFFORAN_CLOSED_HANDLE && !nifforan_first(map).found);
+    MUST(nifforan_last(map).status == NIFFORAN_CLOSED_HANDLE && !nifforan_last(map).found);
+    MUST(nifforan_next_at(map, 1).status == NIFFORAN_CLOSED_HANDLE && !nifforan_next_at(map, 1).found);
+    MUST(nifforan_previous_at(map, 1).status == NIFFORAN_CLOSED_HANDLE && !nifforan_previous_at(map, 1).found);
     MUST(read.status == NIFFORAN_CLOSED_HANDLE && read.count == 0 && !read.has_next && place[0].key == 5);
+    MUST(back.status == NIFFORAN_CLOSED_HANDLE && back.count == 0 && !back.has_next);
+    MUST(nifforan_freeze(map) == NIFFORAN_CLOSED_HANDLE && nifforan_thaw(map) == NIFFORAN_CLOSED_HANDLE);
+    MUST(nifforan_share(map, &other) == NIFFORAN_CLOSED_HANDLE && other.at == NULL);
     nifforan_close(map);
     MUST(map->at == NULL);
 }
@@ -42,16 +54,27 @@ static void settings_say(uint32_t status, nifforan_settings settings) {
 
 /* The ends of each range, and the first setting that is out of its own. */
 static void settings(void) {
-    settings_say(NIFFORAN_OK, (nifforan_settings){ 4, 1, 8, 1, 0 });
-    settings_say(NIFFORAN_OK, (nifforan_settings){ 64, 32, 65536, 1000, UINT64_MAX });
-    settings_say(NIFFORAN_BAD_FANOUT, (nifforan_settings){ 3, 0, 7, 0, 0 });
-    settings_say(NIFFORAN_BAD_FANOUT, (nifforan_settings){ 65, 8, 4096, 1000, 0 });
-    settings_say(NIFFORAN_BAD_CHAIN, (nifforan_settings){ 16, 0, 7, 0, 0 });
-    settings_say(NIFFORAN_BAD_CHAIN, (nifforan_settings){ 16, 33, 4096, 1000, 0 });
-    settings_say(NIFFORAN_BAD_PAGES, (nifforan_settings){ 16, 8, 7, 0, 0 });
-    settings_say(NIFFORAN_BAD_PAGES, (nifforan_settings){ 16, 8, 65537, 1000, 0 });
-    settings_say(NIFFORAN_BAD_TRIES, (nifforan_settings){ 16, 8, 4096, 0, 0 });
-    settings_say(NIFFORAN_BAD_TRIES, (nifforan_settings){ 16, 8, 4096, 1001, 0 });
+    settings_say(NIFFORAN_OK, (nifforan_settings){ SIZE, 4, 1, 8, 1, 0 });
+    settings_say(NIFFORAN_OK, (nifforan_settings){ SIZE, 64, 32, 65536, 1000, UINT64_MAX });
+    settings_say(NIFFORAN_BAD_FANOUT, (nifforan_settings){ SIZE, 3, 0, 7, 0, 0 });
+    settings_say(NIFFORAN_BAD_FANOUT, (nifforan_settings){ SIZE, 65, 8, 4096, 1000, 0 });
+    settings_say(NIFFORAN_BAD_CHAIN, (nifforan_settings){ SIZE, 16, 0, 7, 0, 0 });
+    settings_say(NIFFORAN_BAD_CHAIN, (nifforan_settings){ SIZE, 16, 33, 4096, 1000, 0 });
+    settings_say(NIFFORAN_BAD_PAGES, (nifforan_settings){ SIZE, 16, 8, 7, 0, 0 });
+    settings_say(NIFFORAN_BAD_PAGES, (nifforan_settings){ SIZE, 16, 8, 65537, 1000, 0 });
+    settings_say(NIFFORAN_BAD_TRIES, (nifforan_settings){ SIZE, 16, 8, 4096, 0, 0 });
+    settings_say(NIFFORAN_BAD_TRIES, (nifforan_settings){ SIZE, 16, 8, 4096, 1001, 0 });
+    settings_say(NIFFORAN_BAD_SIZE, (nifforan_settings){ 0, 3, 0, 7, 0, 0 });
+    settings_say(NIFFORAN_BAD_SIZE, (nifforan_settings){ SIZE + 8, 16, 8, 4096, 1000, 0 });
+    MUST(SIZE == 32);
+}
+
+static void found_is(nifforan_found found, uint64_t key, uint64_t value) {
+    MUST(found.status == NIFFORAN_OK && found.found && found.key == key && found.value == value);
+}
+
+static void found_none(nifforan_found found) {
+    MUST(found.status == NIFFORAN_OK && !found.found && found.key == 0 && found.value == 0);
 }
 
 static void reply_is(nifforan_reply reply, bool found, uint64_t value) {
@@ -67,24 +90,48 @@ static void limits(nifforan *map) {
     reply_is(nifforan_put(map, UINT64_MAX, 4), true, 3);
     reply_is(nifforan_set(map, UINT64_MAX, 2), true, 3);
     reply_is(nifforan_get(map, UINT64_MAX), true, 2);
-    nifforan_read_answer read = nifforan_read(map, 0, places, 0);
+    found_is(nifforan_first(map), 0, 1);
+    found_is(nifforan_last(map), UINT64_MAX, 2);
+    found_is(nifforan_next_at(map, 0), 0, 1);
+    found_is(nifforan_next_at(map, 1), UINT64_MAX, 2);
+    found_is(nifforan_previous_at(map, UINT64_MAX), UINT64_MAX, 2);
+    found_is(nifforan_previous_at(map, UINT64_MAX - 1), 0, 1);
+    nifforan_read_answer read = nifforan_read(map, 0, NIFFORAN_TOP, places, 0);
     MUST(read.status == NIFFORAN_OK && read.count == 0 && read.has_next && read.next == 0 && places[0].key == 5);
-    read = nifforan_read(map, 1, places, 3);
+    read = nifforan_read_back(map, 0, NIFFORAN_TOP, places, 0);
+    MUST(read.status == NIFFORAN_OK && read.count == 0 && read.has_next && read.next == UINT64_MAX && places[0].key == 5);
+    read = nifforan_read(map, 0, NIFFORAN_BELOW(UINT64_MAX), places, 2);
+    MUST(read.count == 1 && !read.has_next && read.next == 0 && places[0].key == 0 && places[1].key == 5);
+    read = nifforan_read_back(map, 0, NIFFORAN_TOP, places, 1);
+    MUST(read.count == 1 && read.has_next && read.next == 0 && places[0].key == UINT64_MAX && places[1].key == 5);
+    read = nifforan_read_back(map, 0, NIFFORAN_BELOW(places[0].key), places, 1);
+    MUST(read.count == 1 && !read.has_next && read.next == 0 && places[0].key == 0 && places[0].value == 1);
+    read = nifforan_read(map, 1, NIFFORAN_BELOW(1), places, 3);
+    MUST(read.count == 0 && !read.has_next && read.next == 0 && places[0].key == 0);
+    read = nifforan_read(map, 1, NIFFORAN_TOP, places, 3);
     MUST(read.count == 1 && !read.has_next && read.next == 0 && places[0].key == UINT64_MAX && places[0].value == 2);
     MUST(places[1].key == 5 && places[1].value == 6);
-    nifforan_cleared cleared = nifforan_clear(map, 1, 0);
+    nifforan_cleared cleared = nifforan_clear(map, 1, NIFFORAN_BELOW(1));
     MUST(cleared.status == NIFFORAN_OK && cleared.removed == 0);
-    cleared = nifforan_clear(map, 1, UINT64_MAX);
+    cleared = nifforan_clear(map, 0, NIFFORAN_BELOW(0));
+    MUST(cleared.status == NIFFORAN_OK && cleared.removed == 0);
+    cleared = nifforan_clear(map, 1, NIFFORAN_BELOW(UINT64_MAX));
+    MUST(cleared.status == NIFFORAN_OK && cleared.removed == 0);
+    cleared = nifforan_clear(map, 1, NIFFORAN_TOP);
     MUST(cleared.status == NIFFORAN_OK && cleared.removed == 1);
     reply_is(nifforan_delete(map, 0), true, 1);
     reply_is(nifforan_delete(map, 0), false, 0);
     MUST(nifforan_pairs(map).status == NIFFORAN_OK && nifforan_pairs(map).pairs == 0);
+    found_none(nifforan_first(map));
+    found_none(nifforan_last(map));
+    found_none(nifforan_next_at(map, 0));
+    found_none(nifforan_previous_at(map, UINT64_MAX));
 }
 
 /* A map that begins at the last version can have no pair. */
 static void worn(void) {
     nifforan map = NIFFORAN_CLOSED;
-    const nifforan_settings last = { 16, 8, 4096, 1000, UINT64_MAX };
+    const nifforan_settings last = { SIZE, 16, 8, 4096, 1000, UINT64_MAX };
     MUST(nifforan_create(&map, &last) == NIFFORAN_OK);
     const nifforan_reply put = nifforan_put(&map, 1, 2), set = nifforan_set(&map, 1, 2);
     MUST(put.status == NIFFORAN_WORN && put.care == NIFFORAN_OK && !put.found && put.value == 0);
@@ -97,7 +144,7 @@ static void worn(void) {
 /* A map without a free page says so, and has each pair that it took. */
 static void full(void) {
     nifforan map = NIFFORAN_CLOSED;
-    const nifforan_settings few = { 4, 1, 8, 1000, 0 };
+    const nifforan_settings few = { SIZE, 4, 1, 8, 1000, 0 };
     uint64_t told = 0, taken = 0;
     MUST(nifforan_create(&map, &few) == NIFFORAN_OK);
     for (uint64_t key = 0; key < 100; key++) {
@@ -112,9 +159,66 @@ static void full(void) {
     nifforan_close(&map);
 }
 
+static void is_frozen(nifforan *map) {
+    nifforan_reply reply = nifforan_put(map, 7, 1);
+    MUST(reply.status == NIFFORAN_FROZEN && reply.care == NIFFORAN_OK && !reply.found && reply.value == 0);
+    MUST(nifforan_set(map, 7, 1).status == NIFFORAN_FROZEN);
+    MUST(nifforan_delete(map, 7).status == NIFFORAN_FROZEN);
+    MUST(nifforan_clear(map, 0, NIFFORAN_TOP).status == NIFFORAN_FROZEN);
+    MUST(nifforan_create(map, &usual) == NIFFORAN_OPEN_HANDLE);
+    MUST(nifforan_freeze(map) == NIFFORAN_FROZEN);
+    MUST(nifforan_pairs(map).pairs == 1);
+    reply_is(nifforan_get(map, 7), true, 49);
+}
+
+/* A map that is frozen, shared, and thawed by its last handle, whichever that is. */
+static void frozen(void) {
+    nifforan map = NIFFORAN_CLOSED, second = NIFFORAN_CLOSED, third = NIFFORAN_CLOSED;
+    MUST(nifforan_create(&map, &usual) == NIFFORAN_OK);
+    reply_is(nifforan_set(&map, 7, 49), false, 0);
+    MUST(nifforan_thaw(&map) == NIFFORAN_NOT_FROZEN);
+    MUST(nifforan_share(&map, &second) == NIFFORAN_NOT_FROZEN && second.at == NULL);
+    MUST(nifforan_freeze(&map) == NIFFORAN_OK);
+    MUST(nifforan_share(&map, &second) == NIFFORAN_OK);
+    MUST(nifforan_share(&map, &second) == NIFFORAN_OPEN_HANDLE);
+    MUST(nifforan_share(&second, &third) == NIFFORAN_OK);
+    is_frozen(&map);
+    is_frozen(&second);
+    is_frozen(&third);
+    MUST(nifforan_thaw(&map) == NIFFORAN_SHARED && nifforan_thaw(&third) == NIFFORAN_SHARED);
+    nifforan_close(&map);
+    is_closed(&map);
+    MUST(nifforan_thaw(&second) == NIFFORAN_SHARED);
+    is_frozen(&second);
+    nifforan_close(&second);
+    is_frozen(&third);
+    MUST(nifforan_thaw(&third) == NIFFORAN_OK);
+    reply_is(nifforan_delete(&third, 7), true, 49);
+    MUST(nifforan_thaw(&third) == NIFFORAN_NOT_FROZEN);
+    nifforan_close(&third);
+}
+
+/* Each status has a text of its own, which ends in its room, and all other numbers have one in common. */
+static void texts(void) {
+    const nifforan_text none = nifforan_status_text(NIFFORAN_SHARED + 1), far = nifforan_status_text(UINT32_MAX);
+    MUST(strcmp(none.text, far.text) == 0);
+    for (uint32_t status = NIFFORAN_OK; status <= NIFFORAN_SHARED; status++) {
+        const nifforan_text text = nifforan_status_text(status);
+        const size_t length = strlen(text.text);
+        MUST(length > 0 && length < sizeof text.text && strcmp(text.text, none.text) != 0);
+        for (size_t i = length; i < sizeof text.text; i++) MUST(text.text[i] == 0);
+        for (uint32_t other = NIFFORAN_OK; other < status; other++)
+            MUST(strcmp(text.text, nifforan_status_text(other).text) != 0);
+    }
+    MUST(strcmp(nifforan_status_text(NIFFORAN_NO_MEMORY).text, "no memory") == 0);
+    MUST(nifforan_version() == NIFFORAN_VERSION);
+}
+
 int main(void) {
     nifforan map = NIFFORAN_CLOSED;
     is_closed(&map);
+    texts();
+    frozen();
     settings();
     worn();
     full();

@@ -1,11 +1,12 @@
-/* Squares of a few numbers, looked up, read in order, and cleared. */
+/* Squares of a few numbers, looked up, read in order, backwards too, and cleared. */
 #include <inttypes.h>
 #include <stdio.h>
 
 #include "nifforan.h"
 
 static int fail(const char *call, uint32_t status) {
-    fprintf(stderr, "%s: status %" PRIu32 "\n", call, status);
+    const nifforan_text why = nifforan_status_text(status);
+    fprintf(stderr, "%s: %s\n", call, why.text);
     return 1;
 }
 
@@ -29,13 +30,22 @@ int main(void) {
     nifforan_read_answer read;
     uint64_t key = 990;
     do {
-        read = nifforan_read(&map, key, pairs, 4);
+        read = nifforan_read(&map, key, NIFFORAN_TOP, pairs, 4);
         for (size_t i = 0; i < read.count; i++) printf("%" PRIu64 ":%" PRIu64 " ", pairs[i].key, pairs[i].value);
         key = read.next;
     } while (read.has_next);
     printf("\n");
 
-    nifforan_cleared cleared = nifforan_clear(&map, 0, 900);
+    /* the same backwards, but for the last one */
+    nifforan_high high = NIFFORAN_BELOW(1000);
+    do {
+        read = nifforan_read_back(&map, 990, high, pairs, 4);
+        for (size_t i = 0; i < read.count; i++) printf("%" PRIu64 " ", pairs[i].key);
+        if (read.has_next) high = NIFFORAN_BELOW(pairs[read.count - 1].key);
+    } while (read.has_next);
+    printf("\n");
+
+    nifforan_cleared cleared = nifforan_clear(&map, 0, NIFFORAN_BELOW(901));
     printf("%" PRIu64 " cleared, %" PRIu64 " left\n", cleared.removed, nifforan_pairs(&map).pairs);
     nifforan_close(&map);
     return 0;

@@ -1,12 +1,14 @@
-//! Ten million drawn calls on maps of all kinds, each compared with the same call on a `BTreeMap`.
+//! Ten million drawn calls on maps of all kinds, each compared with the same call on a `BTreeMap`; then each map is
+//! frozen, and compared by threads at once.
 
-use nifforan::{Fault, Map, Settings};
+use nifforan::{Fault, Frozen, Map, Settings};
 use std::collections::BTreeMap;
 use std::ops::Range;
 
 const PAGES: [u32; 4] = [8, 64, 4096, 65536];
 const CALLS: u64 = 10_000_000;
 const MOST_KEYS: u64 = 20_000;
+const READERS: usize = 4;
 
 /// Numbers by Marsaglia's xorshift.
 struct Dice(u64);
@@ -50,8 +52,9 @@ impl Both {
             30..50 => self.insert(key, value),
             50..72 => self.remove(key),
             72..96 => assert_eq!(self.map.get(key), self.plain.get(&key).copied()),
-            96..98 => assert_eq!(self.map.len(), self.plain.len()),
-            98 => self.range(key..key + value % 100),
+            96 => assert_eq!(self.map.len(), self.plain.len()),
+            97 => self.neighbours(key),
+            98 => self.range(key..key + value % 100, value % 7),
             _ => self.clear(key..key + value % 20),
         }
     }
@@ -107,11 +110,47 @@ impl Both {
         self.full.refused += 1;
     }
 
-    fn range(&self, keys: Range<u64>) {
-        assert!(self
-            .map
-            .range(keys.clone())
-            .eq(self.plain.range(keys).map(|(key, value)| (*key, *value))));
+    /// A range from the front, from the back, and from both ends in turn: n from the front, and one from the back.
+    fn range(&self, keys: Range<u64>, n: u64) {
+        let plain = || {
+            self.plain
+                .range(keys.clone())
+                .map(|(key, value)| (*key, *value))
+        };
+        assert!(self.map.range(keys.clone()).eq(plain()));
+        assert!(self.map.range(keys.clone()).rev().eq(plain().rev()));
+        let (mut pairs, mut plain) = (self.map.range(keys.clone()), plain());
+        loop {
+            for _ in 0..n {
+                assert_eq!(pairs.next(), plain.next());
+            }
+            let last = pairs.next_back();
+            assert_eq!(last, plain.next_back());
+            if last.is_none() {
+                return;
+            }
+        }
+    }
+
+    /// The pairs at both ends, and next to the key.
+    fn neighbours(&self, key: u64) {
+        let owned = |pair: (&u64, &u64)| (*pair.0, *pair.1);
+        assert_eq!(
+            self.map.first_key_value(),
+            self.plain.first_key_value().map(owned)
+        );
+        assert_eq!(
+            self.map.last_key_value(),
+            self.plain.last_key_value().map(owned)
+        );
+        assert_eq!(
+            self.map.next_at(key),
+            self.plain.range(key..).next().map(owned)
+        );
+        assert_eq!(
+            self.map.previous_at(key),
+            self.plain.range(..=key).next_back().map(owned)
+        );
     }
 
     /// Where the map is full, as many keys are gone as it says.
@@ -140,11 +179,39 @@ impl Both {
     }
 
     fn same_pairs(&self) {
-        assert!(self
-            .map
-            .iter()
-            .eq(self.plain.iter().map(|(key, value)| (*key, *value))));
+        let plain = || self.plain.iter().map(|(key, value)| (*key, *value));
+        assert!(self.map.iter().eq(plain()));
+        assert!(self.map.iter().rev().eq(plain().rev()));
         assert_eq!(self.map.len(), self.plain.len());
+    }
+
+    /// The map frozen, and read by threads at once, each through one of its own; then it is thawed.
+    fn frozen(self) {
+        let Both { map, plain, .. } = self;
+        let mine = map.freeze().expect("there is memory");
+        let theirs: Vec<Frozen> = (0..READERS)
+            .map(|_| mine.share().expect("there is memory"))
+            .collect();
+        let mine = mine.thaw().expect_err("others have it too");
+        std::thread::scope(|scope| {
+            for its in theirs {
+                scope.spawn(|| same_pairs(its, &plain));
+            }
+        });
+        let map = mine.thaw().expect("the others are gone");
+        assert!(map
+            .iter()
+            .eq(plain.iter().map(|(key, value)| (*key, *value))));
+    }
+}
+
+/// The frozen map has the plain one's pairs, from the front and from the back, and each by its key.
+fn same_pairs(frozen: Frozen, plain: &BTreeMap<u64, u64>) {
+    let pairs = || plain.iter().map(|(key, value)| (*key, *value));
+    assert!(frozen.iter().eq(pairs()));
+    assert!(frozen.iter().rev().eq(pairs().rev()));
+    for (key, value) in pairs() {
+        assert_eq!(frozen.get(key), Some(value));
     }
 }
 
@@ -156,7 +223,9 @@ fn compare(dice: &mut Dice, settings: &Settings, calls: u64) -> Full {
         both.call(dice.throw(100), dice.throw(keys), dice.throw(u64::MAX));
     }
     both.same_pairs();
-    both.full
+    let full = both.full;
+    both.frozen();
+    full
 }
 
 /// A kind of map for each fanout and number of pages, with chains of all lengths among them.

@@ -5,7 +5,7 @@
 //! `speed MAP WORK KEYS CALLS` only makes the calls, for a profile: MAP is btree or library, and WORK is put, rising,
 //! set, get, scan or delete.
 
-use nifforan::{Map, Settings};
+use nifforan::{Map, Reads, Settings};
 use std::collections::BTreeMap;
 use std::hint::black_box;
 
@@ -79,7 +79,7 @@ impl Ordered for Map {
     }
 
     fn get(&self, key: u64) -> Option<u64> {
-        self.get(key)
+        Reads::get(self, key)
     }
 
     fn delete(&mut self, key: u64) -> Option<u64> {

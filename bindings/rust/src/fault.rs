@@ -24,6 +24,8 @@ pub enum Fault {
     Worn,
     /// The call took all tries that its settings allow it.
     Contended,
+    /// The library that is linked has settings of another size: it is of another version.
+    BadSize,
 }
 
 impl Fault {
@@ -40,24 +42,37 @@ impl Fault {
             ffi::TOO_TALL => Fault::TooTall,
             ffi::WORN => Fault::Worn,
             ffi::CONTENDED => Fault::Contended,
-            _ => unreachable!("a map's handle is open, and no other is created on it"),
+            ffi::BAD_SIZE => Fault::BadSize,
+            _ => unreachable!("a map's handle is open and not frozen, that of a frozen map is, and a new one is closed"),
         })
+    }
+
+    fn status(self) -> u32 {
+        match self {
+            Fault::BadFanout => ffi::BAD_FANOUT,
+            Fault::BadChain => ffi::BAD_CHAIN,
+            Fault::BadPages => ffi::BAD_PAGES,
+            Fault::BadTries => ffi::BAD_TRIES,
+            Fault::NoMemory => ffi::NO_MEMORY,
+            Fault::TableFull => ffi::TABLE_FULL,
+            Fault::TooTall => ffi::TOO_TALL,
+            Fault::Worn => ffi::WORN,
+            Fault::Contended => ffi::CONTENDED,
+            Fault::BadSize => ffi::BAD_SIZE,
+        }
     }
 }
 
+/// The library's text of the status.
 impl fmt::Display for Fault {
     fn fmt(&self, f: &mut fmt::Formatter<'_>) -> fmt::Result {
-        f.write_str(match self {
-            Fault::BadFanout => "the fanout is not from 4 to 64",
-            Fault::BadChain => "the chain is not from 1 to 32",
-            Fault::BadPages => "the pages are not from 8 to 65536",
-            Fault::BadTries => "the tries are not from 1 to 1000",
-            Fault::NoMemory => "no memory",
-            Fault::TableFull => "no page is free",
-            Fault::TooTall => "the tree has its greatest height",
-            Fault::Worn => "a version or the number of changes is used up",
-            Fault::Contended => "the call took all its tries",
-        })
+        // Safety: the call takes a number alone.
+        let text = unsafe { ffi::nifforan_status_text(self.status()) }.text;
+        let end = text
+            .iter()
+            .position(|byte| *byte == 0)
+            .unwrap_or(text.len());
+        f.write_str(&String::from_utf8_lossy(&text[..end]))
     }
 }
 

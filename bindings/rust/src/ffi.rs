@@ -12,10 +12,35 @@ pub const TABLE_FULL: u32 = 8;
 pub const TOO_TALL: u32 = 9;
 pub const WORN: u32 = 10;
 pub const CONTENDED: u32 = 11;
+pub const BAD_SIZE: u32 = 12;
+pub const SHARED: u32 = 15;
 
 #[repr(C)]
 pub struct Handle {
     pub at: *mut c_void,
+}
+
+#[repr(C)]
+pub struct Settings {
+    pub size: usize,
+    pub fanout: u32,
+    pub chain: u32,
+    pub pages: u32,
+    pub tries: u32,
+    pub first_version: u64,
+}
+
+#[repr(C)]
+pub struct StatusText {
+    pub text: [u8; 64],
+}
+
+/// Where a range ends: below the key, or past all keys.
+#[repr(C)]
+#[derive(Clone, Copy, Debug)]
+pub struct High {
+    pub key: u64,
+    pub is_top: bool,
 }
 
 #[repr(C)]
@@ -39,6 +64,14 @@ pub struct Cleared {
 }
 
 #[repr(C)]
+pub struct Found {
+    pub status: u32,
+    pub found: bool,
+    pub key: u64,
+    pub value: u64,
+}
+
+#[repr(C)]
 #[derive(Clone, Copy, Debug)]
 pub struct Pair {
     pub key: u64,
@@ -54,13 +87,35 @@ pub struct Read {
 }
 
 extern "C" {
-    pub fn nifforan_create(map: *mut Handle, settings: *const crate::Settings) -> u32;
+    pub fn nifforan_version() -> u32;
+    pub fn nifforan_status_text(status: u32) -> StatusText;
+    pub fn nifforan_create(map: *mut Handle, settings: *const Settings) -> u32;
     pub fn nifforan_pairs(map: *mut Handle) -> Count;
     pub fn nifforan_get(map: *mut Handle, key: u64) -> Reply;
+    pub fn nifforan_first(map: *mut Handle) -> Found;
+    pub fn nifforan_last(map: *mut Handle) -> Found;
+    pub fn nifforan_next_at(map: *mut Handle, key: u64) -> Found;
+    pub fn nifforan_previous_at(map: *mut Handle, key: u64) -> Found;
+    pub fn nifforan_read(
+        map: *mut Handle,
+        low: u64,
+        high: High,
+        pairs: *mut Pair,
+        room: usize,
+    ) -> Read;
+    pub fn nifforan_read_back(
+        map: *mut Handle,
+        low: u64,
+        high: High,
+        pairs: *mut Pair,
+        room: usize,
+    ) -> Read;
     pub fn nifforan_put(map: *mut Handle, key: u64, value: u64) -> Reply;
     pub fn nifforan_set(map: *mut Handle, key: u64, value: u64) -> Reply;
     pub fn nifforan_delete(map: *mut Handle, key: u64) -> Reply;
-    pub fn nifforan_clear(map: *mut Handle, low: u64, high: u64) -> Cleared;
-    pub fn nifforan_read(map: *mut Handle, key: u64, pairs: *mut Pair, room: usize) -> Read;
+    pub fn nifforan_clear(map: *mut Handle, low: u64, high: High) -> Cleared;
+    pub fn nifforan_freeze(map: *mut Handle) -> u32;
+    pub fn nifforan_share(map: *mut Handle, other: *mut Handle) -> u32;
+    pub fn nifforan_thaw(map: *mut Handle) -> u32;
     pub fn nifforan_close(map: *mut Handle);
 }

@@ -11,28 +11,44 @@
 //! # Ok::<(), nifforan::Fault>(())
 //! ```
 //!
-//! A map stays on its thread: it is neither `Send` nor `Sync`.
+//! A map may go to another thread, but is used by one at a time: it is `Send`, and not `Sync`. A [`Frozen`] map is read
+//! by many at once.
 //!
-//! ```compile_fail
-//! fn sent<T: Send>(_: T) {}
-//! sent(nifforan::Map::new(&nifforan::Settings::default()).unwrap());
+//! ```
+//! fn sent<T: Send>() {}
+//! sent::<nifforan::Map>();
+//! sent::<nifforan::Frozen>();
 //! ```
 //!
 //! ```compile_fail
-//! fn shared<T: Sync>(_: T) {}
-//! shared(nifforan::Map::new(&nifforan::Settings::default()).unwrap());
+//! fn shared<T: Sync>() {}
+//! shared::<nifforan::Map>();
+//! ```
+//!
+//! ```compile_fail
+//! fn shared<T: Sync>() {}
+//! shared::<nifforan::Frozen>();
 //! ```
 #![warn(missing_docs)]
 
 mod fault;
 mod ffi;
+mod frozen;
 mod range;
+mod reads;
 
 pub use fault::{Fault, Unfinished};
+pub use frozen::{Frozen, Unfrozen};
 pub use range::Range;
-use std::cell::UnsafeCell;
+pub use reads::Reads;
 use std::fmt;
-use std::ops::{Bound, RangeBounds};
+use std::ops::{Deref, RangeBounds};
+
+/// The version of the library that is linked: 10,000 times its first number, 100 times its second, and its third.
+pub fn version() -> u32 {
+    // Safety: the call takes nothing.
+    unsafe { ffi::nifforan_version() }
+}
 
 /// What a map is made by.
 ///
@@ -41,7 +57,6 @@ use std::ops::{Bound, RangeBounds};
 /// let settings = Settings { fanout: 3, ..Settings::default() };
 /// assert_eq!(Map::new(&settings).err(), Some(Fault::BadFanout));
 /// ```
-#[repr(C)]
 #[derive(Clone, Copy, Debug, PartialEq, Eq, Hash)]
 pub struct Settings {
     /// How many pairs a page may have before it is split, 4 to 64.
@@ -72,46 +87,35 @@ impl Default for Settings {
     }
 }
 
-/// An ordered map from `u64` keys to `u64` values. It stays on its thread: it is neither `Send` nor `Sync`.
+/// An ordered map from `u64` keys to `u64` values. It may go to another thread, and is used by one at a time. The calls
+/// that only look at it are those of [`Reads`].
 pub struct Map {
-    /// Open from `new` to `drop`. A call writes its word, also one that only reads the map.
-    handle: UnsafeCell<ffi::Handle>,
+    reads: Reads,
     /// See `care`.
     care: u32,
 }
 
-// Safety of all calls below: the handle is zero in `new` and open in all others, its word is written by these calls alone, and as a map is
-// neither Send nor Sync, there is one call at a time, on the thread that opened it.
 impl Map {
     /// A map without pairs. A setting out of its range is told by the first such one, and want of memory by
     /// [`Fault::NoMemory`].
     pub fn new(settings: &Settings) -> Result<Map, Fault> {
-        let mut handle = ffi::Handle {
-            at: std::ptr::null_mut(),
+        let settings = ffi::Settings {
+            size: size_of::<ffi::Settings>(),
+            fanout: settings.fanout,
+            chain: settings.chain,
+            pages: settings.pages,
+            tries: settings.tries,
+            first_version: settings.first_version,
         };
-        match Fault::of(unsafe { ffi::nifforan_create(&mut handle, settings) }) {
-            None => Ok(Map {
-                handle: UnsafeCell::new(handle),
-                care: ffi::OK,
-            }),
-            Some(fault) => Err(fault),
+        Reads::opened_by(|handle| unsafe { ffi::nifforan_create(handle, &settings) }).map(Map::of)
+    }
+
+    /// The map of an open handle that isn't frozen.
+    pub(crate) fn of(reads: Reads) -> Map {
+        Map {
+            reads,
+            care: ffi::OK,
         }
-    }
-
-    /// How many pairs there are. It takes the same time however many.
-    pub fn len(&self) -> usize {
-        unsafe { ffi::nifforan_pairs(self.handle.get()) }.pairs as usize
-    }
-
-    /// Whether there is no pair.
-    pub fn is_empty(&self) -> bool {
-        self.len() == 0
-    }
-
-    /// The value at the key. It takes no memory.
-    pub fn get(&self, key: u64) -> Option<u64> {
-        let reply = unsafe { ffi::nifforan_get(self.handle.get(), key) };
-        reply.found.then_some(reply.value)
     }
 
     /// Gives the key the value unless it has one, and answers the one that it had.
@@ -124,19 +128,19 @@ impl Map {
     /// # Ok::<(), nifforan::Fault>(())
     /// ```
     pub fn insert_if_absent(&mut self, key: u64, value: u64) -> Result<Option<u64>, Fault> {
-        let reply = unsafe { ffi::nifforan_put(self.handle.get(), key, value) };
+        let reply = unsafe { ffi::nifforan_put(self.reads.handle.get(), key, value) };
         self.before(reply)
     }
 
     /// Gives the key the value, and answers the one that it had.
     pub fn insert(&mut self, key: u64, value: u64) -> Result<Option<u64>, Fault> {
-        let reply = unsafe { ffi::nifforan_set(self.handle.get(), key, value) };
+        let reply = unsafe { ffi::nifforan_set(self.reads.handle.get(), key, value) };
         self.before(reply)
     }
 
     /// Takes the key out, and answers the value that it had.
     pub fn remove(&mut self, key: u64) -> Result<Option<u64>, Fault> {
-        let reply = unsafe { ffi::nifforan_delete(self.handle.get(), key) };
+        let reply = unsafe { ffi::nifforan_delete(self.reads.handle.get(), key) };
         self.before(reply)
     }
 
@@ -150,10 +154,10 @@ impl Map {
     /// # Ok::<(), nifforan::Fault>(())
     /// ```
     pub fn clear(&mut self, keys: impl RangeBounds<u64>) -> Result<u64, Unfinished> {
-        let Some((low, high)) = ends(&keys) else {
+        let Some((low, high)) = reads::ends(&keys) else {
             return Ok(0);
         };
-        let cleared = unsafe { ffi::nifforan_clear(self.handle.get(), low, high) };
+        let cleared = unsafe { ffi::nifforan_clear(self.reads.handle.get(), low, high) };
         match Fault::of(cleared.status) {
             None => Ok(cleared.removed),
             Some(fault) => Err(Unfinished {
@@ -169,14 +173,13 @@ impl Map {
         Fault::of(self.care)
     }
 
-    /// The pairs of a range of keys, in the order of their keys. A range that ends before it begins has none.
-    pub fn range(&self, keys: impl RangeBounds<u64>) -> Range<'_> {
-        Range::of(self, ends(&keys))
-    }
-
-    /// All pairs, in the order of their keys.
-    pub fn iter(&self) -> Range<'_> {
-        self.range(..)
+    /// Freezes the map, so that nobody changes it and many threads may read it. It fails, and gives the map back, where
+    /// there is no memory for it.
+    pub fn freeze(self) -> Result<Frozen, Unfrozen> {
+        match Fault::of(unsafe { ffi::nifforan_freeze(self.reads.handle.get()) }) {
+            None => Ok(Frozen { reads: self.reads }),
+            Some(fault) => Err(Unfrozen { map: self, fault }),
+        }
     }
 
     /// The value before a call, or why it was not made.
@@ -187,21 +190,19 @@ impl Map {
             Some(fault) => Err(fault),
         }
     }
-
-    fn read(&self, key: u64, places: &mut [ffi::Pair]) -> ffi::Read {
-        unsafe { ffi::nifforan_read(self.handle.get(), key, places.as_mut_ptr(), places.len()) }
-    }
 }
 
-impl Drop for Map {
-    fn drop(&mut self) {
-        unsafe { ffi::nifforan_close(self.handle.get()) }
+impl Deref for Map {
+    type Target = Reads;
+
+    fn deref(&self) -> &Reads {
+        &self.reads
     }
 }
 
 impl fmt::Debug for Map {
     fn fmt(&self, f: &mut fmt::Formatter<'_>) -> fmt::Result {
-        f.debug_map().entries(self).finish()
+        self.reads.fmt(f)
     }
 }
 
@@ -212,19 +213,4 @@ impl<'m> IntoIterator for &'m Map {
     fn into_iter(self) -> Range<'m> {
         self.iter()
     }
-}
-
-/// The least and the greatest key of a range, unless it has none.
-fn ends(keys: &impl RangeBounds<u64>) -> Option<(u64, u64)> {
-    let low = match keys.start_bound() {
-        Bound::Included(low) => *low,
-        Bound::Excluded(below) => below.checked_add(1)?,
-        Bound::Unbounded => 0,
-    };
-    let high = match keys.end_bound() {
-        Bound::Included(high) => *high,
-        Bound::Excluded(above) => above.checked_sub(1)?,
-        Bound::Unbounded => u64::MAX,
-    };
-    (low <= high).then_some((low, high))
 }

@@ -35,6 +35,13 @@ fn ranges_have_the_keys_at_their_ends() {
                 .eq(keys.iter().copied()),
             "{range:?}"
         );
+        assert!(
+            map.range(range)
+                .rev()
+                .map(|(key, _)| key)
+                .eq(keys.iter().rev().copied()),
+            "{range:?}"
+        );
         assert_eq!(map.clear(range), Ok(keys.len() as u64), "{range:?}");
         assert_eq!(map.len(), 3 - keys.len(), "{range:?}");
     }
@@ -50,6 +57,45 @@ fn a_range_that_has_ended_stays_so() {
     ] {
         let mut pairs = map.range(range);
         pairs.by_ref().for_each(drop);
-        assert_eq!((pairs.next(), pairs.next()), (None, None));
+        assert_eq!((pairs.next(), pairs.next_back()), (None, None));
+        let mut pairs = map.range(range);
+        pairs.by_ref().rev().for_each(drop);
+        assert_eq!((pairs.next(), pairs.next_back()), (None, None));
     }
+}
+
+#[test]
+fn the_library_is_of_this_version() {
+    let number = |part: &str| part.parse::<u32>().expect("a number");
+    let numbers = [
+        env!("CARGO_PKG_VERSION_MAJOR"),
+        env!("CARGO_PKG_VERSION_MINOR"),
+        env!("CARGO_PKG_VERSION_PATCH"),
+    ]
+    .map(number);
+    assert_eq!(
+        nifforan::version(),
+        10_000 * numbers[0] + 100 * numbers[1] + numbers[2]
+    );
+}
+
+#[test]
+fn a_map_is_filled_by_another_thread() {
+    let map = filled().expect("there is memory");
+    let filler = std::thread::spawn(move || {
+        let mut map = map;
+        map.insert(5, 25).map(|_| map)
+    });
+    let map = filler.join().expect("it ends").expect("there is memory");
+    assert_eq!((map.get(5), map.len()), (Some(25), 4));
+}
+
+#[test]
+fn a_fault_has_the_librarys_text() {
+    let settings = Settings {
+        chain: 0,
+        ..Settings::default()
+    };
+    let fault = Map::new(&settings).expect_err("the chain is 0");
+    assert_eq!(fault.to_string(), "the chain is not from 1 to 32");
 }

@@ -1,6 +1,6 @@
 -- Places that are filled with pairs, one after the other.
-use Rattle.std.proofs.Common.{◌≡◌, ℕ, ◌+◌, ◌<◌, ◌≤◌, List, [], ◌∷◌, ◌++◌, length, take, drop, min, slice_set, refl, sym, ap, subst, ◌∙◌, arith}
-use Rattle.std.proofs.lemmas.List.{take_more_set, drop-set-lt, drop_at, take_at, map_push, append_assoc, drop-drop, length_push, length-set, length-append}
+use Rattle.std.proofs.Common.{◌≡◌, ℕ, ◌+◌, ◌<◌, ◌≤◌, List, [], ◌∷◌, ◌++◌, length, take, drop, min, slice_set, reverse, refl, sym, ap, subst, ◌∙◌, arith}
+use Rattle.std.proofs.lemmas.List.{reverse-append, take_more_set, drop-set-lt, drop_at, take_at, map_push, append_assoc, drop-drop, length_push, length-set, length-append}
 use Rattle.nifforan.specs.Maps.{PairList}
 use Rattle.nifforan_handle.specs.Reading.{are_pairs}
 use Rattle.nifforan_handle.specs.declared.answer.Pair.{Pair}
@@ -43,3 +43,12 @@ full old now all given left count room filled same over = let many = all_many ol
 pub none_left : (old now : List Pair) (all given left : PairList) (count room : ℕ) → IsFilled old now all given left count → length now ≡ room → left ≡ [] → count ≡ min room (length all)
 none_left old now all given left count room filled same none =
     let many : length all ≡ count + 0 = all_many old now all given left count filled ∙ ap (λ (l : PairList). count + length l) none in let fits = filled.room in omega (arith, many, fits, same)
+
+-- the same of pairs that come backwards
+abbrev pub IsFilledBack : List Pair → List Pair → PairList → PairList → ℕ → Type 0
+IsFilledBack old now all left count = (given : PairList) × IsFilled old now (reverse all) given (reverse left) count
+
+pub one_more_back : (old now : List Pair) (all left rest : PairList) (count key value : ℕ) → IsFilledBack old now all left count → left ≡ rest ++ (key, value) ∷ [] → count < length now
+    → IsFilledBack old (slice_set now count (record { key = key; value = value })) all rest (count + 1)
+one_more_back old now all left rest count key value filled next fits =
+    (filled.0 ++ (key, value) ∷ [], one_more old now (reverse all) filled.0 (reverse left) (reverse rest) count key value filled.1 (ap reverse next ∙ reverse-append rest ((key, value) ∷ [])) fits)

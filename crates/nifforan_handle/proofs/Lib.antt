@@ -1,2 +1,3 @@
+mod Crossing
 pub mod Filling
 pub mod Steps

@@ -4,7 +4,7 @@
 --     loose_in, handle_in    such a struct by value, made of what it owns
 --     loose_out, handle_out  what it owns and its machine value
 --     cases                  a handle is null, or a box at a pointer that may be compared with null
-use Rattle.std.proofs.Common.{◌≡◌, ℕ, List, [], ◌∷◌, ◌++◌, refl, subst}
+use Rattle.std.proofs.Common.{◌≡◌, ℕ, Bool, true, false, List, [], ◌∷◌, ◌++◌, refl, subst}
 use seplogic.Ra.Ura.{Ura}
 use mir.Raw.{raw as bare}
 use mir.Syntax.{impl, tcons, tnil, dnil, ty_ptr}
@@ -23,6 +23,7 @@ use denote.Steps.{nothing}
 use denote.Struct.Struct.{within}
 use denote.Struct.Owning.{shape}
 use denote.Memory.{lone}
+use base.Fml.{fex}
 use denote.RawPtr.{Ptr, block_ptr, null_ptr, ptr_val, lies_at, in_a_block, Testable}
 use Rattle.core.proofs.alloc.Calls.{Al}
 use Rattle.core.proofs.atomic.Steps.{Ptr-Good}
@@ -31,13 +32,11 @@ use Rattle.std.specs.contracts.alloc.Global as heap
 use Rattle.std.proofs.alloc.Global.TheLaws as heap_laws
 use Rattle.std.specs.contracts.impls.GlobalAllocator.TheImpl.{ghosts, dict}
 use Rattle.std.specs.declared.alloc.Global.{Global}
-use Rattle.std.specs.declared.option.Option.{Option}
-use Rattle.std.specs.declared.option.Option.TheVariants.{None, Some}
 use Rattle.std.proofs.GlobalToken.{dealloc_token-Testable}
 use Rattle.std_alloc.specs.Box.Ownership.{box_owns}
 use Rattle.std_alloc.proofs.BoxSteps.Form.{Bx}
 use Rattle.std_alloc.proofs.ResultValues.{and_tt}
-use Rattle.nifforan_handle.specs.Owned.{boxed, held_at, held_map}
+use Rattle.nifforan_handle.specs.Owned.{boxed, null_or_boxed, held_at}
 use Rattle.nifforan_handle.specs.contracts.handle.Handle as handle
 use Rattle.nifforan_handle.specs.contracts.loose.Loose as loose
 
@@ -61,10 +60,10 @@ pub one_good : (p : Ptr) → Good (layout Handle) (one (ptr_val p))
 one_good p = (and_tt (has_ty ty_ptr (ptr_val p)) (Ptr-Good p).0, ((Ptr-Good p).1, tt))
 
 module _ {M : Type 1} {𝓤 : Ura M} {𝓛 : Logic 𝓤} {K : Type 0} {Γ : List (Item 𝓤)} {G : Goal 𝓤 𝓛.H} where
-  pub handle_out : K → (d : Handle.Denot) (vs : List Val) → (vs ≡ one (ptr_val d.at) ∷ [] → Seq K 𝓛 (‵ (held_map d.at d.held) ∷ Γ) G) → Seq K 𝓛 (‵ (Handle.own_val d vs) ∷ Γ) G
+  pub handle_out : K → (d : Handle.Denot) (vs : List Val) → (vs ≡ one (ptr_val d.at) ∷ [] → Seq K 𝓛 (‵ (held_at d.at d.held) ∷ Γ) G) → Seq K 𝓛 (‵ (Handle.own_val d vs) ∷ Γ) G
   handle_out t d vs go = fsplit t $ fpick t (λ vss. fsplit t $ feq_l t (λ word. fsplit t $ feq_l t (λ field. drop t $ go (subst (λ (ps : List Val). vs ≡ vstruct (of_list (ps ++ [])) ∷ []) field word))))
 
-  pub handle_in : K → (d : Handle.Denot) → Step K 𝓛 (‵ (Handle.own_val d (one (ptr_val d.at) ∷ [])) ∷ Γ) G (‵ (held_map d.at d.held) ∷ Γ) G
+  pub handle_in : K → (d : Handle.Denot) → Step K 𝓛 (‵ (Handle.own_val d (one (ptr_val d.at) ∷ [])) ∷ Γ) G (‵ (held_at d.at d.held) ∷ Γ) G
   handle_in t d = step (λ rest. let w : Val = one (ptr_val d.at) in nothing t $ feq_i t (List Val) (ptr_val d.at ∷ []) (ptr_val d.at ∷ []) refl $ fjoin t $ feq_i t (List Val) (w ∷ []) (w ∷ []) refl $ fjoin t $
       fpack t (Valss (RawPtr ∷ [])) (within (shape handle.the_type) (d.at, tt) (w ∷ [])) (ptr_val d.at ∷ [], tt) $ fjoin t $ rest)
 
@@ -84,9 +83,13 @@ module _ (R : RattleType) {M : Type 1} {𝓤 : Ura M} {𝓛 : Logic 𝓤} {K : T
   loose_in t d = step (λ rest. let w : Val = one (ptr_val d.at) in nothing t $ feq_i t (List Val) (ptr_val d.at ∷ []) (ptr_val d.at ∷ []) refl $ fjoin t $ feq_i t (List Val) (w ∷ []) (w ∷ []) refl $ fjoin t $
       fpack t (Valss (RawPtr ∷ [])) (within (shape (loose.the_type R)) (d.at, tt) (w ∷ [])) (ptr_val d.at ∷ [], tt) $ fjoin t $ rest)
 
-  pub cases : K → (p : Ptr) (held : Option R.Denot) → (p ≡ null_ptr → held ≡ None → Seq K 𝓛 Γ G)
-      → ((b o : ℕ) (x : R.Denot) (alloc : Global) → p ≡ block_ptr b o → held ≡ Some x → Testable (block_ptr b o) → Seq K 𝓛 (‵ (box_owns (ghosts.dealloc_token alloc) R (block_ptr b o) x) ∷ Γ) G)
-      → Seq K 𝓛 (‵ (held_at R p held) ∷ Γ) G
-  cases t p None none some = fpick t (λ is_null. drop t $ none is_null refl)
-  cases t p (Some x) none some = fpick t (λ alloc. in_a_block t p (λ q. box_owns (ghosts.dealloc_token alloc) R q x) (fst∗ 𝓤 (never 𝓤) (sem 𝓛 (ghosts.dealloc_token alloc (bare (lone R.mir)) null_ptr))) (λ b o at.
-      use1 𝓛 (given (Testable (block_ptr b o)) (‵ (box_owns (ghosts.dealloc_token alloc) R (block_ptr b o) x))) (tested R 𝓛 (block_ptr b o) x alloc) $ learn t (λ test. some b o x alloc at refl test)))
+  module _ (t : K) (none : R.Denot) (p : Ptr) (x : R.Denot)
+      (null : p ≡ null_ptr → x ≡ none → Seq K 𝓛 Γ G)
+      (some : (b o : ℕ) (alloc : Global) → p ≡ block_ptr b o → Testable (block_ptr b o) → Seq K 𝓛 (‵ (box_owns (ghosts.dealloc_token alloc) R (block_ptr b o) x) ∷ Γ) G) where
+    either : (is_null : Bool) → Seq K 𝓛 (‵ (null_or_boxed R none p x is_null) ∷ Γ) G
+    either true = fpick t (λ at. fpick t (λ is. drop t $ null at is))
+    either false = fpick t (λ alloc. in_a_block t p (λ q. box_owns (ghosts.dealloc_token alloc) R q x) (fst∗ 𝓤 (never 𝓤) (sem 𝓛 (ghosts.dealloc_token alloc (bare (lone R.mir)) null_ptr))) (λ b o at.
+        use1 𝓛 (given (Testable (block_ptr b o)) (‵ (box_owns (ghosts.dealloc_token alloc) R (block_ptr b o) x))) (tested R 𝓛 (block_ptr b o) x alloc) $ learn t (λ test. some b o alloc at test)))
+
+    pub cases : Seq K 𝓛 (‵ (fex Bool (null_or_boxed R none p x)) ∷ Γ) G
+    cases = fpick t (λ is_null. either is_null)

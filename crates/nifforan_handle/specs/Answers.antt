@@ -1,5 +1,6 @@
 -- What an answer says.
 use Rattle.std.specs.Prelude.{◌≡◌, ◌≢◌, ℕ, Bool, true, false, Option, Some, None}
+use Rattle.nifforan_handle.specs.declared.answer.Found.{Found}
 use Rattle.nifforan_handle.specs.declared.answer.Read.{Read}
 use Rattle.nifforan_handle.specs.declared.answer.Reply.{Reply}
 use Rattle.nifforan_handle.specs.declared.status.TheConstants.{OK}
@@ -32,3 +33,15 @@ next_key read = number_if read.has_next read.next
 -- if no pair is left, the number in its key's place is 0
 abbrev pub IsZeroAtEnd : Read → Type 0
 IsZeroAtEnd read = read.has_next ≡ false → read.next ≡ 0
+
+abbrev pair_if : Bool → ℕ → ℕ → Option (ℕ × ℕ)
+pair_if true key value = Some (key, value)
+pair_if false key value = None
+
+-- the pair, if there is one
+abbrev pub pair_of : Found → Option (ℕ × ℕ)
+pair_of found = pair_if found.found found.key found.value
+
+-- if there is no pair, the numbers in its place are 0
+abbrev pub IsZeroWithoutPair : Found → Type 0
+IsZeroWithoutPair found = found.found ≡ false → (found.key ≡ 0) × (found.value ≡ 0)

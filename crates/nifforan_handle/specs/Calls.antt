@@ -1,20 +1,36 @@
--- What the calls on a handle do to the map that it holds.
-use Rattle.std.specs.Prelude.{◌≡◌, ◌≢◌, ◌↔◌, ℕ, List, Option, None, length, take, drop, min}
+-- What the calls on a handle do to what it holds.
+use Rattle.std.specs.Prelude.{◌≡◌, ◌≢◌, ◌↔◌, ℕ, List, Option, None, IfSome, length, take, drop, min}
+use Rattle.bw_keys.specs.Limits.{first_bad_field}
 use Rattle.nifforan.specs.Calls.{Clears}
-use Rattle.nifforan.specs.Maps.{MapValue, PairList}
+use Rattle.nifforan.specs.Maps.{PairList}
 use Rattle.nifforan_handle.specs.declared.answer.Cleared.{Cleared}
+use Rattle.nifforan_handle.specs.declared.answer.Found.{Found}
 use Rattle.nifforan_handle.specs.declared.answer.Pair.{Pair}
 use Rattle.nifforan_handle.specs.declared.answer.Read.{Read}
 use Rattle.nifforan_handle.specs.declared.answer.Reply.{Reply}
-use Rattle.nifforan_handle.specs.declared.status.TheConstants.{CLOSED, OK}
-use Rattle.nifforan_handle.specs.Answers.{had, next_key, IsCare, IsZeroWithout, IsZeroAtEnd}
-use Rattle.nifforan_handle.specs.Held.{pairs_in, config_in}
+use Rattle.nifforan_handle.specs.declared.held.Held.{Held}
+use Rattle.nifforan_handle.specs.declared.held.Held.TheVariants.{Own}
+use Rattle.nifforan_handle.specs.declared.settings.Settings.{Settings}
+use Rattle.nifforan_handle.specs.declared.settings.TheConstants.{SETTINGS_SIZE}
+use Rattle.nifforan_handle.specs.declared.status.TheConstants.{BAD_SIZE, CLOSED, FROZEN, NO_MEMORY, OK, OPEN}
+use Rattle.nifforan_handle.specs.Answers.{had, next_key, pair_of, IsCare, IsZeroWithout, IsZeroAtEnd, IsZeroWithoutPair}
+use Rattle.nifforan_handle.specs.Held.{map_in, pairs_in, config_in, empty_map, IsFrozen}
 use Rattle.nifforan_handle.specs.Reading.{are_pairs, first_key}
-use Rattle.nifforan_handle.specs.Statuses.{IsStatus}
+use Rattle.nifforan_handle.specs.Statuses.{config_of, status_of_field, IsStatus}
+
+-- a map without pairs is opened at a closed handle, unless the settings' size is another than they have here, or a field is out of its range, or memory is short
+pub record Creates (settings : Settings) (status : ℕ) (old new : Held) : Type 0 where
+  pub already : (map_in old ≢ None) ↔ (status ≡ OPEN)
+  pub size : map_in old ≡ None → (settings.size ≢ SETTINGS_SIZE) ↔ (status ≡ BAD_SIZE)
+  pub setting : map_in old ≡ None → settings.size ≡ SETTINGS_SIZE → IfSome (first_bad_field (config_of settings)) (λ field. status ≡ status_of_field field)
+  pub memory : map_in old ≡ None → settings.size ≡ SETTINGS_SIZE → first_bad_field (config_of settings) ≡ None → status ≢ OK → status ≡ NO_MEMORY
+  pub opened : status ≡ OK → new ≡ Own (empty_map (config_of settings))
+  pub unchanged : status ≢ OK → new ≡ old
 
 -- a put, a set or a delete, by what it does to the pairs, and the value that the key had
-pub record Writes (Does : Option ℕ → PairList → PairList → Type 0) (it : Reply) (old new : Option MapValue) : Type 0 where
-  pub closed : (old ≡ None) ↔ (it.status ≡ CLOSED)
+pub record Writes (Does : Option ℕ → PairList → PairList → Type 0) (it : Reply) (old new : Held) : Type 0 where
+  pub closed : (map_in old ≡ None) ↔ (it.status ≡ CLOSED)
+  pub frozen : IsFrozen old ↔ (it.status ≡ FROZEN)
   -- the reply has the value that the key had
   pub reply : it.status ≡ OK → Does (had it) (pairs_in old) (pairs_in new)
   pub status : IsStatus it.status
@@ -25,11 +41,19 @@ pub record Writes (Does : Option ℕ → PairList → PairList → Type 0) (it :
   pub config : config_in new ≡ config_in old
 
 -- the removal of the keys from the low on and below the end
-pub record ClearsHeld (low end : ℕ) (it : Cleared) (old new : Option MapValue) : Type 0 where
-  pub closed : (old ≡ None) ↔ (it.status ≡ CLOSED)
+pub record ClearsHeld (low end : ℕ) (it : Cleared) (old new : Held) : Type 0 where
+  pub closed : (map_in old ≡ None) ↔ (it.status ≡ CLOSED)
+  pub frozen : IsFrozen old ↔ (it.status ≡ FROZEN)
   pub status : IsStatus it.status
   pub clears : Clears low end it.removed (it.status ≡ OK) (pairs_in old) (pairs_in new)
   pub config : config_in new ≡ config_in old
+
+-- the pair that is asked for, if there is one
+pub record Finds (wanted : Option (ℕ × ℕ)) (it : Found) (held : Held) : Type 0 where
+  pub closed : (map_in held ≡ None) ↔ (it.status ≡ CLOSED)
+  pub reads : (map_in held ≢ None) ↔ (it.status ≡ OK)
+  pub pair : pair_of it ≡ wanted
+  pub zero : IsZeroWithoutPair it
 
 -- the first of the pairs are in the first of the places, and the answer has their number and the key of the next one
 pub record ReadsInto (pairs : PairList) (it : Read) (old new : List Pair) : Type 0 where

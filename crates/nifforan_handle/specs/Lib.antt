@@ -1,5 +1,6 @@
 pub mod Answers
 pub mod Calls
+pub mod Frozen
 pub mod Held
 pub mod Owned
 pub mod Reading

@@ -1,12 +1,14 @@
 -- What settings mean, and the status of each fault.
-use Rattle.std.specs.Prelude.{◌≢◌, ℕ, ◌≤◌, Option, Some, None}
+use Rattle.std.specs.Prelude.{◌≡◌, ◌≢◌, ℕ, ◌-◌, ◌≤◌, Option, Some, None, slice_index}
 use Rattle.bw_keys.specs.declared.config.Config.{Config}
 use Rattle.bw_keys.specs.declared.config.Field.{Field}
 use Rattle.bw_keys.specs.declared.config.Field.TheVariants.{Fanout, Chain, Pages, Tries}
 use Rattle.bw_procedures.specs.declared.fault.Fault.{Fault}
 use Rattle.bw_procedures.specs.declared.fault.Fault.TheVariants.{NoMemory, TableFull, TooTall, Worn, Contended}
 use Rattle.nifforan_handle.specs.declared.settings.Settings.{Settings}
-use Rattle.nifforan_handle.specs.declared.status.TheConstants.{BAD_FANOUT, BAD_CHAIN, BAD_PAGES, BAD_TRIES, NO_MEMORY, TABLE_FULL, TOO_TALL, WORN, CONTENDED, CLOSED, OK}
+use Rattle.nifforan_handle.specs.declared.text.StatusText.{StatusText}
+use Rattle.nifforan_handle.specs.declared.text.TheConstants.{TEXT_SIZE}
+use Rattle.nifforan_handle.specs.declared.status.TheConstants.{BAD_FANOUT, BAD_CHAIN, BAD_PAGES, BAD_TRIES, NO_MEMORY, TABLE_FULL, TOO_TALL, WORN, CONTENDED, CLOSED, FROZEN, OK}
 
 -- the configuration that C's settings are
 abbrev pub config_of : Settings → Config
@@ -34,6 +36,10 @@ status_of (Some fault) = status_of_fault fault
 abbrev pub TellsFault : ℕ → Type 0
 TellsFault status = (NO_MEMORY ≤ status) × (status ≤ CONTENDED)
 
--- what a call on a map answers: OK, CLOSED, or a fault
+-- what a call that changes a map answers: OK, CLOSED, FROZEN, or a fault
 abbrev pub IsStatus : ℕ → Type 0
-IsStatus status = status ≢ OK → status ≢ CLOSED → TellsFault status
+IsStatus status = status ≢ OK → status ≢ CLOSED → status ≢ FROZEN → TellsFault status
+
+-- the last byte of the text's room is 0, so that each text ends in it
+abbrev pub EndsWithZero : StatusText → Type 0
+EndsWithZero it = slice_index it.text (TEXT_SIZE - 1) ≡ 0

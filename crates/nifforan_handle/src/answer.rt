@@ -1,7 +1,9 @@
 //! The answers to calls.
 ghost use Rattle.std.specs.Prelude.{◌≡◌, None, Some, IfOk, IfErr, IfSome};
 ghost use Rattle.nifforan.specs.Maps.{before_put, before_set, before_delete};
-ghost use Rattle.nifforan_handle.specs.Answers.{had, next_key, RepliesWith, IsCare, IsZeroWithout, IsZeroAtEnd};
+ghost use Rattle.nifforan_handle.specs.Answers.{had, next_key, pair_of};
+ghost use Rattle.nifforan_handle.specs.Answers.{RepliesWith, IsCare, IsZeroWithout, IsZeroAtEnd};
+ghost use Rattle.nifforan_handle.specs.Answers.{IsZeroWithoutPair};
 ghost use Rattle.nifforan_handle.specs.Statuses.{status_of_fault, status_of, IsStatus};
 ghost use Rattle.nifforan_handle.specs.declared.status.TheConstants.{CLOSED, OK};
 
@@ -122,6 +124,25 @@ pub struct Count {
     pub pairs: u64,
 }
 
+impl Count {
+    pub(crate) fn closed() -> Count
+        ensures status { result.status ≡ CLOSED }
+        ensures pairs { result.pairs ≡ 0 }
+    {
+        Count {
+            status: CLOSED,
+            pairs: 0,
+        }
+    }
+
+    pub(crate) fn of(pairs: u64) -> Count
+        ensures status { result.status ≡ OK }
+        ensures pairs { result.pairs ≡ pairs }
+    {
+        Count { status: OK, pairs }
+    }
+}
+
 /// The answer to the removal of a range of keys.
 #[repr(C)]
 #[derive(Clone, Copy)]
@@ -133,6 +154,13 @@ pub struct Cleared {
 }
 
 impl Cleared {
+    pub(crate) fn without(status: u32) -> Cleared
+        ensures status { result.status ≡ status }
+        ensures removed { result.removed ≡ 0 }
+    {
+        Cleared { status, removed: 0 }
+    }
+
     pub(crate) fn of(cleared: nifforan::Cleared) -> Cleared
         ensures status { result.status ≡ status_of cleared.fault }
         ensures told { IsStatus result.status }
@@ -145,6 +173,48 @@ impl Cleared {
     }
 }
 
+/// The answer to a look for one pair.
+#[repr(C)]
+#[derive(Clone, Copy)]
+pub struct Found {
+    /// `OK` or `CLOSED`.
+    pub status: u32,
+    /// Whether there is such a pair.
+    pub found: bool,
+    /// Its key, or 0.
+    pub key: u64,
+    /// Its value, or 0.
+    pub value: u64,
+}
+
+impl Found {
+    pub(crate) fn closed() -> Found
+        ensures status { result.status ≡ CLOSED }
+        ensures pair { pair_of result ≡ None }
+        ensures zero { IsZeroWithoutPair result }
+    {
+        Found {
+            status: CLOSED,
+            ..Found::of(None)
+        }
+    }
+
+    pub(crate) fn of(pair: Option<(u64, u64)>) -> Found
+        ensures status { result.status ≡ OK }
+        ensures pair { pair_of result ≡ pair }
+        ensures zero { IsZeroWithoutPair result }
+    {
+        let (key, value) = pair.unwrap_or((0, 0));
+        Found {
+            status: OK,
+            found: pair.is_some(),
+            key,
+            value,
+        }
+    }
+}
+
+/// A key and its value.
 #[repr(C)]
 #[derive(Clone, Copy)]
 pub struct Pair {

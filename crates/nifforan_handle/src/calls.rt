@@ -1,89 +1,69 @@
-//! The calls for C.
+//! The calls for C that change a map, or what a handle holds.
 
-ghost use Rattle.std.specs.Prelude.{◌≡◌, ◌≢◌, ◌↔◌, ◌+◌, None, Some, IfSome, length};
-ghost use Rattle.bw_keys.specs.Limits.{first_bad_field};
-ghost use Rattle.bw_keys.specs.Ranges.{end_of};
-ghost use Rattle.bw_delta.specs.Entries.{at};
+ghost use Rattle.std.specs.Prelude.{◌≡◌, ◌≢◌, ◌↔◌, None, IsTrue};
 ghost use Rattle.nifforan.specs.Calls.{Puts, Sets, Deletes};
-ghost use Rattle.nifforan_handle.specs.Answers.{had, IsZeroWithout};
-ghost use Rattle.nifforan_handle.specs.Calls.{Writes, ClearsHeld, ReadsInto};
-ghost use Rattle.nifforan_handle.specs.Held.{pairs_in, pairs_from, empty_map};
-ghost use Rattle.nifforan_handle.specs.Statuses.{config_of, status_of_field};
-ghost use Rattle.nifforan_handle.specs.declared.status.TheConstants.{CLOSED, NO_MEMORY, OK, OPEN};
+ghost use Rattle.nifforan_handle.specs.Calls.{Creates, Writes, ClearsHeld};
+ghost use Rattle.nifforan_handle.specs.Frozen.{Freezes, Shares, Thaws};
+ghost use Rattle.nifforan_handle.specs.Held.{end_at, map_in};
+ghost use Rattle.nifforan_handle.specs.declared.held.Held.TheVariants.{Closed};
+ghost use Rattle.nifforan_handle.specs.declared.status.TheConstants.{NO_MEMORY, OK};
 
-use crate::answer::{Cleared, Count, Pair, Read, Reply};
+use crate::answer::{Cleared, Reply};
 use crate::handle::Handle;
-use crate::read;
-use crate::settings::Settings;
-use crate::status::{self, CLOSED, NO_MEMORY, OK, OPEN};
-use bw_keys::{Fence, Key};
+use crate::held::Held;
+use crate::high::High;
+use crate::settings::{SETTINGS_SIZE, Settings};
+use crate::status::{self, BAD_SIZE, CLOSED, NO_MEMORY, OK, OPEN};
 use nifforan::{Map, NewFault};
 use std::alloc::Global;
 
 impl Handle {
     /// Opens a map without pairs at a closed handle. With any status but `OK` the handle stays as
-    /// it is: `OPEN` if it holds a map, else that of the first setting out of its range, else
-    /// `NO_MEMORY`.
+    /// it is: `OPEN` if it has a map, else `BAD_SIZE` if the settings have another size than here,
+    /// else that of the first setting out of its range, else `NO_MEMORY`.
     pub fn create(&mut self, alloc: Global, settings: &Settings) -> u32
-        ensures open { self.old.held ≢ None ↔ result ≡ OPEN }
-        ensures setting { self.old.held ≡ None → IfSome (first_bad_field (config_of settings.now))
-            (λ field. result ≡ status_of_field field) }
-        ensures memory { self.old.held ≡ None → first_bad_field (config_of settings.now) ≡ None
-            → result ≢ OK → result ≡ NO_MEMORY }
-        ensures new { result ≡ OK → self.new.held ≡ Some (empty_map (config_of settings.now)) }
-        ensures unchanged { result ≢ OK → self.new.held ≡ self.old.held }
+        ensures { Creates settings.now result self.old.held self.new.held }
     {
-        if let Some(held) = self.take(alloc) {
-            self.hold(alloc, held);
+        if self.is_open(alloc) {
             return OPEN;
+        }
+        if settings.size != SETTINGS_SIZE {
+            return BAD_SIZE;
         }
         let made = match Map::new(alloc, alloc, settings.config()) {
             Ok(made) => made,
             Err(NewFault::BadConfig(bad)) => return status::of_field(bad.0),
             Err(NewFault::NoMemory) => return NO_MEMORY,
         };
-        match Box::new(alloc, made) {
-            Ok(made) => {
-                self.hold(alloc, made);
+        self.open(alloc, Held::Own(made))
+    }
+
+    /// Returns whether the handle has a map.
+    fn is_open(&mut self, alloc: Global) -> bool
+        ensures open { IsTrue result ↔ (map_in self.old.held ≢ None) }
+        ensures unchanged { self.new.held ≡ self.old.held }
+    {
+        let Some(held) = self.take(alloc) else {
+            return false;
+        };
+        let is_open = held.map().is_some();
+        self.hold(alloc, held);
+        is_open
+    }
+
+    /// Holds this from now on, unless memory is short.
+    fn open(&mut self, alloc: Global, held: Held) -> u32
+        ensures open { result ≡ OK → self.new.held ≡ held }
+        ensures memory { result ≢ OK → result ≡ NO_MEMORY }
+        ensures unchanged { result ≢ OK → self.new.held ≡ self.old.held }
+    {
+        match Box::new(alloc, held) {
+            Ok(held) => {
+                self.hold(alloc, held);
                 OK
             }
             Err(_) => NO_MEMORY,
         }
-    }
-
-    /// Returns the number of pairs.
-    pub fn pairs(&mut self, alloc: Global) -> Count
-        ensures closed { self.old.held ≡ None ↔ result.status ≡ CLOSED }
-        ensures open { self.old.held ≢ None ↔ result.status ≡ OK }
-        ensures pairs { result.pairs ≡ length (pairs_in self.old.held) }
-        ensures unchanged { self.new.held ≡ self.old.held }
-    {
-        let Some(held) = self.take(alloc) else {
-            return Count {
-                status: CLOSED,
-                pairs: 0,
-            };
-        };
-        let pairs = held.len();
-        self.hold(alloc, held);
-        Count { status: OK, pairs }
-    }
-
-    /// Returns the value of the key, if it has one. Takes no memory.
-    pub fn get(&mut self, alloc: Global, key: u64) -> Reply
-        ensures closed { self.old.held ≡ None ↔ result.status ≡ CLOSED }
-        ensures open { self.old.held ≢ None ↔ result.status ≡ OK }
-        ensures value { had result ≡ at key (pairs_in self.old.held) }
-        ensures zero { IsZeroWithout result }
-        ensures care { result.care ≡ OK }
-        ensures unchanged { self.new.held ≡ self.old.held }
-    {
-        let Some(held) = self.take(alloc) else {
-            return Reply::without(CLOSED);
-        };
-        let reply = Reply::found(held.get(key), None);
-        self.hold(alloc, held);
-        reply
     }
 
     /// Inserts the pair, unless the key has a value: then it keeps that, and the reply has it.
@@ -93,7 +73,7 @@ impl Handle {
         let Some(mut held) = self.take(alloc) else {
             return Reply::without(CLOSED);
         };
-        let reply = Reply::of_put(held.put(key, value));
+        let reply = held.put(key, value);
         self.hold(alloc, held);
         reply
     }
@@ -105,7 +85,7 @@ impl Handle {
         let Some(mut held) = self.take(alloc) else {
             return Reply::without(CLOSED);
         };
-        let reply = Reply::of_set(held.set(key, value));
+        let reply = held.set(key, value);
         self.hold(alloc, held);
         reply
     }
@@ -117,57 +97,77 @@ impl Handle {
         let Some(mut held) = self.take(alloc) else {
             return Reply::without(CLOSED);
         };
-        let reply = Reply::of_delete(held.delete(key));
+        let reply = held.delete(key);
         self.hold(alloc, held);
         reply
     }
 
-    /// Deletes the keys from the low to the high, both included, and returns how many it deleted.
-    /// If a fault ends it before, it has deleted some of them, and no others.
-    pub fn clear(&mut self, alloc: Global, low: u64, high: u64) -> Cleared
-        ensures { ClearsHeld low (high + 1) result self.old.held self.new.held }
+    /// Deletes the keys from the low on and below the high, and returns how many it deleted. If a
+    /// fault ends it before, it has deleted some of them, and no others.
+    pub fn clear(&mut self, alloc: Global, low: u64, high: High) -> Cleared
+        ensures { ClearsHeld low (end_at high) result self.old.held self.new.held }
     {
         let Some(mut held) = self.take(alloc) else {
-            return Cleared {
-                status: CLOSED,
-                removed: 0,
-            };
+            return Cleared::without(CLOSED);
         };
-        let cleared = held.clear(low, past(high));
+        let cleared = held.clear(low, high.fence());
         self.hold(alloc, held);
-        Cleared::of(cleared)
+        cleared
     }
 
-    /// Reads the pairs from the key on, in the order of their keys, until the room is full or none
-    /// is left, and returns the key of the next one. Takes no memory.
-    pub fn read(&mut self, alloc: Global, key: u64, pairs: &mut [Pair]) -> Read
-        ensures closed { self.old.held ≡ None ↔ result.status ≡ CLOSED }
-        ensures open { self.old.held ≢ None ↔ result.status ≡ OK }
-        ensures reads { ReadsInto (pairs_from key self.old.held) result pairs.old pairs.new }
-        ensures unchanged { self.new.held ≡ self.old.held }
+    /// Freezes the map: from now on no call changes it, and `share` opens more handles on it. With
+    /// any status but `OK` all stays as it is: `CLOSED`, `FROZEN` if it is frozen already, or
+    /// `NO_MEMORY`.
+    pub fn freeze(&mut self, alloc: Global) -> u32
+        ensures { Freezes result self.old.held self.new.held }
     {
-        let Some(held) = self.take(alloc) else {
-            return Read::closed();
+        let Some(mut held) = self.take(alloc) else {
+            return CLOSED;
         };
-        let read = read::pairs_from(&held, key, pairs);
+        let status = held.freeze(alloc);
         self.hold(alloc, held);
-        read
+        status
     }
 
-    /// Closes the handle, and frees its map. A closed handle stays closed.
+    /// Opens another handle, which is closed, on the same frozen map, for another thread say. With
+    /// any status but `OK` it stays closed: `OPEN` if it has a map, else `CLOSED` if this one
+    /// has none, `NOT_FROZEN` if its map isn't frozen, or `NO_MEMORY`.
+    pub fn share(&mut self, alloc: Global, other: &mut Handle) -> u32
+        ensures { Shares result self.old.held self.new.held other.old.held other.new.held }
+    {
+        if other.is_open(alloc) {
+            return OPEN;
+        }
+        let Some(held) = self.take(alloc) else {
+            return CLOSED;
+        };
+        let shared = held.share();
+        self.hold(alloc, held);
+        match shared {
+            Ok(shared) => other.open(alloc, shared),
+            Err(status) => status,
+        }
+    }
+
+    /// Takes the frozen map back, to change it again: this handle must be the last that has it.
+    /// With any status but `OK` it stays frozen: `CLOSED`, `NOT_FROZEN`, or `SHARED` if another
+    /// handle has the map too.
+    pub fn thaw(&mut self, alloc: Global) -> u32
+        ensures { Thaws result self.old.held self.new.held }
+    {
+        let Some(mut held) = self.take(alloc) else {
+            return CLOSED;
+        };
+        let status = held.thaw();
+        self.hold(alloc, held);
+        status
+    }
+
+    /// Closes the handle, and frees its map, unless other handles have it too. A closed handle stays
+    /// closed.
     pub fn close(&mut self, alloc: Global)
-        ensures { self.new.held ≡ None }
+        ensures { self.new.held ≡ Closed }
     {
         drop(self.take(alloc));
-    }
-}
-
-/// Returns the fence right above the key.
-fn past(key: Key) -> Fence
-    ensures { end_of result ≡ key + 1 }
-{
-    match key.checked_add(1) {
-        Some(next) => Fence::Key(next),
-        None => Fence::Top,
     }
 }

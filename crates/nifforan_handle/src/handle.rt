@@ -1,75 +1,92 @@
-ghost use Rattle.std.specs.Prelude.{◌≡◌, None, Some};
+ghost use Rattle.std.specs.Prelude.{◌≡◌};
 ghost use Rattle.std.specs.Option.{MatchOption};
-ghost use Rattle.std.specs.Coded.{coded_option};
-ghost use Rattle.std.specs.declared.option.Option.{Option};
-ghost use Rattle.nifforan.specs.Maps.{MapValue, map_code};
-ghost use Rattle.nifforan_handle.specs.Owned.{held_map};
+ghost use Rattle.nifforan_handle.specs.Owned.{held_at, held_code};
+ghost use Rattle.nifforan_handle.specs.declared.held.Held.{Held};
+ghost use Rattle.nifforan_handle.specs.declared.held.Held.TheVariants.{Closed};
 
+use crate::held::Held;
 use crate::loose::Loose;
-use nifforan::Map;
 use std::alloc::Global;
 use std::marker::Model;
 use std::mem::replace;
 use std::ptr::null_mut;
 
-/// One pointer: null, or the place of a map in a box of its own.
+/// One pointer: null, or the place of what the handle holds, in a box of its own. It may go to
+/// another thread.
 #[repr(C)]
 pub struct Handle {
     at: *mut (),
-    pub ghost held: { Option MapValue } by { coded_option map_code },
+    pub ghost held: { Held } by { held_code },
 }
 
 impl Model for Handle {
-    ghost also_owns = { λ h. held_map h.at h.held };
+    ghost also_owns = { λ h. held_at h.at h.held };
 }
 
 impl Handle {
     /// Returns a handle without a map.
     pub fn closed() -> Handle
-        ensures { result.held ≡ None }
+        ensures { result.held ≡ Closed }
     {
         Handle { at: null_mut() }
     }
 
-    /// Returns a handle that holds the map.
-    pub fn of(map: Box<Map<Global>>) -> Handle
-        ensures { result.held ≡ Some map.value }
+    /// Returns a handle that holds what the box has.
+    pub fn of(held: Box<Held>) -> Handle
+        ensures { result.held ≡ held.value }
     {
-        Handle::of_loose(Loose::of(map))
+        Handle::of_loose(Loose::of(held))
     }
 
-    fn of_loose(map: Loose<Map<Global>>) -> Handle
-        ensures { result.held ≡ Some map.value }
+    fn of_loose(held: Loose<Held>) -> Handle
+        ensures { result.held ≡ held.value }
     {
-        let Loose { at } = map;
+        let Loose { at } = held;
         Handle { at: at as *mut () }
     }
 
-    /// Returns the map that the handle holds, if it holds one.
-    pub fn into_map(self, alloc: Global) -> Option<Box<Map<Global>>>
-        ensures { MatchOption result (self.held ≡ None) (λ map. self.held ≡ Some map.value) }
+    /// Returns what the handle holds, or `None` if it has no box: then it is closed.
+    pub fn into_box(self, alloc: Global) -> Option<Box<Held>>
+        ensures { MatchOption result (self.held ≡ Closed) (λ held. self.held ≡ held.value) }
     {
         let Handle { at } = self;
         if at.is_null() {
             return None;
         }
-        let map = unsafe { Box::from_raw(alloc, at as *mut Map<Global>) };
-        Some(map)
+        let held = unsafe { Box::from_raw(alloc, at as *mut Held) };
+        Some(held)
     }
 
-    /// Takes the map out of the handle, if it holds one, and closes the handle.
-    pub(crate) fn take(&mut self, alloc: Global) -> Option<Box<Map<Global>>>
-        ensures map { MatchOption result (self.old.held ≡ None)
-            (λ map. self.old.held ≡ Some map.value) }
-        ensures closed { self.new.held ≡ None }
+    /// Takes out what the handle holds, if it has a box, and closes the handle.
+    pub(crate) fn take(&mut self, alloc: Global) -> Option<Box<Held>>
+        ensures held { MatchOption result (self.old.held ≡ Closed)
+            (λ held. self.old.held ≡ held.value) }
+        ensures closed { self.new.held ≡ Closed }
     {
-        replace(self, Handle::closed()).into_map(alloc)
+        replace(self, Handle::closed()).into_box(alloc)
     }
 
-    /// Holds the map from now on, and frees the one that it held before, if any.
-    pub(crate) fn hold(&mut self, alloc: Global, map: Box<Map<Global>>)
-        ensures { self.new.held ≡ Some map.value }
+    /// Holds this from now on, and frees what it held before.
+    pub(crate) fn hold(&mut self, alloc: Global, held: Box<Held>)
+        ensures { self.new.held ≡ held.value }
     {
-        drop(replace(self, Handle::of(map)).into_map(alloc));
+        drop(replace(self, Handle::of(held)).into_box(alloc));
     }
+
+    /// Returns the handle, as a thread that goes on with it has it.
+    pub fn sent(self) -> Handle
+        ensures { result ≡ self }
+    {
+        passed_on(self)
+    }
+}
+
+// What it holds is its own, or is shared by an `Arc`; any thread may free its box.
+unsafe impl Send for Handle {}
+
+/// Returns the value: only one that may go to another thread gets here.
+fn passed_on<T: Send>(value: T) -> T
+    ensures { result ≡ value }
+{
+    value
 }

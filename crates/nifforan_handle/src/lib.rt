@@ -4,12 +4,20 @@
 
 mod answer;
 mod calls;
+mod frozen;
 mod handle;
+mod held;
+mod high;
+mod looks;
 mod loose;
 mod read;
 mod settings;
 pub mod status;
+mod text;
 
-pub use answer::{Cleared, Count, Pair, Read, Reply};
+pub use answer::{Cleared, Count, Found, Pair, Read, Reply};
 pub use handle::Handle;
-pub use settings::Settings;
+pub use held::Held;
+pub use high::High;
+pub use settings::{SETTINGS_SIZE, Settings};
+pub use text::{StatusText, VERSION, status_text};

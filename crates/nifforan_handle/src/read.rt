@@ -1,7 +1,8 @@
-//! Pairs read into C's array.
-ghost use Rattle.std.specs.Prelude.{◌≡◌, ◌≤◌, length, take, drop, min};
+//! Pairs read into C's array, by rising or falling keys.
+
+ghost use Rattle.std.specs.Prelude.{◌≡◌, length, take, drop, min, reverse};
+ghost use Rattle.bw_keys.specs.Ranges.{end_of};
 ghost use Rattle.nifforan.specs.Maps.{within};
-ghost use Rattle.bw_keys.specs.Ranges.{key_count};
 ghost use Rattle.nifforan_handle.specs.Calls.{ReadsInto};
 ghost use Rattle.nifforan_handle.specs.Reading.{are_pairs};
 ghost use Rattle.nifforan_handle.specs.declared.status.TheConstants.{OK};
@@ -11,13 +12,28 @@ use bw_keys::{Fence, Key};
 use nifforan::{Map, Pairs};
 use std::alloc::Global;
 
-pub(crate) fn pairs_from(map: &Map<Global>, key: Key, places: &mut [Pair]) -> Read
+pub(crate) fn forwards(map: &Map<Global>, low: Key, high: Fence, places: &mut [Pair]) -> Read
     ensures status { result.status ≡ OK }
-    ensures reads { ReadsInto (within key key_count map.now.pairs) result places.old places.new }
+    ensures reads { ReadsInto (within low (end_of high) map.now.pairs) result
+        places.old places.new }
 {
-    let mut left = map.range(key, Fence::Top);
+    let mut left = map.range(low, high);
     let count = fill(&mut left, places);
     let next = match left.next() {
+        Some(pair) => Some(pair.0),
+        None => None,
+    };
+    Read::of(count, next)
+}
+
+pub(crate) fn backwards(map: &Map<Global>, low: Key, high: Fence, places: &mut [Pair]) -> Read
+    ensures status { result.status ≡ OK }
+    ensures reads { ReadsInto (reverse (within low (end_of high) map.now.pairs)) result
+        places.old places.new }
+{
+    let mut left = map.range(low, high);
+    let count = fill_back(&mut left, places);
+    let next = match left.next_back() {
         Some(pair) => Some(pair.0),
         None => None,
     };
@@ -35,6 +51,24 @@ fn fill(left: &mut Pairs<'_, Global>, places: &mut [Pair]) -> usize
     let mut count = 0;
     while count < places.len() {
         let Some((key, value)) = left.next() else {
+            break;
+        };
+        places[count] = Pair { key, value };
+        count += 1;
+    }
+    count
+}
+
+/// Does the same from the back: the last of the pairs comes first.
+fn fill_back(left: &mut Pairs<'_, Global>, places: &mut [Pair]) -> usize
+    ensures count { result ≡ min (length places.old) (length (reverse left.old)) }
+    ensures left { reverse left.new ≡ drop result (reverse left.old) }
+    ensures pairs { are_pairs (take result places.new) ≡ take result (reverse left.old) }
+    ensures rest { drop result places.new ≡ drop result places.old }
+{
+    let mut count = 0;
+    while count < places.len() {
+        let Some((key, value)) = left.next_back() else {
             break;
         };
         places[count] = Pair { key, value };

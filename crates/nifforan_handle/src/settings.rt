@@ -3,10 +3,16 @@ ghost use Rattle.nifforan_handle.specs.Statuses.{config_of};
 
 use bw_keys::Config;
 
+/// The size of `Settings` in bytes. A later version may have settings with more fields, which it
+/// knows by their size.
+pub const SETTINGS_SIZE: usize = 32;
+
 /// The configuration of a map: see `Config`.
 #[repr(C)]
 #[derive(Clone, Copy)]
 pub struct Settings {
+    /// `SETTINGS_SIZE`.
+    pub size: usize,
     /// The most pairs of a page before it is split, 4 to 64.
     pub fanout: u32,
     /// The most changes that a page carries before it is written anew, 1 to 32.

@@ -9,10 +9,10 @@ use nifforan::Fault;
 /// The call did what it was asked to.
 pub const OK: u32 = 0;
 
-/// The handle is closed: it holds no map.
+/// The handle is closed: it has no map.
 pub const CLOSED: u32 = 1;
 
-/// The handle is open: it holds a map already.
+/// The handle is open: it has a map already.
 pub const OPEN: u32 = 2;
 
 /// The fanout isn't from 4 to 64.
@@ -41,6 +41,18 @@ pub const WORN: u32 = 10;
 
 /// The call used all tries that it has.
 pub const CONTENDED: u32 = 11;
+
+/// The settings have another size than in this version.
+pub const BAD_SIZE: u32 = 12;
+
+/// The map is frozen: no call changes it.
+pub const FROZEN: u32 = 13;
+
+/// The map isn't frozen.
+pub const NOT_FROZEN: u32 = 14;
+
+/// Other handles have the frozen map too.
+pub const SHARED: u32 = 15;
 
 pub(crate) fn of(fault: Option<Fault>) -> u16
     ensures status { result ≡ status_of fault }

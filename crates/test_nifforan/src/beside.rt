@@ -4,11 +4,11 @@ ghost use Rattle.std.specs.Prelude.{◌<◌, ◌≤◌};
 
 use nifforan::{Fence, Map};
 use nifforan_handle::status::{CLOSED, OK, OPEN, TABLE_FULL};
-use nifforan_handle::{Handle, Pair, Settings};
+use nifforan_handle::{Found, Handle, Held, High, Pair, Settings};
 use rand_core::{Rng, SeedableRng};
 use rand_pcg::Pcg32;
 use std::alloc::{AllocError, Global};
-use std::collections::BTreeMap;
+use std::collections::{BTreeMap, btree_map};
 use std::mem::replace;
 
 /// Keys at both ends, which are drawn like others.
@@ -86,7 +86,9 @@ impl Beside {
     fn call(&mut self, handle: &mut Handle) -> Result<bool, AllocError> {
         match self.below(64) {
             0 => self.clear(handle),
-            1..5 => Ok(self.read(handle)),
+            1..4 => Ok(self.read(handle)),
+            4..7 => Ok(self.read_back(handle)),
+            7..10 => Ok(self.look(handle)),
             _ => self.call_at_key(handle),
         }
     }
@@ -116,12 +118,33 @@ impl Beside {
         Ok((reply.status, reply.found, reply.value) == wanted)
     }
 
+    /// Returns a drawn end of a range: past all keys, or near the low, or below it.
+    fn high(&mut self, low: u64) -> High {
+        match self.below(4) {
+            0 => High::TOP,
+            1 => High::below(self.key()),
+            _ => High::below(low.saturating_add(self.below(64).into())),
+        }
+    }
+
+    /// Returns the pairs of the kit's map in the range.
+    fn between(&self, low: u64, high: High) -> btree_map::Range<'_, u64, u64> {
+        if high.is_top {
+            self.pairs.range(low..)
+        } else if low < high.key {
+            self.pairs.range(low..high.key)
+        } else {
+            self.pairs.range(low..low)
+        }
+    }
+
     /// Reads into room of a drawn size, which leaves the places behind it alone.
     fn read(&mut self, handle: &mut Handle) -> bool {
-        let (key, room) = (self.key(), self.below(ROOM as u32) as usize);
+        let (low, room) = (self.key(), self.below(ROOM as u32) as usize);
+        let high = self.high(low);
         let mut places = [UNTOUCHED; ROOM];
-        let read = handle.read(self.machine, key, &mut places[..room]);
-        let mut left = self.pairs.range(key..).map(owned);
+        let read = handle.read(self.machine, low, high, &mut places[..room]);
+        let mut left = self.between(low, high).map(owned);
         let mut is_alike = true;
         for place in &places[..read.count.min(room)] {
             is_alike &= left.next() == Some((place.key, place.value));
@@ -134,16 +157,52 @@ impl Beside {
             && places[room].key == UNTOUCHED.key
     }
 
+    /// Does the same backwards.
+    fn read_back(&mut self, handle: &mut Handle) -> bool {
+        let (low, room) = (self.key(), self.below(ROOM as u32) as usize);
+        let high = self.high(low);
+        let mut places = [UNTOUCHED; ROOM];
+        let read = handle.read_back(self.machine, low, high, &mut places[..room]);
+        let mut left = self.between(low, high).rev().map(owned);
+        let mut is_alike = true;
+        for place in &places[..read.count.min(room)] {
+            is_alike &= left.next() == Some((place.key, place.value));
+        }
+        let next = left.next();
+        let wanted = (OK, next.is_some(), next.unwrap_or((0, 0)).0);
+        is_alike
+            && (read.status, read.has_next, read.next) == wanted
+            && (read.count == room || next.is_none())
+            && places[room].key == UNTOUCHED.key
+    }
+
+    /// Looks for the pairs at both ends, and at or next to a drawn key.
+    fn look(&mut self, handle: &mut Handle) -> bool {
+        let (machine, key) = (self.machine, self.key());
+        let plain = &self.pairs;
+        let alike = [
+            is_found(handle.first(machine), plain.first_key_value().map(owned)),
+            is_found(handle.last(machine), plain.last_key_value().map(owned)),
+            is_found(
+                handle.next_at(machine, key),
+                plain.range(key..).next().map(owned),
+            ),
+            is_found(
+                handle.previous_at(machine, key),
+                plain.range(..=key).next_back().map(owned),
+            ),
+        ];
+        !alike.contains(&false)
+    }
+
     /// Clears a drawn range, which may be empty. If no page is free, some of its keys may be left.
     fn clear(&mut self, handle: &mut Handle) -> Result<bool, AllocError> {
         let low = self.key();
-        let high = low.saturating_add(self.below(64).into()).saturating_sub(3);
+        let high = High::below(low.saturating_add(self.below(64).into()).saturating_sub(3));
         let cleared = handle.clear(self.machine, low, high);
         let mut within = Vec::new(self.machine);
-        for (key, _) in self.pairs.iter() {
-            if low <= *key && *key <= high {
-                within.push(*key)?;
-            }
+        for (key, _) in self.between(low, high) {
+            within.push(*key)?;
         }
         let removed = self.forget_lost(handle, &within);
         let is_said = match cleared.status {
@@ -172,14 +231,18 @@ impl Beside {
         let low = self.key();
         let high = low.saturating_add(self.below(40).into());
         let count = handle.pairs(machine);
-        let Some(map) = replace(handle, Handle::closed()).into_map(machine) else {
+        let Some(held) = replace(handle, Handle::closed()).into_box(machine) else {
+            return Ok(false);
+        };
+        let Held::Own(map) = Box::into_inner(held) else {
             return Ok(false);
         };
         let is_alike = (count.status, count.pairs) == (OK, self.pairs.len() as u64)
             && self.is_read(&map, low, high)
             && self.is_read_backwards(&map, low, high);
-        let map = Map::from_table(machine, machine, Box::into_inner(map).into_table());
-        drop(replace(handle, Handle::of(Box::new(machine, map)?)).into_map(machine));
+        let map = Map::from_table(machine, machine, map.into_table());
+        let held = Box::new(machine, Held::Own(map))?;
+        drop(replace(handle, Handle::of(held)).into_box(machine));
         Ok(is_alike)
     }
 
@@ -218,18 +281,36 @@ impl Beside {
     }
 }
 
+/// Returns whether the look was answered with the pair, or with none.
+fn is_found(found: Found, pair: Option<(u64, u64)>) -> bool {
+    let (key, value) = pair.unwrap_or((0, 0));
+    (found.status, found.found, found.key, found.value) == (OK, pair.is_some(), key, value)
+}
+
 /// Returns whether each call reports that the handle is closed.
 pub fn is_closed(machine: Global, handle: &mut Handle) -> bool {
     let mut places = [UNTOUCHED; 1];
-    let read = handle.read(machine, 0, &mut places);
+    let mut other = Handle::closed();
+    let read = handle.read(machine, 0, High::TOP, &mut places);
+    let back = handle.read_back(machine, 0, High::TOP, &mut places);
     let told = [
         read.status,
+        back.status,
         handle.pairs(machine).status,
         handle.get(machine, 1).status,
+        handle.first(machine).status,
+        handle.last(machine).status,
+        handle.next_at(machine, 1).status,
+        handle.previous_at(machine, 1).status,
         handle.put(machine, 1, 2).status,
         handle.set(machine, 1, 2).status,
         handle.delete(machine, 1).status,
-        handle.clear(machine, 0, u64::MAX).status,
+        handle.clear(machine, 0, High::TOP).status,
+        handle.freeze(machine),
+        handle.share(machine, &mut other),
+        handle.thaw(machine),
     ];
-    told == [CLOSED; 7] && (read.count, places[0].key) == (0, UNTOUCHED.key)
+    other.close(machine);
+    drop(other.into_box(machine));
+    told == [CLOSED; 15] && (read.count, back.count, places[0].key) == (0, 0, UNTOUCHED.key)
 }

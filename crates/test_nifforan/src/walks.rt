@@ -1,7 +1,7 @@
 //! Walks of drawn calls under several settings.
 
 use crate::beside::{Beside, is_closed};
-use nifforan_handle::{Handle, Settings};
+use nifforan_handle::{Handle, SETTINGS_SIZE, Settings};
 use std::alloc::Global;
 use std::test::Fail;
 
@@ -25,6 +25,7 @@ fn walk(machine: Global, seed: usize) -> Result<Option<&'static str>, Fail> {
     let mut handle = Handle::closed();
     let was_closed = is_closed(machine, &mut handle);
     let settings = Settings {
+        size: SETTINGS_SIZE,
         fanout,
         chain,
         pages,
@@ -33,7 +34,7 @@ fn walk(machine: Global, seed: usize) -> Result<Option<&'static str>, Fail> {
     };
     let is_alike = beside.play(&mut handle, &settings, 200);
     let was_left_closed = is_closed(machine, &mut handle);
-    drop(handle.into_map(machine));
+    drop(handle.into_box(machine));
     Ok(match (is_alike?, was_closed && was_left_closed) {
         (false, _) => Some("a call was answered otherwise"),
         (true, false) => Some("a closed handle didn't say so"),

@@ -1,4 +1,4 @@
--- `into_map` compares the pointer with null, and makes the box again.
+-- `into_box` compares the pointer with null, and makes the box again.
 use Rattle.std.proofs.Common.{◌≡◌, List, [], ◌∷◌, ◌++◌, refl, sym, ap, ◌∙◌, subst, lit<}
 use mir.Raw.{raw as bare}
 use mir.Val.{Val, vptr, vcons, vnil}
@@ -41,19 +41,20 @@ use Rattle.std_alloc.proofs.boxed.Box.from_raw.Met.{met}
 use Rattle.std_alloc.proofs.BoxSteps.Form as box
 use Rattle.std_alloc.proofs.BoxSteps.Steps.{box_out, box_in}
 use Rattle.std_alloc.proofs.ResultValues.{and_tt}
-use Rattle.nifforan.proofs.map.Map.TheLaws as map_laws
-use Rattle.nifforan_handle.specs.Owned.{map_row}
+use Rattle.nifforan_handle.proofs.held.Held.TheLaws as held_laws
+use Rattle.nifforan_handle.specs.Owned.{held_row}
+use Rattle.nifforan_handle.specs.declared.held.Held.TheVariants.{Closed}
 use Rattle.nifforan_handle.proofs.Destruct++none.drop.Code.{code as drops_code}
 use Rattle.nifforan_handle.proofs.Steps.{as_arg, heap_al, in_heap, Handle, one, one_good, handle_out, cases}
-use Rattle.nifforan_handle.specs.contracts.handle.Handle.into_map as F
-use Rattle.nifforan_handle.proofs.handle.Handle.into_map.Statement.{statement}
-use Rattle.nifforan_handle.proofs.handle.Handle.into_map.Code as code
+use Rattle.nifforan_handle.specs.contracts.handle.Handle.into_box as F
+use Rattle.nifforan_handle.proofs.handle.Handle.into_box.Statement.{statement}
+use Rattle.nifforan_handle.proofs.handle.Handle.into_box.Code as code
 
-pub into_map_spec : {M : Type 1} → statement M
+pub into_box_spec : {M : Type 1} → statement M
 unfolding drops_code
-into_map_spec {M} 𝓤 𝓛 𝓜 𝓡 wired =
+into_box_spec {M} 𝓤 𝓛 𝓜 𝓡 wired =
     let H = 𝓛.H in let 𝓣 = tables 𝓤 H 𝓜 𝓡 𝓡.env in let c = F.clauses 𝓛 𝓜.mem 𝓡.returns in let fn = code.function in let Z = heap_al.row in let token = heap_al.g.dealloc_token in
-    let X = as_arg map_row in let L = arg_laws (bare (layout map_row)) no map_row (map_laws.the_row_laws heap.the_row heap_al.g heap_laws.the_row_laws) refl in let E : box.Bx = in_heap X L in let B : RattleType = box.B E in
+    let X = as_arg held_row in let L = arg_laws (bare (layout held_row)) no held_row held_laws.the_row_laws refl in let E : box.Bx = in_heap X L in let B : RattleType = box.B E in
     let hs : Stays F.ended.signature.params F.ended.kept = (stay_dropped (plain (λ _. Handle)) yes, (stay_dropped (plain (λ _. heap.the_row)) yes, tt)) in
     let k = triple_of 𝓛 (callee.signature X Z heap_al.g heap_al.d heap_al.drops) (callee.spec X Z heap_al.g heap_al.d heap_al.drops 𝓛 𝓜.mem 𝓡.returns) in
     let meets = met 𝓤 𝓛 𝓜 𝓡 (code.calls-std_alloc::boxed::Box::from_raw 𝓡.env wired) X Z L heap_al.laws heap_al.g heap_al.d heap_al.drops
@@ -66,15 +67,15 @@ into_map_spec {M} 𝓤 𝓛 𝓜 𝓡 wired =
     rewrite ! 1 (λ (vs : List Val). ‵ (heap.the_row.own_val a vs)) h.1 refl $ handle_out ! d z.0.4.0 (λ is.
     let passes : (p : Ptr) → d.at ≡ p → ent 𝓤 (Run (args p)) (Run (z.0.4.0 ++ (z.0.4.1.0 ++ []))) = λ p at.
     subst (λ (vs : List Val). ent 𝓤 (Run (args p)) (Run vs)) (sym (λ i. subst (λ (r : Ptr). z.0.4.0 ≡ one (ptr_val r) ∷ []) at is i ++ (h.1 i ++ []))) (id⊢ 𝓤 (Run (args p))) in
-    cases map_row ! d.at d.held
+    cases held_row ! Closed d.at d.held
     (λ null held. let v : Val = live 0 vnil in let good : Good (layout Out) v = (tt, (record { fits = lit< tt }, tt)) in suffices ! (Run (args null_ptr)) (passes null_ptr null) $
     enter ! 𝓣.C 𝓣.Λ fn (args null_ptr) Post $ alloc_all ! (λ l. pass_all ! refl (one_good null_ptr, (h.2, tt)) $
     sets ! (of_opd ! (get_in ! (fld ! refl (stop !)) (sub ! 0 refl (whole !)))) refl (Ptr-Good null_ptr) $ sets ! (bin ! (get ! refl) (lit ! tt) tt) refl (tt, tt) $ first ! $ branches ! (get ! refl)
     (λ _. sets ! (agg ! (and_then ! (lit ! tt) (no_more !))) refl good $
     -- [the allocator; true; true; nothing; the locals]
-    drop ! $ use0 𝓛 (‵ (Out.own_val None (v ∷ []))) (none_of 𝓛 B) $ use0 𝓛 (raw (fact 𝓤 (d.held ≡ None))) (fact_i 𝓤 (d.held ≡ None) (emp 𝓤) held) $ nothing ! $ nothing ! $ fjoin ! $ nothing ! $ fjoin ! $
+    drop ! $ use0 𝓛 (‵ (Out.own_val None (v ∷ []))) (none_of 𝓛 B) $ use0 𝓛 (raw (fact 𝓤 (d.held ≡ Closed))) (fact_i 𝓤 (d.held ≡ Closed) (emp 𝓤) held) $ nothing ! $ nothing ! $ fjoin ! $ nothing ! $ fjoin ! $
     returns_within ! Post refl (look_at ! 0 refl) $ free_all ! refl $ keep ! (4 ∷ 0 ∷ 2 ∷ 1 ∷ []) $ by ! (leaves 𝓛 F.ended hs c z v None (tt, (tt, tt)) (tt, (tt, tt)))) (λ wrong. absurd wrong)))
-    (λ b o x alloc at held test. let p = block_ptr b o in let y : k.Ghost = ((([], ([], tt)), (full_share, (full_share, tt)), tt, (a, (p, tt)), (h.0 ∷ [], (vptr b o ∷ [], tt))), x) in suffices ! (Run (args p)) (passes p at) $
+    (λ b o alloc at test. let x = d.held in let p = block_ptr b o in let y : k.Ghost = ((([], ([], tt)), (full_share, (full_share, tt)), tt, (a, (p, tt)), (h.0 ∷ [], (vptr b o ∷ [], tt))), x) in suffices ! (Run (args p)) (passes p at) $
     enter ! 𝓣.C 𝓣.Λ fn (args p) Post $ alloc_all ! (λ l. pass_all ! refl (one_good p, (h.2, tt)) $ let Ev = env fn.locals l in
     sets ! (of_opd ! (get_in ! (fld ! refl (stop !)) (sub ! 0 refl (whole !)))) refl (Ptr-Good p) $ sets ! (bin ! (get ! refl) (lit ! tt) (tests_null p test)) refl (tt, tt) $ first ! $ branches ! (get ! refl) (λ wrong. absurd wrong)
     (λ _. skips ! $ exec ! 𝓣.C 𝓣.Λ Ev (after 3 fn.body) (at_ret Ev Post) $ first ! $ blocks ! $ sets ! (of_opd ! (get ! refl)) refl (Ptr-Good p) $
@@ -87,8 +88,8 @@ into_map_spec {M} 𝓤 𝓛 𝓜 𝓡 wired =
     await ! tt $ pick ! (λ r. split ! $ move ! (1 ∷ []) $ pick ! (λ ls. split3 ! $ drop ! $ heard ! (r.value ≡ x) (λ same. drop ! $ split ! $ drop ! $
     box_out E ! r (u ∷ []) (λ b' o' h' at' word fits. box_in E ! r b' o' r.value at' refl $ rewrite ! 0 (λ (vs : List Val). ‵ (B.own_val r vs)) (sym word) refl $
     let typed : Good (layout B) u = subst (Good (layout B)) (sym (ap only word)) (box.box_typed E h' b' o' fits) in
-    let v : Val = live 1 (vcons u vnil) in let good : Good (layout Out) v = (and_tt _ typed.0, (record { fits = lit< tt }, (typed.1, tt))) in let told : d.held ≡ Some r.value = held ∙ ap Some (sym same) in
+    let v : Val = live 1 (vcons u vnil) in let good : Good (layout Out) v = (and_tt _ typed.0, (record { fits = lit< tt }, (typed.1, tt))) in let told : d.held ≡ r.value = sym same in
     lands_last ! refl typed $ exec ! 𝓣.C 𝓣.Λ Ev (after 4 fn.body) (at_ret Ev Post) $ sets ! (of_opd ! (get ! refl)) refl typed $ sets ! (of_opd ! (get ! refl)) refl typed $ sets ! (agg ! (and_then ! (lit ! tt) (and_then ! (get ! refl) (no_more !)))) refl good $
     -- [the box; true; true; nothing; the locals]
-    use1 𝓛 (‵ (Out.own_val (Some r) (v ∷ []))) (Some-of 𝓛 B r u) $ use0 𝓛 (raw (fact 𝓤 (d.held ≡ Some r.value))) (fact_i 𝓤 (d.held ≡ Some r.value) (emp 𝓤) told) $ nothing ! $ nothing ! $ fjoin ! $ nothing ! $ fjoin ! $
+    use1 𝓛 (‵ (Out.own_val (Some r) (v ∷ []))) (Some-of 𝓛 B r u) $ use0 𝓛 (raw (fact 𝓤 (d.held ≡ r.value))) (fact_i 𝓤 (d.held ≡ r.value) (emp 𝓤) told) $ nothing ! $ nothing ! $ fjoin ! $ nothing ! $ fjoin ! $
     returns ! (look_at ! 0 refl) $ free_all ! refl $ keep ! (4 ∷ 0 ∷ 2 ∷ 1 ∷ []) $ by ! (leaves 𝓛 F.ended hs c z v (Some r) (tt, (tt, tt)) (tt, (tt, tt)))))))))))))

@@ -1,0 +1,80 @@
+//! What a handle holds, and the calls on it.
+
+ghost use Rattle.std.specs.Prelude.{◌≡◌, None, Some};
+ghost use Rattle.std.specs.Option.{MatchOption};
+ghost use Rattle.bw_keys.specs.Ranges.{end_of};
+ghost use Rattle.nifforan.specs.Calls.{Puts, Sets, Deletes};
+ghost use Rattle.nifforan_handle.specs.Calls.{Writes, ClearsHeld};
+ghost use Rattle.nifforan_handle.specs.Held.{map_in};
+
+use crate::answer::{Cleared, Reply};
+use crate::status::{CLOSED, FROZEN};
+use bw_keys::{Fence, Key};
+use nifforan::Map;
+use std::alloc::Global;
+use std::sync::Arc;
+
+/// What a handle holds.
+#[derive(Drop)]
+pub enum Held {
+    /// No map: the handle is closed.
+    Closed,
+    /// A map of its own.
+    Own(Map<Global>),
+    /// A map that no call changes, which other handles may hold too.
+    Frozen(Arc<Map<Global>, Global>),
+}
+
+impl Held {
+    /// Returns the map, if there is one.
+    pub fn map(&self) -> Option<&Map<Global>>
+        ensures { MatchOption result (map_in self.now ≡ None)
+            (λ map. map_in self.now ≡ Some map.now) }
+    {
+        match self {
+            Held::Closed => None,
+            Held::Own(map) => Some(map),
+            Held::Frozen(shared) => Some(&**shared),
+        }
+    }
+
+    pub(crate) fn put(&mut self, key: Key, value: u64) -> Reply
+        ensures { Writes (Puts key value) result self.old self.new }
+    {
+        match self {
+            Held::Closed => Reply::without(CLOSED),
+            Held::Own(map) => Reply::of_put(map.put(key, value)),
+            Held::Frozen(_) => Reply::without(FROZEN),
+        }
+    }
+
+    pub(crate) fn set(&mut self, key: Key, value: u64) -> Reply
+        ensures { Writes (Sets key value) result self.old self.new }
+    {
+        match self {
+            Held::Closed => Reply::without(CLOSED),
+            Held::Own(map) => Reply::of_set(map.set(key, value)),
+            Held::Frozen(_) => Reply::without(FROZEN),
+        }
+    }
+
+    pub(crate) fn delete(&mut self, key: Key) -> Reply
+        ensures { Writes (Deletes key) result self.old self.new }
+    {
+        match self {
+            Held::Closed => Reply::without(CLOSED),
+            Held::Own(map) => Reply::of_delete(map.delete(key)),
+            Held::Frozen(_) => Reply::without(FROZEN),
+        }
+    }
+
+    pub(crate) fn clear(&mut self, low: Key, high: Fence) -> Cleared
+        ensures { ClearsHeld low (end_of high) result self.old self.new }
+    {
+        match self {
+            Held::Closed => Cleared::without(CLOSED),
+            Held::Own(map) => Cleared::of(map.clear(low, high)),
+            Held::Frozen(_) => Cleared::without(FROZEN),
+        }
+    }
+}
