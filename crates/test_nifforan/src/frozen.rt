@@ -46,7 +46,7 @@ fn has_each_backwards(machine: Global, handle: &mut Handle) -> bool {
         let read = handle.read_back(machine, 0, high, &mut places);
         for place in &places[..read.count.min(7)] {
             left = left.saturating_sub(1);
-            is_alike &= (place.key, place.value) == (2 * left, 6 * left);
+            is_alike &= (place.key, place.value) == (left.wrapping_mul(2), left.wrapping_mul(6));
             high = High::below(place.key);
         }
         if !read.has_next {
