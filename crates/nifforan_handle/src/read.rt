@@ -7,7 +7,7 @@ ghost use Rattle.nifforan_handle.specs.Reading.{are_pairs};
 ghost use Rattle.nifforan_handle.specs.declared.status.TheConstants.{OK};
 
 use crate::answer::{Pair, Read};
-use bw_keys::{Fence, Key};
+use bw_keys::Key;
 use nifforan::{Map, Pairs};
 use std::alloc::Global;
 
@@ -15,7 +15,7 @@ pub(crate) fn pairs_from(map: &Map<Global>, key: Key, places: &mut [Pair]) -> Re
     ensures status { result.status ≡ OK }
     ensures reads { ReadsInto (within key key_count map.now.pairs) result places.old places.new }
 {
-    let mut left = map.range(key, Fence::Top);
+    let mut left = map.range(key..);
     let count = fill(&mut left, places);
     let next = match left.next() {
         Some(pair) => Some(pair.0),
