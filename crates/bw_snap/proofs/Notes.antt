@@ -121,12 +121,12 @@ module _ {config : Config} {announcements : Book} {published table : TableValue}
 
     -- once the table is published with it, nothing is pending
     pub published_whole : IsBehind config announcements table now (front.list ++ steps_of published notes) [] table now
-    published_whole = rw whole
-    (record {
-      leads = refl;
-      snapshot = leads_on (new_table config) published table front.list (steps_of published notes) behind.snapshot behind.leads;
-      begins = ([], refl);
-      front_named = refl;
-      named = refl;
-      seen_all = refl;
-    })
+    published_whole =
+        rw whole (record {
+          leads = refl;
+          snapshot = leads_on (new_table config) published table front.list (steps_of published notes) behind.snapshot behind.leads;
+          begins = ([], refl);
+          front_named = refl;
+          named = refl;
+          seen_all = refl;
+        })
