@@ -1,5 +1,5 @@
 -- What was done at once is done by the steps that its note stands for.
-use Rattle.std.proofs.Common.{◌≡◌, ℕ, List, [], ◌∷◌, ◌++◌, refl, ap, sym, ◌∙◌, subst, Some, None, Option, append-nil}
+use Rattle.std.proofs.Common.{◌≡◌, ℕ, [], ◌∷◌, refl, ap, sym, ◌∙◌, subst, Some, None, Option, append-nil}
 use Rattle.std.specs.Prelude.{Bool, true, is_some, IfSome, Result, Ok, Err, is_ok, IfOk, option_map, option_to_list}
 use Rattle.bw_delta.specs.Entries.{at}
 use Rattle.bw_delta.specs.Pages.{Page}
@@ -19,12 +19,10 @@ use Rattle.bw_law.specs.Slots.{pairs_in}
 use Rattle.bw_law.specs.Tables.{TableValue, slot_at, number_of}
 use Rattle.bw_law.proofs.Accepted.{consolidate_accepted, term_add_accepted}
 use Rattle.bw_table.specs.InPlaces.{step_for, both_steps, TakesBoth, LooksOrTakes, IsDoneAtOnce, LooksOrTakesOne, IsRecordedAtOnce, IsConsolidatedAtOnce, IsHalvedAtOnce, IsPostedByOne, consolidating, halving}
-use Rattle.bw_snap.specs.Notes.{consolidation_of, consolidated_behind, steps_at_once, step_recorded, term_of, split_in_half, steps_for, held_for, held_record, held_notes, steps_of, table_with}
-use Rattle.bw_snap.specs.declared.note.Change.{Change}
+use Rattle.bw_snap.specs.Notes.{consolidation_of, consolidated_behind, steps_at_once, step_recorded, term_of, split_in_half, held_for, held_record, held_notes, steps_of, table_with}
 use Rattle.bw_snap.specs.declared.note.Change.TheVariants as changes
-use Rattle.bw_snap.specs.declared.note.Note.{Note}
 use Rattle.bw_snap.specs.Snapshots.{LeadTo}
-use Rattle.bw_snap.proofs.Notes.{steps_of-append, runs_to}
+use Rattle.bw_snap.proofs.Notes.{runs_to}
 
 -- the consolidation that a table takes is that of the page as it is there
 consolidates_as_it_is : (table : TableValue) (page seen : ℕ) (base : Page) → refusal table (consolidate page seen base) ≡ None → consolidate page seen base ≡ consolidation_of table page

@@ -326,15 +326,9 @@ impl<R: Wait + Drop, N: Naming, D: Ledger> Published<R, N, D> {
         ensures unchanged { OnErr result (self.new ≡ self.old) }
     {
         let kept = newcomer(self.writer.factory())?;
-        match settle(&mut self.writer, &mut self.held) {
-            Ok(()) => {}
-            Err(NoMemory) => return Err(NoMemory),
-        }
+        settle(&mut self.writer, &mut self.held)?;
         self.announced.announce(&self.head, &self.writer, &self.rt);
-        match append(&mut self.writer, Note::Mark(self.announced.again())) {
-            Ok(()) => {}
-            Err(NoMemory) => return Err(NoMemory),
-        }
+        append(&mut self.writer, Note::Mark(self.announced.again()))?;
         match advance(&mut self.writer, &self.rt) {
             Ok(()) => {}
             Err(_) => return Err(NoMemory),

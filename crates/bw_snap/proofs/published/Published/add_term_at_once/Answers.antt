@@ -8,15 +8,6 @@ use Rattle.bw_snap.proofs.Notes.{lags_on, pending_on, held_alone}
 use Rattle.bw_snap.proofs.Changes.{posted_leads}
 use Rattle.bw_snap.proofs.published.Published.add_term_at_once.Goals as goal
 
-pub invariant_of-self : goal.invariant_of-self
-invariant_of-self g c = rw (c.settle.ensures.desk, c.settle.ensures.notes) c.self.invariant
-
-pub returns-in-Err-clause-unchanged : goal.returns-in-Err-clause-unchanged
-returns-in-Err-clause-unchanged g c = rw (c.settle.ensures.desk, c.settle.ensures.notes) c.self.view_is
-
-pub invariant_of-self-in_err-parent : goal.invariant_of-self-in_err-parent
-invariant_of-self-in_err-parent g c = rw (c.settle.ensures.desk, c.settle.ensures.notes, c.in_err-parent.ensures.unchanged) c.self.invariant
-
 pub invariant_of-self-2 : goal.invariant_of-self-2
 invariant_of-self-2 g c =
     let old = c.self.inside.booked in

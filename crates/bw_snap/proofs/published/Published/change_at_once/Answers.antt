@@ -5,15 +5,6 @@ use Rattle.bw_snap.proofs.Notes.{lags_on, pending_on}
 use Rattle.bw_snap.proofs.Changes.{done_at_once_leads, held_for_its_steps}
 use Rattle.bw_snap.proofs.published.Published.change_at_once.Goals as goal
 
-pub invariant_of-self : goal.invariant_of-self
-invariant_of-self g c = rw (c.settle.ensures.desk, c.settle.ensures.notes) c.self.invariant
-
-pub returns-in-Err-clause-unchanged : goal.returns-in-Err-clause-unchanged
-returns-in-Err-clause-unchanged g c = rw (c.settle.ensures.desk, c.settle.ensures.notes) c.self.view_is
-
-pub invariant_of-self-in_err-done : goal.invariant_of-self-in_err-done
-invariant_of-self-in_err-done g c = rw (c.settle.ensures.desk, c.settle.ensures.notes, c.in_err-done.ensures.unchanged) c.self.invariant
-
 pub invariant_of-self-2 : goal.invariant_of-self-2
 invariant_of-self-2 g c =
     let old = c.self.inside.booked in

@@ -7,15 +7,6 @@ use Rattle.bw_snap.proofs.Notes.{lags_on, pending_on, held_alone}
 use Rattle.bw_snap.proofs.Changes.{consolidated_leads}
 use Rattle.bw_snap.proofs.published.Published.consolidate_at_once.Goals as goal
 
-pub invariant_of-self : goal.invariant_of-self
-invariant_of-self g c = rw (c.settle.ensures.desk, c.settle.ensures.notes) c.self.invariant
-
-pub returns-in-Err-clause-unchanged : goal.returns-in-Err-clause-unchanged
-returns-in-Err-clause-unchanged g c = rw (c.settle.ensures.desk, c.settle.ensures.notes) c.self.view_is
-
-pub invariant_of-self-in_err-receipt : goal.invariant_of-self-in_err-receipt
-invariant_of-self-in_err-receipt g c = rw (c.settle.ensures.desk, c.settle.ensures.notes, c.in_err-receipt.ensures.unchanged) c.self.invariant
-
 pub invariant_of-self-2 : goal.invariant_of-self-2
 invariant_of-self-2 g c =
     let old = c.self.inside.booked in

@@ -4,7 +4,7 @@ use Rattle.bw_step.specs.ProposalView.{proposal_of}
 use Rattle.bw_law.specs.Refusals.{refusal}
 use Rattle.bw_snap.specs.declared.note.Note.TheVariants.{Step}
 use Rattle.bw_snap.specs.Trees.{PublishedValue}
-use Rattle.bw_snap.specs.Notes.{steps_of, held_notes}
+use Rattle.bw_snap.specs.Notes.{held_notes}
 use Rattle.bw_snap.proofs.Notes.{lags_on, pending_on, noted_behind, not_refused}
 use Rattle.bw_snap.proofs.published.Published.install.Goals as goal
 
