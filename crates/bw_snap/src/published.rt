@@ -64,7 +64,8 @@ impl<R: Wait + Drop, N: Naming, D: Ledger> Model for Published<R, N, D> {
 
     ghost view = { λ p. published_value p.booked p.writer p.held };
 
-    ghost invariant = { λ p. LagsBehind N.config N.announcements p.writer p.held p.booked p.announced };
+    ghost invariant = { λ p.
+        LagsBehind N.config N.announcements p.writer p.held p.booked p.announced };
 }
 
 impl<R: Wait + Drop, N: Naming, D: Ledger> Drop for Published<R, N, D> {
