@@ -37,9 +37,6 @@ use std::sync::ledger::Ledger;
 /// The most readers that a tree may have.
 pub const MAX_READERS: u32 = 16;
 
-/// The most stamps at once that are neither learnt nor dropped: one for each worker.
-pub const MAX_STAMPS: u32 = 64;
-
 /// A booked table, with the writing end of its two published copies and the front of all that was
 /// announced. Steps taken since the last publication are pending. The last change made at once is
 /// held back, until the next note: so its note needs no memory once it is made.
@@ -106,7 +103,9 @@ impl<R: Wait + Drop, N: Naming, D: Ledger> Published<R, N, D> {
             Err(fault) => return Err(fault),
         };
         let (head, announced) = announcements.named::<N>();
-        let writer = match begin(machine, config, &announced, (readers + MAX_STAMPS) as usize) {
+        // those of the readers, and of a stamp for each reader and each worker
+        let places = 2 * readers as usize + shares.len();
+        let writer = match begin(machine, config, &announced, places) {
             Ok(writer) => writer,
             Err(NoMemory) => return Err(SnapFault::NoMemory),
         };
@@ -316,8 +315,9 @@ impl<R: Wait + Drop, N: Naming, D: Ledger> Published<R, N, D> {
     }
 
     /// Publishes what is pending, and returns a stamp of the list that was published. Fails where
-    /// memory is refused, and where there are `MAX_STAMPS` stamps. The stamp's place is reserved
-    /// before anything is published, so that none is missing afterwards.
+    /// memory is refused, and where as many stamps are neither learnt nor dropped as the tree has
+    /// readers and workers together. The stamp's place is reserved before anything is published, so
+    /// that none is missing afterwards.
     pub fn publish(&mut self) -> Result<Stamp<N>, NoMemory>
         ensures table { OnOk result (self.new.table ≡ self.old.table) }
         ensures published { OnOk result (self.new.published ≡ self.old.table) }
