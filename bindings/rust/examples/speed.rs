@@ -71,11 +71,11 @@ impl Ordered for BTreeMap<u64, u64> {
 
 impl Ordered for Map {
     fn put(&mut self, key: u64, value: u64) -> Option<u64> {
-        self.insert_if_absent(key, value).expect("there is room")
+        Map::put(self, key, value).expect("there is room")
     }
 
     fn set(&mut self, key: u64, value: u64) -> Option<u64> {
-        self.insert(key, value).expect("there is room")
+        Map::set(self, key, value).expect("there is room")
     }
 
     fn get(&self, key: u64) -> Option<u64> {
