@@ -3,6 +3,7 @@
 
 use nifforan::{Entry, Fault, Frozen, Map, Settings, Unfinished};
 use std::collections::{btree_map, BTreeMap};
+use std::io::{self, Write};
 use std::ops::Bound::{self, Excluded, Included, Unbounded};
 
 const PAGES: [u32; 4] = [8, 64, 4096, 65536];
@@ -439,13 +440,16 @@ fn ten_million_calls_are_answered_as_by_btree_map() {
         };
     }
     assert!(full.refused > 0 && full.cut > 0, "no map became full");
-    println!(
-        "the same as BTreeMap: {} calls on {} kinds of map",
+    let told = format!(
+        "the same as BTreeMap: {} calls on {} kinds of map\n\
+         full maps: {} calls refused, {} with their care cut short, and nothing lost\n",
         calls * kinds.len() as u64,
-        kinds.len()
+        kinds.len(),
+        full.refused,
+        full.cut
     );
-    println!(
-        "full maps: {} calls refused, {} with their care cut short, and nothing lost",
-        full.refused, full.cut
-    );
+    // shown also where the test succeeds
+    io::stdout()
+        .write_all(told.as_bytes())
+        .expect("it can be written");
 }
