@@ -122,7 +122,7 @@ fn processor_time() -> i64 {
         seconds: 0,
         nanoseconds: 0,
     };
-    // Safety: the clock is there, and the time is written to a place of its own.
+    // SAFETY: the clock is there, and the time is written to a place of its own.
     assert_eq!(unsafe { clock_gettime(PROCESSOR_TIME, &mut time) }, 0);
     time.seconds * 1_000_000_000 + time.nanoseconds
 }

@@ -35,8 +35,7 @@ pub struct Map {
 reads!(Map);
 
 impl Map {
-    /// Makes a map without pairs. A setting out of its range is told by the first such one, and want of memory by
-    /// [`Fault::NoMemory`].
+    /// Makes a map without pairs. It fails by the first setting that is out of its range, or by [`Fault::NoMemory`].
     pub fn new(settings: &Settings) -> Result<Map, Fault> {
         let in_c = settings.in_c();
         // SAFETY: the handle is closed, and both are this call's own.
@@ -280,8 +279,8 @@ impl<'p> Extend<(&'p u64, &'p u64)> for Map {
     }
 }
 
-/// The usual settings, with more pages where so many pairs as are foreseen may need them. Of two pairs with one key the
-/// later one stays. It panics at a fault.
+/// The usual settings, with more pages where the pairs that the iterator foresees may need them. Of two pairs with one
+/// key the later one stays. It panics at a fault.
 impl FromIterator<(u64, u64)> for Map {
     #[track_caller]
     fn from_iter<I: IntoIterator<Item = (u64, u64)>>(pairs: I) -> Map {

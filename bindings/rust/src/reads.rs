@@ -141,7 +141,7 @@ impl Reads {
 
     pub(crate) fn read(&self, low: u64, high: High, places: &mut [ffi::Pair]) -> ffi::ReadAnswer {
         let (pairs, room) = (places.as_mut_ptr(), places.len());
-        // SAFETY: see `handle`; there are so many places, which nobody else has.
+        // SAFETY: see `handle`; the places are there, and this call's own.
         unsafe { ffi::nifforan_read(self.handle(), low, high, pairs, room) }
     }
 
@@ -152,7 +152,7 @@ impl Reads {
         places: &mut [ffi::Pair],
     ) -> ffi::ReadAnswer {
         let (pairs, room) = (places.as_mut_ptr(), places.len());
-        // SAFETY: see `handle`; there are so many places, which nobody else has.
+        // SAFETY: see `handle`; the places are there, and this call's own.
         unsafe { ffi::nifforan_read_back(self.handle(), low, high, pairs, room) }
     }
 }

@@ -34,8 +34,8 @@ const HALF: u64 = 32;
 const MOST_LEVELS: u64 = 5;
 
 impl Settings {
-    /// Returns the usual settings, with as many pages as so many insertions in any order may need; `None` where there
-    /// can't be enough, from 2,031,492 pairs on. It is the rule of Rattle's `Config::for_pairs`.
+    /// Returns the usual settings, with pages enough for this many insertions in any order; `None` where there can't be
+    /// enough, from 2,031,492 pairs on. It is the rule of Rattle's `Config::for_pairs`.
     ///
     /// ```
     /// use nifforan::Settings;
@@ -51,7 +51,7 @@ impl Settings {
         })
     }
 
-    /// The usual settings, with more pages where so many pairs may need them.
+    /// The usual settings, with more pages where this many pairs may need them.
     pub(crate) fn at_least(pairs: usize) -> Settings {
         let usual = Settings::default();
         let pages = Settings::for_pairs(pairs as u64).map_or(MOST_PAGES, |settings| settings.pages);

@@ -351,8 +351,8 @@ impl Both {
                 self.see_care();
             }
             Err(ended) => {
-                let told = (ended.fault, ended.removed);
-                assert_eq!(told, (Fault::TableFull, gone as u64));
+                assert_eq!(ended.fault, Fault::TableFull);
+                assert_eq!(ended.removed, gone as u64);
                 self.is_full();
             }
         }
@@ -440,7 +440,7 @@ fn ten_million_calls_are_answered_as_by_btree_map() {
         };
     }
     assert!(full.refused > 0 && full.cut > 0, "no map became full");
-    let told = format!(
+    let summary = format!(
         "the same as BTreeMap: {} calls on {} kinds of map\n\
          full maps: {} calls refused, {} with their care cut short, and nothing lost\n",
         calls * kinds.len() as u64,
@@ -450,6 +450,6 @@ fn ten_million_calls_are_answered_as_by_btree_map() {
     );
     // shown also where the test succeeds
     io::stdout()
-        .write_all(told.as_bytes())
+        .write_all(summary.as_bytes())
         .expect("it can be written");
 }

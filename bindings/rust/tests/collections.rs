@@ -200,7 +200,11 @@ fn care_of_many_changes_is_that_of_the_last_one_cut_short() -> Result<(), Fault>
     let mut map = Map::new(&settings)?;
     map.try_extend((0..1000).map(|key| (key, 1)))?;
     assert_eq!(map.care(), Some(Fault::TableFull));
-    // a key that is there takes no page, but its page is still to be split
+    // the last page is too long, the first one isn't
+    map.set(0, 2)?;
+    assert_eq!(map.care(), None);
+    map.try_extend([(0, 2), (999, 2), (0, 3)])?;
+    assert_eq!(map.care(), Some(Fault::TableFull));
     map.try_extend([])?;
     assert_eq!(map.care(), None);
     assert_eq!(map.clear(2000..), Ok(0));
