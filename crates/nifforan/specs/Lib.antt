@@ -1,4 +1,5 @@
 pub mod Calls
 pub mod Clearing
+pub mod Filling
 pub mod Maps
 pub mod Reading
