@@ -7,3 +7,4 @@ pub mod Listing
 pub mod Pops
 pub mod Reading
 pub mod Replies
+pub mod Retains

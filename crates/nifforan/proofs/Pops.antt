@@ -7,7 +7,7 @@ use Rattle.nifforan.specs.Calls.{TakesOut, PopsFirst, PopsLast}
 use Rattle.nifforan.specs.Maps.{PairList}
 
 -- a key below all others
-without_behind : (low end key : ℕ) (es : PairList) → rises low end es ≡ true → key < low → without key es ≡ es
+pub without_behind : (low end key : ℕ) (es : PairList) → rises low end es ≡ true → key < low → without key es ≡ es
 without_behind low end key [] rise below = refl
 without_behind low end key (d ∷ es) rise below = grind (arith, nat_tests, without_behind (d.0 + 1) end key es)
 

@@ -3,3 +3,4 @@ pub mod Clearing
 pub mod Filling
 pub mod Maps
 pub mod Reading
+pub mod Retaining

@@ -11,6 +11,7 @@ mod in_place;
 mod iter;
 mod map;
 mod pairs;
+mod retain;
 mod worker;
 
 pub use bw_keys::{BadConfig, Config, Fence, Field, Key};

@@ -165,7 +165,7 @@ impl<A: Allocator + Copy> Map<A> {
     }
 
     /// Returns the pairs with keys from the low on and below the high.
-    fn walk(&self, low: Fence, high: Fence) -> Pairs<'_, A>
+    pub(crate) fn walk(&self, low: Fence, high: Fence) -> Pairs<'_, A>
         ensures { result ≡ within (end_of low) (end_of high) self.now.pairs }
     {
         let table = &self.worker.owner.table.value;
