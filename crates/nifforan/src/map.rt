@@ -76,6 +76,13 @@ impl<A: Allocator + Copy> Map<A> {
         worker.into_table()
     }
 
+    /// Lends the table, for what reads one without changing it.
+    pub fn table(&self) -> &Table<A>
+        ensures { map_of result.now ≡ self.now }
+    {
+        &self.worker.owner.table.value
+    }
+
     /// Returns the configuration that the map was made by.
     pub fn config(&self) -> Config
         ensures { result ≡ self.now.config }

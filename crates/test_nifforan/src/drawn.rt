@@ -216,7 +216,7 @@ impl Both {
         let mut other = Map::from_pairs(machine, machine, self.config, pairs)?;
         let was_same = self.map == copy && self.map == other;
         let _done = other.upsert(key, one_more)?;
-        Ok(was_same && copy.config() == self.map.config() && self.map != other)
+        Ok(was_same && copy.table().config() == self.config && self.map != other)
     }
 }
 
