@@ -1,5 +1,5 @@
 -- What was done at once is done by the steps that its note stands for.
-use Rattle.std.proofs.Common.{◌≡◌, ℕ, List, [], ◌∷◌, ◌++◌, refl, ap, sym, ◌∙◌, subst, Some, None, Option, append-nil}
+use Rattle.std.proofs.Common.{◌≡◌, ℕ, [], ◌∷◌, refl, ap, sym, ◌∙◌, subst, Some, None, Option, append-nil}
 use Rattle.std.specs.Prelude.{Bool, true, is_some, IfSome, Result, Ok, Err, is_ok, IfOk, option_map, option_to_list}
 use Rattle.bw_delta.specs.Entries.{at}
 use Rattle.bw_delta.specs.Pages.{Page}
@@ -19,12 +19,10 @@ use Rattle.bw_law.specs.Slots.{pairs_in}
 use Rattle.bw_law.specs.Tables.{TableValue, slot_at, number_of}
 use Rattle.bw_law.proofs.Accepted.{consolidate_accepted, term_add_accepted}
 use Rattle.bw_table.specs.InPlaces.{step_for, both_steps, TakesBoth, LooksOrTakes, IsDoneAtOnce, LooksOrTakesOne, IsRecordedAtOnce, IsConsolidatedAtOnce, IsHalvedAtOnce, IsPostedByOne, consolidating, halving}
-use Rattle.bw_snap.specs.Notes.{consolidation_of, consolidated_behind, steps_at_once, step_recorded, term_of, split_in_half, steps_for, held_for, held_record, held_notes, steps_of, table_with}
-use Rattle.bw_snap.specs.declared.note.Change.{Change}
+use Rattle.bw_snap.specs.Notes.{consolidation_of, consolidated_behind, steps_at_once, step_recorded, term_of, split_in_half, held_for, held_record, held_notes, steps_of, table_with}
 use Rattle.bw_snap.specs.declared.note.Change.TheVariants as changes
-use Rattle.bw_snap.specs.declared.note.Note.{Note}
 use Rattle.bw_snap.specs.Snapshots.{LeadTo}
-use Rattle.bw_snap.proofs.Notes.{steps_of-append, runs_to}
+use Rattle.bw_snap.proofs.Notes.{runs_to}
 
 -- the consolidation that a table takes is that of the page as it is there
 consolidates_as_it_is : (table : TableValue) (page seen : ℕ) (base : Page) → refusal table (consolidate page seen base) ≡ None → consolidate page seen base ≡ consolidation_of table page
@@ -93,13 +91,6 @@ held_for_its_steps old page key wished (Deleted n k value) new done = append-nil
 held_for_its_steps old page key wished (Modified n k had value) new done = append-nil (steps_at_once old page.0 key wished)
 held_for_its_steps old page key wished (Shaped kind page_of other) new done = append-nil (steps_at_once old page.0 key wished)
 
--- behind the notes that lead to a table, the note of what was done there at once stands for its steps
-pub pending_with : (a b : TableValue) (notes : List Note) (page : Pid) (key : ℕ) (wished : Wished) (receipt : Receipt) (new : TableValue) → LeadTo a (steps_of a notes) b → IsDoneAtOnce b page.0 key wished receipt new
-    → steps_of a (notes ++ held_notes (held_for page key wished receipt)) ≡ steps_of a notes ++ steps_at_once b page.0 key wished
-pending_with a b notes page key wished receipt new leads done =
-    steps_of-append a b notes (held_notes (held_for page key wished receipt)) leads
-    ∙ ap (λ (l : List Proposal). steps_of a notes ++ l) (held_for_its_steps b page key wished receipt new done)
-
 -- the table after a change that a copy made
 pub made_by_its_steps : (old : TableValue) (page key : ℕ) (wished : Wished) (receipt : Receipt) (new : TableValue) → IsDoneAtOnce old page key wished receipt new → new ≡ run old (steps_at_once old page key wished)
 made_by_its_steps old page key wished receipt new done = sym (runs_to old new (steps_at_once old page key wished) (done_at_once_leads old page key wished receipt new done))
@@ -109,11 +100,6 @@ pub made_where_some : (old new : TableValue) (page : Pid) (key : ℕ) (wished : 
     → IfSome answer (λ receipt. IsDoneAtOnce old page.0 key wished receipt new) → test ≡ is_some answer → test ≡ true → new ≡ table_with old (changes.Write page key wished)
 made_where_some old new page key wished None test done is holds = absurd (cc (is, holds))
 made_where_some old new page key wished (Some receipt) test done is holds = made_by_its_steps old page.0 key wished receipt new done
-
--- behind the notes that lead to a table, a note that is held back stands for its steps there
-pub pending_with_held : (a b : TableValue) (notes : List Note) (change : Change) → LeadTo a (steps_of a notes) b → steps_of a (notes ++ held_notes (Some change)) ≡ steps_of a notes ++ steps_for b change
-pending_with_held a b notes change leads =
-    steps_of-append a b notes (held_notes (Some change)) leads ∙ ap (λ (l : List Proposal). steps_of a notes ++ l) (append-nil (steps_for b change))
 
 -- one step that a table takes leads where the table is then
 one_leads : (old : TableValue) (step : Proposal) (receipt : Receipt) (new : TableValue) → TakesInTurn old ((step, receipt) ∷ []) new → LeadTo old (step ∷ []) new
@@ -141,12 +127,10 @@ record_of_receipt old page key (wishes.Set value) (Some had) n receipt new done 
 record_of_receipt old page key wishes.Delete None n receipt new done = rw done.0 refl
 record_of_receipt old page key wishes.Delete (Some had) n receipt new done = rw done.2.told refl
 
--- behind the notes that lead to a table, the note of the record that was put there at once stands for its step
-pub pending_with_record : (a b : TableValue) (notes : List Note) (page : Pid) (key : ℕ) (wished : Wished) (receipt : Receipt) (new : TableValue) → LeadTo a (steps_of a notes) b → IsRecordedAtOnce b page.0 key wished receipt new
-    → steps_of a (notes ++ held_notes (held_record page receipt)) ≡ steps_of a notes ++ step_recorded b page.0 key wished
-pending_with_record a b notes page key wished receipt new leads done =
-    steps_of-append a b notes (held_notes (held_record page receipt)) leads
-    ∙ ap (λ (l : List Proposal). steps_of a notes ++ l) (record_of_receipt b page key wished (at key (pairs_in (slot_at b page.0))) (number_of b.book) receipt new done)
+-- the note of the record that was put on a page at once stands for its step
+pub record_for_its_step : (old : TableValue) (page : Pid) (key : ℕ) (wished : Wished) (receipt : Receipt) (new : TableValue) → IsRecordedAtOnce old page.0 key wished receipt new
+    → steps_of old (held_notes (held_record page receipt)) ≡ step_recorded old page.0 key wished
+record_for_its_step old page key wished receipt new done = record_of_receipt old page key wished (at key (pairs_in (slot_at old page.0))) (number_of old.book) receipt new done
 
 -- a page that was consolidated at once is where the consolidation of it as it was leads
 pub consolidated_leads : (old : TableValue) (page seen : ℕ) (new : TableValue) (receipt : Receipt) → IsConsolidatedAtOnce old page seen new receipt → LeadTo old (consolidating old page seen ∷ []) new

@@ -14,10 +14,11 @@ use Rattle.bw_table.specs.Answers.{fine_unless}
 use Rattle.bw_snap.specs.declared.note.Change.{Change as Held}
 use Rattle.bw_snap.specs.declared.note.Note.{Note}
 use Rattle.bw_snap.specs.declared.note.Note.TheVariants.{Step, Change, Mark}
+use Rattle.bw_snap.specs.Ends.{IsBehind}
 use Rattle.bw_snap.specs.Fronts.{Announced}
 use Rattle.bw_snap.specs.Snapshots.{LeadTo, IsSnapshot, BeginsWith}
 use Rattle.bw_snap.specs.Notes.{noted, noted_steps, steps_of, steps_for, table_with, held_notes}
-use Rattle.bw_snap.proofs.Beginnings.{begins_and_goes_on}
+use Rattle.bw_snap.proofs.Beginnings.{begins_and_goes_on, begins_itself}
 
 pub leads_on : (a b c : TableValue) (xs ys : List Proposal) → LeadTo a xs b → LeadTo b ys c → LeadTo a (xs ++ ys) c
 leads_on a b c [] ys r s = subst (λ (table : TableValue). LeadTo table ys c) r s
@@ -52,14 +53,14 @@ steps_of-append a b (note ∷ notes) more r =
     let rest = steps_of (run a steps) notes in
     ap (λ (l : List Proposal). steps ++ l) (steps_of-append (run a steps) b notes more (leads_from a b steps rest r)) ∙ sym (append_assoc steps rest (steps_of b more))
 
--- once nothing is held back, the notes of the log are all
-pub settled : (log since : List Note) (held : Option Held) → log ++ held_notes held ≡ since → held ≡ None → log ≡ since
-settled log since held same none = sym (append-nil log) ∙ (ap (λ (h : Option Held). log ++ held_notes h) (sym none) ∙ same)
+-- one more note stands behind all, where nothing is held back
+pub noted_behind : (log next since : List Note) (held : Option Held) (note : Note) → log ≡ since → held ≡ None → next ≡ log ++ note ∷ [] → next ++ held_notes held ≡ since ++ note ∷ []
+noted_behind log next since held note all none is =
+    ap (λ (h : Option Held). next ++ held_notes h) none ∙ (append-nil next ∙ (is ∙ ap (λ (l : List Note). l ++ note ∷ []) all))
 
--- and one more note stands behind all
-pub noted_behind : (log next since : List Note) (held : Option Held) (note : Note) → log ++ held_notes held ≡ since → held ≡ None → next ≡ log ++ note ∷ [] → next ++ held_notes held ≡ since ++ note ∷ []
-noted_behind log next since held note same none is =
-    ap (λ (h : Option Held). next ++ held_notes h) none ∙ (append-nil next ∙ (is ∙ ap (λ (l : List Note). l ++ note ∷ []) (settled log since held same none)))
+-- a change that is held back alone stands for its steps
+pub held_alone : (table : TableValue) (change : Held) → steps_of table (held_notes (Some change)) ≡ steps_for table change
+held_alone table change = append-nil (steps_for table change)
 
 -- a mark is no step
 pub steps_of-mark : (a b : TableValue) (notes : List Note) (front : Announced) → LeadTo a (steps_of a notes) b → steps_of a (notes ++ Mark front ∷ []) ≡ steps_of a notes
@@ -88,3 +89,44 @@ lands config table end from front notes announcements leads snapshot is =
 
 pub begins_with_more : (xs ys more : List Proposal) (seen : List Proposal) → BeginsWith (xs ++ ys) seen → BeginsWith (xs ++ (ys ++ more)) seen
 begins_with_more xs ys more seen s = subst (λ (steps : List Proposal). BeginsWith steps seen) (append_assoc xs ys more) (begins_and_goes_on (xs ++ ys) more seen s)
+
+module _ {config : Config} {announcements : Book} {published table : TableValue} {front announced : Announced} {seen : List Proposal} {notes : List Note} (behind : IsBehind config announcements published front seen notes table announced) where
+  -- where more notes stand for these steps, these are pending behind the others
+  pub pending_on : (more : List Note) (steps : List Proposal) → steps_of table more ≡ steps → steps_of published (notes ++ more) ≡ steps_of published notes ++ steps
+  pending_on more steps stand = steps_of-append published table notes more behind.leads ∙ ap (λ (l : List Proposal). steps_of published notes ++ l) stand
+
+  -- and the copies lag behind the table to which the steps lead
+  pub lags_on : (more : List Note) (steps : List Proposal) → steps_of table more ≡ steps → (new : TableValue) → LeadTo table steps new → IsBehind config announcements published front seen (notes ++ more) new announced
+  lags_on more steps stand new leads =
+      let pending = pending_on more steps stand in record {
+        leads = rw pending (leads_on published table new (steps_of published notes) steps behind.leads leads);
+        snapshot = behind.snapshot;
+        begins = rw pending (begins_with_more front.list (steps_of published notes) steps announced.list behind.begins);
+        front_named = behind.front_named;
+        named = behind.named;
+        seen_all = behind.seen_all;
+      }
+
+  module _ (now : Announced) (whole : now ≡ record { list = front.list ++ steps_of published notes; announcements = announcements }) where
+    -- the whole list may be announced
+    pub announced_whole : IsBehind config announcements published front seen notes table now
+    announced_whole = record {
+      leads = behind.leads;
+      snapshot = behind.snapshot;
+      begins = rw whole (begins_itself (front.list ++ steps_of published notes));
+      front_named = behind.front_named;
+      named = ap (λ (f : Announced). f.announcements) whole;
+      seen_all = behind.seen_all;
+    }
+
+    -- once the table is published with it, nothing is pending
+    pub published_whole : IsBehind config announcements table now (front.list ++ steps_of published notes) [] table now
+    published_whole =
+        rw whole (record {
+          leads = refl;
+          snapshot = leads_on (new_table config) published table front.list (steps_of published notes) behind.snapshot behind.leads;
+          begins = ([], refl);
+          front_named = refl;
+          named = refl;
+          seen_all = refl;
+        })

@@ -12,6 +12,7 @@ use Rattle.bw_snap.specs.declared.note.Note.{Note}
 use Rattle.bw_snap.specs.declared.shown.Shown.{Shown}
 use Rattle.bw_snap.specs.Fronts.{Announced}
 use Rattle.bw_snap.specs.Notes.{noted, steps_of, held_notes}
+use Rattle.bw_snap.specs.Snapshots.{LeadTo, IsSnapshot, BeginsWith}
 use Rattle.bw_snap.specs.Trees.{PublishedValue}
 use Rattle.bw_snap.specs.Views.{Land}
 
@@ -22,6 +23,15 @@ Becomes test old new front = MatchBool test (new ≡ front) (new ≡ old)
 -- the note was put behind the others, or nothing was
 abbrev pub Appends : {E : Type 0} → Note → List Note → List Note → Result (Unit {0}) E → Type 0
 Appends note old new result = MatchResult result (λ _. new ≡ old ++ note ∷ []) (λ _. new ≡ old)
+
+-- the notes lead from the published table to the locked one, the published list to the published table, and the list that was announced is a beginning of both together
+pub record IsBehind (config : Config) (announcements : Book) (published : TableValue) (front : Announced) (seen : List Proposal) (notes : List Note) (table : TableValue) (announced : Announced) : Type 0 where
+  pub leads : LeadTo published (steps_of published notes) table
+  pub snapshot : IsSnapshot config front.list published
+  pub begins : BeginsWith (front.list ++ steps_of published notes) announced.list
+  pub front_named : front.announcements ≡ announcements
+  pub named : announced.announcements ≡ announcements
+  pub seen_all : seen ≡ front.list
 
 module _ {P A S : Type 0} {g : Ghosts Shown Note S} where
   -- the notes that the published table hasn't absorbed
@@ -60,6 +70,12 @@ module _ {P A S : Type 0} {g : Ghosts Shown Note S} where
   -- the unpublished notes lead to a table that is where its list leads
   abbrev pub MayPublish : Config → Book → Writer Shown Note (List Proposal) P A S g → Type 0
   MayPublish config announcements w = Land config announcements w.desk.shown.value.table w.desk.shown.value.front (unpublished w)
+
+  -- the published copies are behind the table by the notes
+  abbrev pub LagsBehind : Config → Book → Writer Shown Note (List Proposal) P A S g → Option Change → TableValue → Announced → Type 0
+  LagsBehind config announcements w held table announced =
+      let shown = w.desk.shown.value in
+      IsBehind config announcements shown.table shown.front (view w.desk.place) (noted_since w held) table announced
 
   -- a table beside the writing end that publishes it
   abbrev pub published_value : TableValue → Writer Shown Note (List Proposal) P A S g → Option Change → PublishedValue

@@ -4,7 +4,6 @@ use Rattle.bw_keys.specs.declared.config.Config.{Config}
 use Rattle.bw_keys.specs.Limits.{first_bad_field, is_out_of}
 use Rattle.bw_step.specs.declared.refused.Refused.{Refused}
 use Rattle.bw_step.specs.Proposals.{Proposal}
-use Rattle.bw_law.specs.Refusals.{refusal}
 use Rattle.bw_law.specs.Tables.{TableValue}
 use Rattle.bw_tree.specs.Trees.{MayBeMade, is_bad_number}
 use Rattle.bw_step.specs.declared.fault.Denied.{Denied}
@@ -29,12 +28,7 @@ pub record IsPublished (config : Config) (value : PublishedValue) : Type 0 where
   pub pending : LeadTo value.published value.pending value.table
   pub snapshot : IsSnapshot config value.list value.published
 
--- the table's reason to refuse the step, or want of memory where there is none
-abbrev pub IsDenialOf : TableValue → Proposal → Denied → Type 0
-IsDenialOf table step (denials.Refused reason) = refusal table step ≡ Some reason
-IsDenialOf table step denials.NoMemory = refusal table step ≡ None
-
--- the reason to refuse a step, which is told unless memory is wanting before it is looked at
+-- the reason to refuse a step, unless memory is wanting before it is looked at
 abbrev pub IsReasonUnlessWant : Option Refused → Denied → Type 0
 IsReasonUnlessWant reason (denials.Refused refused) = reason ≡ Some refused
 IsReasonUnlessWant reason denials.NoMemory = Unit {0}

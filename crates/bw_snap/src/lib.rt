@@ -17,7 +17,7 @@ mod stamp;
 
 pub use fault::{Closed, ScanFault, SnapFault};
 pub use front::{Announcements, Naming};
-pub use published::{MAX_READERS, MAX_STAMPS, Published};
+pub use published::{MAX_READERS, Published};
 pub use read_tree::ReadTree;
 pub use reader::Reader;
 pub use stamp::Stamp;

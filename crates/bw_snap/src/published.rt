@@ -8,13 +8,14 @@ ghost use Rattle.bw_step.specs.Steps.{IsReceiptOf};
 ghost use Rattle.bw_law.specs.Laws.{MapAfter};
 ghost use Rattle.bw_law.specs.Refusals.{refusal};
 ghost use Rattle.bw_law.specs.Tables.{new_table};
+ghost use Rattle.bw_table.specs.Answers.{IsDenialFor};
 ghost use Rattle.bw_table.specs.InPlaces.{IsDoneAtOnce, IsRecordedAtOnce, IsConsolidatedAtOnce, IsHalvedAtOnce, IsPostedByOne};
 ghost use Rattle.bw_table.specs.InPlaces.{consolidating, half_reasons, halving};
 ghost use Rattle.bw_tree.specs.Shares.{no_changes, CountsIn, CountsAtOnce, IsReceiptAtOnce, IsConsolidationOf};
 ghost use Rattle.bw_tree.specs.Trees.{IsTree, IsClosed, Leads, OpensFor};
-ghost use Rattle.bw_snap.specs.Ends.{noted_since};
+ghost use Rattle.bw_snap.specs.Ends.{unpublished, noted_since};
 ghost use Rattle.bw_snap.specs.Notes.{step_recorded, steps_at_once, term_of, held_note, held_record};
-ghost use Rattle.bw_snap.specs.Trees.{IsPublished, IsDenialOf, IsReasonUnlessWant, IsSnapFault, MayBeRead, is_bad_reader_number, published_as_it_is};
+ghost use Rattle.bw_snap.specs.Trees.{IsPublished, IsReasonUnlessWant, IsSnapFault, MayBeRead, is_bad_reader_number, published_as_it_is};
 
 use crate::ends::{WritingEnd, advance, append, begin, newcomer, surely_told};
 use crate::fault::SnapFault;
@@ -36,9 +37,6 @@ use std::sync::ledger::Ledger;
 /// The most readers that a tree may have.
 pub const MAX_READERS: u32 = 16;
 
-/// The most stamps at once that are neither learnt nor dropped: one for each worker.
-pub const MAX_STAMPS: u32 = 64;
-
 /// A booked table, with the writing end of its two published copies and the front of all that was
 /// announced. Steps taken since the last publication are pending. The last change made at once is
 /// held back, until the next note: so its note needs no memory once it is made.
@@ -55,9 +53,7 @@ impl<R: Wait + Drop, N: Naming, D: Ledger> Model for Published<R, N, D> {
     ghost use Rattle.std.specs.Prelude.{◌≡◌};
     ghost use Rattle.bw_snap.specs.Codes.{published_code};
     ghost use Rattle.bw_snap.specs.Trees.{PublishedValue};
-    ghost use Rattle.bw_snap.specs.Snapshots.{LeadTo, IsSnapshot, BeginsWith};
-    ghost use Rattle.bw_snap.specs.Ends.{noted_since, steps_behind, list_behind, published_value};
-    ghost use Rattle.left_right.specs.Sides.{view as seen_by};
+    ghost use Rattle.bw_snap.specs.Ends.{LagsBehind, published_value};
 
     ghost Value = { PublishedValue };
 
@@ -66,13 +62,7 @@ impl<R: Wait + Drop, N: Naming, D: Ledger> Model for Published<R, N, D> {
     ghost view = { λ p. published_value p.booked p.writer p.held };
 
     ghost invariant = { λ p.
-        LeadTo p.writer.desk.shown.value.table
-        (steps_behind p.writer (noted_since p.writer p.held)) p.booked
-        × IsSnapshot N.config p.writer.desk.shown.value.front.list p.writer.desk.shown.value.table
-        × BeginsWith (list_behind p.writer (noted_since p.writer p.held)) p.announced.list
-        × (p.writer.desk.shown.value.front.announcements ≡ N.announcements)
-        × (p.announced.announcements ≡ N.announcements)
-        × (seen_by p.writer.desk.place ≡ p.writer.desk.shown.value.front.list) };
+        LagsBehind N.config N.announcements p.writer p.held p.booked p.announced };
 }
 
 impl<R: Wait + Drop, N: Naming, D: Ledger> Drop for Published<R, N, D> {
@@ -113,7 +103,9 @@ impl<R: Wait + Drop, N: Naming, D: Ledger> Published<R, N, D> {
             Err(fault) => return Err(fault),
         };
         let (head, announced) = announcements.named::<N>();
-        let writer = match begin(machine, config, &announced, (readers + MAX_STAMPS) as usize) {
+        // those of the readers, and of a stamp for each reader and each worker
+        let places = 2 * readers as usize + shares.len();
+        let writer = match begin(machine, config, &announced, places) {
             Ok(writer) => writer,
             Err(NoMemory) => return Err(SnapFault::NoMemory),
         };
@@ -163,7 +155,7 @@ impl<R: Wait + Drop, N: Naming, D: Ledger> Published<R, N, D> {
         ensures steps { OnOk result (self.new.pending ≡ self.old.pending ++ proposal_of step ∷ []) }
         ensures published { OnOk result (self.new.published ≡ self.old.published) }
         ensures list { OnOk result (self.new.list ≡ self.old.list) }
-        ensures denied { IfErr result (IsDenialOf self.old.table (proposal_of step)) }
+        ensures denied { IfErr result (IsDenialFor (refusal self.old.table (proposal_of step))) }
         ensures unchanged { OnErr result (self.new ≡ self.old) }
         ensures share { CountsIn share.old share.new result }
     {
@@ -323,8 +315,9 @@ impl<R: Wait + Drop, N: Naming, D: Ledger> Published<R, N, D> {
     }
 
     /// Publishes what is pending, and returns a stamp of the list that was published. Fails where
-    /// memory is refused, and where there are `MAX_STAMPS` stamps. The stamp's place is reserved
-    /// before anything is published, so that none is missing afterwards.
+    /// memory is refused, and where as many stamps are neither learnt nor dropped as the tree has
+    /// readers and workers together. The stamp's place is reserved before anything is published, so
+    /// that none is missing afterwards.
     pub fn publish(&mut self) -> Result<Stamp<N>, NoMemory>
         ensures table { OnOk result (self.new.table ≡ self.old.table) }
         ensures published { OnOk result (self.new.published ≡ self.old.table) }
@@ -334,15 +327,9 @@ impl<R: Wait + Drop, N: Naming, D: Ledger> Published<R, N, D> {
         ensures unchanged { OnErr result (self.new ≡ self.old) }
     {
         let kept = newcomer(self.writer.factory())?;
-        match settle(&mut self.writer, &mut self.held) {
-            Ok(()) => {}
-            Err(NoMemory) => return Err(NoMemory),
-        }
+        settle(&mut self.writer, &mut self.held)?;
         self.announced.announce(&self.head, &self.writer, &self.rt);
-        match append(&mut self.writer, Note::Mark(self.announced.again())) {
-            Ok(()) => {}
-            Err(NoMemory) => return Err(NoMemory),
-        }
+        append(&mut self.writer, Note::Mark(self.announced.again()))?;
         match advance(&mut self.writer, &self.rt) {
             Ok(()) => {}
             Err(_) => return Err(NoMemory),
@@ -395,6 +382,7 @@ fn settle<N: Naming>(writer: &mut WritingEnd<N>, held: &mut Option<Change>) -> R
     ensures desk { writer.new.desk ≡ writer.old.desk }
     ensures notes { noted_since writer.new held.new ≡ noted_since writer.old held.old }
     ensures settled { OnOk result (held.new ≡ None) }
+    ensures all { OnOk result (unpublished writer.new ≡ noted_since writer.old held.old) }
 {
     let Some(change) = *held else {
         return Ok(());

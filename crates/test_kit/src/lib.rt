@@ -5,6 +5,7 @@
 mod change;
 mod configs;
 mod dice;
+mod drawn;
 mod heaps;
 mod held;
 mod hooked;
@@ -21,6 +22,7 @@ pub use bw_step::{Kind, Receipt};
 pub use change::{Change, THREE_LEAVES, step_of, step_with, take, take_all};
 pub use configs::{LARGE, SMALL};
 pub use dice::drawn_step;
+pub use drawn::{DRAWN_KEYS, drawn_calls};
 pub use heaps::{Rooms, growing_heaps};
 pub use held::{BESIDE_CALLS, HELD_CALLS, HELD_PAIRS, HOLDS, HeldAfter, are_both_done};
 pub use hooked::{Hook, Hooked};

@@ -4,6 +4,7 @@
 ghost use Rattle.std.specs.Prelude.{◌≡◌};
 ghost use Rattle.bw_tree.specs.Trees.{OpensFor};
 
+use crate::one_reader::{Names, watched_tree};
 use bw_keys::{Config, Fence, Key, Pid, Version};
 use bw_snap::{Announcements, Naming, ReadTree, Reader};
 use bw_step::{AtOnce, Denied, Look, Receipt, Step, View};
@@ -280,24 +281,13 @@ fn ask_read_tree_of<R: Wait + Copy, N: Naming, D: Ledger>(
     rt: R,
     machine: Global,
     config: Config,
-    names: (Blanks, Announcements),
+    names: Names,
     seed: u64,
 ) -> Result<Outcome, Fail>
     requires announcements { names.1.seen.book ≡ N.announcements }
     requires ledgers { OpensFor N.Ledger N.config D.Ledger config names.0 }
 {
-    let (blanks, announcements) = names;
-    let (tree, mut shares, mut readers) = ReadTree::<R, N, D>::with_readers(
-        rt,
-        machine,
-        config,
-        blanks,
-        announcements,
-        1,
-    )?;
-    let (Some(share), Some(mut reader)) = (shares.pop(), readers.pop()) else {
-        return Err("there are too few shares or readers".into());
-    };
+    let (tree, share, mut reader) = watched_tree::<R, N, D>(rt, machine, config, names)?;
     let answers = answers_beside(machine, &tree, share, &mut reader, seed)?;
     outcome_of(machine, answers, &tree.into_table())
 }

@@ -5,26 +5,25 @@
 ghost use Rattle.std.specs.Prelude.{◌≡◌};
 ghost use Rattle.bw_tree.specs.Trees.{OpensFor};
 
+use crate::one_reader::{Names, watched_tree};
 use bw_keys::{Config, Fence, Key};
 use bw_snap::{Announcements, Naming, ReadTree, Reader};
 use bw_step::{Denied, Receipt, Step};
 use bw_table::Table;
 use bw_tree::{Blanks, MadeBy, Share, Shared, Tree};
 use bw_work::{Del, Ends, Fault, Hand, Open, Put, Set, Steps};
-use rand_core::{Rng, SeedableRng};
-use rand_pcg::Pcg32;
 use std::alloc::Global;
 use std::collections::BTreeMap;
 use std::marker::Brand;
 use std::sync::Wait;
 use std::sync::ledger::Ledger;
 use std::test::Fail;
-use test_kit::{Call, Hook, Hooked, LARGE, Reply, SMALL, Task, Told, leaves_of, work};
+use test_kit::{
+    Call, DRAWN_KEYS, Hook, Hooked, LARGE, Reply, SMALL, Task, Told, drawn_calls, leaves_of, work,
+};
 
 /// The most calls of a worker.
 const CALLS: u32 = 150;
-
-const KEYS: u32 = 48;
 
 /// The number of calls between two publications.
 const SPANS: [usize; 3] = [1, 7, 100];
@@ -47,32 +46,11 @@ static CONFIGS: [Config; 5] = [
     },
 ];
 
-fn drawn_call(rng: &mut Pcg32) -> Call {
-    let key = u64::from(rng.next_u32() % KEYS);
-    let value = u64::from(rng.next_u32());
-    match rng.next_u32() % 32 {
-        0 => Call::Clear(key, Fence::Key(key + 8)),
-        1..=3 => Call::Get(key),
-        4..=9 => Call::Set(key, value),
-        10..=19 => Call::Delete(key),
-        _ => Call::Put(key, value),
-    }
-}
-
-fn drawn_calls(machine: Global, seed: u64) -> Result<Vec<Call>, Fail> {
-    let mut rng = Pcg32::seed_from_u64(seed);
-    let mut calls = Vec::new(machine);
-    for _ in 0..CALLS {
-        calls.push(drawn_call(&mut rng))?;
-    }
-    Ok(calls)
-}
-
 /// Removes the keys of the range from a plain map, in their order and no more than the most. Returns
 /// their number.
 fn remove_range(map: &mut BTreeMap<Key, u64>, low: Key, high: Fence, most: u64) -> u64 {
     let mut removed = 0;
-    for key in low..u64::from(KEYS) {
+    for key in low..u64::from(DRAWN_KEYS) {
         if removed < most && high.is_above(key) && map.remove(&key).is_some() {
             removed += 1;
         }
@@ -169,7 +147,7 @@ impl<'t, R: Wait + Copy, N: Naming, D: Ledger> Behind for Publishes<'t, R, N, D>
         let stamp = self.tree.publish()?;
         self.reader.learn(stamp);
         let mut pairs = Vec::new(self.machine);
-        self.reader.scan(0, KEYS as usize, &mut pairs)?;
+        self.reader.scan(0, DRAWN_KEYS as usize, &mut pairs)?;
         let mut wanted = Vec::new(self.machine);
         for (key, value) in self.map.iter() {
             wanted.push((*key, *value))?;
@@ -309,25 +287,14 @@ fn work_over_read_tree<R: Wait + Copy, N: Naming, D: Ledger>(
     rt: R,
     machine: Global,
     config: Config,
-    names: (Blanks, Announcements),
+    names: Names,
     calls: &[Call],
     way: Way,
 ) -> Result<Outcome, Fail>
     requires announcements { names.1.seen.book ≡ N.announcements }
     requires ledgers { OpensFor N.Ledger N.config D.Ledger config names.0 }
 {
-    let (blanks, announcements) = names;
-    let (tree, mut shares, mut readers) = ReadTree::<R, N, D>::with_readers(
-        rt,
-        machine,
-        config,
-        blanks,
-        announcements,
-        1,
-    )?;
-    let (Some(share), Some(mut reader)) = (shares.pop(), readers.pop()) else {
-        return Err("there are too few shares or readers".into());
-    };
+    let (tree, share, mut reader) = watched_tree::<R, N, D>(rt, machine, config, names)?;
     let outcome = outcome_beside(machine, &tree, share, &mut reader, calls, way)?;
     with_leaves(machine, outcome, &tree.into_table())
 }
@@ -349,7 +316,7 @@ fn changes_at_once_are_noted_as_their_steps(rt: HostRuntime) -> Result<(), Fail>
     let machine = rt.alloc();
     for config in CONFIGS.iter() {
         for seed in 0..2 {
-            let calls = drawn_calls(machine, seed)?;
+            let calls = drawn_calls(machine, CALLS, seed)?;
             let alone = work_on_tree(rt, machine, *config, &calls)?;
             for span in SPANS {
                 for by_steps in [false, true] {
@@ -367,24 +334,13 @@ fn drop_over<R: Wait + Copy, N: Naming, D: Ledger>(
     rt: R,
     machine: Global,
     config: Config,
-    names: (Blanks, Announcements),
+    names: Names,
     calls: &[Call],
 ) -> Result<Option<u64>, Fail>
     requires announcements { names.1.seen.book ≡ N.announcements }
     requires ledgers { OpensFor N.Ledger N.config D.Ledger config names.0 }
 {
-    let (blanks, announcements) = names;
-    let (tree, mut shares, mut readers) = ReadTree::<R, N, D>::with_readers(
-        rt,
-        machine,
-        config,
-        blanks,
-        announcements,
-        1,
-    )?;
-    let (Some(share), Some(mut reader)) = (shares.pop(), readers.pop()) else {
-        return Err("there are too few shares or readers".into());
-    };
+    let (tree, share, mut reader) = watched_tree::<R, N, D>(rt, machine, config, names)?;
     let _outcome = outcome_of(machine, &tree, share, (calls, 1), &mut Nothing)?;
     let found = reader.get(0)?;
     drop(tree);
@@ -406,7 +362,7 @@ fn drop_new_tree<R: Wait + Copy>(
 fn a_tree_is_dropped_with_changes_that_are_pending(rt: HostRuntime) -> Result<(), Fail> {
     let machine = rt.alloc();
     for config in CONFIGS.iter() {
-        let calls = drawn_calls(machine, u64::from(config.chain))?;
+        let calls = drawn_calls(machine, CALLS, u64::from(config.chain))?;
         assert_eq!(rt;
             drop_new_tree(rt, machine, *config, &calls)?,
             None,

@@ -12,6 +12,8 @@ mod beside;
 #[cfg(test)]
 mod crew;
 #[cfg(test)]
+mod one_reader;
+#[cfg(test)]
 mod questions;
 pub mod reads;
 #[cfg(test)]

@@ -4,6 +4,7 @@
 ghost use Rattle.std.specs.Prelude.{◌≡◌};
 ghost use Rattle.bw_tree.specs.Trees.{OpensFor};
 
+use crate::one_reader::{Names, watched_tree};
 use bw_keys::{Config, Fence, Key};
 use bw_snap::{Announcements, Closed, Naming, ReadTree, Reader, ScanFault};
 use bw_step::Step;
@@ -251,37 +252,23 @@ fn ask_over<R: Wait + Copy, N: Naming, D: Ledger>(
     rt: R,
     machine: Global,
     config: Config,
-    blanks: Blanks,
-    announcements: Announcements,
+    names: Names,
 ) -> Result<Found, Fail>
-    requires announcements { announcements.seen.book ≡ N.announcements }
-    requires ledgers { OpensFor N.Ledger N.config D.Ledger config blanks }
+    requires announcements { names.1.seen.book ≡ N.announcements }
+    requires ledgers { OpensFor N.Ledger N.config D.Ledger config names.0 }
 {
-    let (tree, mut shares, mut readers) = ReadTree::<R, N, D>::with_readers(
-        rt,
-        machine,
-        config,
-        blanks,
-        announcements,
-        1,
-    )?;
-    let (Some(share), Some(mut reader)) = (shares.pop(), readers.pop()) else {
-        return Err("there is no share or no reader".into());
-    };
+    let (tree, share, mut reader) = watched_tree::<R, N, D>(rt, machine, config, names)?;
     let mut hand = Hand::new(machine, machine, &tree, share, 0, &Open);
     let lines = put_both_ends(machine, &tree, &mut hand, &mut reader)?;
     let wrong = ask_beside(machine, &tree, &mut hand, &mut reader)?;
-    let (share, _trail) = hand.finish();
-    if shares.push(share).is_err() {
-        return Err("no memory".into());
-    }
-    let _table = tree.close(shares)?;
+    let _ended = hand.finish();
+    let _table = tree.into_table();
     Ok((lines, wrong, is_closed(machine, &mut reader)?))
 }
 
 fn ask_on_new_tree<R: Wait + Copy>(rt: R, machine: Global) -> Result<Found, Fail> {
-    let (blanks, announcements) = (Blanks::new(1), Announcements::new());
-    ask_over::<R, Brand, Brand>(rt, machine, LARGE, blanks, announcements)
+    let names = (Blanks::new(1), Announcements::new());
+    ask_over::<R, Brand, Brand>(rt, machine, LARGE, names)
 }
 
 const TOLD: &str = "[None, None] [None, None] 0 0 []

@@ -4,7 +4,7 @@ ghost use Rattle.std.specs.Prelude.{◌≡◌};
 ghost use Rattle.bw_tree.specs.Trees.{OpensFor};
 
 use bw_keys::{Config, Key};
-use bw_snap::{Announcements, MAX_READERS, MAX_STAMPS, Naming, ReadTree, Reader, Stamp};
+use bw_snap::{Announcements, MAX_READERS, Naming, ReadTree, Reader, Stamp};
 use bw_step::Step;
 use bw_tree::Blanks;
 use bw_work::{Calls, Hand, Open, Steps};
@@ -15,8 +15,9 @@ use std::sync::ledger::Ledger;
 use std::test::Fail;
 use test_kit::LARGE;
 
-/// The key that is put when there is no room for a stamp.
-const PAST: Key = MAX_STAMPS as Key;
+/// The key that is put when there is no room for a stamp: there was room for one of each reader, and of
+/// the one worker.
+const PAST: Key = MAX_READERS as Key + 1;
 
 /// Puts keys, and publishes after each, until there is no room for a stamp.
 fn stamp_all<R: Wait + Copy, N: Naming, D: Ledger, S: Steps<Global, Step<Global>>>(
@@ -104,7 +105,7 @@ fn publish_on_new_tree<R: Wait + Copy>(rt: R, machine: Global) -> Result<Found, 
 }
 
 #[test]
-fn there_is_room_for_a_stamp_of_each_worker(rt: HostRuntime) -> Result<(), Fail> {
+fn there_is_room_for_a_stamp_of_each_reader_and_worker(rt: HostRuntime) -> Result<(), Fail> {
     let found = Found {
         refused: [Some(PAST - 1), None],
         covered: Some(PAST),

@@ -10,22 +10,18 @@ use bw_step::{Kind, Receipt, Step};
 use bw_table::Table;
 use bw_tree::{Denied, Share, Shared};
 use bw_work::{Alone, Ends, Fault, Gate, Hand, Steps};
-use rand_core::{Rng, SeedableRng};
-use rand_pcg::Pcg32;
 use std::alloc::{AllocError, Global};
 use std::sync::Wait;
 use std::sync::atomic::{AtomicU64, Ordering};
 use std::test::Fail;
 use std::thread::Threads;
 use test_kit::{
-    Call, Hook, Hooked, LARGE, Pages, Play, Played, Reply, SMALL, Task, Turns, play_on_new_tree,
-    work,
+    Call, Hook, Hooked, LARGE, Pages, Play, Played, Reply, SMALL, Task, Turns, drawn_calls,
+    play_on_new_tree, work,
 };
 
 /// The most calls of a worker.
-const CALLS: u32 = 400;
-
-const KEYS: u32 = 48;
+pub(crate) const CALLS: u32 = 400;
 
 /// The lengths of a chain at which a page is consolidated.
 static CHAINS: [u32; 4] = [1, 2, 8, 32];
@@ -51,27 +47,6 @@ const ROOMY: Config = Config {
     pages: 256,
     ..LARGE
 };
-
-fn drawn_call(rng: &mut Pcg32) -> Call {
-    let key = u64::from(rng.next_u32() % KEYS);
-    let value = u64::from(rng.next_u32());
-    match rng.next_u32() % 32 {
-        0 => Call::Clear(key, Fence::Key(key + 8)),
-        1..=3 => Call::Get(key),
-        4..=9 => Call::Set(key, value),
-        10..=19 => Call::Delete(key),
-        _ => Call::Put(key, value),
-    }
-}
-
-pub(crate) fn drawn_calls(machine: Global, seed: u64) -> Result<Vec<Call>, AllocError> {
-    let mut rng = Pcg32::seed_from_u64(seed);
-    let mut calls = Vec::new(machine);
-    for _ in 0..CALLS {
-        calls.push(drawn_call(&mut rng))?;
-    }
-    Ok(calls)
-}
 
 /// The outcome of the calls, which end where one has no reply.
 #[derive(Debug, PartialEq, Eq, Drop)]
@@ -242,11 +217,11 @@ fn difference<R: Threads + Wait + Sync + Send + Copy>(
     config: Config,
 ) -> Result<Option<&'static str>, Fail> {
     let seed = u64::from(config.chain);
-    let left = left_alone(machine, config, &drawn_calls(machine, seed)?)?;
+    let left = left_alone(machine, config, &drawn_calls(machine, CALLS, seed)?)?;
     for (by_steps, name) in [(false, "a hand at once"), (true, "a hand by steps")] {
         let by_hand = ByHand {
             machine,
-            calls: drawn_calls(machine, seed)?,
+            calls: drawn_calls(machine, CALLS, seed)?,
             by_steps,
             passed: AtomicU64::new(0),
         };
@@ -281,7 +256,7 @@ fn have(trail: &[Receipt], wanted: Kind) -> bool {
 fn the_drawn_calls_split_pages_and_name_them(rt: HostRuntime) -> Result<(), Fail> {
     let machine = rt.alloc();
     for chain in CHAINS.iter() {
-        let calls = drawn_calls(machine, u64::from(*chain))?;
+        let calls = drawn_calls(machine, CALLS, u64::from(*chain))?;
         let config = Config {
             chain: *chain,
             ..ROOMY

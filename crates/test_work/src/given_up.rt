@@ -1,7 +1,7 @@
 //! A hand that keeps its receipts and one that gives them up make the same drawn calls, each on a
 //! tree of its own. All but what is kept is the same for both, and a plain map says the replies.
 
-use crate::at_once::{CONFIGS, are_alike, drawn_calls};
+use crate::at_once::{CALLS, CONFIGS, are_alike};
 use bw_keys::{Config, Fence};
 use bw_step::Step;
 use bw_tree::{Share, Shared};
@@ -12,7 +12,8 @@ use std::sync::Wait;
 use std::test::Fail;
 use std::thread::Threads;
 use test_kit::{
-    Call, Ended, LARGE, Pages, Play, Played, Reply, Task, Turns, play_on_new_tree, work,
+    Call, Ended, LARGE, Pages, Play, Played, Reply, Task, Turns, drawn_calls, play_on_new_tree,
+    work,
 };
 
 /// The first of two hands makes the calls, the other none.
@@ -157,7 +158,7 @@ fn play_drawn<R: Threads + Wait + Sync + Send + Copy>(
 ) -> Result<Ended<Left>, Fail> {
     let drawn = Drawn {
         machine,
-        calls: drawn_calls(machine, seed)?,
+        calls: drawn_calls(machine, CALLS, seed)?,
         gives_up,
     };
     Ok(play_on_new_tree(rt, machine, config, Turns::OneByOne, &drawn)?)
@@ -200,7 +201,7 @@ fn a_plain_map_replies_as_it_does(rt: HostRuntime) -> Result<(), Fail> {
         for seed in 10..14 {
             let config = Config { chain, ..LARGE };
             let replies = replies_alike(rt, machine, config, seed)?;
-            let plain = plain_replies(machine, &drawn_calls(machine, seed)?)?;
+            let plain = plain_replies(machine, &drawn_calls(machine, CALLS, seed)?)?;
             assert_eq!(rt; replies, plain, "chain {chain}, seed {seed}");
         }
     }

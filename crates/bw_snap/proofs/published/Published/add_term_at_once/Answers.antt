@@ -1,50 +1,30 @@
-use Rattle.std.proofs.Common.{ap, subst, ◌∙◌, drop, ◌++◌, ◌∷◌, []}
+use Rattle.std.proofs.Common.{ap, subst, ◌∙◌, ◌++◌, ◌∷◌, [], Some}
 use Rattle.bw_table.specs.InPlaces.{IsPostedByOne}
 use Rattle.bw_snap.specs.Trees.{PublishedValue}
-use Rattle.bw_snap.specs.Notes.{steps_of, held_notes, term_of}
+use Rattle.bw_snap.specs.Notes.{held_notes, term_of}
 use Rattle.bw_snap.specs.declared.note.Change.TheVariants.{Record}
 use Rattle.bw_snap.specs.declared.note.Record.TheVariants.{TermAdd}
-use Rattle.bw_snap.proofs.Notes.{leads_on, settled, begins_with_more}
-use Rattle.bw_snap.proofs.Changes.{posted_leads, pending_with_held}
+use Rattle.bw_snap.proofs.Notes.{lags_on, pending_on, held_alone}
+use Rattle.bw_snap.proofs.Changes.{posted_leads}
 use Rattle.bw_snap.proofs.published.Published.add_term_at_once.Goals as goal
-
-pub invariant_of-self : goal.invariant_of-self
-invariant_of-self g c = rw (c.settle.ensures.desk, c.settle.ensures.notes) c.self.invariant
-
-pub returns-in-Err-clause-unchanged : goal.returns-in-Err-clause-unchanged
-returns-in-Err-clause-unchanged g c = rw (c.settle.ensures.desk, c.settle.ensures.notes) c.self.view_is
-
-pub invariant_of-self-in_err-parent : goal.invariant_of-self-in_err-parent
-invariant_of-self-in_err-parent g c = rw (c.settle.ensures.desk, c.settle.ensures.notes, c.in_err-parent.ensures.unchanged) c.self.invariant
 
 pub invariant_of-self-2 : goal.invariant_of-self-2
 invariant_of-self-2 g c =
-    let w = c.self.inside.writer in
-    let v = w.desk.shown.value in
     let old = c.self.inside.booked in
     let new = c.add_term_at_once.new.self in
-    let notes = drop w.behind w.log.items ++ held_notes c.self.inside.held in
-    let log = settled (drop c.settle.new.writer.behind c.settle.new.writer.log.items) notes c.settle.new.held c.settle.ensures.notes c.in-Ok.ensures.settled in
     let parent = c.in_ok-parent.parent in
     let child = c.args.child in
-    let pending = pending_with_held v.table old notes (Record (TermAdd parent child)) c.self.invariant.0 in
-    let steps = term_of old parent.0 child.0 ∷ [] in
-    let leads = leads_on v.table old new (steps_of v.table notes) steps c.self.invariant.0 (posted_leads old parent child new c.in_ok-parent.ensures.done) in
-    rw (c.settle.ensures.desk, log, pending)
-    (leads, c.self.invariant.1, begins_with_more v.front.list (steps_of v.table notes) steps c.self.inside.announced.list c.self.invariant.2, c.self.invariant.3, c.self.invariant.4, c.self.invariant.5)
+    let change = Record (TermAdd parent child) in
+    rw (c.settle.ensures.desk, c.in-Ok.ensures.all) (lags_on c.self.invariant (held_notes (Some change)) (term_of old parent.0 child.0 ∷ []) (held_alone old change) new (posted_leads old parent child new c.in_ok-parent.ensures.done))
 
 pub returns-clause-steps : goal.returns-clause-steps
 returns-clause-steps g c =
-    let w = c.self.inside.writer in
-    let v = w.desk.shown.value in
     let old = c.self.inside.booked in
     let new = c.add_term_at_once.new.self in
-    let notes = drop w.behind w.log.items ++ held_notes c.self.inside.held in
-    let log = settled (drop c.settle.new.writer.behind c.settle.new.writer.log.items) notes c.settle.new.held c.settle.ensures.notes c.in-Ok.ensures.settled in
     let parent = c.in_ok-parent.parent in
     let child = c.args.child in
-    let pending = pending_with_held v.table old notes (Record (TermAdd parent child)) c.self.invariant.0 in
-    rw (c.settle.ensures.desk, log) (pending ∙ ap (λ (h : PublishedValue). h.pending ++ term_of h.table parent.0 child.0 ∷ []) c.self.view_is)
+    let change = Record (TermAdd parent child) in
+    rw (c.settle.ensures.desk, c.in-Ok.ensures.all) (pending_on c.self.invariant (held_notes (Some change)) (term_of old parent.0 child.0 ∷ []) (held_alone old change) ∙ ap (λ (h : PublishedValue). h.pending ++ term_of h.table parent.0 child.0 ∷ []) c.self.view_is)
 
 pub returns-clause-done : goal.returns-clause-done
 returns-clause-done g c =
