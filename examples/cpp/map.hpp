@@ -1,8 +1,19 @@
-// Maps of C++ over nifforan.h: Map owns its handle, and is moved, never copied; Frozen has a map that nobody changes, and
-// is shared by one each for the threads that read it.
+// Maps of C++17 over nifforan.h. A Map owns its handle, and is moved, never copied. A Frozen has a map that nobody changes:
+// threads read it at once, each through one of its own, which share makes.
+//
+// A call that can't be made throws: NoMemory, a std::bad_alloc as of other containers, or else a Fault. Its twin whose name begins
+// with try_ throws nothing, and answers the status as nifforan.h does, for programs without exceptions and for loops that
+// meet a full map often. What only cuts the care for the pages short is never thrown, since the answer stands: care() tells it.
+//
+// No call is const. Each writes the word of its handle, also one that only looks, so two threads may not make calls at once on
+// one Map or Frozen, and in C++ a const call promises that they may.
 #pragma once
 
+#include <cstddef>
 #include <cstdint>
+#include <iterator>
+#include <limits>
+#include <new>
 #include <optional>
 #include <stdexcept>
 #include <string>
@@ -19,9 +30,33 @@ public:
     const std::uint32_t status;
 };
 
-// A handle, and the calls that look at its map. They take no memory.
+class NoMemory : public std::bad_alloc {
+public:
+    const char *what() const noexcept override { return meaning.text; }
+
+private:
+    nifforan_text meaning = nifforan_status_text(NIFFORAN_NO_MEMORY);
+};
+
+// Throws what the status says, unless it is NIFFORAN_OK.
+inline void check(std::uint32_t status) {
+    if (status == NIFFORAN_NO_MEMORY) throw NoMemory();
+    if (status != NIFFORAN_OK) throw Fault(status);
+}
+
+// A handle, and the calls that look at its map. They take no memory. On a map that was moved from they throw.
 class Reads {
 public:
+    using key_type = std::uint64_t;
+    using mapped_type = std::uint64_t;
+    using value_type = std::pair<std::uint64_t, std::uint64_t>;
+    using size_type = std::uint64_t;
+    class Iterator;
+    class Range;
+    using iterator = Iterator;
+    using const_iterator = Iterator;
+    using reverse_iterator = std::reverse_iterator<Iterator>;
+
     ~Reads() { nifforan_close(&handle); }
     Reads(const Reads &) = delete;
     Reads &operator=(const Reads &) = delete;
@@ -31,99 +66,247 @@ public:
         check(count.status);
         return count.pairs;
     }
+    bool empty() { return size() == 0; }
     std::optional<std::uint64_t> get(std::uint64_t key) { return value(nifforan_get(&handle, key)); }
+    bool contains(std::uint64_t key) { return get(key).has_value(); }
+    // The value at the key, which throws std::out_of_range where there is none.
+    std::uint64_t at(std::uint64_t key) {
+        if (const auto there = get(key)) return *there;
+        throw std::out_of_range("nifforan: no such key");
+    }
     // The pairs with the least key and with the greatest, and those next to a key, or at it.
-    std::optional<nifforan_pair> first() { return pair(nifforan_first(&handle)); }
-    std::optional<nifforan_pair> last() { return pair(nifforan_last(&handle)); }
-    std::optional<nifforan_pair> next_at(std::uint64_t key) { return pair(nifforan_next_at(&handle, key)); }
-    std::optional<nifforan_pair> previous_at(std::uint64_t key) { return pair(nifforan_previous_at(&handle, key)); }
+    std::optional<value_type> first() { return pair(nifforan_first(&handle)); }
+    std::optional<value_type> last() { return pair(nifforan_last(&handle)); }
+    std::optional<value_type> next_at(std::uint64_t key) { return pair(nifforan_next_at(&handle, key)); }
+    std::optional<value_type> previous_at(std::uint64_t key) { return pair(nifforan_previous_at(&handle, key)); }
 
-    // Calls `visit(key, value)` for each pair from the low on and below the high, by rising keys. It may change the map.
-    template <typename Visit> void each(std::uint64_t low, nifforan_high high, Visit visit) {
-        nifforan_pair pairs[64];
-        for (;;) {
-            const nifforan_read_answer read = nifforan_read(&handle, low, high, pairs, 64);
-            check(read.status);
-            for (std::size_t i = 0; i < read.count; i++) visit(pairs[i].key, pairs[i].value);
-            if (!read.has_next) return;
-            low = read.next;
-        }
-    }
-
-    // The same by falling keys.
-    template <typename Visit> void each_back(std::uint64_t low, nifforan_high high, Visit visit) {
-        nifforan_pair pairs[64];
-        for (;;) {
-            const nifforan_read_answer read = nifforan_read_back(&handle, low, high, pairs, 64);
-            check(read.status);
-            for (std::size_t i = 0; i < read.count; i++) visit(pairs[i].key, pairs[i].value);
-            if (!read.has_next) return;
-            high = NIFFORAN_BELOW(pairs[read.count - 1].key);
-        }
-    }
+    Iterator begin();
+    Iterator end();
+    reverse_iterator rbegin();
+    reverse_iterator rend();
+    Iterator find(std::uint64_t key);
+    // At the first pair whose key is not below this one, and at the first above it.
+    Iterator lower_bound(std::uint64_t key);
+    Iterator upper_bound(std::uint64_t key);
+    // The pairs from the low on and below the high.
+    Range range(std::uint64_t low, nifforan_high high);
 
 protected:
     Reads() = default;
     explicit Reads(nifforan handle) noexcept : handle(handle) {}
     Reads(Reads &&other) noexcept : handle(other.let_go()) {}
     // The handle, which is closed here from now on.
-    nifforan let_go() noexcept { return std::exchange(handle, nifforan{nullptr}); }
-    static void check(std::uint32_t status) {
-        if (status != NIFFORAN_OK) throw Fault(status);
+    nifforan let_go() noexcept {
+        changes++;
+        return std::exchange(handle, nifforan{nullptr});
+    }
+    void swap_handles(Reads &other) noexcept {
+        std::swap(handle, other.handle);
+        changes++;
     }
     static std::optional<std::uint64_t> value(const nifforan_reply &reply) {
         check(reply.status);
         if (!reply.found) return std::nullopt;
         return reply.value;
     }
-    static std::optional<nifforan_pair> pair(const nifforan_found &found) {
+    static std::optional<value_type> pair(const nifforan_found &found) {
         check(found.status);
         if (!found.found) return std::nullopt;
-        return nifforan_pair{found.key, found.value};
+        return value_type{found.key, found.value};
     }
 
     nifforan handle = NIFFORAN_CLOSED;
+    // how many calls may have changed what iterators have read
+    std::uint64_t changes = 0;
 };
+
+// A place in a map: at a pair, or past all pairs. It has read a few pairs at once, and reads them anew where the map has changed:
+// so it stays good whatever is changed, also if its pair is erased, and goes on from its key in the map as it is then. It ends
+// with the map that it was made of, also if that is moved. As of a std::vector<bool>, *it is a value, and no reference.
+class Reads::Iterator {
+public:
+    using iterator_category = std::bidirectional_iterator_tag;
+    using value_type = Reads::value_type;
+    using difference_type = std::ptrdiff_t;
+    using reference = value_type;
+    class pointer {
+    public:
+        const value_type *operator->() const { return &pair; }
+
+    private:
+        friend class Iterator;
+        explicit pointer(value_type pair) : pair(pair) {}
+        value_type pair;
+    };
+
+    Iterator() = default;
+    reference operator*() const { return {window[place].key, window[place].value}; }
+    pointer operator->() const { return pointer(**this); }
+    Iterator &operator++() {
+        if (place + 1 < count && is_fresh()) {
+            place++;
+        } else if (is_last()) {
+            count = 0;
+        } else {
+            read_from(window[place].key + 1);
+        }
+        return *this;
+    }
+    Iterator &operator--() {
+        if (count != 0 && place > 0 && is_fresh()) {
+            place--;
+        } else {
+            read_below(count == 0 ? NIFFORAN_TOP : NIFFORAN_BELOW(window[place].key));
+        }
+        return *this;
+    }
+    Iterator operator++(int) {
+        Iterator before = *this;
+        ++*this;
+        return before;
+    }
+    Iterator operator--(int) {
+        Iterator before = *this;
+        --*this;
+        return before;
+    }
+    friend bool operator==(const Iterator &a, const Iterator &b) {
+        return a.count == 0 || b.count == 0 ? a.count == b.count : a.window[a.place].key == b.window[b.place].key;
+    }
+    friend bool operator!=(const Iterator &a, const Iterator &b) { return !(a == b); }
+
+private:
+    friend class Reads;
+    static constexpr std::size_t ROOM = 16;
+
+    Iterator(Reads &map, const nifforan_found &found) : map(&map), changes(map.changes), count(found.found ? 1 : 0) {
+        check(found.status);
+        window[0] = nifforan_pair{found.key, found.value};
+    }
+    bool is_fresh() const { return changes == map->changes; }
+    bool is_last() const {
+        return window[place].key == std::numeric_limits<std::uint64_t>::max() || (place + 1 == count && ends && is_fresh());
+    }
+    void read_from(std::uint64_t low) {
+        const nifforan_read_answer read = nifforan_read(&map->handle, low, NIFFORAN_TOP, window, ROOM);
+        check(read.status);
+        filled(read.count, 0, !read.has_next);
+    }
+    // The window rises, also where it is read backwards.
+    void read_below(nifforan_high high) {
+        nifforan_pair falling[ROOM];
+        const nifforan_read_answer read = nifforan_read_back(&map->handle, 0, high, falling, ROOM);
+        check(read.status);
+        for (std::size_t i = 0; i < read.count; i++) window[read.count - 1 - i] = falling[i];
+        filled(read.count, read.count == 0 ? 0 : read.count - 1, high.is_top);
+    }
+    void filled(std::size_t pairs, std::size_t at, bool has_end) {
+        changes = map->changes;
+        count = pairs;
+        place = at;
+        ends = has_end;
+    }
+
+    Reads *map = nullptr;
+    std::uint64_t changes = 0;
+    nifforan_pair window[ROOM] = {};
+    std::size_t count = 0;  // of the pairs in the window: 0 past all pairs
+    std::size_t place = 0;
+    bool ends = false;  // no pair is past those of the window
+};
+
+// The pairs of a map in a range of keys.
+class Reads::Range {
+public:
+    Iterator begin() const { return first; }
+    Iterator end() const { return past; }
+    reverse_iterator rbegin() const { return reverse_iterator(past); }
+    reverse_iterator rend() const { return reverse_iterator(first); }
+
+private:
+    friend class Reads;
+    Range(Iterator first, Iterator past) : first(first), past(past) {}
+    Iterator first, past;
+};
+
+inline Reads::Iterator Reads::begin() { return Iterator(*this, nifforan_first(&handle)); }
+inline Reads::Iterator Reads::end() { return Iterator(*this, nifforan_found{NIFFORAN_OK, false, 0, 0}); }
+inline Reads::reverse_iterator Reads::rbegin() { return reverse_iterator(end()); }
+inline Reads::reverse_iterator Reads::rend() { return reverse_iterator(begin()); }
+inline Reads::Iterator Reads::find(std::uint64_t key) {
+    const nifforan_reply reply = nifforan_get(&handle, key);
+    return Iterator(*this, nifforan_found{reply.status, reply.found, key, reply.value});
+}
+inline Reads::Iterator Reads::lower_bound(std::uint64_t key) { return Iterator(*this, nifforan_next_at(&handle, key)); }
+inline Reads::Iterator Reads::upper_bound(std::uint64_t key) {
+    return key == std::numeric_limits<std::uint64_t>::max() ? end() : lower_bound(key + 1);
+}
+inline Reads::Range Reads::range(std::uint64_t low, nifforan_high high) {
+    const Iterator past = high.is_top ? end() : lower_bound(high.key);
+    return Range(high.is_top || low < high.key ? lower_bound(low) : past, past);
+}
 
 class Frozen;
 
 class Map : public Reads {
 public:
-    explicit Map(const nifforan_settings &settings = NIFFORAN_USUAL_SETTINGS) { check(nifforan_create(&handle, &settings)); }
-    // The map that is moved from is closed: each call on it throws.
+    explicit Map(const nifforan_settings &settings = NIFFORAN_USUAL_SETTINGS) { check(try_open(settings)); }
+    // The map that is moved from is closed.
     Map(Map &&other) noexcept : Reads(std::move(other)), cut_short(std::exchange(other.cut_short, NIFFORAN_OK)) {}
     Map &operator=(Map &&other) noexcept {
         Map moved(std::move(other));
-        std::swap(handle, moved.handle);
+        swap_handles(moved);
         std::swap(cut_short, moved.cut_short);
         return *this;
     }
 
+    // A map that is closed, for try_open, which answers a status, NIFFORAN_OPEN_HANDLE where it isn't.
+    static Map closed() noexcept { return Map(nifforan{nullptr}); }
+    [[nodiscard]] std::uint32_t try_open(const nifforan_settings &settings = NIFFORAN_USUAL_SETTINGS) noexcept {
+        return nifforan_create(&handle, &settings);
+    }
+
     // Gives the key the value unless it has one, and answers the one that it had.
-    std::optional<std::uint64_t> put(std::uint64_t key, std::uint64_t v) { return before(nifforan_put(&handle, key, v)); }
+    std::optional<std::uint64_t> put(std::uint64_t key, std::uint64_t v) { return value(try_put(key, v)); }
+    [[nodiscard]] nifforan_reply try_put(std::uint64_t key, std::uint64_t v) noexcept { return seen(nifforan_put(&handle, key, v)); }
     // Gives the key the value, and answers the one that it had.
-    std::optional<std::uint64_t> set(std::uint64_t key, std::uint64_t v) { return before(nifforan_set(&handle, key, v)); }
-    std::optional<std::uint64_t> erase(std::uint64_t key) { return before(nifforan_delete(&handle, key)); }
-    // What cut the care for the pages short in the last put, set or erase: NIFFORAN_OK, or a fault. Its answer stands
-    // all the same, and a later call takes the care up again.
-    std::uint32_t care() const { return cut_short; }
+    std::optional<std::uint64_t> set(std::uint64_t key, std::uint64_t v) { return value(try_set(key, v)); }
+    [[nodiscard]] nifforan_reply try_set(std::uint64_t key, std::uint64_t v) noexcept { return seen(nifforan_set(&handle, key, v)); }
+    // Takes the key out, and answers the value that it had.
+    std::optional<std::uint64_t> erase(std::uint64_t key) { return value(try_erase(key)); }
+    [[nodiscard]] nifforan_reply try_erase(std::uint64_t key) noexcept { return seen(nifforan_delete(&handle, key)); }
+    // Takes the pair out at which the iterator is, and answers an iterator at the next one.
+    Iterator erase(Iterator at) {
+        const std::uint64_t key = at->first;
+        erase(key);
+        return upper_bound(key);
+    }
     // Takes out the keys from the low on and below the high, and answers how many. Where it throws, some of them are out.
-    std::uint64_t clear(std::uint64_t low, nifforan_high high) {
-        const nifforan_cleared cleared = nifforan_clear(&handle, low, high);
+    std::uint64_t clear(std::uint64_t low = 0, nifforan_high high = NIFFORAN_TOP) {
+        const nifforan_cleared cleared = try_clear(low, high);
         check(cleared.status);
         return cleared.removed;
     }
-    // The map, which nobody changes from now on; this one is closed then.
+    [[nodiscard]] nifforan_cleared try_clear(std::uint64_t low = 0, nifforan_high high = NIFFORAN_TOP) noexcept {
+        changes++;
+        return nifforan_clear(&handle, low, high);
+    }
+    // What cut the care for the pages short in the last put, set or erase: NIFFORAN_OK, or a fault. Its answer stands
+    // all the same, and a later call takes the care up again.
+    std::uint32_t care() const noexcept { return cut_short; }
+
+    // The map, which nobody changes from now on; this one is closed then, but where it throws it stays as it was.
     Frozen freeze();
+    [[nodiscard]] std::uint32_t try_freeze(Frozen &frozen) noexcept;
 
 private:
     friend class Frozen;
     explicit Map(nifforan handle) noexcept : Reads(handle) {}
 
-    // The value before a call, which may have left the care for the pages undone.
-    std::optional<std::uint64_t> before(const nifforan_reply &reply) {
+    nifforan_reply seen(const nifforan_reply &reply) noexcept {
+        changes++;
         cut_short = reply.care;
-        return value(reply);
+        return reply;
     }
 
     std::uint32_t cut_short = NIFFORAN_OK;
@@ -132,23 +315,39 @@ private:
 // A map that nobody changes. Threads read it at once, each through one of its own, which share makes.
 class Frozen : public Reads {
 public:
+    // Closed, for try_freeze and try_share.
+    Frozen() = default;
     Frozen(Frozen &&other) noexcept : Reads(std::move(other)) {}
     Frozen &operator=(Frozen &&other) noexcept {
         Frozen moved(std::move(other));
-        std::swap(handle, moved.handle);
+        swap_handles(moved);
         return *this;
     }
 
     // One more of the same map.
     Frozen share() {
-        Frozen another{nifforan{nullptr}};
-        check(nifforan_share(&handle, &another.handle));
+        Frozen another;
+        check(try_share(another));
         return another;
+    }
+    // It is put into `another`, unless the answer is a fault.
+    [[nodiscard]] std::uint32_t try_share(Frozen &another) noexcept {
+        Frozen made;
+        const std::uint32_t status = nifforan_share(&handle, &made.handle);
+        if (status == NIFFORAN_OK) another = std::move(made);
+        return status;
     }
     // The map, to be changed again; this one is closed then. It throws NIFFORAN_SHARED, and stays, where others have it.
     Map thaw() {
-        check(nifforan_thaw(&handle));
-        return Map(let_go());
+        Map map = Map::closed();
+        check(try_thaw(map));
+        return map;
+    }
+    // It is put into `map`, unless the answer is a fault.
+    [[nodiscard]] std::uint32_t try_thaw(Map &map) noexcept {
+        const std::uint32_t status = nifforan_thaw(&handle);
+        if (status == NIFFORAN_OK) map = Map(let_go());
+        return status;
     }
 
 private:
@@ -157,8 +356,15 @@ private:
 };
 
 inline Frozen Map::freeze() {
-    check(nifforan_freeze(&handle));
-    return Frozen(let_go());
+    Frozen frozen;
+    check(try_freeze(frozen));
+    return frozen;
+}
+
+inline std::uint32_t Map::try_freeze(Frozen &frozen) noexcept {
+    const std::uint32_t status = nifforan_freeze(&handle);
+    if (status == NIFFORAN_OK) frozen = Frozen(let_go());
+    return status;
 }
 
 }  // namespace nifforan_cpp

@@ -71,11 +71,11 @@ impl Ordered for BTreeMap<u64, u64> {
 
 impl Ordered for Map {
     fn put(&mut self, key: u64, value: u64) -> Option<u64> {
-        self.insert_if_absent(key, value).expect("there is room")
+        Map::put(self, key, value).expect("there is room")
     }
 
     fn set(&mut self, key: u64, value: u64) -> Option<u64> {
-        self.insert(key, value).expect("there is room")
+        Map::set(self, key, value).expect("there is room")
     }
 
     fn get(&self, key: u64) -> Option<u64> {
@@ -122,7 +122,7 @@ fn processor_time() -> i64 {
         seconds: 0,
         nanoseconds: 0,
     };
-    // Safety: the clock is there, and the time is written to a place of its own.
+    // SAFETY: the clock is there, and the time is written to a place of its own.
     assert_eq!(unsafe { clock_gettime(PROCESSOR_TIME, &mut time) }, 0);
     time.seconds * 1_000_000_000 + time.nanoseconds
 }

@@ -1,9 +1,18 @@
-use crate::ffi;
+use crate::{ffi, Map};
 use std::error::Error;
 use std::fmt;
 
 /// What ended a call, or cut it short. In the place of an answer it says that the map has the pairs that it had.
+///
+/// ```
+/// use nifforan::{Fault, Map, Settings};
+/// let settings = Settings { chain: 0, ..Settings::default() };
+/// let fault = Map::new(&settings).unwrap_err();
+/// assert_eq!(fault, Fault::BadChain);
+/// assert_eq!(fault.to_string(), "the chain is not from 1 to 32");
+/// ```
 #[derive(Clone, Copy, Debug, PartialEq, Eq, Hash)]
+#[non_exhaustive]
 pub enum Fault {
     /// [`Settings::fanout`](crate::Settings::fanout) is out of its range.
     BadFanout,
@@ -16,7 +25,7 @@ pub enum Fault {
     /// The allocator gave no memory.
     NoMemory,
     /// No page is free: the map has as many as its settings allow. Most calls do their work all the same,
-    /// pages grow longer than their fanout, and [`Map::care`](crate::Map::care) tells it.
+    /// pages grow longer than their fanout, and [`Map::care`] tells it.
     TableFull,
     /// The tree has its greatest height.
     TooTall,
@@ -26,6 +35,8 @@ pub enum Fault {
     Contended,
     /// The library that is linked has settings of another size: it is of another version.
     BadSize,
+    /// A status that this crate has no name for: the library that is linked is of a later version.
+    Other(u32),
 }
 
 impl Fault {
@@ -43,7 +54,8 @@ impl Fault {
             ffi::WORN => Fault::Worn,
             ffi::CONTENDED => Fault::Contended,
             ffi::BAD_SIZE => Fault::BadSize,
-            _ => unreachable!("a map's handle is open and not frozen, that of a frozen map is, and a new one is closed"),
+            // those of closed, open and frozen handles don't come: see `Reads::handle`
+            other => Fault::Other(other),
         })
     }
 
@@ -59,14 +71,21 @@ impl Fault {
             Fault::Worn => ffi::WORN,
             Fault::Contended => ffi::CONTENDED,
             Fault::BadSize => ffi::BAD_SIZE,
+            Fault::Other(status) => status,
         }
+    }
+
+    /// Ends a call that has no place for a fault, as those of `Extend` and `Clone`.
+    #[track_caller]
+    pub(crate) fn panic(self) -> ! {
+        panic!("nifforan: {self}")
     }
 }
 
 /// The library's text of the status.
 impl fmt::Display for Fault {
     fn fmt(&self, f: &mut fmt::Formatter<'_>) -> fmt::Result {
-        // Safety: the call takes a number alone.
+        // SAFETY: the call takes a number alone.
         let text = unsafe { ffi::nifforan_status_text(self.status()) }.text;
         let end = text
             .iter()
@@ -78,9 +97,25 @@ impl fmt::Display for Fault {
 
 impl Error for Fault {}
 
-/// How far the removal of a range came, where it ended early. No key out of the range was touched. The same call
-/// takes out those that are left: it can be made again while it removes any.
+/// How far a call that takes out many keys came, where it ended early. No other key was touched. The same call takes
+/// out those that are left: it can be made again while it removes any.
+///
+/// ```
+/// use nifforan::{Fault, Map, Unfinished};
+/// fn emptied(map: &mut Map) -> Result<u64, Fault> {
+///     let mut removed = 0;
+///     loop {
+///         match map.clear(..) {
+///             Ok(last) => return Ok(removed + last),
+///             Err(Unfinished { removed: 0, fault, .. }) => return Err(fault),
+///             Err(ended) => removed += ended.removed,
+///         }
+///     }
+/// }
+/// assert_eq!(emptied(&mut Map::from([(1, 1), (2, 4)])), Ok(2));
+/// ```
 #[derive(Clone, Copy, Debug, PartialEq, Eq, Hash)]
+#[non_exhaustive]
 pub struct Unfinished {
     /// How many keys were taken out.
     pub removed: u64,
@@ -99,3 +134,45 @@ impl fmt::Display for Unfinished {
 }
 
 impl Error for Unfinished {}
+
+impl From<Unfinished> for Fault {
+    fn from(ended: Unfinished) -> Fault {
+        ended.fault
+    }
+}
+
+/// A map that could not be frozen, and why: there was no memory for it.
+///
+/// ```
+/// use nifforan::{Fault, Frozen, Map};
+/// fn frozen(map: Map) -> Result<Frozen, Fault> {
+///     Ok(map.freeze()?) // the map is given up where it can't be frozen
+/// }
+/// fn frozen_or_kept(map: Map) -> Result<Frozen, Map> {
+///     map.freeze().map_err(|unfrozen| unfrozen.map)
+/// }
+/// assert_eq!(frozen(Map::from([(1, 1)])).map(|map| map.len()), Ok(1));
+/// assert_eq!(frozen_or_kept(Map::from([(1, 1)])).map(|map| map.len()), Ok(1));
+/// ```
+#[derive(Debug)]
+#[non_exhaustive]
+pub struct Unfrozen {
+    /// The map, as it was.
+    pub map: Map,
+    /// What was short.
+    pub fault: Fault,
+}
+
+impl fmt::Display for Unfrozen {
+    fn fmt(&self, f: &mut fmt::Formatter<'_>) -> fmt::Result {
+        write!(f, "the map is not frozen: {}", self.fault)
+    }
+}
+
+impl Error for Unfrozen {}
+
+impl From<Unfrozen> for Fault {
+    fn from(unfrozen: Unfrozen) -> Fault {
+        unfrozen.fault
+    }
+}

@@ -1,8 +1,11 @@
-//! `include/nifforan.h` in Rust's words.
+//! `nifforan.h` in Rust's words, by `bindings/rust_of_header`.
+#![allow(dead_code)] // all that the header has
 
 use std::ffi::c_void;
 
 pub const OK: u32 = 0;
+pub const CLOSED_HANDLE: u32 = 1;
+pub const OPEN_HANDLE: u32 = 2;
 pub const BAD_FANOUT: u32 = 3;
 pub const BAD_CHAIN: u32 = 4;
 pub const BAD_PAGES: u32 = 5;
@@ -13,7 +16,15 @@ pub const TOO_TALL: u32 = 9;
 pub const WORN: u32 = 10;
 pub const CONTENDED: u32 = 11;
 pub const BAD_SIZE: u32 = 12;
+pub const FROZEN: u32 = 13;
+pub const NOT_FROZEN: u32 = 14;
 pub const SHARED: u32 = 15;
+
+#[repr(C)]
+#[derive(Clone, Copy, Debug)]
+pub struct Text {
+    pub text: [u8; 64],
+}
 
 #[repr(C)]
 pub struct Handle {
@@ -21,6 +32,7 @@ pub struct Handle {
 }
 
 #[repr(C)]
+#[derive(Clone, Copy, Debug)]
 pub struct Settings {
     pub size: usize,
     pub fanout: u32,
@@ -31,12 +43,6 @@ pub struct Settings {
 }
 
 #[repr(C)]
-pub struct StatusText {
-    pub text: [u8; 64],
-}
-
-/// Where a range ends: below the key, or past all keys.
-#[repr(C)]
 #[derive(Clone, Copy, Debug)]
 pub struct High {
     pub key: u64,
@@ -44,6 +50,7 @@ pub struct High {
 }
 
 #[repr(C)]
+#[derive(Clone, Copy, Debug)]
 pub struct Reply {
     pub status: u32,
     pub care: u16,
@@ -52,18 +59,21 @@ pub struct Reply {
 }
 
 #[repr(C)]
+#[derive(Clone, Copy, Debug)]
 pub struct Count {
     pub status: u32,
     pub pairs: u64,
 }
 
 #[repr(C)]
+#[derive(Clone, Copy, Debug)]
 pub struct Cleared {
     pub status: u32,
     pub removed: u64,
 }
 
 #[repr(C)]
+#[derive(Clone, Copy, Debug)]
 pub struct Found {
     pub status: u32,
     pub found: bool,
@@ -79,7 +89,8 @@ pub struct Pair {
 }
 
 #[repr(C)]
-pub struct Read {
+#[derive(Clone, Copy, Debug)]
+pub struct ReadAnswer {
     pub count: usize,
     pub next: u64,
     pub has_next: bool,
@@ -88,7 +99,7 @@ pub struct Read {
 
 extern "C" {
     pub fn nifforan_version() -> u32;
-    pub fn nifforan_status_text(status: u32) -> StatusText;
+    pub fn nifforan_status_text(status: u32) -> Text;
     pub fn nifforan_create(map: *mut Handle, settings: *const Settings) -> u32;
     pub fn nifforan_pairs(map: *mut Handle) -> Count;
     pub fn nifforan_get(map: *mut Handle, key: u64) -> Reply;
@@ -102,14 +113,14 @@ extern "C" {
         high: High,
         pairs: *mut Pair,
         room: usize,
-    ) -> Read;
+    ) -> ReadAnswer;
     pub fn nifforan_read_back(
         map: *mut Handle,
         low: u64,
         high: High,
         pairs: *mut Pair,
         room: usize,
-    ) -> Read;
+    ) -> ReadAnswer;
     pub fn nifforan_put(map: *mut Handle, key: u64, value: u64) -> Reply;
     pub fn nifforan_set(map: *mut Handle, key: u64, value: u64) -> Reply;
     pub fn nifforan_delete(map: *mut Handle, key: u64) -> Reply;

@@ -5,7 +5,7 @@ use crate::tally::Tally;
 use crate::task::{Task, Work};
 use crate::trees::Timed;
 use crate::work::{SCANNED, drawn_part, filled_key, key_at};
-use bw_keys::{Fence, Key};
+use bw_keys::Key;
 use nifforan::Map;
 use rand_core::Rng;
 use rand_pcg::Pcg32;
@@ -119,7 +119,7 @@ fn scan(
     limit: usize,
 ) -> Result<Vec<(Key, u64)>, AllocError> {
     let mut pairs = Vec::with_capacity(alloc, SCANNED)?;
-    for pair in map.range(low, Fence::Top) {
+    for pair in map.range(low..) {
         if pairs.len() >= limit {
             break;
         }

@@ -13,7 +13,7 @@ fn change_and_read(rt: HostRuntime, map: &mut Map<Global>) -> Result<()> {
     println!(rt; "{:?}", map.put(4, 200)?.reply)?;
     println!(rt; "{:?}", map.set(4, 200)?.reply)?;
     println!(rt; "{:?}", map.delete(6)?.reply)?;
-    for (key, value) in map.range(3, Fence::Key(8)) {
+    for (key, value) in map.range(3..8) {
         println!(rt; "{key} has {value}")?;
     }
     println!(rt; "{} {:?}", map.len(), map.last())?;

@@ -1,7 +1,10 @@
 pub mod Behind
 pub mod Changes
 pub mod Clearing
+pub mod Fills
 pub mod Neighbours
 pub mod Listing
+pub mod Pops
 pub mod Reading
 pub mod Replies
+pub mod Retains

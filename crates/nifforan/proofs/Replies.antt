@@ -96,6 +96,10 @@ one_told (x ∷ xs) r a b leads one =
 all_lead : (a b : TableValue) (s t : List Receipt) → s ≡ [] → Leads a s b t → Replays a t b
 all_lead a b s t empty leads = subst (λ (l : List Receipt). Replays a l b) (sym (leads.1 ∙ ap (λ (l : List Receipt). l ++ leads.0) empty)) leads.2
 
+-- what is reported of the map is true still where only the tree's shape changed since
+pub still_told : (telling : Telling) (a b c : TableValue) (s t : List Receipt) → TellsMap telling a.slots b.slots → s ≡ [] → Leads b s c t → without_shapes t ≡ without_shapes s → TellsMap telling a.slots c.slots
+still_told telling a b c s t tells empty leads shapes = told_before telling a.slots b.slots c.slots tells (none_told t b c (all_lead b c s t empty leads) (shapes ∙ ap without_shapes empty))
+
 -- a look changes the key from what it has to just that
 look_changes : (key k : ℕ) (found there : Option ℕ) (a b : List SlotValue) → k ≡ key → found ≡ there → IsValueAt a k found → SameMap a b → ChangesKey a b key there there
 look_changes key k found there a b its_key its_value is same =
@@ -108,7 +112,7 @@ put_changes key value Inserted (receipts.Inserted number k v) a b is tells =
 put_changes key value (Present there) (receipts.Looked at k found) a b is tells = look_changes key k found (Some there) a b is.0 is.1 tells.0 tells.1
 put_changes key value reply r a b is tells = absurd is
 
-set_changes : (key value : ℕ) (reply : Set) (r : Receipt) (a b : List SlotValue) → IsReceiptOfSet key value reply r → TellsMap (telling_of r) a b → ChangesKey a b key (before_set reply) (Some value)
+pub set_changes : (key value : ℕ) (reply : Set) (r : Receipt) (a b : List SlotValue) → IsReceiptOfSet key value reply r → TellsMap (telling_of r) a b → ChangesKey a b key (before_set reply) (Some value)
 set_changes key value sets.Inserted (receipts.Inserted number k v) a b is tells =
     subst (λ (q : ℕ). ChangesKey a b q None (Some value)) is.0 (subst (λ (w : ℕ). ChangesKey a b k None (Some w)) is.1 tells)
 set_changes key value (sets.Replaced there) (receipts.Modified number k old v) a b is tells =
@@ -116,7 +120,7 @@ set_changes key value (sets.Replaced there) (receipts.Modified number k old v) a
     (subst (λ (o : ℕ). ChangesKey a b k (Some o) (Some value)) is.1 (subst (λ (w : ℕ). ChangesKey a b k (Some old) (Some w)) is.2 tells))
 set_changes key value reply r a b is tells = absurd is
 
-delete_changes : (key : ℕ) (reply : Del) (r : Receipt) (a b : List SlotValue) → IsReceiptOfDelete key reply r → TellsMap (telling_of r) a b → ChangesKey a b key (before_delete reply) None
+pub delete_changes : (key : ℕ) (reply : Del) (r : Receipt) (a b : List SlotValue) → IsReceiptOfDelete key reply r → TellsMap (telling_of r) a b → ChangesKey a b key (before_delete reply) None
 delete_changes key (Removed value) (receipts.Deleted number k v) a b is tells =
     subst (λ (q : ℕ). ChangesKey a b q (Some value) None) is.0 (subst (λ (w : ℕ). ChangesKey a b k (Some w) None) is.1 tells)
 delete_changes key NoKey (receipts.Looked at k found) a b is tells = look_changes key k found None a b is.0 is.1 tells.0 tells.1

@@ -1,6 +1,10 @@
 -- The map as its callers see it, and what a call makes of it.
-use Rattle.std.specs.Prelude.{◌≡◌, ℕ, Result, IfOk, ◌&&◌, not, Bool, nat_le, nat_lt, List, [], ◌∷◌, Option, Some, None, filter, refl}
+use Rattle.std.specs.Prelude.{◌≡◌, ℕ, Result, IfOk, ◌==◌, ◌&&◌, not, Bool, nat_le, nat_lt, List, [], ◌∷◌, Option, Some, None, filter, refl}
 use Rattle.std.specs.Coded.{Coded, code_by, coded×, coded_ℕ, coded_list}
+use Rattle.std.specs.Cmp.Lexicographic.{pointwise}
+use Rattle.std.specs.Range.Bound.{start_index, end_index}
+use Rattle.std.specs.declared.ops.Bound.{Bound}
+use Rattle.bw_keys.specs.Ranges.{key_count}
 use Rattle.bw_keys.specs.declared.config.Config.{Config}
 use Rattle.bw_keys.specs.contracts.config.Config as config
 use Rattle.bw_delta.specs.Entries.{put}
@@ -62,6 +66,14 @@ within low end pairs = filter (is_inside low end) pairs
 
 abbrev pub outside : ℕ → ℕ → PairList → PairList
 outside low end pairs = filter (λ pair. not (is_inside low end pair)) pairs
+
+-- the pairs with keys between two bounds, each of which is in, or out, or none
+abbrev pub between : Bound ℕ → Bound ℕ → PairList → PairList
+between start end pairs = within (start_index start) (end_index end key_count) pairs
+
+-- the pairs are the same
+abbrev pub are_same : PairList → PairList → Bool
+are_same pairs others = pointwise (λ p q. p.0 == q.0 && p.1 == q.1) pairs others
 
 -- the value that the key had, by the reply
 abbrev pub before_put : Put → Option ℕ

@@ -1,13 +1,16 @@
-ghost use Rattle.std.specs.Prelude.{◌≡◌, ◌↔◌, [], None, length};
-ghost use Rattle.std.specs.Prelude.{IsTrue, IsOk, IfOk, IfErr, OnErr};
+ghost use Rattle.std.specs.Prelude.{◌≡◌, ◌↔◌, [], None, length, true};
+ghost use Rattle.std.specs.Prelude.{IsTrue, IsSome, IsOk, IfOk, IfErr, OnErr};
 ghost use Rattle.bw_keys.specs.Limits.{first_bad_field};
-ghost use Rattle.bw_keys.specs.Ranges.{end_of};
-ghost use Rattle.bw_delta.specs.Entries.{at};
+ghost use Rattle.bw_keys.specs.Ranges.{end_of, key_count};
+ghost use Rattle.bw_delta.specs.Entries.{at, rises};
 ghost use Rattle.bw_delta.specs.Entries.{first_entry, last_entry, first_from, last_upto};
 ghost use Rattle.bw_table.specs.Answers.{IsNewFault};
 ghost use Rattle.nifforan.specs.Calls.{Puts, Sets, Deletes, Clears};
-ghost use Rattle.nifforan.specs.Maps.{map_of, within, before_put, before_set, before_delete};
+ghost use Rattle.nifforan.specs.Maps.{map_of, between, within};
+ghost use Rattle.nifforan.specs.Maps.{before_put, before_set, before_delete};
 
+use crate::bounds::{end_fence, first_key, start_fence};
+use crate::iter::Iter;
 use crate::pairs::Pairs;
 use crate::worker::Worker;
 use bw_keys::{Config, Fence, Key};
@@ -15,6 +18,7 @@ use bw_procedures::{Cleared, Del, Done, Fault, Put, Set};
 use bw_table::{NewFault, Table};
 use std::alloc::{Allocator, Global};
 use std::marker::Model;
+use std::ops::RangeBounds;
 
 /// An ordered map from u64 keys to u64 values, for one thread.
 ///
@@ -25,7 +29,7 @@ use std::marker::Model;
 /// `Done::fault`, only cuts short the care for the pages, which a later call resumes.
 #[derive(Drop)]
 pub struct Map<A: Allocator + Copy> {
-    worker: Worker<A>,
+    pub(crate) worker: Worker<A>,
 }
 
 impl<A: Allocator + Copy> Model for Map<A> {
@@ -72,11 +76,28 @@ impl<A: Allocator + Copy> Map<A> {
         worker.into_table()
     }
 
+    /// Lends the table, for what reads one without changing it.
+    pub fn table(&self) -> &Table<A>
+        ensures { map_of result.now ≡ self.now }
+    {
+        &self.worker.owner.table.value
+    }
+
     /// Returns the configuration that the map was made by.
     pub fn config(&self) -> Config
         ensures { result ≡ self.now.config }
     {
         self.worker.owner.table.value.config()
+    }
+
+    /// Does nothing. The contract states that the keys of the pairs rise, for a caller whose proof
+    /// needs it.
+    #[inline(always)]
+    pub fn law(&self)
+        ensures { rises 0 key_count self.now.pairs ≡ true }
+    {
+        // Reading the worker yields the law of its table.
+        let _worker = &self.worker;
     }
 
     /// Returns the number of pairs, in constant time.
@@ -100,6 +121,14 @@ impl<A: Allocator + Copy> Map<A> {
         ensures { result ≡ at key self.now.pairs }
     {
         self.worker.owner.table.value.get(key)
+    }
+
+    /// Returns whether the key has a value. Takes no memory.
+    #[inline(always)]
+    pub fn contains_key(&self, key: Key) -> bool
+        ensures { IsTrue result ↔ IsSome (at key self.now.pairs) }
+    {
+        self.get(key).is_some()
     }
 
     /// Returns the pair with the least key, if there is any. Takes no memory.
@@ -130,28 +159,43 @@ impl<A: Allocator + Copy> Map<A> {
         self.worker.owner.table.value.previous_at(key)
     }
 
-    /// Returns the pairs with keys from the low on and below the high, in the order of their keys.
-    /// They are read from the map one by one. Takes no memory.
-    pub fn range(&self, low: Key, high: Fence) -> Pairs<'_, A>
-        ensures { result ≡ within low (end_of high) self.now.pairs }
+    /// Returns the pairs with keys in the range, in the order of their keys, from either end. They
+    /// are read from the map one by one. A range that runs backwards has none. Takes no memory.
+    pub fn range<R: RangeBounds<Key>>(&self, range: R) -> Pairs<'_, A>
+        ensures { R.has_bounds range → result ≡ between (R.start_bound range) (R.end_bound range)
+            self.now.pairs }
     {
+        self.walk(
+            start_fence(range.start_bound()),
+            end_fence(range.end_bound()),
+        )
+    }
+
+    /// Returns the pairs with keys from the low on and below the high.
+    pub(crate) fn walk(&self, low: Fence, high: Fence) -> Pairs<'_, A>
+        ensures { result ≡ within (end_of low) (end_of high) self.now.pairs }
+    {
+        let table = &self.worker.owner.table.value;
         Pairs {
-            table: &self.worker.owner.table.value,
-            leaf: self.worker.owner.table.value.leaf_of(low),
+            table,
+            leaf: table.leaf_of(first_key(low)),
             lent: &[],
-            next: Fence::Key(low),
+            next: low,
             high,
             back: None,
         }
     }
 
-    /// Returns all pairs, in the order of their keys: see `range`.
-    pub fn iter(&self) -> Pairs<'_, A>
+    /// Returns all pairs, in the order of their keys: see `range`. It knows how many are left.
+    pub fn iter(&self) -> Iter<'_, A>
         ensures { result ≡ self.now.pairs }
     {
         // Reading the worker yields the law of its table.
         let _worker = &self.worker;
-        self.range(0, Fence::Top)
+        Iter {
+            pairs: self.walk(Fence::Key(0), Fence::Top),
+            left: self.len(),
+        }
     }
 
     /// Inserts the pair, unless the key has a value: then it keeps that, and the reply has it.
@@ -192,5 +236,19 @@ impl<A: Allocator + Copy> Map<A> {
         ensures config { self.new.config ≡ self.old.config }
     {
         self.worker.clear(low, high)
+    }
+}
+
+impl<'m, A: Allocator + Copy> IntoIterator for &'m Map<A> {
+    ghost use Rattle.std.specs.Prelude.{◌≡◌};
+
+    type Item = (Key, u64);
+
+    type IntoIter = Iter<'m, A>;
+
+    ghost into_iter_gives = { λ map pairs. pairs ≡ map.now.pairs };
+
+    fn into_iter(self) -> Iter<'m, A> {
+        self.iter()
     }
 }

@@ -6,9 +6,11 @@ ghost use Rattle.bw_table.specs.Orders.{HasNoKeyWithin, IsNextAt};
 ghost use Rattle.nifforan.specs.Reading.{IsLeafFor, AreLent, below_end, end_past, from_start, end_before};
 
 use crate::back::{Back, previous_from};
+use crate::bounds::fence_behind;
 use bw_keys::{Fence, Key};
 use bw_table::{LeafRef, Table};
 use std::alloc::Allocator;
+use std::iter::FusedIterator;
 use std::marker::Model;
 
 /// The pairs of a map whose keys lie in a range, in the order of their keys, from either end.
@@ -87,6 +89,8 @@ impl<'m, A: Allocator + Copy> DoubleEndedIterator for Pairs<'m, A> {
     }
 }
 
+impl<'m, A: Allocator + Copy> FusedIterator for Pairs<'m, A> {}
+
 /// Returns the pair, if its key lies below the fence.
 #[inline(always)]
 fn below(high: Fence, pair: Option<(Key, u64)>) -> Option<(Key, u64)>
@@ -103,11 +107,8 @@ fn below(high: Fence, pair: Option<(Key, u64)>) -> Option<(Key, u64)>
 fn past(pair: Option<(Key, u64)>) -> Fence
     ensures { end_of result ≡ end_past pair }
 {
-    let Some((key, _)) = pair else {
-        return Fence::Top;
-    };
-    match key.checked_add(1) {
-        Some(next) => Fence::Key(next),
+    match pair {
+        Some((key, _)) => fence_behind(key),
         None => Fence::Top,
     }
 }

@@ -18,7 +18,7 @@ use std::alloc::{Allocator, Global};
 #[derive(Drop)]
 pub(crate) struct Worker<A: Allocator + Copy> {
     pub(crate) owner: Owner<A>,
-    machine: Global,
+    pub(crate) machine: Global,
 }
 
 impl<A: Allocator + Copy> Worker<A> {

@@ -17,7 +17,7 @@ pub(crate) fn forwards(map: &Map<Global>, low: Key, high: Fence, places: &mut [P
     ensures reads { ReadsInto (within low (end_of high) map.now.pairs) result
         places.old places.new }
 {
-    let mut left = map.range(low, high);
+    let mut left = pairs_between(map, low, high);
     let count = fill(&mut left, places);
     let next = match left.next() {
         Some(pair) => Some(pair.0),
@@ -31,13 +31,23 @@ pub(crate) fn backwards(map: &Map<Global>, low: Key, high: Fence, places: &mut [
     ensures reads { ReadsInto (reverse (within low (end_of high) map.now.pairs)) result
         places.old places.new }
 {
-    let mut left = map.range(low, high);
+    let mut left = pairs_between(map, low, high);
     let count = fill_back(&mut left, places);
     let next = match left.next_back() {
         Some(pair) => Some(pair.0),
         None => None,
     };
     Read::of(count, next)
+}
+
+/// Returns the pairs with keys from the low on and below the high.
+fn pairs_between(map: &Map<Global>, low: Key, high: Fence) -> Pairs<'_, Global>
+    ensures { result ≡ within low (end_of high) map.now.pairs }
+{
+    match high {
+        Fence::Key(high) => map.range(low..high),
+        Fence::Top => map.range(low..),
+    }
 }
 
 /// Writes the pairs that are left to the places, until no place or no pair is left, and returns

@@ -2,7 +2,7 @@
 
 ghost use Rattle.std.specs.Prelude.{◌<◌, ◌≤◌};
 
-use nifforan::{Fence, Map};
+use nifforan::Map;
 use nifforan_handle::status::{CLOSED, OK, OPEN, TABLE_FULL};
 use nifforan_handle::{Found, Handle, Held, High, Pair, Settings};
 use rand_core::{Rng, SeedableRng};
@@ -259,12 +259,12 @@ impl Beside {
             map.last() == plain.last_key_value().map(owned),
             map.next_at(low) == plain.range(low..).next().map(owned),
             map.previous_at(low) == plain.range(..=low).next_back().map(owned),
-            map.range(low, Fence::Key(high))
-                .eq(plain.range(low..high).map(owned)),
-            map.range(low, Fence::Top).eq(plain.range(low..).map(owned)),
-            map.range(0, Fence::Key(low))
-                .eq(plain.range(..low).map(owned)),
-            map.range(high, Fence::Key(low)).next().is_none(),
+            map.range(low..high).eq(plain.range(low..high).map(owned)),
+            map.range(low..=high).eq(plain.range(low..=high).map(owned)),
+            map.range(low..).eq(plain.range(low..).map(owned)),
+            map.range(..low).eq(plain.range(..low).map(owned)),
+            map.range(..=low).eq(plain.range(..=low).map(owned)),
+            map.range(high..low).next().is_none(),
             map.iter().eq(plain.iter().map(owned)),
         ];
         !alike.contains(&false)
@@ -277,7 +277,7 @@ impl Beside {
     {
         let within = self.pairs.range(low..high).rev().map(owned);
         let all = self.pairs.iter().rev().map(owned);
-        map.range(low, Fence::Key(high)).rev().eq(within) && map.iter().rev().eq(all)
+        map.range(low..high).rev().eq(within) && map.iter().rev().eq(all)
     }
 }
 

@@ -108,13 +108,21 @@ fn between(plain: &BTreeMap<u64, u64>, low: u64, high: Fence) -> btree_map::Rang
     }
 }
 
+/// Returns the pairs of the map in the range.
+fn within(map: &Map<Global>, low: u64, high: Fence) -> Pairs<'_, Global> {
+    match high {
+        Fence::Key(high) => map.range(low..high),
+        Fence::Top => map.range(low..),
+    }
+}
+
 /// Returns whether the range is read alike by each order of turns, and backwards at once.
 fn is_read(map: &Map<Global>, plain: &BTreeMap<u64, u64>, low: u64, high: Fence) -> bool {
     let backwards = between(plain, low, high).rev().map(owned);
-    let mut is_alike = map.range(low, high).rev().eq(backwards);
+    let mut is_alike = within(map, low, high).rev().eq(backwards);
     for turns in TURNS {
         let wanted = between(plain, low, high);
-        is_alike &= are_alike(map.range(low, high), wanted, turns, map.len());
+        is_alike &= are_alike(within(map, low, high), wanted, turns, map.len());
     }
     is_alike
 }

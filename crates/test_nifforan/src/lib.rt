@@ -7,6 +7,8 @@ mod beside;
 #[cfg(test)]
 mod both_ends;
 #[cfg(test)]
+mod drawn;
+#[cfg(test)]
 mod frozen;
 #[cfg(test)]
 mod given_up;

@@ -1,0 +1,88 @@
+use crate::ffi;
+
+/// What a map is made by.
+///
+/// ```
+/// use nifforan::{Fault, Map, Settings};
+/// let settings = Settings { fanout: 3, ..Settings::default() };
+/// assert_eq!(Map::new(&settings).err(), Some(Fault::BadFanout));
+/// ```
+#[derive(Clone, Copy, Debug, PartialEq, Eq, Hash)]
+pub struct Settings {
+    /// How many pairs a page may have before it is split, 4 to 64.
+    pub fanout: u32,
+    /// How many changes a page may carry before it is written anew, 1 to 32.
+    pub chain: u32,
+    /// How many pages the map has room for, 8 to 65,536, at 156 bytes each, which `Map::new` takes. The usual 16,384
+    /// hold some 770,000 rising, 715,000 random or 520,000 falling keys; past that each insertion takes longer, and
+    /// [`Map::care`](crate::Map::care) says so.
+    pub pages: u32,
+    /// How many attempts one call may make, 1 to 1,000.
+    pub tries: u32,
+    /// The version that every page begins with, 0 as a rule: each change of a page takes one, and past the last one
+    /// it is [`Fault::Worn`](crate::Fault::Worn).
+    pub first_version: u64,
+}
+
+/// The most pages that a map may have room for.
+const MOST_PAGES: u32 = 65_536;
+
+/// The least that a split leaves to either page, where pages may have 64 pairs.
+const HALF: u64 = 32;
+
+/// The most levels that 65,536 such pages make.
+const MOST_LEVELS: u64 = 5;
+
+impl Settings {
+    /// Returns the usual settings, with pages enough for this many insertions in any order; `None` where there can't be
+    /// enough, from 2,031,492 pairs on. It is the rule of Rattle's `Config::for_pairs`.
+    ///
+    /// ```
+    /// use nifforan::Settings;
+    /// assert_eq!(Settings::for_pairs(1_000_000).map(|settings| settings.pages), Some(32_263));
+    /// assert_eq!(Settings::for_pairs(2_031_492), None);
+    /// ```
+    #[must_use]
+    pub fn for_pairs(pairs: u64) -> Option<Settings> {
+        let pages = u32::try_from(pairs / (HALF - 1) + MOST_LEVELS).ok()?;
+        (pages <= MOST_PAGES).then(|| Settings {
+            pages: pages.max(8),
+            ..Settings::default()
+        })
+    }
+
+    /// The usual settings, with more pages where this many pairs may need them.
+    pub(crate) fn at_least(pairs: usize) -> Settings {
+        let usual = Settings::default();
+        let pages = Settings::for_pairs(pairs as u64).map_or(MOST_PAGES, |settings| settings.pages);
+        Settings {
+            pages: pages.max(usual.pages),
+            ..usual
+        }
+    }
+
+    pub(crate) fn in_c(&self) -> ffi::Settings {
+        ffi::Settings {
+            size: size_of::<ffi::Settings>(),
+            fanout: self.fanout,
+            chain: self.chain,
+            pages: self.pages,
+            tries: self.tries,
+            first_version: self.first_version,
+        }
+    }
+}
+
+impl Default for Settings {
+    /// Returns pages of 64 pairs, written anew after each change, room for 16,384 of them, 1,000 tries, and versions
+    /// from 0 on.
+    fn default() -> Settings {
+        Settings {
+            fanout: 64,
+            chain: 1,
+            pages: 16_384,
+            tries: 1000,
+            first_version: 0,
+        }
+    }
+}

@@ -1,0 +1,82 @@
+//! Many pairs, set one after the other.
+
+ghost use Rattle.std.specs.Prelude.{◌≡◌, IfOk};
+ghost use Rattle.std.specs.Iterator.{IsFiniteIterable};
+ghost use Rattle.nifforan.specs.Calls.{SetsAll};
+ghost use Rattle.nifforan.specs.Filling.{IsMadeOf};
+
+use crate::map::Map;
+use bw_keys::{Config, Key};
+use bw_procedures::{Done, Fault, Steps};
+use bw_table::NewFault;
+use std::alloc::{Allocator, Global};
+use thiserror::Error;
+
+/// Why there is no map of pairs.
+#[derive(Clone, Copy, Debug, PartialEq, Eq, Error)]
+pub enum FillFault {
+    /// There was no map to fill.
+    #[error("{0}")]
+    New(NewFault),
+    /// A pair wasn't set.
+    #[error("{0}")]
+    Set(Fault),
+}
+
+impl<A: Allocator + Copy> Map<A> {
+    /// Sets the key of each pair to its value, one after the other: of pairs with the same key the
+    /// last one stays. If a fault stands in the reply's place, those before are set. One beside it is
+    /// the first that cut the care for the pages short.
+    pub fn extend<U: IntoIterator<Item = (Key, u64)>>(
+        &mut self,
+        pairs: U,
+    ) -> Result<Done<()>, Fault>
+        requires { IsFiniteIterable U.into_iter_gives U.IntoIter.can_next U.IntoIter.remaining
+            pairs }
+        ensures sets { SetsAll U.into_iter_gives U.IntoIter.next_gives pairs result
+            self.old.pairs self.new.pairs }
+        ensures config { self.new.config ≡ self.old.config }
+    {
+        let mut fault = None;
+        let mut left = pairs.into_iter();
+        while let Some((key, value)) = left.next() {
+            let done = self.set(key, value)?;
+            fault = fault.or(done.fault);
+        }
+        Ok(Done { reply: (), fault })
+    }
+
+    /// Creates a map with the pairs, of which the last one with a key stays: see `new` and `extend`.
+    pub fn from_pairs<U: IntoIterator<Item = (Key, u64)> + Drop>(
+        machine: Global,
+        alloc: A,
+        config: Config,
+        pairs: U,
+    ) -> Result<Map<A>, FillFault>
+        requires { IsFiniteIterable U.into_iter_gives U.IntoIter.can_next U.IntoIter.remaining
+            pairs }
+        ensures pairs { IfOk result (λ map.
+            IsMadeOf U.into_iter_gives U.IntoIter.next_gives pairs map.pairs) }
+        ensures config { IfOk result (λ map. map.config ≡ config) }
+    {
+        let mut map = match Map::new(machine, alloc, config) {
+            Ok(map) => map,
+            Err(fault) => return Err(FillFault::New(fault)),
+        };
+        match map.extend(pairs) {
+            Ok(_) => Ok(map),
+            Err(fault) => Err(FillFault::Set(fault)),
+        }
+    }
+
+    /// Creates a map of the same configuration with the same pairs, in the same memory: see
+    /// `from_pairs`.
+    pub fn try_clone(&self) -> Result<Map<A>, FillFault>
+        ensures pairs { IfOk result (λ map. map.pairs ≡ self.now.pairs) }
+        ensures config { IfOk result (λ map. map.config ≡ self.now.config) }
+    {
+        self.law();
+        let alloc = self.worker.owner.alloc();
+        Map::from_pairs(self.worker.machine, alloc, self.config(), self)
+    }
+}

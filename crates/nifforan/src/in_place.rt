@@ -1,0 +1,137 @@
+//! A key that is looked up and then changed, in one search.
+
+ghost use Rattle.std.specs.Prelude.{◌≡◌, [], Some, None, IfSome, IfNone, OnErr};
+ghost use Rattle.bw_chain.specs.declared.in_place.Wished.TheVariants as wishes;
+ghost use Rattle.bw_step.specs.Tellings.{telling_of};
+ghost use Rattle.bw_law.specs.Tables.{IsValueAt, SameMap, TellsMap};
+ghost use Rattle.bw_procedures.specs.Writing.{IsReceiptFor, IsReceiptOfSet, IsReceiptOfDelete};
+ghost use Rattle.nifforan.specs.Maps.{IsReady, Changes, before_set, before_delete};
+
+use crate::worker::Worker;
+use bw_keys::{Key, Pid};
+use bw_procedures::{Calls, Del, Done, Fault, Set};
+use bw_table::{Receipt, Wished};
+use std::alloc::Allocator;
+
+/// What a look for a key found.
+#[derive(Clone, Copy)]
+pub(crate) struct Found {
+    /// The value that the key has.
+    pub(crate) value: Option<u64>,
+    /// The key's leaf, if no page on the way to it is in the middle of a split or a merge.
+    leaf: Option<Pid>,
+}
+
+/// A change that was made at once.
+#[derive(Clone, Copy)]
+struct Made {
+    receipt: Receipt,
+    /// What ended the care for the pages, if a fault did.
+    fault: Option<Fault>,
+}
+
+impl<A: Allocator + Copy> Worker<A> {
+    /// Looks the key up.
+    #[inline(always)]
+    pub(crate) fn find(&self, key: Key) -> Found
+        ensures { IsValueAt self.now.owner.table.value.slots key result.value }
+    {
+        let table = &self.owner.table.value;
+        if let Some(leaf) = table.leaf_at_rest(key) {
+            if let Some(look) = table.look(leaf.pid, key) {
+                return Found {
+                    value: look.found,
+                    leaf: Some(leaf.pid),
+                };
+            }
+        }
+        Found {
+            value: table.get(key),
+            leaf: None,
+        }
+    }
+
+    /// Sets the key to the value, without a search where its leaf was found and takes the change at
+    /// once.
+    pub(crate) fn set_found(
+        &mut self,
+        found: Found,
+        key: Key,
+        value: u64,
+    ) -> Result<Done<Set>, Fault>
+        requires { self.old.owner.account.seen.trail ≡ [] }
+        ensures change { Changes key before_set (λ reply. Some value) result
+            self.old.owner.table.value self.new.owner.table.value }
+        ensures unchanged { OnErr result
+            (SameMap self.old.owner.table.value.slots self.new.owner.table.value.slots) }
+        ensures ready { IsReady self.new.owner.table.value self.new.owner.account.seen.trail }
+        ensures config { self.new.owner.table.value.config ≡ self.old.owner.table.value.config }
+    {
+        match self.change_found(found, key, Wished::Set(value)) {
+            Some(made) => Ok(Done {
+                reply: reply_of_set(key, value, made.receipt),
+                fault: made.fault,
+            }),
+            None => self.set(key, value),
+        }
+    }
+
+    /// Deletes the key, without a search where its leaf was found and takes the change at once.
+    pub(crate) fn delete_found(&mut self, found: Found, key: Key) -> Result<Done<Del>, Fault>
+        requires { self.old.owner.account.seen.trail ≡ [] }
+        ensures change { Changes key before_delete (λ reply. None) result
+            self.old.owner.table.value self.new.owner.table.value }
+        ensures unchanged { OnErr result
+            (SameMap self.old.owner.table.value.slots self.new.owner.table.value.slots) }
+        ensures ready { IsReady self.new.owner.table.value self.new.owner.account.seen.trail }
+        ensures config { self.new.owner.table.value.config ≡ self.old.owner.table.value.config }
+    {
+        match self.change_found(found, key, Wished::Delete) {
+            Some(made) => Ok(Done {
+                reply: reply_of_delete(key, made.receipt),
+                fault: made.fault,
+            }),
+            None => self.delete(key),
+        }
+    }
+
+    /// Carries out the wish on the leaf, if it was found and takes the change at once, and tends it.
+    fn change_found(&mut self, found: Found, key: Key, wished: Wished) -> Option<Made>
+        requires { self.old.owner.account.seen.trail ≡ [] }
+        ensures told { IfSome result (λ made. IsReceiptFor key wished made.receipt) }
+        ensures map { IfSome result (λ made. TellsMap (telling_of made.receipt)
+            self.old.owner.table.value.slots self.new.owner.table.value.slots) }
+        ensures ready { IfSome result (λ made.
+            IsReady self.new.owner.table.value self.new.owner.account.seen.trail) }
+        ensures config { self.new.owner.table.value.config ≡ self.old.owner.table.value.config }
+        ensures unchanged { IfNone result (self.new ≡ self.old) }
+    {
+        let leaf = found.leaf?;
+        let receipt = self.owner.table.value.change_leaf(leaf, key, wished)?;
+        let fault = self.owner.tend(leaf).err();
+        self.owner.forget();
+        Some(Made { receipt, fault })
+    }
+}
+
+/// The reply that goes with the receipt.
+fn reply_of_set(key: Key, value: u64, receipt: Receipt) -> Set
+    requires { IsReceiptFor key (wishes.Set value) receipt }
+    ensures { IsReceiptOfSet key value result receipt }
+{
+    match receipt {
+        Receipt::Modified { old, .. } => Set::Replaced(old),
+        _ => Set::Inserted,
+    }
+}
+
+/// The reply that goes with the receipt.
+fn reply_of_delete(key: Key, receipt: Receipt) -> Del
+    requires { IsReceiptFor key wishes.Delete receipt }
+    ensures { IsReceiptOfDelete key result receipt }
+{
+    match receipt {
+        Receipt::Deleted { value, .. } => Del::Removed(value),
+        _ => Del::NoKey,
+    }
+}

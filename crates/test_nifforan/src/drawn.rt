@@ -1,0 +1,251 @@
+//! The calls of a map that change a key by what it has, take out its ends, or set or test many
+//! pairs, and what it is compared with, beside the kit's map.
+
+use nifforan::{CompareAndSet, Config, Done, Fault, Map, Upsert};
+use rand_core::{Rng, SeedableRng};
+use rand_pcg::Pcg32;
+use std::alloc::Global;
+use std::collections::BTreeMap;
+use std::ops::{Bound, RangeBounds};
+use std::test::Fail;
+
+/// Fanout, chain and pages: leaves of few pairs, too few pages, records on leaves, and the usual
+/// settings.
+const TABLES: [(u32, u32, u32); 4] = [(4, 1, 64), (4, 2, 8), (8, 32, 64), (64, 1, 16)];
+
+/// Keys at both ends, which are drawn more often than others.
+const KEYS: [u64; 8] = [
+    0,
+    1,
+    2,
+    3,
+    u64::MAX - 3,
+    u64::MAX - 2,
+    u64::MAX - 1,
+    u64::MAX,
+];
+
+/// The most pairs that a call of `extend` sets.
+const MANY: u32 = 20;
+
+/// A map, and the kit's map on which the same calls are made.
+#[derive(Drop)]
+struct Both {
+    machine: Global,
+    rng: Pcg32,
+    config: Config,
+    map: Map<Global>,
+    plain: BTreeMap<u64, u64>,
+    /// Whether a call found no page free.
+    was_full: bool,
+}
+
+fn owned(pair: (&u64, &u64)) -> (u64, u64) {
+    (*pair.0, *pair.1)
+}
+
+fn one_more(old: Option<u64>) -> u64 {
+    old.unwrap_or(6).wrapping_add(1)
+}
+
+/// Returns what is made of the keys so far and of this one, in their order.
+fn mixed(seen: u64, key: u64) -> u64 {
+    seen.wrapping_mul(31).wrapping_add(key).wrapping_add(1)
+}
+
+impl Both {
+    fn new(machine: Global, fanout: u32, chain: u32, pages: u32) -> Result<Both, Fail> {
+        let config = Config {
+            fanout,
+            chain,
+            pages,
+            ..Config::default()
+        };
+        Ok(Both {
+            machine,
+            rng: Pcg32::seed_from_u64(fanout.into()),
+            config,
+            map: Map::new(machine, machine, config)?,
+            plain: BTreeMap::new(machine),
+            was_full: false,
+        })
+    }
+
+    fn key(&mut self) -> u64 {
+        let drawn = self.rng.next_u32() % 64;
+        KEYS.get(drawn as usize / 2)
+            .copied()
+            .unwrap_or(drawn.into())
+    }
+
+    /// Returns a drawn value of few, or none.
+    fn value(&mut self) -> Option<u64> {
+        let drawn = self.rng.next_u32() % 4;
+        if drawn == 0 { None } else { Some(drawn.into()) }
+    }
+
+    fn bound(&mut self) -> Bound<u64> {
+        let key = self.key();
+        match self.rng.next_u32() % 5 {
+            0 => Bound::Unbounded,
+            1..3 => Bound::Included(key),
+            _ => Bound::Excluded(key),
+        }
+    }
+
+    /// Returns the reply. The care for the pages may have found no page free.
+    fn reply<T: Drop>(&mut self, answer: Result<Done<T>, Fault>) -> Result<T, Fail> {
+        let done = answer?;
+        match done.fault {
+            None => {}
+            Some(Fault::TableFull) => self.was_full = true,
+            Some(fault) => return Err(fault.into()),
+        }
+        Ok(done.reply)
+    }
+
+    /// Makes a drawn call. Returns whether it replied as it should.
+    fn call(&mut self) -> Result<bool, Fail> {
+        match self.rng.next_u32() % 32 {
+            0..2 => {
+                let answer = self.map.pop_first();
+                Ok(self.reply(answer)? == self.plain.pop_first())
+            }
+            2..4 => {
+                let answer = self.map.pop_last();
+                Ok(self.reply(answer)? == self.plain.pop_last())
+            }
+            4..16 => self.compare_and_set(),
+            16..26 => self.upsert(),
+            26..30 => self.extend(),
+            _ => self.retain(),
+        }
+    }
+
+    fn compare_and_set(&mut self) -> Result<bool, Fail> {
+        let (key, expected, new) = (self.key(), self.value(), self.value());
+        let had = self.plain.get(&key).copied();
+        let answer = self.map.compare_and_set(key, expected, new);
+        let reply = self.reply(answer)?;
+        if had != expected {
+            return Ok(reply == CompareAndSet::Differs(had));
+        }
+        self.plain.remove(&key);
+        if let Some(value) = new {
+            self.plain.insert(key, value)?;
+        }
+        Ok(reply == CompareAndSet::Set)
+    }
+
+    fn upsert(&mut self) -> Result<bool, Fail> {
+        let key = self.key();
+        let old = self.plain.get(&key).copied();
+        let new = one_more(old);
+        self.plain.insert(key, new)?;
+        let answer = self.map.upsert(key, one_more);
+        Ok(self.reply(answer)? == Upsert { old, new })
+    }
+
+    fn extend(&mut self) -> Result<bool, Fail> {
+        let mut pairs = Vec::new(self.machine);
+        for _ in 0..self.rng.next_u32() % MANY {
+            let pair = (self.key(), self.rng.next_u64() % 4);
+            pairs.push(pair)?;
+        }
+        self.plain.extend(pairs.iter().copied())?;
+        let answer = self.map.extend(pairs);
+        self.reply(answer)?;
+        Ok(true)
+    }
+
+    /// Keeps pairs by a function that counts on being called once with each, in the order of keys.
+    fn retain(&mut self) -> Result<bool, Fail> {
+        let divisor = u64::from(self.rng.next_u32() % 3) + 2;
+        let (mut seen, mut plain_seen) = (0u64, 0u64);
+        let count = self.plain.len() as u64;
+        let retained = self.map.retain(|key, value| {
+            seen = mixed(seen, key);
+            seen.wrapping_add(value) % divisor != 0
+        });
+        self.plain.retain(|key, value| {
+            plain_seen = mixed(plain_seen, *key);
+            plain_seen.wrapping_add(*value) % divisor != 0
+        });
+        self.was_full |= retained.fault.is_some();
+        Ok(
+            seen == plain_seen
+                && retained.removed == count.wrapping_sub(self.plain.len() as u64)
+                && matches!(retained.fault, None | Some(Fault::TableFull)),
+        )
+    }
+
+    /// Returns whether each read answers as the kit's map does.
+    fn is_read(&mut self) -> Result<bool, Fail> {
+        let (machine, key) = (self.machine, self.key());
+        let (map, plain) = (&self.map, &self.plain);
+        let mut all = plain.iter().map(owned);
+        let mut is_alike = map.contains_key(key) == plain.contains_key(&key)
+            && map.iter().len() == plain.len()
+            && map.iter().size_hint() == (plain.len(), Some(plain.len()))
+            && format!(in machine; "{map:?}")? == format!(in machine; "{plain:?}")?;
+        for pair in map {
+            is_alike &= all.next() == Some(pair);
+        }
+        Ok(is_alike && all.next().is_none())
+    }
+
+    /// Returns whether a range of drawn bounds, which may run backwards, is read alike from either
+    /// end.
+    fn is_ranged(&mut self) -> bool {
+        let bounds = (self.bound(), self.bound());
+        let wanted = || {
+            self.plain
+                .iter()
+                .filter(|pair| bounds.contains(pair.0))
+                .map(owned)
+        };
+        self.map.range(bounds).eq(wanted()) && self.map.range(bounds).rev().eq(wanted().rev())
+    }
+
+    /// Returns whether the map equals a copy, and another one of the same pairs, until that changes.
+    fn is_compared(&mut self) -> Result<bool, Fail> {
+        let machine = self.machine;
+        let key = self.key();
+        let copy = self.map.try_clone()?;
+        let pairs = self.plain.iter().map(owned);
+        let mut other = Map::from_pairs(machine, machine, self.config, pairs)?;
+        let was_same = self.map == copy && self.map == other;
+        let _done = other.upsert(key, one_more)?;
+        Ok(was_same && copy.table().config() == self.config && self.map != other)
+    }
+}
+
+#[test]
+fn calls_of_a_map_answer_as_those_of_the_kits_map(rt: HostRuntime) -> Result<(), Fail> {
+    for (fanout, chain, pages) in TABLES {
+        let mut both = Both::new(rt.alloc(), fanout, chain, pages)?;
+        for round in 0..300 {
+            let mut is_alike = both.call()? && both.is_read()? && both.is_ranged();
+            if round % 8 == 0 {
+                is_alike &= both.is_compared()?;
+            }
+            assert!(rt; is_alike, "round {round}, fanout {fanout}, chain {chain}");
+        }
+        assert_eq!(rt; both.was_full, pages == 8);
+    }
+    Ok(())
+}
+
+#[test]
+fn a_fault_of_extend_stands_beside_its_reply(rt: HostRuntime) -> Result<(), Fail> {
+    let config = Config {
+        fanout: 4,
+        pages: 8,
+        ..Config::default()
+    };
+    let mut map = Map::new(rt.alloc(), rt.alloc(), config)?;
+    let done = map.extend((0..100).map(|key| (key, key)))?;
+    assert_eq!(rt; done.fault, Some(Fault::TableFull));
+    assert_eq!(rt; map.len(), 100);
+    Ok(())
+}
