@@ -28,6 +28,8 @@ const KEYS: [u64; 8] = [
 /// The most pairs that a call of `extend` sets.
 const MANY: u32 = 20;
 
+type Bounds = (Bound<u64>, Bound<u64>);
+
 /// A map, and the kit's map on which the same calls are made.
 #[derive(Drop)]
 struct Both {
@@ -194,17 +196,42 @@ impl Both {
         Ok(is_alike && all.next().is_none())
     }
 
-    /// Returns whether a range of drawn bounds, which may run backwards, is read alike from either
-    /// end.
-    fn is_ranged(&mut self) -> bool {
+    /// Returns the pairs of the kit's map within the bounds, which may run backwards.
+    fn wanted(&self, bounds: Bounds) -> Result<Vec<(u64, u64)>, Fail> {
+        let mut wanted = Vec::new(self.machine);
+        for (key, value) in self.plain.iter() {
+            if bounds.contains(key) {
+                wanted.push((*key, *value))?;
+            }
+        }
+        Ok(wanted)
+    }
+
+    fn is_read_forwards(&self, bounds: Bounds, wanted: &[(u64, u64)]) -> bool {
+        let mut pairs = self.map.range(bounds);
+        for pair in wanted {
+            if pairs.next() != Some(*pair) {
+                return false;
+            }
+        }
+        pairs.next().is_none()
+    }
+
+    fn is_read_backwards(&self, bounds: Bounds, wanted: &[(u64, u64)]) -> bool {
+        let mut pairs = self.map.range(bounds).rev();
+        for pair in wanted.iter().rev() {
+            if pairs.next() != Some(*pair) {
+                return false;
+            }
+        }
+        pairs.next().is_none()
+    }
+
+    /// Returns whether a range of drawn bounds is read alike from either end.
+    fn is_ranged(&mut self) -> Result<bool, Fail> {
         let bounds = (self.bound(), self.bound());
-        let wanted = || {
-            self.plain
-                .iter()
-                .filter(|pair| bounds.contains(pair.0))
-                .map(owned)
-        };
-        self.map.range(bounds).eq(wanted()) && self.map.range(bounds).rev().eq(wanted().rev())
+        let wanted = self.wanted(bounds)?;
+        Ok(self.is_read_forwards(bounds, &wanted) && self.is_read_backwards(bounds, &wanted))
     }
 
     /// Returns whether the map equals a copy, and another one of the same pairs, until that changes.
@@ -225,7 +252,7 @@ fn calls_of_a_map_answer_as_those_of_the_kits_map(rt: HostRuntime) -> Result<(),
     for (fanout, chain, pages) in TABLES {
         let mut both = Both::new(rt.alloc(), fanout, chain, pages)?;
         for round in 0..300 {
-            let mut is_alike = both.call()? && both.is_read()? && both.is_ranged();
+            let mut is_alike = both.call()? && both.is_read()? && both.is_ranged()?;
             if round % 8 == 0 {
                 is_alike &= both.is_compared()?;
             }
