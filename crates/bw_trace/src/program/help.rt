@@ -50,6 +50,16 @@ A step that is refused changes nothing, and the next one is tried. Where line N 
 Example:
   bwtree make --rows 20 | bwtree draw --fanout 4 --chain 4 > tree.svg";
 
+pub(crate) const OF_FILM: &str =
+    "Rows, scripts of steps and options are those of draw. It prints a page of HTML that needs no other
+file: the drawing after each step, with the row or line that wanted the step, and what a comment
+of a script says behind it. Moment 0 is the new table, and each step makes the next one. A page
+has 200 moments at most, from --from on. The rows of a trace are done one after the other, as one
+worker does them, whatever their workers' numbers, and --readers changes nothing.
+
+Example:
+  bwtree make --rows 20 | bwtree film --fanout 4 --chain 4 > film.html";
+
 pub(crate) const OF_STATS: &str =
     "Rows and options are those of run, and scripts of steps those of draw. It prints these lines:
   levels N                          how many levels the tree has, 1 for leaves alone

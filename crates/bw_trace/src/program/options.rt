@@ -4,6 +4,7 @@ ghost use Rattle.std.specs.Prelude.{◌≤◌, IfOk};
 ghost use Rattle.clap.specs.Words.{found_of};
 ghost use Rattle.bw_trace.specs.Options.{IsNumberFor};
 
+use crate::program::film_options::film_command;
 use crate::program::help::{OF_ALL, OF_CHECK, OF_MAKE, VERSION};
 use crate::program::run_options::run_command;
 use crate::program::show_options::{draw_command, stats_command};
@@ -43,6 +44,7 @@ pub(crate) fn commands<'a>(alloc: Global) -> Result<Command<'a>, AllocError> {
         .subcommand_required(true)
         .subcommand(run_command(alloc)?)?
         .subcommand(draw_command(alloc)?)?
+        .subcommand(film_command(alloc)?)?
         .subcommand(stats_command(alloc)?)?
         .subcommand(make_command(alloc)?)?
         .subcommand(check_command(alloc))

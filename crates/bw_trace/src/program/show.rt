@@ -4,9 +4,11 @@ ghost use Rattle.std.specs.Prelude.{◌≡◌, IfOk, false, true};
 ghost use Rattle.bw_scripts.specs.Played.{IsPlayed};
 
 use crate::program::fault::Fault;
+use crate::program::film_options::FilmOptions;
 use crate::program::setting::Setting;
 use crate::program::show_options::ShowOptions;
 use bw_draw::{Drawing, Picture, Stats};
+use bw_film::{film_rows, film_script, page};
 use bw_run::run;
 use bw_scripts::play;
 use bw_table::Table;
@@ -49,6 +51,31 @@ pub(crate) fn draw<W: Write>(
 ) -> Result<(), Fault> {
     let picture = Picture::of(alloc, table)?;
     write_shown(alloc, output, &Drawing::of(alloc, &picture)?)
+}
+
+/// Writes the page that shows the film of the trace or of the script.
+pub(crate) fn write_film<R: Read + Drop, W: Write>(
+    alloc: Global,
+    options: FilmOptions,
+    input: R,
+    output: &mut W,
+) -> Result<(), Fault> {
+    let FilmOptions { shown, choice } = options;
+    let Setting {
+        config,
+        workers,
+        ..
+    } = shown.setting;
+    let film = if shown.steps {
+        film_script(alloc, choice, input)?
+    } else {
+        let rows = read_trace(alloc, input, workers)?;
+        film_rows(alloc, config, choice, &rows)?
+    };
+    let page = page(alloc, &film)?;
+    output.write_all(page.as_bytes())?;
+    output.flush()?;
+    Ok(())
 }
 
 /// Writes the numbers of the table.

@@ -48,7 +48,7 @@ pub(crate) fn stats_command<'a>(alloc: Global) -> Result<Command<'a>, AllocError
 }
 
 /// Returns the option for scripts of steps. It conflicts with all others.
-fn steps_flag<'a>(alloc: Global) -> Result<Arg<'a>, AllocError> {
+pub(crate) fn steps_flag<'a>(alloc: Global) -> Result<Arg<'a>, AllocError> {
     let mut steps = flag(alloc, "steps", "Reads a script of steps, not a trace");
     for (name, _, _) in NUMBERS {
         steps = steps.conflicts_with(name)?;
