@@ -1,5 +1,9 @@
 //! A worker each of whose steps is filmed.
 
+ghost use Rattle.std.specs.Prelude.{◌≡◌, false};
+ghost use Rattle.bw_film.specs.Choices.{one_more};
+ghost use Rattle.bw_film.specs.Filming.{IsSameChoice};
+
 use crate::film::Film;
 use crate::telling::Telling;
 use bw_alone::Alone;
@@ -34,7 +38,13 @@ pub(crate) struct Filmed<S: Drop> {
 
 impl<S: Steps<Global, Step<Global>> + Shows + Drop> Filmed<S> {
     /// Adds the moment after a step.
-    fn film_step(&mut self, receipt: Receipt) {
+    fn film_step(&mut self, receipt: Receipt)
+        ensures steps { self.new.steps ≡ self.old.steps }
+        ensures choice { IsSameChoice self.old.film self.new.film }
+        ensures failed { self.new.has_failed ≡ false → self.old.has_failed ≡ false }
+        ensures counted { self.new.has_failed ≡ false
+            → self.new.film.moments ≡ one_more self.old.film.moments }
+    {
         let (alloc, table) = (self.steps.alloc(), self.steps.table());
         let added = self
             .film
@@ -44,19 +54,31 @@ impl<S: Steps<Global, Step<Global>> + Shows + Drop> Filmed<S> {
 }
 
 impl<S: Steps<Global, Step<Global>> + Shows + Drop> Steps<Global, Step<Global>> for Filmed<S> {
+    ghost use Rattle.bw_film.specs.Filming.{IsFilmed};
+    ghost use Rattle.bw_film.proofs.Filming.{filmed_stay, filmed_join};
+
     ghost seen = { λ s. S.seen s.steps };
 
     ghost kept = { λ trail. S.kept trail };
 
-    ghost follows = { λ a b. S.follows a.steps b.steps };
+    // the steps lead on, and each of them is a moment of the film
+    ghost follows = { λ a b. S.follows a.steps b.steps
+        × IsFilmed a.film a.has_failed (S.seen a.steps).trail
+        b.film b.has_failed (S.seen b.steps).trail };
 
     ghost shows = { λ s low end pairs. S.shows s.steps low end pairs };
 
     ghost calm = { λ s fact. S.calm s.steps fact };
 
-    ghost stays = { λ s. S.stays s.steps };
+    ghost stays = { λ s. (
+      S.stays s.steps,
+      filmed_stay s.film s.has_failed (S.seen s.steps).trail,
+    ) };
 
-    ghost joins = { λ a b c first then. S.joins a.steps b.steps c.steps first then };
+    ghost joins = { λ a b c first then. (
+      S.joins a.steps b.steps c.steps first.0 then.0,
+      filmed_join first.1 then.1,
+    ) };
 
     ghost narrows = { λ s low key end pairs le shown.
         S.narrows s.steps low key end pairs le shown };

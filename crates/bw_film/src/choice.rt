@@ -1,3 +1,5 @@
+ghost use Rattle.std.specs.Prelude.{◌≤◌, ◌↔◌, IsTrue};
+
 use bw_keys::Key;
 
 /// Which moments are drawn, and what of each. The moment 0 is that of the new table, and each step
@@ -12,8 +14,10 @@ pub struct Choice {
 }
 
 impl Choice {
-    /// Returns whether the moment is drawn.
-    pub fn has(self, moment: u64) -> bool {
+    /// Reports whether the moment is drawn.
+    pub fn has(self, moment: u64) -> bool
+        ensures { IsTrue result ↔ ((self.from ≤ moment) × (moment ≤ self.to)) }
+    {
         self.from <= moment && moment <= self.to
     }
 }

@@ -4,7 +4,6 @@
 
 mod camera;
 mod choice;
-mod escape;
 mod fault;
 mod film;
 mod frame;
@@ -17,6 +16,6 @@ pub use choice::Choice;
 pub use fault::FilmFault;
 pub use film::{Film, MOST_FRAMES};
 pub use frame::Frame;
-pub use page::page;
+pub use page::page_of;
 pub use rows::film_rows;
 pub use script::film_script;

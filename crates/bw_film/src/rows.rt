@@ -1,5 +1,9 @@
 //! Films of traces.
 
+ghost use Rattle.std.specs.Prelude.{◌≡◌, IfOk, IfErr};
+ghost use Rattle.bw_film.specs.Faults.{IsRowsFault};
+ghost use Rattle.bw_film.specs.Filming.{IsFilmOf};
+
 use crate::camera::Filmed;
 use crate::choice::Choice;
 use crate::fault::FilmFault;
@@ -24,7 +28,11 @@ pub fn film_rows(
     config: Config,
     choice: Choice,
     rows: &[Row],
-) -> Result<Film, FilmFault> {
+) -> Result<Film, FilmFault>
+    ensures choice { IfOk result (λ film. film.choice ≡ choice) }
+    ensures moments { IfOk result (IsFilmOf rows.now) }
+    ensures fault { IfErr result (IsRowsFault config rows.now) }
+{
     let mut table = match Table::new(alloc, alloc, config) {
         Ok(table) => table,
         Err(NewFault::BadConfig(bad)) => return Err(FilmFault::Config(bad)),

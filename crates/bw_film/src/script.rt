@@ -1,5 +1,8 @@
 //! Films of scripts of steps.
 
+ghost use Rattle.std.specs.Prelude.{◌≡◌, ◌≤◌, IfOk, IfErr};
+ghost use Rattle.bw_film.specs.Faults.{IsScriptFault};
+
 use crate::choice::Choice;
 use crate::fault::FilmFault;
 use crate::film::Film;
@@ -19,7 +22,11 @@ pub fn film_script<R: Read + Drop>(
     alloc: Global,
     choice: Choice,
     input: R,
-) -> Result<Film, FilmFault> {
+) -> Result<Film, FilmFault>
+    ensures choice { IfOk result (λ film. film.choice ≡ choice) }
+    ensures moments { IfOk result (λ film. 1 ≤ film.moments) }
+    ensures fault { IfErr result IsScriptFault }
+{
     let Ok(lines) = BufReader::new(alloc, input) else {
         return Err(FilmFault::Memory);
     };

@@ -23,7 +23,7 @@ use crate::program::report::write_report;
 use crate::program::run_options::RunOptions;
 use crate::program::setting::Setting;
 use crate::program::show::{draw, table_of, tell_stats, write_film};
-use crate::program::show_options::ShowOptions;
+use crate::program::show_options::{DrawOptions, ShowOptions};
 use bw_audit::{Verdict, audit};
 use bw_keys::MAX_WORKERS;
 use bw_run::{Finished, RunFault, run};
@@ -79,7 +79,7 @@ fn obey<T: Threads + Wait + Sync + Send + Copy, R: Read + Drop, W: Write>(
     let matches = parse(alloc, words)?;
     match matches.subcommand() {
         Some(("run", options)) => do_run(rt, alloc, RunOptions::of(options)?, input, output),
-        Some(("draw", options)) => do_draw(rt, alloc, ShowOptions::of(options)?, input, output),
+        Some(("draw", options)) => do_draw(rt, alloc, DrawOptions::of(options)?, input, output),
         Some(("film", options)) => do_film(alloc, FilmOptions::of(options)?, input, output),
         Some(("stats", options)) => do_stats(rt, alloc, ShowOptions::of(options)?, input, output),
         Some(("make", options)) => do_make(alloc, options, output),
@@ -143,14 +143,14 @@ fn print_run<W: Write>(
 fn do_draw<T: Threads + Wait + Sync + Send + Copy, R: Read + Drop, W: Write>(
     rt: T,
     alloc: Global,
-    options: ShowOptions,
+    options: DrawOptions,
     input: R,
     output: &mut W,
 ) -> Result<u8, Fault>
     ensures { IfOk result (λ status. status ≤ 4) }
 {
-    let table = table_of(rt, alloc, options, input)?;
-    draw(alloc, &table, output)?;
+    let table = table_of(rt, alloc, options.shown, input)?;
+    draw(alloc, &table, options.key, output)?;
     Ok(DONE)
 }
 

@@ -120,7 +120,8 @@ pub(crate) const SCRIPT: &str = r#"<script>
 
   function press(event) {
     const { tagName } = event.target;
-    const is_taken = tagName === 'INPUT' || tagName === 'SELECT' || (tagName === 'BUTTON' && event.key === ' ');
+    const scrolls = event.target === at('stage') && at('stage').scrollWidth > at('stage').clientWidth;
+    const is_taken = scrolls || tagName === 'INPUT' || tagName === 'SELECT' || (tagName === 'BUTTON' && event.key === ' ');
     if (is_taken || event.altKey || event.ctrlKey || event.metaKey || !(event.key in acts)) return;
     event.preventDefault();
     acts[event.key]();

@@ -2,37 +2,40 @@
 
 ghost use Rattle.std.specs.Prelude.{IfOk};
 ghost use Rattle.clap.specs.Words.{found_of};
-ghost use Rattle.bw_trace.specs.Options.{IsFit, IsShownBy};
+ghost use Rattle.bw_trace.specs.Options.{IsFilmedBy, IsFit};
 
 use crate::program::help::OF_FILM;
-use crate::program::options::Field;
-use crate::program::setting::with_setting;
-use crate::program::show_options::{ShowOptions, steps_flag};
-use bw_film::Choice;
-use clap::{Arg, ArgMatches, Command};
+use crate::program::options::{Field, if_given, optional};
+use crate::program::setting::{Setting, with_setting};
+use crate::program::show_options::{key_option, steps_flag};
+use bw_keys::Key;
+use clap::{ArgMatches, Command};
 use std::alloc::{AllocError, Global};
 
 /// What is filmed, and which moments of it are drawn.
 #[derive(Clone, Copy)]
 pub(crate) struct FilmOptions {
-    pub shown: ShowOptions,
-    pub choice: Choice,
+    pub setting: Setting,
+    /// Whether a script of steps is read in place of a trace. A script has its own configuration.
+    pub steps: bool,
+    pub from: Option<u64>,
+    /// The last moment.
+    pub to: Option<u64>,
+    pub key: Option<Key>,
 }
 
 impl FilmOptions {
     /// Reads the options. Fails with the first that is out of its range.
     pub(crate) fn of(matches: &ArgMatches) -> Result<FilmOptions, Field>
-        ensures asked { IfOk result (λ options.
-            IsShownBy (found_of matches.now) options.shown) }
-        ensures fit { IfOk result (λ options. IsFit options.shown.setting) }
+        ensures asked { IfOk result (IsFilmedBy (found_of matches.now)) }
+        ensures fit { IfOk result (λ options. IsFit options.setting) }
     {
         Ok(FilmOptions {
-            shown: ShowOptions::of(matches)?,
-            choice: Choice {
-                from: matches.get_one::<u64>("from").unwrap_or(0),
-                to: matches.get_one::<u64>("to").unwrap_or(u64::MAX),
-                key: matches.get_one::<u64>("key"),
-            },
+            setting: Setting::of(matches)?,
+            steps: matches.get_flag("steps"),
+            from: if_given(matches, "from"),
+            to: if_given(matches, "to"),
+            key: if_given(matches, "key"),
         })
     }
 }
@@ -44,15 +47,11 @@ pub(crate) fn film_command<'a>(alloc: Global) -> Result<Command<'a>, AllocError>
         .after_help(OF_FILM);
     with_setting(alloc, film)?
         .arg(steps_flag(alloc)?)?
-        .arg(number(alloc, "from", "The first moment that is drawn, 0 if absent"))?
-        .arg(number(alloc, "to", "The last moment that is drawn"))?
-        .arg(number(alloc, "key", "Draws the path to this key's leaf alone"))
-}
-
-/// Returns an option whose value is a number, and that may be absent.
-fn number<'a>(alloc: Global, name: &'a str, help: &'a str) -> Arg<'a> {
-    Arg::new(alloc, name)
-        .long(name)
-        .help(help)
-        .value_parser(clap::value_parser!(u64))
+        .arg(optional(alloc, "from", "The first moment, 0 if absent"))?
+        .arg(optional(
+            alloc,
+            "to",
+            "The last moment, that of the last step if absent",
+        ))?
+        .arg(key_option(alloc))
 }

@@ -35,7 +35,8 @@ Example:
 pub(crate) const OF_DRAW: &str =
     "Rows and options are those of run, and the drawing goes to standard output. Of a table of up to
 40 pages each page is drawn, with the newest records of its chain and the first entries of its
-base, and of a larger one ten leaves, about what is half done, and the pages above them.
+base, and of a larger one ten leaves, about what is half done, and the pages above them. A page
+with more entries than the fanout says in red how many are over.
 
 With --steps a script of steps is read, of one line a step and single blanks between words:
   table 4 4 64 100 0                      a new table: fanout, chain, pages, tries, first version
