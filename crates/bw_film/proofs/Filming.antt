@@ -1,17 +1,31 @@
 -- Films of steps that follow each other.
-use Rattle.std.proofs.Common.{◌≡◌, ℕ, zero, suc, ◌+◌, Bool, true, false, List, refl, sym, ◌∙◌, ap, arith}
+use Rattle.std.proofs.Common.{◌≡◌, ℕ, zero, suc, ◌+◌, ◌<◌, length, map, get_or, length-append, Bool, true, false, cond, List, [], ◌∷◌, ◌++◌, Option, Some, None, refl, sym, ◌∙◌, ap, subst, arith}
+use Rattle.std.specs.Prelude.{if◌then◌else◌}
+use Rattle.std.proofs.lemmas.List.{length-map, get_or-map}
+use Rattle.std.proofs.lemmas.List.Sums.{sum_by_push}
 use Rattle.bw_step.specs.declared.receipt.Receipt.{Receipt}
+use Rattle.bw_step.specs.declared.receipt.Receipt.TheVariants.{Inserted, Deleted, Modified, Looked, Shaped}
+use Rattle.bw_step.specs.declared.view.Look.{Look}
+use Rattle.bw_step.specs.Proposals.{Proposal, insert, delete, modify, consolidate, split, term_add, grow, mark, merge, term_delete}
+use Rattle.bw_step.specs.Steps.{IsReceiptOf}
+use Rattle.bw_procedures.specs.declared.steps.Keep.{Keep}
+use Rattle.bw_procedures.specs.Seen.{is_kept, trail_after_look}
+use Rattle.bw_step.specs.Tellings.{told_in}
+use Rattle.bw_procedures.specs.declared.act.Act.{Act}
+use Rattle.bw_procedures.specs.Told.{GoesWith}
+use Rattle.bw_procedures.proofs.Receipts.{go_more, go_none}
+use Rattle.bw_texts.specs.declared.trace.row.Row.{Row}
 use Rattle.bw_film.specs.declared.film.Film.{Film}
 use Rattle.bw_film.specs.Choices.{one_more}
-use Rattle.bw_film.specs.Filming.{AddsMoments, IsFilmed, moments_after, steps_in}
+use Rattle.bw_film.specs.Filming.{AddsMoments, DoesRow, IsFilmed, IsFilmedUpTo, IsSameChoice, is_step, moments_after, steps_in}
 
 -- moments after more steps still
 after_more : (more steps moments : ℕ) → moments_after more (moments_after steps moments) ≡ moments_after (more + steps) moments
 after_more zero steps moments = refl
 after_more (suc more) steps moments = ap one_more (after_more more steps moments)
 
-pub adds_none : (film : Film) (trail : List Receipt) → AddsMoments film trail film trail
-adds_none film trail = record { steps = 0; longer = refl; moments = refl }
+adds_none : (film : Film) (old new : List Receipt) → steps_in new ≡ steps_in old → AddsMoments film old film new
+adds_none film old new same = record { steps = 0; longer = same; moments = refl }
 
 adds_more : {a b c : Film} {x y z : List Receipt} → AddsMoments a x b y → AddsMoments b y c z → AddsMoments a x c z
 adds_more {a} {b} {c} first then = record {
@@ -20,8 +34,15 @@ adds_more {a} {b} {c} first then = record {
   moments = then.moments ∙ ap (moments_after then.steps) first.moments ∙ after_more then.steps first.steps a.moments;
 }
 
+-- without a step more there is no moment more
+filmed_as : (film : Film) (failed : Bool) (old new : List Receipt) → steps_in new ≡ steps_in old → IsFilmed film failed old film failed new
+filmed_as film failed old new same = record { choice = refl; failed = λ is. is; added = λ is. adds_none film old new same }
+
 pub filmed_stay : (film : Film) (failed : Bool) (trail : List Receipt) → IsFilmed film failed trail film failed trail
-filmed_stay film failed trail = record { choice = refl; failed = λ is. is; added = λ is. adds_none film trail }
+filmed_stay film failed trail = filmed_as film failed trail trail refl
+
+pub filmed_same : (film : Film) (failed : Bool) (old new : List Receipt) → new ≡ old → IsFilmed film failed old film failed new
+filmed_same film failed old new same = filmed_as film failed old new (ap steps_in same)
 
 pub filmed_join : {a b c : Film} {f g h : Bool} {x y z : List Receipt} → IsFilmed a f x b g y → IsFilmed b g y c h z → IsFilmed a f x c h z
 filmed_join first then = record {
@@ -29,3 +50,67 @@ filmed_join first then = record {
   failed = λ is. first.failed (then.failed is);
   added = λ is. adds_more (first.added (then.failed is)) (then.added is);
 }
+
+steps_more : (trail : List Receipt) (receipt : Receipt) → steps_in (trail ++ receipt ∷ []) ≡ steps_in trail + cond (is_step receipt) 1 0
+steps_more trail receipt = sum_by_push (λ (r : Receipt). cond (is_step r) 1 0) trail receipt
+
+kept_steps : (kept : Bool) (trail : List Receipt) (receipt : Receipt) → is_step receipt ≡ false → steps_in (if kept then trail ++ receipt ∷ [] else trail) ≡ steps_in trail
+kept_steps false trail receipt no = refl
+kept_steps true trail receipt no = let more : cond (is_step receipt) 1 0 ≡ 0 = ap (λ (b : Bool). cond b 1 0) no in steps_more trail receipt ∙ ap (λ k. steps_in trail + k) more ∙ omega arith
+
+look_steps : (keep : Keep) (key : ℕ) (look : Option Look) (trail : List Receipt) → steps_in (trail_after_look keep key look trail) ≡ steps_in trail
+look_steps keep key None trail = refl
+look_steps keep key (Some look) trail = kept_steps (is_kept keep look.found) trail (Looked look.at key look.found) refl
+
+-- a look is no step
+pub filmed_look : (film : Film) (failed : Bool) (keep : Keep) (key : ℕ) (look : Option Look) (old new : List Receipt) → new ≡ trail_after_look keep key look old → IsFilmed film failed old film failed new
+filmed_look film failed keep key look old new is = filmed_as film failed old new (ap steps_in is ∙ look_steps keep key look old)
+
+-- the receipt of a proposal is that of a step
+step_of : (step : Proposal) (receipt : Receipt) → IsReceiptOf step receipt → is_step receipt ≡ true
+step_of step (Inserted number key value) told = refl
+step_of step (Deleted number key value) told = refl
+step_of step (Modified number key old value) told = refl
+step_of step (Shaped kind page other) told = refl
+step_of (insert a b c d) (Looked at key found) told = absurd told
+step_of (delete a b c) (Looked at key found) told = absurd told
+step_of (modify a b c d) (Looked at key found) told = absurd told
+step_of (consolidate a b c) (Looked at key found) told = absurd told
+step_of (split a b c d) (Looked at key found) told = absurd told
+step_of (term_add a b c d) (Looked at key found) told = absurd told
+step_of (grow a b c) (Looked at key found) told = absurd told
+step_of (mark a b c) (Looked at key found) told = absurd told
+step_of (merge a b c d) (Looked at key found) told = absurd told
+step_of (term_delete a b c d) (Looked at key found) told = absurd told
+
+-- a step is a moment
+pub filmed_step : {a b : Film} {f g : Bool} (step : Proposal) (receipt : Receipt) (old new : List Receipt) → IsReceiptOf step receipt → new ≡ old ++ receipt ∷ [] → IsSameChoice a b → (g ≡ false → f ≡ false) → (g ≡ false → b.moments ≡ one_more a.moments)
+    → IsFilmed a f old b g new
+filmed_step step receipt old new told more same failed counted = record {
+  choice = same;
+  failed = failed;
+  added = λ is. record {
+    steps = 1;
+    longer = ap steps_in more ∙ steps_more old receipt ∙ ap (λ (b : Bool). steps_in old + cond b 1 0) (step_of step receipt told) ∙ omega arith;
+    moments = counted is;
+  };
+}
+
+-- before the first row there is the moment of the new table
+pub films_begin : (rows : List Row) (film : Film) → film.moments ≡ 1 → IsFilmedUpTo rows 0 film []
+films_begin rows film one = record { replies = []; many = refl; told = go_none (map (λ (row : Row). row.act) rows); moments = one }
+
+-- and then one row after the other
+pub films_go_on : (rows : List Row) (place : ℕ) (row : Row) (a b : Film) (old new : List Receipt) → place < length rows → get_or rows place row ≡ row → IsFilmedUpTo rows place a old → DoesRow row a old b new → IsFilmedUpTo rows (place + 1) b new
+films_go_on rows place row a b old new inside at before does =
+    let acts : List Act = map (λ (r : Row). r.act) rows in
+    let d : Act = row.act in
+    let act : get_or acts place d ≡ row.act = get_or-map (λ (r : Row). r.act) rows place row d inside ∙ ap (λ (r : Row). r.act) at in
+    let answers : GoesWith (get_or acts place d) does.reply does.told.added = subst (λ (a : Act). GoesWith a does.reply does.told.added) (sym act) does.told.answers in
+    let room : place < length acts = omega (arith, length-map rows (λ (r : Row). r.act), inside) in
+    record {
+      replies = before.replies ++ does.reply ∷ [];
+      many = length-append before.replies (does.reply ∷ []) ∙ ap (λ k. k + 1) before.many;
+      told = rw does.told.trail (go_more acts before.replies (told_in old) does.reply place d does.told.added before.many room before.told answers);
+      moments = does.moments.moments ∙ ap (moments_after does.moments.steps) before.moments ∙ after_more does.moments.steps (steps_in old) 1 ∙ ap (λ k. moments_after k 1) (sym does.moments.longer);
+    }

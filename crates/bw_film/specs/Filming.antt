@@ -1,10 +1,10 @@
 -- What a worker's steps make of a film.
-use Rattle.std.specs.Prelude.{◌≡◌, ℕ, zero, suc, ◌+◌, Bool, true, false, List, map, count_by}
+use Rattle.std.specs.Prelude.{◌≡◌, ℕ, zero, suc, ◌+◌, Bool, true, false, List, length, map, Option, Some, None, count_by}
 use Rattle.bw_step.specs.declared.receipt.Receipt.{Receipt}
 use Rattle.bw_step.specs.declared.receipt.Receipt.TheVariants.{Looked}
 use Rattle.bw_step.specs.Tellings.{told_in}
 use Rattle.bw_procedures.specs.declared.reply.Reply.{Reply}
-use Rattle.bw_procedures.specs.Told.{GoWith}
+use Rattle.bw_procedures.specs.Told.{AddsTold, GoWith}
 use Rattle.bw_scripts.specs.declared.answer.Answer.{Answer}
 use Rattle.bw_scripts.specs.declared.answer.Answer.TheVariants as answers
 use Rattle.bw_texts.specs.declared.trace.row.Row.{Row}
@@ -40,15 +40,27 @@ pub record IsFilmed (old : Film) (old_failed : Bool) (old_trail : List Receipt) 
   pub failed : new_failed ≡ false → old_failed ≡ false
   pub added : new_failed ≡ false → AddsMoments old old_trail new new_trail
 
--- the film of a trace has a moment for the new table and one for each step that did its rows
-pub record IsFilmOf (rows : List Row) (film : Film) : Type 0 where
-  pub trail : List Receipt
+-- the rows before a place are done, by a worker with this trail, and the film has a moment for the new table and one for each of its steps
+pub record IsFilmedUpTo (rows : List Row) (place : ℕ) (film : Film) (trail : List Receipt) : Type 0 where
   pub replies : List Reply
+  pub many : length replies ≡ place
   pub told : GoWith (map (λ row. row.act) rows) replies (told_in trail)
   pub moments : film.moments ≡ moments_after (steps_in trail) 1
 
+-- the film of a trace has a moment for the new table and one for each step that did its rows
+pub record IsFilmOf (rows : List Row) (film : Film) : Type 0 where
+  pub trail : List Receipt
+  pub done : IsFilmedUpTo rows (length rows) film trail
+
+-- a row is done: its receipts go with a reply, and its steps are moments
+pub record DoesRow (row : Row) (old : Film) (old_trail : List Receipt) (new : Film) (new_trail : List Receipt) : Type 0 where
+  pub reply : Reply
+  pub told : AddsTold row.act reply old_trail new_trail
+  pub moments : AddsMoments old old_trail new new_trail
+
 -- an answer makes a moment where the table is new or a step was taken
-abbrev pub makes_moment : Answer → Bool
-makes_moment answers.Made = true
-makes_moment (answers.Accepted receipt) = true
-makes_moment answer = false
+abbrev pub moments_with : Option Answer → ℕ → ℕ
+moments_with None moments = moments
+moments_with (Some answers.Made) moments = one_more moments
+moments_with (Some (answers.Accepted receipt)) moments = one_more moments
+moments_with (Some answer) moments = moments

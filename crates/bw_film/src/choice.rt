@@ -1,4 +1,4 @@
-ghost use Rattle.std.specs.Prelude.{◌≤◌, ◌↔◌, IsTrue};
+ghost use Rattle.std.specs.Prelude.{◌≡◌, ◌≤◌, ◌<◌, ◌⊎◌, true, false};
 
 use bw_keys::Key;
 
@@ -16,8 +16,12 @@ pub struct Choice {
 impl Choice {
     /// Reports whether the moment is drawn.
     pub fn has(self, moment: u64) -> bool
-        ensures { IsTrue result ↔ ((self.from ≤ moment) × (moment ≤ self.to)) }
+        ensures inside { result ≡ true → (self.from ≤ moment) × (moment ≤ self.to) }
+        ensures outside { result ≡ false → (moment < self.from) ⊎ (self.to < moment) }
     {
-        self.from <= moment && moment <= self.to
+        if moment < self.from || self.to < moment {
+            return false;
+        }
+        true
     }
 }

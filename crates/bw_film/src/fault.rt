@@ -1,5 +1,8 @@
 //! Why there is no film.
 
+ghost use Rattle.std.specs.Prelude.{◌≡◌};
+ghost use Rattle.bw_film.specs.declared.fault.FilmFault.TheVariants as film_fault;
+
 use bw_delta::NoMemory;
 use bw_keys::BadConfig;
 use bw_procedures::Fault;
@@ -22,12 +25,16 @@ pub enum FilmFault {
 }
 
 impl From<NoMemory> for FilmFault {
+    ghost from_gives = { λ _ fault. fault ≡ film_fault.Memory };
+
     fn from(_: NoMemory) -> FilmFault {
         FilmFault::Memory
     }
 }
 
 impl From<ScriptFault> for FilmFault {
+    ghost from_gives = { λ script fault. fault ≡ film_fault.Script script };
+
     fn from(fault: ScriptFault) -> FilmFault {
         FilmFault::Script(fault)
     }

@@ -1,10 +1,10 @@
 //! Films of traces.
 
-ghost use Rattle.std.specs.Prelude.{◌≡◌, IfOk, IfErr};
-ghost use Rattle.bw_film.specs.Faults.{IsRowsFault};
-ghost use Rattle.bw_film.specs.Filming.{IsFilmOf};
+ghost use Rattle.std.specs.Prelude.{◌≡◌, IfOk, IfErr, OnOk};
+ghost use Rattle.bw_film.specs.Faults.{IsRowFault, IsRowsFault};
+ghost use Rattle.bw_film.specs.Filming.{DoesRow, IsFilmOf, IsSameChoice};
 
-use crate::camera::Filmed;
+use crate::camera::{Filmed, Shows};
 use crate::choice::Choice;
 use crate::fault::FilmFault;
 use crate::film::Film;
@@ -12,7 +12,8 @@ use crate::telling::Telling;
 use bw_alone::Alone;
 use bw_delta::NoMemory;
 use bw_keys::Config;
-use bw_procedures::do_act;
+use bw_procedures::{Steps, do_act};
+use bw_step::Step;
 use bw_table::{NewFault, Table};
 use bw_texts::{Row, write_trace};
 use std::alloc::Global;
@@ -54,12 +55,17 @@ pub fn film_rows(
 }
 
 /// Does the row with this number, counted from 1.
-fn do_row(
+fn do_row<S: Steps<Global, Step<Global>> + Shows + Drop>(
     alloc: Global,
-    filmed: &mut Filmed<Alone<'_, Global>>,
+    filmed: &mut Filmed<S>,
     row: Row,
     number: usize,
-) -> Result<(), FilmFault> {
+) -> Result<(), FilmFault>
+    ensures choice { IsSameChoice filmed.old.film filmed.new.film }
+    ensures done { OnOk result (DoesRow row filmed.old.film (S.seen filmed.old.steps).trail
+        filmed.new.film (S.seen filmed.new.steps).trail) }
+    ensures fault { IfErr result (IsRowFault row.worker number) }
+{
     filmed.row = row_text(alloc, row, number)?;
     match do_act(filmed, alloc, row.act) {
         Err(fault) => Err(FilmFault::Stopped(row.worker as usize, number, fault)),

@@ -1,7 +1,11 @@
 //! Films of scripts of steps.
 
-ghost use Rattle.std.specs.Prelude.{◌≡◌, ◌≤◌, IfOk, IfErr};
-ghost use Rattle.bw_film.specs.Faults.{IsScriptFault};
+ghost use Rattle.std.specs.Prelude.{◌≡◌, ◌≤◌, Some, IfOk, IfErr, OnOk};
+ghost use Rattle.bw_law.specs.Tables.{TableValue};
+ghost use Rattle.bw_scripts.specs.Played.{one_more};
+ghost use Rattle.bw_scripts.specs.declared.script.TheConstants.{MOST_LINES};
+ghost use Rattle.bw_film.specs.Faults.{IsLineFault, IsScriptFault};
+ghost use Rattle.bw_film.specs.Filming.{moments_with};
 
 use crate::choice::Choice;
 use crate::fault::FilmFault;
@@ -47,7 +51,12 @@ fn take(
     player: &mut Player,
     film: &mut Film,
     line: io::Result<String>,
-) -> Result<(), FilmFault> {
+) -> Result<(), FilmFault>
+    ensures choice { film.new.choice ≡ film.old.choice }
+    ensures counted { OnOk result (player.new.lines ≡ one_more player.old.lines) }
+    ensures within { OnOk result (player.new.lines ≤ MOST_LINES) }
+    ensures fault { IfErr result (IsLineFault (one_more player.old.lines)) }
+{
     let number = player.lines().saturating_add(1);
     match line {
         Err(error) => Err(FilmFault::Script(ScriptFault::of_reader(number, &error))),
@@ -67,7 +76,11 @@ fn film_answer(
     film: &mut Film,
     line: &str,
     answer: Option<Answer>,
-) -> Result<(), NoMemory> {
+) -> Result<(), NoMemory>
+    ensures choice { film.new.choice ≡ film.old.choice }
+    ensures moments { OnOk result ((table : TableValue) → player.now.table ≡ Some table
+        → film.new.moments ≡ moments_with answer film.old.moments) }
+{
     let Some(table) = player.table() else {
         return Ok(());
     };
