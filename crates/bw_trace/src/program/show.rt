@@ -68,21 +68,23 @@ pub(crate) fn write_film<R: Read + Drop, W: Write>(
     input: R,
     output: &mut W,
 ) -> Result<(), Fault> {
-    let Setting {
-        config,
-        workers,
-        ..
-    } = options.setting;
+    let FilmOptions {
+        setting,
+        steps,
+        from,
+        to,
+        key,
+    } = options;
     let choice = Choice {
-        from: options.from.unwrap_or(0),
-        to: options.to.unwrap_or(u64::MAX),
-        key: options.key,
+        from: from.unwrap_or(0),
+        to: to.unwrap_or(u64::MAX),
+        key,
     };
-    let film = if options.steps {
+    let film = if steps {
         film_script(alloc, choice, input)?
     } else {
-        let rows = read_trace(alloc, input, workers)?;
-        film_rows(alloc, config, choice, &rows)?
+        let rows = read_trace(alloc, input, setting.workers)?;
+        film_rows(alloc, setting.config, choice, &rows)?
     };
     let page = page_of(alloc, &film)?;
     output.write_all(&page)?;
