@@ -17,46 +17,20 @@ use Rattle.bw_procedures.proofs.Receipts.{go_more, go_none}
 use Rattle.bw_texts.specs.declared.trace.row.Row.{Row}
 use Rattle.bw_film.specs.declared.film.Film.{Film}
 use Rattle.bw_film.specs.Choices.{one_more}
-use Rattle.bw_film.specs.Filming.{AddsMoments, DoesRow, IsFilmed, IsFilmedUpTo, IsSameChoice, is_step, moments_after, steps_in}
-
--- moments after more steps still
-after_more : (more steps moments : ℕ) → moments_after more (moments_after steps moments) ≡ moments_after (more + steps) moments
-after_more zero steps moments = refl
-after_more (suc more) steps moments = ap one_more (after_more more steps moments)
-
-adds_none : (film : Film) (old new : List Receipt) → steps_in new ≡ steps_in old → AddsMoments film old film new
-adds_none film old new same = record { steps = 0; longer = same; moments = refl }
-
-adds_more : {a b c : Film} {x y z : List Receipt} → AddsMoments a x b y → AddsMoments b y c z → AddsMoments a x c z
-adds_more {a} {b} {c} first then = record {
-  steps = then.steps + first.steps;
-  longer = omega (arith, first.longer, then.longer);
-  moments = then.moments ∙ ap (moments_after then.steps) first.moments ∙ after_more then.steps first.steps a.moments;
-}
-
--- without a step more there is no moment more
-filmed_as : (film : Film) (failed : Bool) (old new : List Receipt) → steps_in new ≡ steps_in old → IsFilmed film failed old film failed new
-filmed_as film failed old new same = record { choice = refl; failed = λ is. is; added = λ is. adds_none film old new same }
-
-pub filmed_stay : (film : Film) (failed : Bool) (trail : List Receipt) → IsFilmed film failed trail film failed trail
-filmed_stay film failed trail = filmed_as film failed trail trail refl
+use Rattle.bw_film.specs.Filming.{DoesRow, IsFilmed, IsFilmedUpTo, IsSameChoice, after_more, filmed_as, is_step, moments_after, steps_in}
 
 pub filmed_same : (film : Film) (failed : Bool) (old new : List Receipt) → new ≡ old → IsFilmed film failed old film failed new
 filmed_same film failed old new same = filmed_as film failed old new (ap steps_in same)
-
-pub filmed_join : {a b c : Film} {f g h : Bool} {x y z : List Receipt} → IsFilmed a f x b g y → IsFilmed b g y c h z → IsFilmed a f x c h z
-filmed_join first then = record {
-  choice = then.choice ∙ first.choice;
-  failed = λ is. first.failed (then.failed is);
-  added = λ is. adds_more (first.added (then.failed is)) (then.added is);
-}
 
 steps_more : (trail : List Receipt) (receipt : Receipt) → steps_in (trail ++ receipt ∷ []) ≡ steps_in trail + cond (is_step receipt) 1 0
 steps_more trail receipt = sum_by_push (λ (r : Receipt). cond (is_step r) 1 0) trail receipt
 
 kept_steps : (kept : Bool) (trail : List Receipt) (receipt : Receipt) → is_step receipt ≡ false → steps_in (if kept then trail ++ receipt ∷ [] else trail) ≡ steps_in trail
 kept_steps false trail receipt no = refl
-kept_steps true trail receipt no = let more : cond (is_step receipt) 1 0 ≡ 0 = ap (λ (b : Bool). cond b 1 0) no in steps_more trail receipt ∙ ap (λ k. steps_in trail + k) more ∙ omega arith
+kept_steps true trail receipt no =
+    let more : cond (is_step receipt) 1 0 ≡ 0 = ap (λ (b : Bool). cond b 1 0) no in
+    let none : steps_in trail + 0 ≡ steps_in trail = omega arith in
+    steps_more trail receipt ∙ ap (λ k. steps_in trail + k) more ∙ none
 
 look_steps : (keep : Keep) (key : ℕ) (look : Option Look) (trail : List Receipt) → steps_in (trail_after_look keep key look trail) ≡ steps_in trail
 look_steps keep key None trail = refl
@@ -91,7 +65,7 @@ filmed_step step receipt old new told more same failed counted = record {
   failed = failed;
   added = λ is. record {
     steps = 1;
-    longer = ap steps_in more ∙ steps_more old receipt ∙ ap (λ (b : Bool). steps_in old + cond b 1 0) (step_of step receipt told) ∙ omega arith;
+    longer = let one : steps_in old + 1 ≡ 1 + steps_in old = omega arith in ap steps_in more ∙ steps_more old receipt ∙ ap (λ (b : Bool). steps_in old + cond b 1 0) (step_of step receipt told) ∙ one;
     moments = counted is;
   };
 }
@@ -110,7 +84,7 @@ films_go_on rows place row a b old new inside at before does =
     let room : place < length acts = omega (arith, length-map rows (λ (r : Row). r.act), inside) in
     record {
       replies = before.replies ++ does.reply ∷ [];
-      many = length-append before.replies (does.reply ∷ []) ∙ ap (λ k. k + 1) before.many;
+      many = omega (arith, length-append before.replies (does.reply ∷ []), before.many);
       told = rw does.told.trail (go_more acts before.replies (told_in old) does.reply place d does.told.added before.many room before.told answers);
       moments = does.moments.moments ∙ ap (moments_after does.moments.steps) before.moments ∙ after_more does.moments.steps (steps_in old) 1 ∙ ap (λ k. moments_after k 1) (sym does.moments.longer);
     }

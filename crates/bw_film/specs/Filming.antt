@@ -1,5 +1,6 @@
 -- What a worker's steps make of a film.
-use Rattle.std.specs.Prelude.{◌≡◌, ℕ, zero, suc, ◌+◌, Bool, true, false, List, length, map, Option, Some, None, count_by}
+use Rattle.std.specs.Prelude.{◌≡◌, refl, ℕ, zero, suc, ◌+◌, Bool, true, false, List, length, map, Option, Some, None, count_by}
+use Rattle.std.proofs.Common.{◌∙◌, ap, arith}
 use Rattle.bw_step.specs.declared.receipt.Receipt.{Receipt}
 use Rattle.bw_step.specs.declared.receipt.Receipt.TheVariants.{Looked}
 use Rattle.bw_step.specs.Tellings.{told_in}
@@ -39,6 +40,37 @@ pub record IsFilmed (old : Film) (old_failed : Bool) (old_trail : List Receipt) 
   pub choice : IsSameChoice old new
   pub failed : new_failed ≡ false → old_failed ≡ false
   pub added : new_failed ≡ false → AddsMoments old old_trail new new_trail
+
+-- moments after more steps still
+pub after_more : (more steps moments : ℕ) → moments_after more (moments_after steps moments) ≡ moments_after (more + steps) moments
+after_more zero steps moments = let same : steps ≡ 0 + steps = omega arith in ap (λ k. moments_after k moments) same
+after_more (suc more) steps moments =
+    let same : suc (more + steps) ≡ suc more + steps = omega arith in
+    ap one_more (after_more more steps moments) ∙ ap (λ k. moments_after k moments) same
+
+adds_none : (film : Film) (old new : List Receipt) → steps_in new ≡ steps_in old → AddsMoments film old film new
+adds_none film old new same = let none : steps_in old ≡ 0 + steps_in old = omega arith in record { steps = 0; longer = same ∙ none; moments = refl }
+
+adds_more : {a b c : Film} {x y z : List Receipt} → AddsMoments a x b y → AddsMoments b y c z → AddsMoments a x c z
+adds_more {a} {b} {c} first then = record {
+  steps = then.steps + first.steps;
+  longer = omega (arith, first.longer, then.longer);
+  moments = then.moments ∙ ap (moments_after then.steps) first.moments ∙ after_more then.steps first.steps a.moments;
+}
+
+-- without a step more there is no moment more
+pub filmed_as : (film : Film) (failed : Bool) (old new : List Receipt) → steps_in new ≡ steps_in old → IsFilmed film failed old film failed new
+filmed_as film failed old new same = record { choice = refl; failed = λ is. is; added = λ is. adds_none film old new same }
+
+pub filmed_stay : (film : Film) (failed : Bool) (trail : List Receipt) → IsFilmed film failed trail film failed trail
+filmed_stay film failed trail = filmed_as film failed trail trail refl
+
+pub filmed_join : {a b c : Film} {f g h : Bool} {x y z : List Receipt} → IsFilmed a f x b g y → IsFilmed b g y c h z → IsFilmed a f x c h z
+filmed_join first then = record {
+  choice = then.choice ∙ first.choice;
+  failed = λ is. first.failed (then.failed is);
+  added = λ is. adds_more (first.added (then.failed is)) (then.added is);
+}
 
 -- the rows before a place are done, by a worker with this trail, and the film has a moment for the new table and one for each of its steps
 pub record IsFilmedUpTo (rows : List Row) (place : ℕ) (film : Film) (trail : List Receipt) : Type 0 where

@@ -26,7 +26,7 @@ abbrev pub frame_text : Frame → List ℕ
 frame_text frame =
     codes "<template data-moment=\"" ++ decimal frame.moment
     ++ attribute_text (codes "told") (string_bytes frame.told)
-    ++ attribute_text (codes "proved") frame.proved
+    ++ attribute_text (codes "proved") frame.proved.now
     ++ attribute_text (codes "row") (string_bytes frame.row)
     ++ attribute_text (codes "note") (string_bytes frame.note)
     ++ codes "\">\n" ++ string_bytes frame.drawing ++ codes "\n</template>\n"
@@ -53,4 +53,4 @@ span_text film =
 
 -- the page has each frame of the film once, in their order
 abbrev pub page_text : Film → List ℕ
-page_text film = HEAD ++ span_text film ++ BODY ++ flat_map frame_text film.frames.items ++ SCRIPT
+page_text film = HEAD.now ++ span_text film ++ BODY.now ++ flat_map frame_text film.frames.items ++ SCRIPT.now

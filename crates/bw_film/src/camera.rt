@@ -54,8 +54,7 @@ impl<S: Steps<Global, Step<Global>> + Shows + Drop> Filmed<S> {
 }
 
 impl<S: Steps<Global, Step<Global>> + Shows + Drop> Steps<Global, Step<Global>> for Filmed<S> {
-    ghost use Rattle.bw_film.specs.Filming.{IsFilmed};
-    ghost use Rattle.bw_film.proofs.Filming.{filmed_stay, filmed_join};
+    ghost use Rattle.bw_film.specs.Filming.{IsFilmed, filmed_join, filmed_stay};
 
     ghost seen = { λ s. S.seen s.steps };
 
@@ -95,22 +94,27 @@ impl<S: Steps<Global, Step<Global>> + Shows + Drop> Steps<Global, Step<Global>> 
         self.steps.root()
     }
 
+    #[tactic(auto, using(crate::proofs::Filming::filmed_same))]
     fn visit(&mut self, place: Place, key: Key, goal: u8) -> Next {
         self.steps.visit(place, key, goal)
     }
 
+    #[tactic(auto, using(crate::proofs::Filming::filmed_same))]
     fn peek(&mut self, pid: Pid) -> Option<View> {
         self.steps.peek(pid)
     }
 
+    #[tactic(auto, using(crate::proofs::Filming::filmed_look))]
     fn look(&mut self, pid: Pid, key: Key, keep: Keep) -> Result<Option<Look>, NoMemory> {
         self.steps.look(pid, key, keep)
     }
 
+    #[tactic(auto, using(crate::proofs::Filming::filmed_same))]
     fn copy_page(&mut self, pid: Pid, version: Version) -> Result<Chain<Global>, CopyFault> {
         self.steps.copy_page(pid, version)
     }
 
+    #[tactic(auto, using(crate::proofs::Filming::filmed_same, crate::proofs::Filming::filmed_step))]
     fn install(&mut self, step: Step<Global>) -> Result<Receipt, Denied> {
         let answer = self.steps.install(step);
         if let Ok(receipt) = answer {
@@ -119,6 +123,7 @@ impl<S: Steps<Global, Step<Global>> + Shows + Drop> Steps<Global, Step<Global>> 
         answer
     }
 
+    #[tactic(auto, using(crate::proofs::Filming::filmed_same))]
     fn idle(&mut self) {
         self.steps.idle();
     }

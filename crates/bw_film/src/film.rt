@@ -40,6 +40,7 @@ impl Film {
     }
 
     /// Adds the moment at which the table is so, and draws it if it is chosen.
+    #[tactic(auto, using(crate::proofs::Drawn::draws_one, crate::proofs::Drawn::draws_none))]
     pub(crate) fn add(
         &mut self,
         alloc: Global,
