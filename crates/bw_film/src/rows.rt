@@ -24,7 +24,7 @@ use std::alloc::Global;
 /// # Errors
 ///
 /// Fails with a bad configuration, with the first row that is given up, or if memory runs out.
-#[tactic(auto, using(crate::proofs::Filming::films_begin, crate::proofs::Filming::films_go_on))]
+#[tactic(auto, using(crate::proofs::Filming::films_begin, crate::proofs::Filming::films_go_on, crate::proofs::Faulty::row_gives_up))]
 pub fn film_rows(
     alloc: Global,
     config: Config,
