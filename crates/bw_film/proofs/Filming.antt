@@ -1,5 +1,5 @@
 -- Films of steps that follow each other.
-use Rattle.std.proofs.Common.{◌≡◌, ℕ, zero, suc, ◌+◌, ◌<◌, length, map, get_or, length-append, Bool, true, false, cond, List, [], ◌∷◌, ◌++◌, Option, Some, None, refl, sym, ◌∙◌, ap, subst, arith}
+use Rattle.std.proofs.Common.{◌≡◌, ℕ, zero, suc, ◌+◌, ◌<◌, length, map, get_or, length-append, Bool, true, false, cond, List, [], ◌∷◌, ◌++◌, Option, Some, None, Result, Ok, Err, refl, sym, ◌∙◌, ap, subst, arith}
 use Rattle.std.specs.Prelude.{if◌then◌else◌}
 use Rattle.std.proofs.lemmas.List.{length-map, get_or-map}
 use Rattle.std.proofs.lemmas.List.Sums.{sum_by_push}
@@ -9,7 +9,8 @@ use Rattle.bw_step.specs.declared.view.Look.{Look}
 use Rattle.bw_step.specs.Proposals.{Proposal, insert, delete, modify, consolidate, split, term_add, grow, mark, merge, term_delete}
 use Rattle.bw_step.specs.Steps.{IsReceiptOf}
 use Rattle.bw_procedures.specs.declared.steps.Keep.{Keep}
-use Rattle.bw_procedures.specs.Seen.{is_kept, trail_after_look}
+use Rattle.bw_delta.specs.declared.fault.NoMemory.{NoMemory}
+use Rattle.bw_procedures.specs.Seen.{Seen, Looked as LooksAt, is_kept, trail_after_look}
 use Rattle.bw_step.specs.Tellings.{told_in}
 use Rattle.bw_procedures.specs.declared.act.Act.{Act}
 use Rattle.bw_procedures.specs.Told.{GoesWith}
@@ -39,6 +40,10 @@ look_steps keep key (Some look) trail = kept_steps (is_kept keep look.found) tra
 -- a look is no step
 pub filmed_look : (film : Film) (failed : Bool) (keep : Keep) (key : ℕ) (look : Option Look) (old new : List Receipt) → new ≡ trail_after_look keep key look old → IsFilmed film failed old film failed new
 filmed_look film failed keep key look old new is = filmed_as film failed old new (ap steps_in is ∙ look_steps keep key look old)
+
+pub filmed_looked : (film : Film) (failed : Bool) (keep : Keep) (key : ℕ) (result : Result (Option Look) NoMemory) (old new : Seen) → LooksAt keep key result old new → IsFilmed film failed old.trail film failed new.trail
+filmed_looked film failed keep key (Ok look) old new seen = filmed_look film failed keep key look old.trail new.trail seen.1
+filmed_looked film failed keep key (Err no_memory) old new seen = filmed_same film failed old.trail new.trail (ap (λ (s : Seen). s.trail) seen)
 
 -- the receipt of a proposal is that of a step
 step_of : (step : Proposal) (receipt : Receipt) → IsReceiptOf step receipt → is_step receipt ≡ true

@@ -35,15 +35,18 @@ frame_text frame =
 abbrev pub moment_at : List Frame → ℕ → ℕ
 moment_at frames place = unwrap_or (option_map (λ frame. frame.moment) (slice_get frames place)) 0
 
-abbrev pub shown_text : ℕ → ℕ → ℕ → List ℕ
-shown_text first last moments = codes "Moments " ++ decimal first ++ codes " to " ++ decimal last ++ codes " are shown, of " ++ decimal moments ++ codes " in all"
+abbrev pub whole_text : ℕ → ℕ → ℕ → List ℕ
+whole_text first last moments = codes "Moments " ++ decimal first ++ codes " to " ++ decimal last ++ codes " are shown, of " ++ decimal moments ++ codes " in all."
+
+abbrev pub cut_text : ℕ → ℕ → ℕ → ℕ → List ℕ
+cut_text first last moments next = codes "Moments " ++ decimal first ++ codes " to " ++ decimal last ++ codes " are shown, of " ++ decimal moments ++ codes " in all: a page has " ++ decimal 200 ++ codes " at most, and --from " ++ decimal next ++ codes " goes on."
 
 -- which moments are shown, and where a page that is cut goes on
 abbrev pub span_between : ℕ → ℕ → ℕ → ℕ → List ℕ
 span_between first last moments to =
     if nat_lt (min (last + 1) (2 ^ 64 - 1)) moments && nat_lt last to
-    then shown_text first last moments ++ codes ": a page has 200 at most, and --from " ++ decimal (min (last + 1) (2 ^ 64 - 1)) ++ codes " goes on."
-    else shown_text first last moments ++ codes "."
+    then cut_text first last moments (min (last + 1) (2 ^ 64 - 1))
+    else whole_text first last moments
 
 abbrev pub span_text : Film → List ℕ
 span_text film =
