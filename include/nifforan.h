@@ -121,6 +121,7 @@ typedef struct nifforan_reply {
 typedef struct nifforan_count {
     uint32_t status; /* NIFFORAN_OK or NIFFORAN_CLOSED_HANDLE */
     uint64_t pairs;
+    uint64_t free_pages; /* how many pages more the map has room for; where there is none, no page is split */
 } nifforan_count;
 
 typedef struct nifforan_cleared {
@@ -155,7 +156,7 @@ uint32_t nifforan_create(nifforan *map, const nifforan_settings *settings);
 
 /* ---- Calls that look at a map, frozen or not. They take no memory, and give NIFFORAN_OK on each open handle. */
 
-/* How many pairs the map has. It takes no time to speak of. */
+/* How many pairs the map has, and how many pages more it has room for. It takes no time to speak of. */
 nifforan_count nifforan_pairs(nifforan *map);
 
 /* The value at the key. */

@@ -147,6 +147,7 @@ static void full(void) {
     const nifforan_settings few = { SIZE, 4, 1, 8, 1000, 0 };
     uint64_t told = 0, taken = 0;
     MUST(nifforan_create(&map, &few) == NIFFORAN_OK);
+    MUST(nifforan_pairs(&map).free_pages == 7);
     for (uint64_t key = 0; key < 100; key++) {
         const nifforan_reply put = nifforan_put(&map, key, key);
         const uint32_t said = put.status == NIFFORAN_OK ? put.care : put.status;
@@ -155,7 +156,7 @@ static void full(void) {
         taken += put.status == NIFFORAN_OK;
         MUST(nifforan_get(&map, key).found == (put.status == NIFFORAN_OK));
     }
-    MUST(told > 0 && nifforan_pairs(&map).pairs == taken);
+    MUST(told > 0 && nifforan_pairs(&map).pairs == taken && nifforan_pairs(&map).free_pages == 0);
     nifforan_close(&map);
 }
 

@@ -207,7 +207,7 @@ static void faults() {
     must_throw(NIFFORAN_BAD_FANOUT, [&] { Map map(bad); });
     Map map = Map::closed();
     MUST(map.try_open(bad) == NIFFORAN_BAD_FANOUT && map.try_open() == NIFFORAN_OK);
-    MUST(map.try_open() == NIFFORAN_OPEN_HANDLE);
+    MUST(map.try_open() == NIFFORAN_OPEN_HANDLE && map.free_pages() == nifforan_settings(NIFFORAN_USUAL_SETTINGS).pages - 1);
     map.put(3, 9);
     Map moved = std::move(map);
     must_throw(NIFFORAN_CLOSED_HANDLE, [&] { map.begin(); });

@@ -61,12 +61,10 @@ public:
     Reads(const Reads &) = delete;
     Reads &operator=(const Reads &) = delete;
 
-    std::uint64_t size() {
-        const nifforan_count count = nifforan_pairs(&handle);
-        check(count.status);
-        return count.pairs;
-    }
+    std::uint64_t size() { return count().pairs; }
     bool empty() { return size() == 0; }
+    // How many pages more there is room for. Where there is none, pairs go in all the same, into longer pages.
+    std::uint64_t free_pages() { return count().free_pages; }
     std::optional<std::uint64_t> get(std::uint64_t key) { return value(nifforan_get(&handle, key)); }
     bool contains(std::uint64_t key) { return get(key).has_value(); }
     // The value at the key, which throws std::out_of_range where there is none.
@@ -103,6 +101,11 @@ protected:
     void swap_handles(Reads &other) noexcept {
         std::swap(handle, other.handle);
         changes++;
+    }
+    nifforan_count count() {
+        const nifforan_count count = nifforan_pairs(&handle);
+        check(count.status);
+        return count;
     }
     static std::optional<std::uint64_t> value(const nifforan_reply &reply) {
         check(reply.status);

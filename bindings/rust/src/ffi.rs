@@ -63,6 +63,7 @@ pub struct Reply {
 pub struct Count {
     pub status: u32,
     pub pairs: u64,
+    pub free_pages: u64,
 }
 
 #[repr(C)]

@@ -70,6 +70,17 @@ impl Reads {
         self.len() == 0
     }
 
+    /// Returns how many pages more there is room for. It takes the same time however many.
+    pub fn free_pages(&self) -> usize {
+        // SAFETY: see `handle`.
+        unsafe { ffi::nifforan_pairs(self.handle()) }.free_pages as usize
+    }
+
+    /// Returns whether there is room for no further page. Pairs go in all the same, into longer pages.
+    pub fn is_full(&self) -> bool {
+        self.free_pages() == 0
+    }
+
     /// Returns the value at the key.
     pub fn get(&self, key: u64) -> Option<u64> {
         // SAFETY: see `handle`.

@@ -198,8 +198,10 @@ fn care_of_many_changes_is_that_of_the_last_one_cut_short() -> Result<(), Fault>
         ..Settings::default()
     };
     let mut map = Map::new(&settings)?;
+    assert_eq!((map.free_pages(), map.is_full()), (7, false));
     map.try_extend((0..1000).map(|key| (key, 1)))?;
     assert_eq!(map.care(), Some(Fault::TableFull));
+    assert_eq!((map.free_pages(), map.is_full()), (0, true));
     // the last page is too long, the first one isn't
     map.set(0, 2)?;
     assert_eq!(map.care(), None);

@@ -38,6 +38,13 @@ impl FreeList {
         Ok(FreeList { ids })
     }
 
+    /// The number of free ids.
+    pub(crate) fn len(&self) -> usize
+        ensures { result ≡ length self.now.ids }
+    {
+        self.ids.len()
+    }
+
     /// The id that a new page takes.
     #[tactic(auto, using(crate::proofs::FreeIds::last_ids))]
     pub(crate) fn last(&self) -> Option<u32>

@@ -1,5 +1,5 @@
 -- The map as its callers see it, and what a call makes of it.
-use Rattle.std.specs.Prelude.{◌≡◌, ℕ, Result, IfOk, ◌==◌, ◌&&◌, not, Bool, nat_le, nat_lt, List, [], ◌∷◌, Option, Some, None, filter, refl}
+use Rattle.std.specs.Prelude.{◌≡◌, ℕ, Result, IfOk, ◌==◌, ◌&&◌, not, Bool, nat_le, nat_lt, List, [], ◌∷◌, Option, Some, None, filter, length, refl}
 use Rattle.std.specs.Coded.{Coded, code_by, coded×, coded_ℕ, coded_list}
 use Rattle.std.specs.Cmp.Lexicographic.{pointwise}
 use Rattle.std.specs.Range.Bound.{start_index, end_index}
@@ -23,17 +23,18 @@ use Rattle.bw_procedures.specs.declared.reply.Set.TheVariants as sets
 abbrev pub PairList : Type 0
 PairList = List (ℕ × ℕ)
 
--- a map: its configuration, and its pairs in the order of their keys
+-- a map: its configuration, its pairs in the order of their keys, and how many pages more it has room for
 pub record MapValue : Type 0 where
   pub config : Config
   pub pairs : PairList
+  pub free : ℕ
 
 abbrev pub map_code : Coded MapValue
 map_code =
-    code_by (Config × PairList)
-    (coded× config.the_row.coded (coded_list (coded× coded_ℕ coded_ℕ)))
-    (λ m. (m.config, m.pairs))
-    (λ p. record { config = p.0; pairs = p.1 })
+    code_by (Config × PairList × ℕ)
+    (coded× config.the_row.coded (coded× (coded_list (coded× coded_ℕ coded_ℕ)) coded_ℕ))
+    (λ m. (m.config, m.pairs, m.free))
+    (λ p. record { config = p.0; pairs = p.1.0; free = p.1.1 })
     (λ _. refl)
 
 -- pairs put into a list, each at its place
@@ -48,7 +49,7 @@ pairs_of (slot ∷ slots) = put_all (leaf_pairs slot) (pairs_of slots)
 
 -- the map that a table has
 abbrev pub map_of : TableValue → MapValue
-map_of table = record { config = table.config; pairs = pairs_of table.slots }
+map_of table = record { config = table.config; pairs = pairs_of table.slots; free = length table.free }
 
 -- the table is lawful and booked, and its worker has no receipts
 pub record IsReady (table : TableValue) (trail : List Receipt) : Type 0 where

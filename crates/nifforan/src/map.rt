@@ -1,4 +1,4 @@
-ghost use Rattle.std.specs.Prelude.{◌≡◌, ◌↔◌, [], None, length, true};
+ghost use Rattle.std.specs.Prelude.{◌≡◌, ◌↔◌, ◌-◌, [], None, length, true};
 ghost use Rattle.std.specs.Prelude.{IsTrue, IsSome, IsOk, IfOk, IfErr, OnErr};
 ghost use Rattle.bw_keys.specs.Limits.{first_bad_field};
 ghost use Rattle.bw_keys.specs.Ranges.{end_of, key_count};
@@ -51,6 +51,7 @@ impl<A: Allocator + Copy> Map<A> {
     pub fn new(machine: Global, alloc: A, config: Config) -> Result<Map<A>, NewFault>
         ensures config { IfOk result (λ map. map.config ≡ config) }
         ensures empty { IfOk result (λ map. map.pairs ≡ []) }
+        ensures free { IfOk result (λ map. map.free ≡ config.pages - 1) }
         ensures fine { IsOk result → first_bad_field config ≡ None }
         ensures fault { IfErr result (IsNewFault config) }
     {
@@ -113,6 +114,21 @@ impl<A: Allocator + Copy> Map<A> {
         ensures { IsTrue result ↔ (self.now.pairs ≡ []) }
     {
         self.len() == 0
+    }
+
+    /// Returns how many pages more the map has room for, in constant time.
+    pub fn free_pages(&self) -> usize
+        ensures { result ≡ self.now.free }
+    {
+        self.worker.owner.table.value.free_pages()
+    }
+
+    /// Returns whether the map has room for no further page, in constant time. Then no page is split,
+    /// and a call that would split one reports [`Fault::TableFull`].
+    pub fn is_full(&self) -> bool
+        ensures { IsTrue result ↔ (self.now.free ≡ 0) }
+    {
+        self.free_pages() == 0
     }
 
     /// Returns the value of the key, if it has one. Takes no memory.

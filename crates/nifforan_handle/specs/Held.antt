@@ -1,5 +1,5 @@
 -- What nifforan's words say of a handle, by what it holds.
-use Rattle.std.specs.Prelude.{◌≡◌, ℕ, Bool, true, false, [], Option, Some, None, if◌then◌else◌}
+use Rattle.std.specs.Prelude.{◌≡◌, ℕ, ◌-◌, Bool, true, false, [], Option, Some, None, if◌then◌else◌}
 use Rattle.std.specs.Arc.{arc_value}
 use Rattle.bw_keys.specs.Ranges.{key_count}
 use Rattle.bw_keys.specs.declared.config.Config.{Config}
@@ -22,9 +22,17 @@ abbrev pub config_of_map : Option MapValue → Option Config
 config_of_map None = None
 config_of_map (Some map) = Some map.config
 
+abbrev free_of_map : Option MapValue → ℕ
+free_of_map None = 0
+free_of_map (Some map) = map.free
+
 -- the pairs of the map; where none is held, there are none
 abbrev pub pairs_in : Held → PairList
 pairs_in held = pairs_of_map (map_in held)
+
+-- how many pages more the map has room for; where none is held, there are none
+abbrev pub free_in : Held → ℕ
+free_in held = free_of_map (map_in held)
 
 -- the configuration of the map, if one is held
 abbrev pub config_in : Held → Option Config
@@ -57,4 +65,4 @@ abbrev pub pairs_between : ℕ → High → Held → PairList
 pairs_between low high held = within low (end_at high) (pairs_in held)
 
 abbrev pub empty_map : Config → MapValue
-empty_map config = record { config = config; pairs = [] }
+empty_map config = record { config = config; pairs = []; free = config.pages - 1 }

@@ -115,31 +115,39 @@ impl Reply {
     }
 }
 
-/// The number of pairs of a map.
+/// The number of pairs of a map, and of the pages that it has still room for.
 #[repr(C)]
 #[derive(Clone, Copy)]
 pub struct Count {
     /// `OK` or `CLOSED`.
     pub status: u32,
     pub pairs: u64,
+    pub free_pages: u64,
 }
 
 impl Count {
     pub(crate) fn closed() -> Count
         ensures status { result.status ≡ CLOSED }
         ensures pairs { result.pairs ≡ 0 }
+        ensures free { result.free_pages ≡ 0 }
     {
         Count {
             status: CLOSED,
             pairs: 0,
+            free_pages: 0,
         }
     }
 
-    pub(crate) fn of(pairs: u64) -> Count
+    pub(crate) fn of(pairs: u64, free_pages: u64) -> Count
         ensures status { result.status ≡ OK }
         ensures pairs { result.pairs ≡ pairs }
+        ensures free { result.free_pages ≡ free_pages }
     {
-        Count { status: OK, pairs }
+        Count {
+            status: OK,
+            pairs,
+            free_pages,
+        }
     }
 }
 

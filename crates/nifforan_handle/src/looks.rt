@@ -4,7 +4,7 @@ ghost use Rattle.std.specs.Prelude.{◌≡◌, ◌≢◌, ◌↔◌, None, lengt
 ghost use Rattle.bw_delta.specs.Entries.{at, first_entry, last_entry, first_from, last_upto};
 ghost use Rattle.nifforan_handle.specs.Answers.{had, IsZeroWithout};
 ghost use Rattle.nifforan_handle.specs.Calls.{Finds, ReadsInto};
-ghost use Rattle.nifforan_handle.specs.Held.{map_in, pairs_in, pairs_between};
+ghost use Rattle.nifforan_handle.specs.Held.{map_in, pairs_in, free_in, pairs_between};
 ghost use Rattle.nifforan_handle.specs.declared.status.TheConstants.{CLOSED, OK};
 
 use crate::answer::{Count, Found, Pair, Read, Reply};
@@ -15,18 +15,19 @@ use crate::status::CLOSED;
 use std::alloc::Global;
 
 impl Handle {
-    /// Returns the number of pairs.
+    /// Returns the number of pairs, and how many pages more the map has room for.
     pub fn pairs(&mut self, alloc: Global) -> Count
         ensures closed { (map_in self.old.held ≡ None) ↔ (result.status ≡ CLOSED) }
         ensures open { (map_in self.old.held ≢ None) ↔ (result.status ≡ OK) }
         ensures pairs { result.pairs ≡ length (pairs_in self.old.held) }
+        ensures free { result.free_pages ≡ free_in self.old.held }
         ensures unchanged { self.new.held ≡ self.old.held }
     {
         let Some(held) = self.take(alloc) else {
             return Count::closed();
         };
         let count = match held.map() {
-            Some(map) => Count::of(map.len()),
+            Some(map) => Count::of(map.len(), map.free_pages() as u64),
             None => Count::closed(),
         };
         self.hold(alloc, held);

@@ -271,8 +271,10 @@ fn a_fault_of_extend_stands_beside_its_reply(rt: HostRuntime) -> Result<(), Fail
         ..Config::default()
     };
     let mut map = Map::new(rt.alloc(), rt.alloc(), config)?;
+    assert_eq!(rt; map.free_pages(), 7);
     let done = map.extend((0..100).map(|key| (key, key)))?;
     assert_eq!(rt; done.fault, Some(Fault::TableFull));
     assert_eq!(rt; map.len(), 100);
+    assert!(rt; map.is_full(), "a call said that it was full");
     Ok(())
 }
