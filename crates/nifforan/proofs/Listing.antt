@@ -1,5 +1,5 @@
 -- The list that is a table's map, and what it is after a change.
-use Rattle.std.proofs.Common.{◌≡◌, ◌≢◌, ◌⊎◌, ◌↔◌, ℕ, zero, suc, ◌+◌, ◌<◌, ◌≤◌, ◌^◌, true, false, cond, eqb, List, [], ◌∷◌, Option, Some, None, refl, sym, ◌∙◌, ap, subst, inl, inr, ⊎_elim, arith}
+use Rattle.std.proofs.Common.{◌≡◌, ◌≢◌, ◌⊎◌, ◌↔◌, ℕ, zero, suc, ◌+◌, ◌-◌, ◌<◌, ◌≤◌, ◌^◌, true, false, cond, eqb, List, [], ◌∷◌, length, Option, Some, None, refl, sym, ◌∙◌, ap, subst, inl, inr, ⊎_elim, arith}
 use Rattle.std.proofs.lemmas.Bool.{cases_eq, cases_lt, cases_Bool, and_parts, eqb-true}
 use Rattle.std.proofs.lemmas.Bool.Decides.{nat_tests}
 use Rattle.bw_keys.specs.declared.config.Config.{Config}
@@ -11,7 +11,7 @@ use Rattle.bw_delta.proofs.Rises.{rises-lower, rises-put, rises-without}
 use Rattle.bw_step.specs.Stages.{is_in_row}
 use Rattle.bw_law.specs.Laws.{IsTheMap}
 use Rattle.bw_law.specs.Slots.{SlotValue, slot_in, pairs_in}
-use Rattle.bw_law.specs.Tables.{TableValue, slot_at, Lawful, Maps, SameMap, IsValueAt, ChangesKey, is_leaf_in_row, leaf_pairs, new_table}
+use Rattle.bw_law.specs.Tables.{TableValue, slot_at, Lawful, Maps, SameMap, IsValueAt, ChangesKey, is_leaf_in_row, leaf_pairs, new_table, ids_down}
 use Rattle.bw_law.proofs.Facts.{range_is_among_keys}
 use Rattle.bw_law.proofs.Lists.{option_cases, at-put, at-without}
 use Rattle.bw_law.proofs.MapAndTerms.{leaf_pairs_rise}
@@ -126,6 +126,15 @@ module _ (table : TableValue) (law : Lawful table) where
   pub value_is : (key : ℕ) (found : Option ℕ) → IsValueAt table.slots key found → found ≡ at key (pairs_of table.slots)
   value_is key found is = same_option found (at key (pairs_of table.slots))
       (λ value. ((λ some. (pairs_are.same key value).1 ((is value).0 some)), (λ there. (is value).1 ((pairs_are.same key value).0 there))))
+
+-- a new table's free pages are all but one
+free_ids : (n : ℕ) → length (ids_down n) ≡ n - 1
+free_ids zero = refl
+free_ids (suc zero) = refl
+free_ids (suc (suc n)) = let rest : length (ids_down (suc n)) ≡ suc n - 1 = free_ids (suc n) in omega arith
+
+pub new_is_free : (config : Config) → length (new_table config).free ≡ config.pages - 1
+new_is_free config = free_ids config.pages
 
 -- a new table has no pairs
 pub new_is_empty : (config : Config) → first_bad_field config ≡ None → config.first_version < 2 ^ 64 → pairs_of (new_table config).slots ≡ []

@@ -31,9 +31,9 @@ pub record MapValue : Type 0 where
 
 abbrev pub map_code : Coded MapValue
 map_code =
-    code_by (Config × PairList × ℕ)
+    code_by (Config × (PairList × ℕ))
     (coded× config.the_row.coded (coded× (coded_list (coded× coded_ℕ coded_ℕ)) coded_ℕ))
-    (λ m. (m.config, m.pairs, m.free))
+    (λ m. (m.config, (m.pairs, m.free)))
     (λ p. record { config = p.0; pairs = p.1.0; free = p.1.1 })
     (λ _. refl)
 
