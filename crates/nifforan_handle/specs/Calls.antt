@@ -1,5 +1,5 @@
 -- What the calls on a handle do to what it holds.
-use Rattle.std.specs.Prelude.{◌≡◌, ◌≢◌, ◌↔◌, ℕ, List, Option, None, IfSome, length, take, drop, min}
+use Rattle.std.specs.Prelude.{◌≡◌, ◌≢◌, ◌↔◌, ℕ, false, List, Option, None, IfSome, length, take, drop, min}
 use Rattle.bw_keys.specs.Limits.{first_bad_field}
 use Rattle.nifforan.specs.Calls.{Clears}
 use Rattle.nifforan.specs.Maps.{PairList}
@@ -14,7 +14,7 @@ use Rattle.nifforan_handle.specs.declared.settings.Settings.{Settings}
 use Rattle.nifforan_handle.specs.declared.settings.TheConstants.{SETTINGS_SIZE}
 use Rattle.nifforan_handle.specs.declared.status.TheConstants.{BAD_SIZE, CLOSED, FROZEN, NO_MEMORY, OK, OPEN}
 use Rattle.nifforan_handle.specs.Answers.{had, next_key, pair_of, IsCare, IsZeroWithout, IsZeroAtEnd, IsZeroWithoutPair}
-use Rattle.nifforan_handle.specs.Held.{map_in, pairs_in, config_in, empty_map, IsFrozen}
+use Rattle.nifforan_handle.specs.Held.{map_in, pairs_in, config_in, empty_map, is_own, IsOwn, IsFrozen}
 use Rattle.nifforan_handle.specs.Reading.{are_pairs, first_key}
 use Rattle.nifforan_handle.specs.Statuses.{config_of, status_of_field, IsStatus}
 
@@ -37,8 +37,11 @@ pub record Writes (Does : Option ℕ → PairList → PairList → Type 0) (it :
   pub nothing : it.status ≢ OK → had it ≡ None
   pub zero : IsZeroWithout it
   pub care : IsCare it
-  pub unchanged : it.status ≢ OK → new ≡ old
+  pub unchanged : it.status ≢ OK → pairs_in new ≡ pairs_in old
   pub config : config_in new ≡ config_in old
+  -- a map of the handle's own stays its own, and anything else stays as it was
+  pub own : IsOwn old → IsOwn new
+  pub others : is_own old ≡ false → new ≡ old
 
 -- the removal of the keys from the low on and below the end
 pub record ClearsHeld (low end : ℕ) (it : Cleared) (old new : Held) : Type 0 where

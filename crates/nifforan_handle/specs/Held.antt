@@ -47,7 +47,7 @@ is_frozen (Frozen shared) = true
 abbrev pub IsFrozen : Held → Type 0
 IsFrozen held = is_frozen held ≡ true
 
-abbrev is_own : Held → Bool
+abbrev pub is_own : Held → Bool
 is_own Closed = false
 is_own (Own map) = true
 is_own (Frozen shared) = false
