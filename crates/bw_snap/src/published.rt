@@ -11,6 +11,7 @@ ghost use Rattle.bw_law.specs.Tables.{new_table};
 ghost use Rattle.bw_table.specs.Answers.{IsDenialFor};
 ghost use Rattle.bw_table.specs.InPlaces.{IsDoneAtOnce, IsRecordedAtOnce, IsConsolidatedAtOnce, IsHalvedAtOnce, IsPostedByOne};
 ghost use Rattle.bw_table.specs.InPlaces.{consolidating, half_reasons, halving};
+ghost use Rattle.bw_table.specs.Orders.{HasPairs};
 ghost use Rattle.bw_tree.specs.Shares.{no_changes, CountsIn, CountsAtOnce, IsReceiptAtOnce, IsConsolidationOf};
 ghost use Rattle.bw_tree.specs.Trees.{IsTree, IsClosed, Leads, OpensFor};
 ghost use Rattle.bw_snap.specs.Ends.{unpublished, noted_since};
@@ -128,6 +129,13 @@ impl<R: Wait + Drop, N: Naming, D: Ledger> Published<R, N, D> {
         ensures published { IsPublished N.config self.now }
     {
         self.booked.table()
+    }
+
+    /// Returns how many pairs the map has, with what is pending.
+    pub fn len(&self) -> u64
+        ensures pairs { HasPairs self.now.table result }
+    {
+        self.booked.len()
     }
 
     /// Returns a new reader, while nothing is published.

@@ -175,6 +175,18 @@ impl<R: Wait + Copy, N: Naming, D: Ledger> Shared<Global, Step<Global>> for Read
         Some(self.published.lock(&self.rt).table().look_up(key))
     }
 
+    fn next_at(&self, key: Key) -> Option<(Key, u64)> {
+        self.published.lock(&self.rt).table().next_at(key)
+    }
+
+    fn previous_at(&self, key: Key) -> Option<(Key, u64)> {
+        self.published.lock(&self.rt).table().previous_at(key)
+    }
+
+    fn len(&self) -> u64 {
+        self.published.lock(&self.rt).len()
+    }
+
     #[inline(always)]
     fn change_at_once(&self, share: &mut Share<N, D>, key: Key, wished: Wished) -> Option<AtOnce> {
         self.published

@@ -42,6 +42,10 @@ new_book config table totals is fine fits none =
     let empty = new_law config fine fits in
     rw (is, none) (record { lawful = empty.lawful; booked = empty.booked; book = refl })
 
+-- a table whose book was counted in the ledgers
+pub begun_book : (table : TableValue) (totals : ShareValue) → Lawful table → Booked table → totals ≡ shared_in table.book → IsBookOf table totals
+begun_book table totals lawful booked begun = record { lawful = lawful; booked = booked; book = sym begun }
+
 -- what is counted in a book is counted so in what the shares hold of it
 shares_count : (book : Book) (told : Telling) → shared_in (book_with book told) ≡ share_with (shared_in book) told
 shares_count book (change number key None None) = refl

@@ -64,6 +64,10 @@ IsConsolidationOf page receipt = receipt ≡ Shaped kinds.Consolidate page None
 abbrev pub sum_of : List ShareValue → ShareValue
 sum_of shares = share_of (sum_by (λ (share : ShareValue). share.inserted) shares) (sum_by (λ (share : ShareValue). share.removed) shares)
 
+-- what two shares have together
+abbrev pub together : ShareValue → ShareValue → ShareValue
+together one other = share_of (one.inserted + other.inserted) (one.removed + other.removed)
+
 -- a type with this name and this number of parts may stand for the blank ledger
 abbrev pub Opens : ℕ → ℕ → Blank → Type 0
 Opens name parts blank = (blank.name ≡ name) × (blank.parts ≡ parts)

@@ -1,6 +1,6 @@
 //! A table whose book is the sum of its workers' shares, at every moment outside its own calls.
 
-ghost use Rattle.std.specs.Prelude.{◌≡◌, ◌≢◌, ◌<◌, ◌↔◌, None, Some, All, length};
+ghost use Rattle.std.specs.Prelude.{◌≡◌, ◌≢◌, ◌+◌, ◌-◌, ◌<◌, ◌↔◌, None, Some, All, length};
 ghost use Rattle.std.specs.Prelude.{IsOk, IfOk, IfErr, OnOk, OnErr, IfSome, IfNone};
 ghost use Rattle.bw_step.specs.ProposalView.{proposal_of};
 ghost use Rattle.bw_law.specs.Tables.{new_table, TellsMap};
@@ -10,13 +10,14 @@ ghost use Rattle.bw_law.specs.Refusals.{refusal};
 ghost use Rattle.bw_table.specs.Answers.{IsDenialFor};
 ghost use Rattle.bw_table.specs.InPlaces.{IsDoneAtOnce, IsRecordedAtOnce, IsConsolidatedAtOnce, IsHalvedAtOnce, IsPostedByOne};
 ghost use Rattle.bw_table.specs.InPlaces.{consolidating, half_reasons};
-ghost use Rattle.bw_tree.specs.Shares.{no_changes, CountsIn, CountsAtOnce, IsReceiptAtOnce, IsConsolidationOf};
+ghost use Rattle.bw_table.specs.Orders.{HasPairs};
+ghost use Rattle.bw_tree.specs.Shares.{no_changes, shared_in, CountsIn, CountsAtOnce, IsReceiptAtOnce, IsConsolidationOf};
 ghost use Rattle.bw_step.specs.Steps.{IsReceiptOf};
 ghost use Rattle.bw_step.specs.Tellings.{telling_of};
 ghost use Rattle.bw_tree.specs.Trees.{IsTree, IsClosed, Leads};
 ghost use Rattle.bw_tree.specs.Trees.{OpensFor, IsNewFault, MayBeMade, is_bad_number};
 
-use crate::fault::{MissingShare, NewFault};
+use crate::fault::{MissingShare, NewFault, Unshared};
 use crate::ledgers::Ledgers;
 use crate::made_by::MadeBy;
 use crate::share::{Blanks, Share};
@@ -79,6 +80,45 @@ impl<A: Allocator + Copy, I: MadeBy, D: Ledger> Booked<A, I, D> {
         Ok((Booked { table, ledgers }, shares))
     }
 
+    /// Returns the table with its pairs, a share of nothing for each worker, 1 to `MAX_WORKERS`, and
+    /// the opening share, which is no worker's: all that the table's book has already. The blank
+    /// ledgers have a part for each worker and one for the opening share, which [`close`](Booked::close)
+    /// wants too.
+    ///
+    /// Where it fails, the table comes back as it was.
+    pub fn from_table(
+        machine: Global,
+        table: Table<A>,
+        blanks: Blanks,
+    ) -> Result<(Booked<A, I, D>, Vec<Share<I, D>>, Share<I, D>), Unshared<A>>
+        requires ledgers { OpensFor I.Ledger I.config D.Ledger table.config blanks }
+        ensures table { IfOk result (λ made. made.0 ≡ table) }
+        ensures count { IfOk result (λ made. length made.1.items + 1 ≡ blanks.workers) }
+        ensures shares { IfOk result (λ made. All (λ share. share ≡ no_changes) made.1.items) }
+        ensures opening { IfOk result (λ made. made.2 ≡ shared_in table.book) }
+        ensures fine { IsOk result → MayBeMade table.config (blanks.workers - 1) }
+        ensures fault { IfErr result (λ unshared.
+            IsNewFault table.config (blanks.workers - 1) unshared.fault) }
+        ensures back { IfErr result (λ unshared. unshared.table ≡ table) }
+    {
+        let workers = blanks.workers.saturating_sub(1);
+        if let Err(fault) = check(&table.config(), workers) {
+            return Err(Unshared { fault, table });
+        }
+        let Ok(shares) = Vec::with_capacity(machine, blanks.workers as usize) else {
+            return Err(Unshared {
+                fault: NewFault::NoMemory,
+                table,
+            });
+        };
+        let (mut ledgers, mut shares) = Ledgers::open(blanks, shares);
+        let Some(mut opening) = shares.pop() else {
+            unreachable!()
+        };
+        ledgers.begin(&mut opening, table.book());
+        Ok((Booked { table, ledgers }, shares, opening))
+    }
+
     /// Returns the table.
     #[tactic(auto, using(crate::proofs::Trees::is_tree))]
     #[inline(always)]
@@ -87,6 +127,14 @@ impl<A: Allocator + Copy, I: MadeBy, D: Ledger> Booked<A, I, D> {
         ensures tree { IsTree self.now }
     {
         &self.table
+    }
+
+    /// Returns how many pairs the map has.
+    pub fn len(&self) -> u64
+        ensures pairs { HasPairs self.now result }
+    {
+        let book = self.table.book();
+        book.inserted - book.removed
     }
 
     /// Takes the step as `Table::install` does, and counts an insertion or a removal in the share.

@@ -1,4 +1,6 @@
 use bw_keys::BadConfig;
+use bw_table::Table;
+use std::alloc::Allocator;
 use thiserror::Error;
 
 /// Why there is no new tree: the first fault that applies, in the order in which they stand here.
@@ -12,6 +14,13 @@ pub enum NewFault {
     BadWorkers,
     #[error("out of memory")]
     NoMemory,
+}
+
+/// A table that isn't shared, and why.
+#[derive(Drop)]
+pub struct Unshared<A: Allocator + Copy, F = NewFault> {
+    pub fault: F,
+    pub table: Table<A>,
 }
 
 /// Fewer shares than all were gathered, so nothing is known of their sum.

@@ -2,11 +2,11 @@
 
 ghost use Rattle.std.specs.Prelude.{◌≡◌, ◌<◌, ◌≤◌, ◌↔◌, [], All, length, vec_capacity};
 ghost use Rattle.std.specs.Prelude.{IsOk, OnOk, OnErr, IfSome, IfNone};
-ghost use Rattle.bw_tree.specs.Shares.{no_changes, counted, sum_of, Opens};
+ghost use Rattle.bw_tree.specs.Shares.{no_changes, shared_in, counted, sum_of, Opens};
 
 use crate::fault::MissingShare;
 use crate::share::{Blanks, Share};
-use bw_step::Receipt;
+use bw_step::{Book as TableBook, Receipt};
 use std::marker::Model;
 use std::sync::ledger;
 use std::sync::ledger::{Book, Ledger};
@@ -67,6 +67,17 @@ impl<I: Ledger, D: Ledger> Ledgers<I, D> {
             removals,
         };
         (ledgers, shares)
+    }
+
+    /// Counts all that a table's book has in the share and in the ledgers, which have nothing yet.
+    pub(crate) fn begin(&mut self, share: &mut Share<I, D>, book: TableBook)
+        requires share { share.old ≡ no_changes }
+        requires totals { self.old ≡ no_changes }
+        ensures share { share.new ≡ shared_in book }
+        ensures totals { self.new ≡ shared_in book }
+    {
+        self.insertions.add(&mut share.insertions, book.inserted);
+        self.removals.add(&mut share.removals, book.removed);
     }
 
     /// Counts an insertion or a removal in the share and in its ledger.

@@ -12,7 +12,7 @@ mod tree;
 
 pub use booked::Booked;
 pub use bw_step::{Denied, Proposes};
-pub use fault::{MissingShare, NewFault};
+pub use fault::{MissingShare, NewFault, Unshared};
 pub use made_by::MadeBy;
 pub use share::{Blanks, Share};
 pub use shared::Shared;

@@ -12,7 +12,7 @@ use std::sync::ledger::Ledger;
 ///
 /// `P` is the step over `A`.
 pub trait Shared<A: Allocator + Copy, P: Proposes> {
-    ghost use Rattle.std.specs.Prelude.{◌≡◌, IfOk, IfSome};
+    ghost use Rattle.std.specs.Prelude.{◌≡◌, ◌≤◌, IfOk, IfSome};
     ghost use Rattle.bw_keys.specs.declared.config.Config.{Config};
     ghost use Rattle.bw_delta.specs.Sound.{IsSound};
     ghost use Rattle.bw_tree.specs.Shares.{CountsIn, CountsAtOnce, IsReceiptAtOnce, IsConsolidationOf};
@@ -61,6 +61,17 @@ pub trait Shared<A: Allocator + Copy, P: Proposes> {
     fn look_at_once(&self, _key: Key) -> Option<Look> {
         None
     }
+
+    /// Returns the pair with the least key at or above the key, if the map has one.
+    fn next_at(&self, key: Key) -> Option<(Key, u64)>
+        ensures at_or_past { IfSome result (λ pair. key ≤ pair.0) };
+
+    /// Returns the pair with the greatest key at or below the key, if the map has one.
+    fn previous_at(&self, key: Key) -> Option<(Key, u64)>
+        ensures at_or_before { IfSome result (λ pair. pair.0 ≤ key) };
+
+    /// Returns how many pairs the map has.
+    fn len(&self) -> u64;
 
     /// Makes the wish come true for the key and consolidates its leaf, as a change and a
     /// consolidation one behind the other do, and counts an insertion or a removal in the share.

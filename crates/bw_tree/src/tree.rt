@@ -1,13 +1,13 @@
 //! The mutex round a booked table.
 
-ghost use Rattle.std.specs.Prelude.{◌≡◌, ◌<◌, ◌↔◌, IsOk, IfOk, IfErr, OnErr, All, length};
+ghost use Rattle.std.specs.Prelude.{◌≡◌, ◌+◌, ◌-◌, ◌<◌, ◌↔◌, IsOk, IfOk, IfErr, OnErr, All, length};
 ghost use Rattle.bw_step.specs.ProposalView.{proposal_of};
-ghost use Rattle.bw_tree.specs.Shares.{no_changes, CountsIn};
+ghost use Rattle.bw_tree.specs.Shares.{no_changes, shared_in, CountsIn};
 ghost use Rattle.bw_step.specs.Steps.{IsReceiptOf, IsRefusal};
 ghost use Rattle.bw_tree.specs.Trees.{IsTree, IsClosed, OpensFor, IsNewFault, MayBeMade};
 
 use crate::booked::Booked;
-use crate::fault::{MissingShare, NewFault};
+use crate::fault::{MissingShare, NewFault, Unshared};
 use crate::made_by::MadeBy;
 use crate::share::{Blanks, Share};
 use crate::shared::Shared;
@@ -47,12 +47,44 @@ impl<R: Wait + Drop, A: Allocator + Copy, I: MadeBy, D: Ledger> Tree<R, A, I, D>
         ensures fault { IfErr result (IsNewFault config blanks.workers) }
     {
         let (booked, shares) = Booked::new(machine, alloc, config, blanks)?;
-        let tree = Tree {
+        Ok((Tree::over(rt, config, booked), shares))
+    }
+
+    /// Returns a tree with the table's pairs, the workers' shares, and the opening share, as
+    /// `Booked::from_table` makes them.
+    pub fn from_table(
+        rt: R,
+        machine: Global,
+        table: Table<A>,
+        blanks: Blanks,
+    ) -> Result<(Tree<R, A, I, D>, Vec<Share<I, D>>, Share<I, D>), Unshared<A>>
+        requires ledgers { OpensFor I.Ledger I.config D.Ledger table.config blanks }
+        ensures config { IfOk result (λ made. made.0.config ≡ table.config) }
+        ensures count { IfOk result (λ made. length made.1.items + 1 ≡ blanks.workers) }
+        ensures shares { IfOk result (λ made. All (λ share. share ≡ no_changes) made.1.items) }
+        ensures opening { IfOk result (λ made. made.2 ≡ shared_in table.book) }
+        ensures fine { IsOk result → MayBeMade table.config (blanks.workers - 1) }
+        ensures fault { IfErr result (λ unshared.
+            IsNewFault table.config (blanks.workers - 1) unshared.fault) }
+        ensures back { IfErr result (λ unshared. unshared.table ≡ table) }
+    {
+        let config = table.config();
+        let (booked, shares, opening) = match Booked::from_table(machine, table, blanks) {
+            Ok(made) => made,
+            Err(unshared) => return Err(unshared),
+        };
+        Ok((Tree::over(rt, config, booked), shares, opening))
+    }
+
+    /// Puts the booked table, which was made by the configuration, under a lock.
+    fn over(rt: R, config: Config, booked: Booked<A, I, D>) -> Tree<R, A, I, D>
+        ensures config { result.config ≡ config }
+    {
+        Tree {
             rt,
             config,
             booked: Mutex::new(booked),
-        };
-        Ok((tree, shares))
+        }
     }
 
     /// Returns the table, and asks for no share, as `Booked::into_table` does.
@@ -118,6 +150,18 @@ impl<R: Wait + Drop, A: Allocator + Copy, I: MadeBy, D: Ledger> Shared<A, Step<A
     #[inline(always)]
     fn look_at_once(&self, key: Key) -> Option<Look> {
         Some(self.booked.lock(&self.rt).table().look_up(key))
+    }
+
+    fn next_at(&self, key: Key) -> Option<(Key, u64)> {
+        self.booked.lock(&self.rt).table().next_at(key)
+    }
+
+    fn previous_at(&self, key: Key) -> Option<(Key, u64)> {
+        self.booked.lock(&self.rt).table().previous_at(key)
+    }
+
+    fn len(&self) -> u64 {
+        self.booked.lock(&self.rt).len()
     }
 
     #[inline(always)]

@@ -39,7 +39,7 @@ use std::alloc::{Allocator, Global};
 /// Where a share is lost all the same, the tree's `into_table` returns the table.
 #[derive(Drop)]
 pub struct Hand<'t, A: Allocator + Copy, S: Shared<A, Step<A>>, G: Gate, T: Trail = Vec<Receipt>> {
-    tree: &'t S,
+    pub(crate) tree: &'t S,
     gate: &'t G,
     alloc: A,
     worker: u32,

@@ -4,6 +4,8 @@
 
 mod gate;
 mod hand;
+mod pages;
+mod queries;
 
 pub use bw_alone::Alone;
 pub use bw_procedures::{
@@ -12,3 +14,5 @@ pub use bw_procedures::{
 };
 pub use gate::{Gate, Open};
 pub use hand::Hand;
+pub use pages::Pages;
+pub use queries::Queries;
