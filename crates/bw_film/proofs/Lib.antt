@@ -1,0 +1,3 @@
+pub mod Drawn
+pub mod Filming
+pub mod Faulty
