@@ -1,12 +1,13 @@
 -- The frames of a film with one moment more.
-use Rattle.std.proofs.Common.{◌≡◌, ℕ, zero, suc, ◌+◌, ◌<◌, ◌≤◌, ◌⊎◌, inl, inr, List, [], ◌∷◌, ◌++◌, map, length, refl, sym, ap, ◌∙◌, subst, arith}
+use Rattle.std.proofs.Common.{◌≡◌, ℕ, zero, suc, ◌+◌, ◌<◌, ◌≤◌, ◌⊎◌, inl, inr, List, [], ◌∷◌, ◌++◌, get_or, set, map, length, refl, sym, ap, ◌∙◌, subst, arith}
 use Rattle.std.specs.List.{range_with_len}
+use Rattle.std.proofs.Math.Seq.{map-set_same}
 use Rattle.std.proofs.lemmas.List.{map-append, length-map}
 use Rattle.std.proofs.lemmas.List.FromFn.{length-range_with_len}
 use Rattle.bw_film.specs.declared.choice.Choice.{Choice}
 use Rattle.bw_film.specs.declared.frame.Frame.{Frame}
 use Rattle.bw_film.specs.Choices.{drawn_count}
-use Rattle.bw_film.specs.Films.{AreDrawn}
+use Rattle.bw_film.specs.Films.{AreDrawn, moments_of}
 
 last : (a n j : ℕ) → a + n ≡ j → range_with_len a (suc n) ≡ range_with_len a n ++ j ∷ []
 last a zero j e = let same : a ≡ j = omega arith in ap (λ k. k ∷ []) same
@@ -48,3 +49,7 @@ draws_none choice moments frames are why =
     same (inl before) = omega (arith, before)
     same (inr (inl behind)) = omega (arith, behind)
     same (inr (inr full)) = omega (arith, full, drawn_length choice moments frames are)
+
+-- a frame of the same moment in place of one
+pub same_moments : (frames : List Frame) (i : ℕ) (x y : Frame) → x ≡ get_or frames i x → y.moment ≡ x.moment → moments_of (set frames i y) ≡ moments_of frames
+same_moments frames i x y at same = map-set_same (λ (f : Frame). f.moment) frames i y x (same ∙ ap (λ (f : Frame). f.moment) at)

@@ -1,3 +1,4 @@
 pub mod Drawn
+pub mod Pages
 pub mod Filming
 pub mod Faulty

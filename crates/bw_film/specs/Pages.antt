@@ -1,5 +1,5 @@
 -- The text of a page.
-use Rattle.std.specs.Prelude.{ℕ, ◌+◌, ◌-◌, ◌^◌, ◌++◌, ◌==◌, ◌&&◌, if◌then◌else◌, min, nat_lt, List, [], ◌∷◌, length, codes, decimal, flat_map, option_map, unwrap_or, slice_get}
+use Rattle.std.specs.Prelude.{ℕ, ◌+◌, ◌-◌, ◌^◌, ◌++◌, ◌==◌, ◌&&◌, if◌then◌else◌, min, nat_lt, List, [], ◌∷◌, length, codes, decimal, flat_map, Option, Some, slice_get}
 use Rattle.std.specs.String.{string_bytes}
 use Rattle.std.specs.Str.{byte}
 use Rattle.bw_film.specs.declared.film.Film.{Film}
@@ -21,19 +21,23 @@ escaped text = flat_map escaped_byte text
 abbrev pub attribute_text : List ℕ → List ℕ → List ℕ
 attribute_text name text = codes "\" data-" ++ name ++ codes "=\"" ++ escaped text
 
--- a frame: its texts are attributes, and its drawing is what the element has
-abbrev pub frame_text : Frame → List ℕ
-frame_text frame =
-    codes "<template data-moment=\"" ++ decimal frame.moment
-    ++ attribute_text (codes "told") (string_bytes frame.told)
+-- the beginning of a moment's element
+abbrev pub moment_text : ℕ → List ℕ
+moment_text moment = codes "<template data-moment=\"" ++ decimal moment
+
+abbrev pub attributes_text : Frame → List ℕ
+attributes_text frame =
+    attribute_text (codes "told") (string_bytes frame.told)
     ++ attribute_text (codes "proved") frame.proved.now
     ++ attribute_text (codes "row") (string_bytes frame.row)
     ++ attribute_text (codes "note") (string_bytes frame.note)
-    ++ codes "\">\n" ++ string_bytes frame.drawing ++ codes "\n</template>\n"
 
--- the number of the moment of the frame at a place
-abbrev pub moment_at : List Frame → ℕ → ℕ
-moment_at frames place = unwrap_or (option_map (λ frame. frame.moment) (slice_get frames place)) 0
+abbrev pub drawing_text : List ℕ → List ℕ
+drawing_text drawing = codes "\">\n" ++ drawing ++ codes "\n</template>\n"
+
+-- a frame: its texts are attributes, and its drawing is what the element has
+abbrev pub frame_text : Frame → List ℕ
+frame_text frame = moment_text frame.moment ++ attributes_text frame ++ drawing_text (string_bytes frame.drawing)
 
 abbrev pub whole_text : ℕ → ℕ → ℕ → List ℕ
 whole_text first last moments = codes "Moments " ++ decimal first ++ codes " to " ++ decimal last ++ codes " are shown, of " ++ decimal moments ++ codes " in all."
@@ -48,12 +52,16 @@ span_between first last moments to =
     then cut_text first last moments (min (last + 1) (2 ^ 64 - 1))
     else whole_text first last moments
 
+abbrev pub span_from : Option Frame → Option Frame → ℕ → ℕ → List ℕ
+span_from (Some first) (Some last) moments to = span_between first.moment last.moment moments to
+span_from first last moments to = codes "None of the " ++ decimal moments ++ codes " moments is shown."
+
 abbrev pub span_text : Film → List ℕ
-span_text film =
-    if length film.frames.items == 0
-    then codes "None of the " ++ decimal film.moments ++ codes " moments is shown."
-    else span_between (moment_at film.frames.items 0) (moment_at film.frames.items (length film.frames.items - 1)) film.moments film.choice.to
+span_text film = span_from (slice_get film.frames.items 0) (slice_get film.frames.items (length film.frames.items - 1)) film.moments film.choice.to
+
+abbrev pub page_with : List ℕ → List ℕ → List ℕ → List Frame → List ℕ → List ℕ
+page_with head span body frames script = head ++ span ++ body ++ flat_map frame_text frames ++ script
 
 -- the page has each frame of the film once, in their order
 abbrev pub page_text : Film → List ℕ
-page_text film = HEAD.now ++ span_text film ++ BODY.now ++ flat_map frame_text film.frames.items ++ SCRIPT.now
+page_text film = page_with HEAD.now (span_text film) BODY.now film.frames.items SCRIPT.now

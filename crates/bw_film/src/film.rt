@@ -3,7 +3,7 @@
 ghost use Rattle.std.specs.Prelude.{◌≡◌, OnOk, OnErr, IfOk};
 ghost use Rattle.std.specs.String.{string_bytes};
 ghost use Rattle.bw_film.specs.Choices.{one_more};
-ghost use Rattle.bw_film.specs.Films.{AddsAFrame, AreDrawn};
+ghost use Rattle.bw_film.specs.Films.{AddsAFrame, AreDrawn, moments_of};
 
 use crate::choice::Choice;
 use crate::frame::Frame;
@@ -11,7 +11,7 @@ use crate::telling::Telling;
 use bw_delta::NoMemory;
 use bw_draw::{Drawing, Picture};
 use bw_table::Table;
-use std::alloc::Global;
+use std::alloc::{AllocError, Global};
 
 /// The most moments that are drawn.
 pub const MOST_FRAMES: usize = 200;
@@ -70,18 +70,35 @@ impl Film {
         ensures choice { self.new.choice ≡ self.old.choice }
         ensures moments { self.new.moments ≡ self.old.moments }
     {
-        let newest = self.moments.checked_sub(1);
-        let Some(frame) = self.frames.last_mut() else {
-            return Ok(());
-        };
-        if Some(frame.moment) == newest {
-            if !frame.note.is_empty() {
-                frame.note.push(' ')?;
-            }
-            frame.note.push_str(comment)?;
+        match self.moments.checked_sub(1) {
+            Some(newest) => Ok(note_last(&mut self.frames, newest, comment)?),
+            None => Ok(()),
         }
-        Ok(())
     }
+}
+
+/// Adds the comment to the last frame, if it is that of the moment.
+#[tactic(auto, using(crate::proofs::Drawn::same_moments))]
+fn note_last(frames: &mut Vec<Frame>, moment: u64, comment: &str) -> Result<(), AllocError>
+    ensures { moments_of frames.new.items ≡ moments_of frames.old.items }
+{
+    let Some(last) = frames.len().checked_sub(1) else {
+        return Ok(());
+    };
+    if frames[last].moment == moment {
+        add_note(&mut frames[last], comment)?;
+    }
+    Ok(())
+}
+
+/// Adds the comment to what is said of the frame, behind a blank.
+fn add_note(frame: &mut Frame, comment: &str) -> Result<(), AllocError>
+    ensures { frame.new.moment ≡ frame.old.moment }
+{
+    if !frame.note.is_empty() {
+        frame.note.push(' ')?;
+    }
+    frame.note.push_str(comment)
 }
 
 fn frame_of(

@@ -2,8 +2,9 @@
 
 ghost use Rattle.std.specs.Prelude.{◌≡◌, ◌++◌, IfOk, OnOk, codes, decimal, flat_map};
 ghost use Rattle.std.specs.String.{string_bytes};
-ghost use Rattle.bw_film.specs.Pages.{attribute_text, escaped, escaped_byte, frame_text, page_text};
-ghost use Rattle.bw_film.specs.Pages.{span_text};
+ghost use Rattle.bw_film.specs.Pages.{attribute_text, attributes_text, cut_text, drawing_text};
+ghost use Rattle.bw_film.specs.Pages.{escaped, escaped_byte, frame_text, moment_text, page_text};
+ghost use Rattle.bw_film.specs.Pages.{page_with, span_between, span_text, whole_text};
 
 mod text;
 
@@ -19,12 +20,27 @@ use std::alloc::{AllocError, Global};
 pub fn page_of(alloc: Global, film: &Film) -> Result<Vec<u8>, NoMemory>
     ensures { IfOk result (λ page. page.items ≡ page_text film.now) }
 {
-    let mut page = Vec::from_slice(alloc, HEAD.as_bytes())?;
     let span = span_of(alloc, film)?;
+    page_with(alloc, HEAD, &span, BODY, &film.frames, SCRIPT)
+}
+
+/// Returns the texts with the frames before the last one.
+fn page_with(
+    alloc: Global,
+    head: &str,
+    span: &str,
+    body: &str,
+    frames: &[Frame],
+    script: &str,
+) -> Result<Vec<u8>, NoMemory>
+    ensures { IfOk result (λ page. page.items
+        ≡ page_with head.now span.now body.now frames.now script.now) }
+{
+    let mut page = Vec::from_slice(alloc, head.as_bytes())?;
     page.extend_from_slice(span.as_bytes())?;
-    page.extend_from_slice(BODY.as_bytes())?;
-    push_frames(&mut page, &film.frames)?;
-    page.extend_from_slice(SCRIPT.as_bytes())?;
+    page.extend_from_slice(body.as_bytes())?;
+    push_frames(&mut page, frames)?;
+    page.extend_from_slice(script.as_bytes())?;
     Ok(page)
 }
 
@@ -33,17 +49,50 @@ fn span_of(alloc: Global, film: &Film) -> Result<String, AllocError>
     ensures { IfOk result (λ span. string_bytes span ≡ span_text film.now) }
 {
     let moments = film.moments;
-    let (Some(first), Some(last)) = (film.frames.first(), film.frames.last()) else {
-        return format!(in alloc; "None of the {moments} moments is shown.");
-    };
-    let (first, last) = (first.moment, last.moment);
-    let next = last.saturating_add(1);
-    if next < moments && last < film.choice.to {
-        return format!(in alloc;
-            "Moments {first} to {last} are shown, of {moments} in all: a page has {MOST_FRAMES} at most, and --from {next} goes on."
-        );
+    match (film.frames.first(), film.frames.last()) {
+        (Some(first), Some(last)) => {
+            span_between(alloc, first.moment, last.moment, moments, film.choice.to)
+        }
+        _ => format!(in alloc; "None of the {moments} moments is shown."),
     }
+}
+
+/// Returns that the moments from the first to the last are shown, of so many up to the one that was
+/// wanted.
+fn span_between(
+    alloc: Global,
+    first: u64,
+    last: u64,
+    moments: u64,
+    to: u64,
+) -> Result<String, AllocError>
+    ensures { IfOk result (λ span. string_bytes span ≡ span_between first last moments to) }
+{
+    let next = last.saturating_add(1);
+    if next < moments && last < to {
+        return cut_span(alloc, first, last, moments, next);
+    }
+    whole_span(alloc, first, last, moments)
+}
+
+fn whole_span(alloc: Global, first: u64, last: u64, moments: u64) -> Result<String, AllocError>
+    ensures { IfOk result (λ span. string_bytes span ≡ whole_text first last moments) }
+{
     format!(in alloc; "Moments {first} to {last} are shown, of {moments} in all.")
+}
+
+fn cut_span(
+    alloc: Global,
+    first: u64,
+    last: u64,
+    moments: u64,
+    next: u64,
+) -> Result<String, AllocError>
+    ensures { IfOk result (λ span. string_bytes span ≡ cut_text first last moments next) }
+{
+    format!(in alloc;
+        "Moments {first} to {last} are shown, of {moments} in all: a page has {MOST_FRAMES} at most, and --from {next} goes on."
+    )
 }
 
 /// Appends the frames in their order.
@@ -56,20 +105,44 @@ fn push_frames(page: &mut Vec<u8>, frames: &[Frame]) -> Result<(), AllocError>
     Ok(())
 }
 
-/// Appends a frame. Its texts may be of the input, and are escaped.
+/// Appends a frame.
 fn push_frame(page: &mut Vec<u8>, frame: &Frame) -> Result<(), AllocError>
     ensures { OnOk result (page.new.items ≡ page.old.items ++ frame_text frame.now) }
 {
+    push_moment(page, frame.moment)?;
+    push_texts(page, frame)?;
+    push_drawing(page, &frame.drawing)
+}
+
+/// Begins the element of a moment, up to its first attribute's value.
+fn push_moment(page: &mut Vec<u8>, moment: u64) -> Result<(), AllocError>
+    ensures { OnOk result (page.new.items ≡ page.old.items ++ moment_text moment) }
+{
     let mut digits = Buffer::new();
     page.extend_from_slice(b"<template data-moment=\"")?;
-    page.extend_from_slice(digits.format(frame.moment).as_bytes())?;
+    page.extend_from_slice(digits.format(moment).as_bytes())?;
+    Ok(())
+}
+
+/// Appends the frame's texts as attributes. They may be of the input, and are escaped.
+fn push_texts(page: &mut Vec<u8>, frame: &Frame) -> Result<(), AllocError>
+    ensures { OnOk result (page.new.items ≡ page.old.items ++ attributes_text frame.now) }
+{
     push_attribute(page, "told", &frame.told)?;
     push_attribute(page, "proved", frame.proved)?;
     push_attribute(page, "row", &frame.row)?;
     push_attribute(page, "note", &frame.note)?;
+    Ok(())
+}
+
+/// Ends the last attribute, and appends what the element has.
+fn push_drawing(page: &mut Vec<u8>, drawing: &str) -> Result<(), AllocError>
+    ensures { OnOk result (page.new.items ≡ page.old.items ++ drawing_text drawing.now) }
+{
     page.extend_from_slice(b"\">\n")?;
-    page.extend_from_slice(frame.drawing.as_bytes())?;
-    page.extend_from_slice(b"\n</template>\n")
+    page.extend_from_slice(drawing.as_bytes())?;
+    page.extend_from_slice(b"\n</template>\n")?;
+    Ok(())
 }
 
 /// Ends an attribute, and begins that of the name with the text.
