@@ -104,7 +104,7 @@ impl<S: Steps<Global, Step<Global>> + Shows + Drop> Steps<Global, Step<Global>> 
         self.steps.peek(pid)
     }
 
-    #[tactic(auto, using(crate::proofs::Filming::filmed_look))]
+    #[tactic(auto, using(crate::proofs::Filming::filmed_looked))]
     fn look(&mut self, pid: Pid, key: Key, keep: Keep) -> Result<Option<Look>, NoMemory> {
         self.steps.look(pid, key, keep)
     }

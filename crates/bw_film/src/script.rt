@@ -22,6 +22,7 @@ use std::io::{BufRead, BufReader, Read};
 /// # Errors
 ///
 /// Fails as [`play`](bw_scripts::play) does.
+#[tactic(auto, using(crate::proofs::Faulty::line_gives_up))]
 pub fn film_script<R: Read + Drop>(
     alloc: Global,
     choice: Choice,
