@@ -10,7 +10,7 @@ use Rattle.bw_step.specs.Proposals.{Proposal, insert, delete, modify, consolidat
 use Rattle.bw_step.specs.Steps.{IsReceiptOf}
 use Rattle.bw_procedures.specs.declared.steps.Keep.{Keep}
 use Rattle.bw_delta.specs.declared.fault.NoMemory.{NoMemory}
-use Rattle.bw_procedures.specs.Seen.{Seen, Looked as LooksAt, is_kept, trail_after_look}
+use Rattle.bw_procedures.specs.Seen.{Seen, IsAccepted, Looked as LooksAt, is_kept, trail_after_look}
 use Rattle.bw_step.specs.Tellings.{told_in}
 use Rattle.bw_procedures.specs.declared.act.Act.{Act}
 use Rattle.bw_procedures.specs.Told.{GoesWith}
@@ -27,9 +27,9 @@ steps_more : (trail : List Receipt) (receipt : Receipt) → steps_in (trail ++ r
 steps_more trail receipt = sum_by_push (λ (r : Receipt). cond (is_step r) 1 0) trail receipt
 
 kept_steps : (kept : Bool) (trail : List Receipt) (receipt : Receipt) → is_step receipt ≡ false → steps_in (if kept then trail ++ receipt ∷ [] else trail) ≡ steps_in trail
-kept_steps false trail receipt no = refl
-kept_steps true trail receipt no =
-    let more : cond (is_step receipt) 1 0 ≡ 0 = ap (λ (b : Bool). cond b 1 0) no in
+kept_steps false trail receipt is_look = refl
+kept_steps true trail receipt is_look =
+    let more : cond (is_step receipt) 1 0 ≡ 0 = ap (λ (b : Bool). cond b 1 0) is_look in
     let none : steps_in trail + 0 ≡ steps_in trail = omega arith in
     steps_more trail receipt ∙ ap (λ k. steps_in trail + k) more ∙ none
 
@@ -63,14 +63,14 @@ step_of (merge a b c d) (Looked at key found) told = absurd told
 step_of (term_delete a b c d) (Looked at key found) told = absurd told
 
 -- a step is a moment
-pub filmed_step : {a b : Film} {f g : Bool} (step : Proposal) (receipt : Receipt) (old new : List Receipt) → IsReceiptOf step receipt → new ≡ old ++ receipt ∷ [] → IsSameChoice a b → (g ≡ false → f ≡ false) → (g ≡ false → b.moments ≡ one_more a.moments)
-    → IsFilmed a f old b g new
-filmed_step step receipt old new told more same failed counted = record {
+pub filmed_step : {a b : Film} {f g : Bool} (step : Proposal) (receipt : Receipt) (old new : Seen) → IsAccepted step receipt old new → IsSameChoice a b → (g ≡ false → f ≡ false) → (g ≡ false → b.moments ≡ one_more a.moments)
+    → IsFilmed a f old.trail b g new.trail
+filmed_step step receipt old new accepted same failed counted = record {
   choice = same;
   failed = failed;
   added = λ is. record {
     steps = 1;
-    longer = let one : steps_in old + 1 ≡ 1 + steps_in old = omega arith in ap steps_in more ∙ steps_more old receipt ∙ ap (λ (b : Bool). steps_in old + cond b 1 0) (step_of step receipt told) ∙ one;
+    longer = let one : steps_in old.trail + 1 ≡ 1 + steps_in old.trail = omega arith in ap steps_in accepted.trail ∙ steps_more old.trail receipt ∙ ap (λ (b : Bool). steps_in old.trail + cond b 1 0) (step_of step receipt accepted.told) ∙ one;
     moments = counted is;
   };
 }

@@ -104,7 +104,6 @@ impl<S: Steps<Global, Step<Global>> + Shows + Drop> Steps<Global, Step<Global>> 
         self.steps.peek(pid)
     }
 
-    #[tactic(auto, using(crate::proofs::Filming::filmed_looked))]
     fn look(&mut self, pid: Pid, key: Key, keep: Keep) -> Result<Option<Look>, NoMemory> {
         self.steps.look(pid, key, keep)
     }
@@ -114,7 +113,7 @@ impl<S: Steps<Global, Step<Global>> + Shows + Drop> Steps<Global, Step<Global>> 
         self.steps.copy_page(pid, version)
     }
 
-    #[tactic(auto, using(crate::proofs::Filming::filmed_same, crate::proofs::Filming::filmed_step))]
+    #[tactic(auto, using(crate::proofs::Filming::filmed_same))]
     fn install(&mut self, step: Step<Global>) -> Result<Receipt, Denied> {
         let answer = self.steps.install(step);
         if let Ok(receipt) = answer {

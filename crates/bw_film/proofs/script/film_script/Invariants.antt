@@ -4,6 +4,6 @@ use Rattle.bw_film.proofs.script.film_script.Given as goal
 
 abbrev pub invariant-loop-line : goal.invariant-loop-line
 invariant-loop-line g l = record {
-  choice : l.film.choice ≡ l.choice;
+  choice : l.film.choice ≡ l.fn.choice;
   within : l.player.lines ≤ MOST_LINES;
 }
