@@ -29,8 +29,8 @@ steps_more trail receipt = sum_by_push (λ (r : Receipt). cond (is_step r) 1 0) 
 kept_steps : (kept : Bool) (trail : List Receipt) (receipt : Receipt) → is_step receipt ≡ false → steps_in (if kept then trail ++ receipt ∷ [] else trail) ≡ steps_in trail
 kept_steps false trail receipt is_look = refl
 kept_steps true trail receipt is_look =
-    let more : cond (is_step receipt) 1 0 ≡ 0 = ap (λ (b : Bool). cond b 1 0) is_look in
     let none : steps_in trail + 0 ≡ steps_in trail = omega arith in
+    let more : cond (is_step receipt) 1 0 ≡ 0 = ap (λ (b : Bool). cond b 1 0) is_look in
     steps_more trail receipt ∙ ap (λ k. steps_in trail + k) more ∙ none
 
 look_steps : (keep : Keep) (key : ℕ) (look : Option Look) (trail : List Receipt) → steps_in (trail_after_look keep key look trail) ≡ steps_in trail
