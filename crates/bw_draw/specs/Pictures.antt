@@ -27,8 +27,9 @@ pages_below table end = filter_map (page_at table) (range_with_len 0 end)
 abbrev pub pages_of : TableValue → List Page
 pages_of table = pages_below table table.config.pages
 
--- the picture has the root, the slots and each page of the table, and no other page
+-- the picture has the root, the fanout, the slots and each page of the table, and no other page
 pub record IsPictureOf (table : TableValue) (picture : Picture) : Type 0 where
   pub root : picture.root ≡ root_place table
+  pub fanout : picture.fanout ≡ table.config.fanout
   pub slots : picture.slots ≡ table.config.pages
   pub pages : picture.pages.items ≡ pages_of table

@@ -47,6 +47,9 @@ const FEW: usize = 40;
 /// The number of leaves that are drawn of a larger picture.
 const SOME: usize = 10;
 
+/// The number of leaves that are drawn about a key.
+const NEAR: usize = 3;
+
 /// A drawing, whose text is an SVG image for light and dark grounds.
 ///
 /// Of a picture with at most 40 pages, each page is drawn, and of a larger one ten leaves in a row
@@ -68,7 +71,21 @@ pub struct Drawing {
 impl Drawing {
     /// Draws a picture.
     pub fn of(alloc: Global, picture: &Picture) -> Result<Drawing, NoMemory> {
-        let mut rows = rows_of(alloc, picture)?;
+        if picture.pages.len() <= FEW {
+            return Drawing::within(alloc, picture, Window::Whole);
+        }
+        Drawing::within(alloc, picture, Window::Around(first_undone(picture), SOME))
+    }
+
+    /// Draws of a picture the path to the key's leaf: this leaf with those beside it, and the pages
+    /// above them.
+    pub fn near(alloc: Global, picture: &Picture, key: Key) -> Result<Drawing, NoMemory> {
+        Drawing::within(alloc, picture, Window::Around(key, NEAR))
+    }
+
+    /// Draws the leaves of the window, and the pages above them.
+    fn within(alloc: Global, picture: &Picture, leaves: Window) -> Result<Drawing, NoMemory> {
+        let mut rows = rows_of(alloc, picture, leaves)?;
         let width = place_across(alloc, &mut rows)?;
         let inner = width - MARGIN * 2;
         let legend = Legend::of(alloc, &rows, inner)?;
@@ -85,19 +102,16 @@ impl Drawing {
     }
 }
 
-/// Returns the rows, from the leaves up.
-fn rows_of(alloc: Global, picture: &Picture) -> Result<Vec<Row>, NoMemory> {
-    let mut window = if picture.pages.len() <= FEW {
-        Window::Whole
-    } else {
-        Window::Around(first_undone(picture), SOME)
-    };
+/// Returns the rows, from the leaves of the window up.
+fn rows_of(alloc: Global, picture: &Picture, leaves: Window) -> Result<Vec<Row>, NoMemory> {
+    let mut window = leaves;
     let mut rows = Vec::new(alloc);
     for level in 0..=picture.root.level {
         let row = Row::of(alloc, picture, level, window)?;
-        if picture.pages.len() > FEW {
-            window = row.window_above();
-        }
+        window = match window {
+            Window::Whole => Window::Whole,
+            Window::Around(_, _) | Window::Over(_, _) => row.window_above(),
+        };
         rows.push(row)?;
     }
     Ok(rows)

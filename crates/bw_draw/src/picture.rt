@@ -15,6 +15,8 @@ use std::alloc::Global;
 pub struct Picture {
     /// The root, where every search begins.
     pub root: Place,
+    /// The most entries that a page keeps.
+    pub fanout: u32,
     /// The number of slots in the mapping table.
     pub slots: u32,
     /// The page of each slot that isn't free, in the order of their ids.
@@ -26,11 +28,12 @@ impl Picture {
     pub fn of(alloc: Global, table: &Table<Global>) -> Result<Picture, NoMemory>
         ensures { IfOk result (IsPictureOf table.now) }
     {
-        let slots = table.config().pages;
+        let config = table.config();
         Ok(Picture {
             root: table.root(),
-            slots,
-            pages: pages_below(alloc, table, slots)?,
+            fanout: config.fanout,
+            slots: config.pages,
+            pages: pages_below(alloc, table, config.pages)?,
         })
     }
 }

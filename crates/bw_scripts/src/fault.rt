@@ -30,7 +30,7 @@ pub enum ScriptFault {
 
 impl ScriptFault {
     /// Returns the fault of a script whose reader failed at the line with this number.
-    pub(crate) fn of_reader(number: u64, error: &io::Error) -> ScriptFault
+    pub fn of_reader(number: u64, error: &io::Error) -> ScriptFault
         ensures memory { (result ≡ ScriptFault.Memory)
             ↔ (error_kind error.now ≡ ErrorKind.OutOfMemory) }
         ensures no_text { (result ≡ ScriptFault.Line number)

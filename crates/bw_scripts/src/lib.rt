@@ -13,4 +13,4 @@ mod steps;
 pub use answer::Answer;
 pub use fault::ScriptFault;
 pub use player::Player;
-pub use script::{MOST_LINES, play};
+pub use script::{MOST_LINES, play, play_first};

@@ -26,11 +26,27 @@ pub fn play<R: Read + Drop>(alloc: Global, input: R) -> Result<Table<Global>, Sc
     ensures played { IfOk result IsPlayed }
     ensures fault { IfErr result NamesALine }
 {
-    let Ok(lines) = BufReader::new(alloc, input) else {
+    play_first(alloc, input, usize::MAX)
+}
+
+/// Plays the first lines of the script, this many of them, as [`play`] does with all.
+///
+/// # Errors
+///
+/// Fails as [`play`] does. The lines behind these aren't read.
+pub fn play_first<R: Read + Drop>(
+    alloc: Global,
+    input: R,
+    lines: usize,
+) -> Result<Table<Global>, ScriptFault>
+    ensures played { IfOk result IsPlayed }
+    ensures fault { IfErr result NamesALine }
+{
+    let Ok(reader) = BufReader::new(alloc, input) else {
         return Err(ScriptFault::Memory);
     };
     let mut player = Player::new(alloc);
-    for line in lines.lines(alloc) {
+    for line in reader.lines(alloc).take(lines) {
         take(&mut player, line)?;
     }
     player.into_table().ok_or(ScriptFault::NoTable)

@@ -1,5 +1,5 @@
 -- What the words of a command ask for.
-use Rattle.std.specs.Prelude.{◌≡◌, ◌≤◌, ℕ, List, Bool, true, false, Some, None, codes}
+use Rattle.std.specs.Prelude.{◌≡◌, ◌≤◌, ℕ, List, Bool, true, false, Option, Some, None, IfSome, codes}
 use Rattle.std.specs.Str.Parse.{digits_value, without_leading_plus}
 use Rattle.clap.specs.Words.{one_text}
 use Rattle.clap.specs.declared.parser.matches.Found.{Found}
@@ -8,11 +8,18 @@ use Rattle.bw_run.specs.Faults.{most_readers}
 use Rattle.bw_trace.specs.declared.program.setting.Setting.{Setting}
 use Rattle.bw_trace.specs.declared.program.run_options.RunOptions.{RunOptions}
 use Rattle.bw_trace.specs.declared.program.show_options.ShowOptions.{ShowOptions}
+use Rattle.bw_trace.specs.declared.program.show_options.DrawOptions.{DrawOptions}
+use Rattle.bw_trace.specs.declared.program.film_options.FilmOptions.{FilmOptions}
 
 -- the digits that were found for the name write the number
 abbrev pub IsNumberFor : Found → List ℕ → ℕ → Type 0
 IsNumberFor found name number =
     (text : List ℕ) × (one_text found name ≡ Some text) × (number ≡ digits_value 10 (without_leading_plus text))
+
+-- a number is that which was found for the name, and there is none where nothing was
+pub record IsOptionFor (found : Found) (name : List ℕ) (number : Option ℕ) : Type 0 where
+  pub given : IfSome number (IsNumberFor found name)
+  pub missing : one_text found name ≡ None → number ≡ None
 
 -- the flag of the name is given, or it isn't
 pub record IsFlagFor (found : Found) (name : List ℕ) (is_given : Bool) : Type 0 where
@@ -44,3 +51,15 @@ pub record IsAskedFor (found : Found) (options : RunOptions) : Type 0 where
 pub record IsShownBy (found : Found) (options : ShowOptions) : Type 0 where
   pub setting : IsSettingFor found options.setting
   pub steps : IsFlagFor found (codes "steps") options.steps
+  pub after : IsOptionFor found (codes "after") options.after
+
+pub record IsDrawnBy (found : Found) (options : DrawOptions) : Type 0 where
+  pub shown : IsShownBy found options.shown
+  pub key : IsOptionFor found (codes "key") options.key
+
+pub record IsFilmedBy (found : Found) (options : FilmOptions) : Type 0 where
+  pub setting : IsSettingFor found options.setting
+  pub steps : IsFlagFor found (codes "steps") options.steps
+  pub from : IsOptionFor found (codes "from") options.from
+  pub to : IsOptionFor found (codes "to") options.to
+  pub key : IsOptionFor found (codes "key") options.key

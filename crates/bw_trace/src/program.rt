@@ -7,6 +7,7 @@ ghost use Rattle.bw_trace.specs.Statuses.{run_status, status_of, verdict_status}
 ghost use Rattle.bw_trace.specs.Verdicts.{IsVerdictOn, verdict_line};
 
 mod fault;
+mod film_options;
 mod help;
 mod options;
 mod report;
@@ -16,12 +17,13 @@ mod show;
 mod show_options;
 
 use crate::program::fault::{AUDIT_NO, BAD_USAGE, DONE, Fault};
+use crate::program::film_options::FilmOptions;
 use crate::program::options::{Field, commands, ranged};
 use crate::program::report::write_report;
 use crate::program::run_options::RunOptions;
 use crate::program::setting::Setting;
-use crate::program::show::{draw, table_of, tell_stats};
-use crate::program::show_options::ShowOptions;
+use crate::program::show::{draw, table_of, tell_stats, write_film};
+use crate::program::show_options::{DrawOptions, ShowOptions};
 use bw_audit::{Verdict, audit};
 use bw_keys::MAX_WORKERS;
 use bw_run::{Finished, RunFault, run};
@@ -77,7 +79,8 @@ fn obey<T: Threads + Wait + Sync + Send + Copy, R: Read + Drop, W: Write>(
     let matches = parse(alloc, words)?;
     match matches.subcommand() {
         Some(("run", options)) => do_run(rt, alloc, RunOptions::of(options)?, input, output),
-        Some(("draw", options)) => do_draw(rt, alloc, ShowOptions::of(options)?, input, output),
+        Some(("draw", options)) => do_draw(rt, alloc, DrawOptions::of(options)?, input, output),
+        Some(("film", options)) => do_film(alloc, FilmOptions::of(options)?, input, output),
         Some(("stats", options)) => do_stats(rt, alloc, ShowOptions::of(options)?, input, output),
         Some(("make", options)) => do_make(alloc, options, output),
         _ => do_check(alloc, input, output),
@@ -140,14 +143,27 @@ fn print_run<W: Write>(
 fn do_draw<T: Threads + Wait + Sync + Send + Copy, R: Read + Drop, W: Write>(
     rt: T,
     alloc: Global,
-    options: ShowOptions,
+    options: DrawOptions,
     input: R,
     output: &mut W,
 ) -> Result<u8, Fault>
     ensures { IfOk result (λ status. status ≤ 4) }
 {
-    let table = table_of(rt, alloc, options, input)?;
-    draw(alloc, &table, output)?;
+    let table = table_of(rt, alloc, options.shown, input)?;
+    draw(alloc, &table, options.key, output)?;
+    Ok(DONE)
+}
+
+/// Prints the page that shows the film of the trace or of the script.
+fn do_film<R: Read + Drop, W: Write>(
+    alloc: Global,
+    options: FilmOptions,
+    input: R,
+    output: &mut W,
+) -> Result<u8, Fault>
+    ensures { IfOk result (λ status. status ≤ 4) }
+{
+    write_film(alloc, options, input, output)?;
     Ok(DONE)
 }
 

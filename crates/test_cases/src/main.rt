@@ -5,6 +5,7 @@
 #![tactic(auto)]
 
 mod commands;
+mod films;
 mod lines;
 mod program;
 mod scripts;
@@ -32,6 +33,7 @@ fn tell<R: Threads + Wait + Sync + Send + Copy + Files + Input + AllocGlobal>(
         Some(("vectors", name)) => vectors::agree(rt, argument, name),
         Some(("shared", _)) => shared::agree(rt, alloc, &texts::read(&rt, argument)?),
         Some(("steps", name)) => scripts::agree(&rt, argument, name),
+        Some(("films", name)) => films::agree(rt, argument, name),
         Some(("drawings", name)) => scripts::agree_drawn(&rt, argument, name),
         None if argument == "steps" => {
             scripts::answers(alloc, &io::read_to_string(alloc, rt.reader())?)

@@ -5,6 +5,7 @@ use crate::drawing::length::Length;
 use crate::drawing::text::{Short, undone};
 use crate::drawing::tower::Tower;
 use crate::page::Page;
+use crate::picture::Picture;
 use bw_delta::NoMemory;
 use bw_keys::{Fence, Key};
 use bw_step::{Stage, View};
@@ -31,6 +32,8 @@ pub(crate) struct Card {
     pub(crate) range: String,
     /// The number of entries, if the page is in a row.
     pub(crate) count: Option<String>,
+    /// How many of the entries are more than a page keeps.
+    pub(crate) over: u64,
     pub(crate) tower: Tower,
     /// The width of a column.
     pub(crate) column: Length,
@@ -39,18 +42,20 @@ pub(crate) struct Card {
 }
 
 impl Card {
-    pub(crate) fn of(alloc: Global, page: &Page, is_root: bool) -> Result<Card, NoMemory> {
+    pub(crate) fn of(alloc: Global, picture: &Picture, page: &Page) -> Result<Card, NoMemory> {
         let view = page.view;
+        let over = view.count.saturating_sub(u64::from(picture.fanout));
         let tower = match &page.chain {
             Some(chain) => Tower::of(alloc, chain)?,
             None => Tower::none(alloc),
         };
         Ok(Card {
             view,
-            is_root,
+            is_root: view.pid == picture.root.pid,
             title: format!(in alloc; "page {}", view.pid)?,
             range: range_of(alloc, view)?,
-            count: count_of(alloc, view)?,
+            count: count_of(alloc, view, over)?,
+            over,
             tower,
             column: Length(0),
             left: Length(0),
@@ -122,14 +127,18 @@ impl Card {
     }
 }
 
-/// Writes the number of entries, if the page is in a row.
-fn count_of(alloc: Global, view: View) -> Result<Option<String>, NoMemory> {
+/// Writes the number of entries, and how many are more than a page keeps, if the page is in a row.
+fn count_of(alloc: Global, view: View, over: u64) -> Result<Option<String>, NoMemory> {
     if view.stage == Stage::Merged {
         return Ok(None);
     }
     let kind = if view.level == 0 { "key" } else { "term" };
     let end = if view.count == 1 { "" } else { "s" };
-    Ok(Some(format!(in alloc; "{} {kind}{end}", view.count)?))
+    let mut count = format!(in alloc; "{} {kind}{end}", view.count)?;
+    if over > 0 {
+        write!(count, ", {over} over")?;
+    }
+    Ok(Some(count))
 }
 
 fn range_of(alloc: Global, view: View) -> Result<String, NoMemory> {

@@ -62,7 +62,7 @@ impl Row {
         let mut cards = Vec::new(alloc);
         for (_, place) in order.iter().take(end).skip(first) {
             if let Some(page) = picture.pages.get(*place) {
-                cards.push(Card::of(alloc, page, page.view.pid == picture.root.pid)?)?;
+                cards.push(Card::of(alloc, picture, page)?)?;
             }
         }
         let merged = merged_of(picture, level);

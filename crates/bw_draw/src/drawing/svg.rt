@@ -210,7 +210,8 @@ fn write_card<W: fmt::Write>(f: &mut fmt::Formatter<W>, card: &Card) -> fmt::Res
     write_text(f, "text", left, top + LINE, &card.range)?;
     let mut next = top + LINE * 2;
     if let Some(count) = &card.count {
-        write_text(f, "soft", left, next, count)?;
+        let class = if card.over > 0 { "warn" } else { "soft" };
+        write_text(f, class, left, next, count)?;
         next = next + LINE;
     }
     if let Some(undone) = undone {

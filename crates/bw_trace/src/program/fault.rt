@@ -7,6 +7,7 @@ ghost use Rattle.bw_trace.specs.Statuses.{fault_of, status_of};
 use crate::program::options::Field;
 use bw_audit::AuditFault;
 use bw_delta::NoMemory;
+use bw_film::FilmFault;
 use bw_run::RunFault;
 use bw_scripts::ScriptFault;
 use bw_texts::{OutFault, TextFault};
@@ -117,6 +118,19 @@ impl From<ScriptFault> for Fault {
 
     fn from(fault: ScriptFault) -> Fault {
         Fault::Script(fault)
+    }
+}
+
+impl From<FilmFault> for Fault {
+    fn from(fault: FilmFault) -> Fault {
+        match fault {
+            FilmFault::Config(bad) => Fault::Run(RunFault::Config(bad)),
+            FilmFault::Stopped(worker, row, fault) => {
+                Fault::Run(RunFault::Stopped(worker, row, fault))
+            }
+            FilmFault::Script(fault) => Fault::Script(fault),
+            FilmFault::Memory => Fault::Memory,
+        }
     }
 }
 

@@ -35,7 +35,8 @@ Example:
 pub(crate) const OF_DRAW: &str =
     "Rows and options are those of run, and the drawing goes to standard output. Of a table of up to
 40 pages each page is drawn, with the newest records of its chain and the first entries of its
-base, and of a larger one ten leaves, about what is half done, and the pages above them.
+base, and of a larger one ten leaves, about what is half done, and the pages above them. A page
+with more entries than the fanout says in red how many are over.
 
 With --steps a script of steps is read, of one line a step and single blanks between words:
   table 4 4 64 100 0                      a new table: fanout, chain, pages, tries, first version
@@ -49,6 +50,16 @@ A step that is refused changes nothing, and the next one is tried. Where line N 
 
 Example:
   bwtree make --rows 20 | bwtree draw --fanout 4 --chain 4 > tree.svg";
+
+pub(crate) const OF_FILM: &str =
+    "Rows, scripts of steps and options are those of draw. It prints a page of HTML that needs no other
+file: the drawing after each step, with the row or line that wanted the step, and what a comment
+of a script says behind it. Moment 0 is the new table, and each step makes the next one. A page
+has 200 moments at most, from --from on. The rows of a trace are done one after the other, as one
+worker does them, whatever their workers' numbers, and --readers changes nothing.
+
+Example:
+  bwtree make --rows 20 | bwtree film --fanout 4 --chain 4 > film.html";
 
 pub(crate) const OF_STATS: &str =
     "Rows and options are those of run, and scripts of steps those of draw. It prints these lines:

@@ -2,8 +2,9 @@
 
 ghost use Rattle.std.specs.Prelude.{◌≤◌, IfOk};
 ghost use Rattle.clap.specs.Words.{found_of};
-ghost use Rattle.bw_trace.specs.Options.{IsNumberFor};
+ghost use Rattle.bw_trace.specs.Options.{IsNumberFor, IsOptionFor};
 
+use crate::program::film_options::film_command;
 use crate::program::help::{OF_ALL, OF_CHECK, OF_MAKE, VERSION};
 use crate::program::run_options::run_command;
 use crate::program::show_options::{draw_command, stats_command};
@@ -43,6 +44,7 @@ pub(crate) fn commands<'a>(alloc: Global) -> Result<Command<'a>, AllocError> {
         .subcommand_required(true)
         .subcommand(run_command(alloc)?)?
         .subcommand(draw_command(alloc)?)?
+        .subcommand(film_command(alloc)?)?
         .subcommand(stats_command(alloc)?)?
         .subcommand(make_command(alloc)?)?
         .subcommand(check_command(alloc))
@@ -76,6 +78,21 @@ pub(crate) fn option<'a>(alloc: Global, name: &'a str, default: &'a str, help: &
         .help(help)
         .value_parser(clap::value_parser!(u64))
         .default_value(default)
+}
+
+/// Returns an option whose value is a number, and that may be absent.
+pub(crate) fn optional<'a>(alloc: Global, name: &'a str, help: &'a str) -> Arg<'a> {
+    Arg::new(alloc, name)
+        .long(name)
+        .help(help)
+        .value_parser(clap::value_parser!(u64))
+}
+
+/// Returns the value of an option that may be absent.
+pub(crate) fn if_given(matches: &ArgMatches, name: &str) -> Option<u64>
+    ensures { IsOptionFor (found_of matches.now) name.now result }
+{
+    matches.get_one::<u64>(name)
 }
 
 /// Returns the value of an option. Fails with its name if it is out of its range.

@@ -4,11 +4,14 @@ ghost use Rattle.std.specs.Prelude.{◌≡◌, IfOk, false, true};
 ghost use Rattle.bw_scripts.specs.Played.{IsPlayed};
 
 use crate::program::fault::Fault;
+use crate::program::film_options::FilmOptions;
 use crate::program::setting::Setting;
 use crate::program::show_options::ShowOptions;
 use bw_draw::{Drawing, Picture, Stats};
+use bw_film::{Choice, film_rows, film_script, page_of};
+use bw_keys::Key;
 use bw_run::run;
-use bw_scripts::play;
+use bw_scripts::play_first;
 use bw_table::Table;
 use bw_texts::read_trace;
 use bw_work::Open;
@@ -29,8 +32,9 @@ pub(crate) fn table_of<T: Threads + Wait + Sync + Send + Copy, R: Read + Drop>(
     ensures done { options.steps ≡ false →
         IfOk result (λ table. table.config ≡ options.setting.config) }
 {
+    let after = usize::try_from(options.after.unwrap_or(u64::MAX)).unwrap_or(usize::MAX);
     if options.steps {
-        return Ok(play(alloc, input)?);
+        return Ok(play_first(alloc, input, after)?);
     }
     let Setting {
         config,
@@ -38,17 +42,54 @@ pub(crate) fn table_of<T: Threads + Wait + Sync + Send + Copy, R: Read + Drop>(
         readers,
     } = options.setting;
     let rows = read_trace(alloc, input, workers)?;
-    Ok(run(rt, alloc, config, workers, readers, &rows, &Open)?.table)
+    let rows = &rows[..after.min(rows.len())];
+    Ok(run(rt, alloc, config, workers, readers, rows, &Open)?.table)
 }
 
-/// Writes the drawing of the table.
+/// Writes the drawing of the table, or of the path to the key in it.
 pub(crate) fn draw<W: Write>(
     alloc: Global,
     table: &Table<Global>,
+    key: Option<Key>,
     output: &mut W,
 ) -> Result<(), Fault> {
     let picture = Picture::of(alloc, table)?;
-    write_shown(alloc, output, &Drawing::of(alloc, &picture)?)
+    let drawing = match key {
+        None => Drawing::of(alloc, &picture)?,
+        Some(key) => Drawing::near(alloc, &picture, key)?,
+    };
+    write_shown(alloc, output, &drawing)
+}
+
+/// Writes the page that shows the film of the trace or of the script.
+pub(crate) fn write_film<R: Read + Drop, W: Write>(
+    alloc: Global,
+    options: FilmOptions,
+    input: R,
+    output: &mut W,
+) -> Result<(), Fault> {
+    let FilmOptions {
+        setting,
+        steps,
+        from,
+        to,
+        key,
+    } = options;
+    let choice = Choice {
+        from: from.unwrap_or(0),
+        to: to.unwrap_or(u64::MAX),
+        key,
+    };
+    let film = if steps {
+        film_script(alloc, choice, input)?
+    } else {
+        let rows = read_trace(alloc, input, setting.workers)?;
+        film_rows(alloc, setting.config, choice, &rows)?
+    };
+    let page = page_of(alloc, &film)?;
+    output.write_all(&page)?;
+    output.flush()?;
+    Ok(())
 }
 
 /// Writes the numbers of the table.

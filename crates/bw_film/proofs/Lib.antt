@@ -1,0 +1,4 @@
+pub mod Drawn
+pub mod Pages
+pub mod Filming
+pub mod Faulty

@@ -1,0 +1,9 @@
+use Rattle.std.proofs.Common.{◌≡◌, ◌≤◌}
+use Rattle.bw_scripts.specs.declared.script.TheConstants.{MOST_LINES}
+use Rattle.bw_film.proofs.script.film_script.Given as goal
+
+abbrev pub invariant-loop-line : goal.invariant-loop-line
+invariant-loop-line g l = record {
+  choice : l.film.choice ≡ l.fn.choice;
+  within : l.player.lines ≤ MOST_LINES;
+}

@@ -1,0 +1,5 @@
+pub mod Choices
+pub mod Pages
+pub mod Films
+pub mod Filming
+pub mod Faults

@@ -1,0 +1,128 @@
+//! Films, and how they are taken.
+
+ghost use Rattle.std.specs.Prelude.{◌≡◌, OnOk, OnErr, IfOk};
+ghost use Rattle.std.specs.String.{string_bytes};
+ghost use Rattle.bw_film.specs.Choices.{one_more};
+ghost use Rattle.bw_film.specs.Films.{AddsAFrame, AreDrawn, moments_of};
+
+use crate::choice::Choice;
+use crate::frame::Frame;
+use crate::telling::Telling;
+use bw_delta::NoMemory;
+use bw_draw::{Drawing, Picture};
+use bw_table::Table;
+use std::alloc::{AllocError, Global};
+
+/// The most moments that are drawn.
+pub const MOST_FRAMES: usize = 200;
+
+/// The moments of a table that were chosen, in their order, the first [`MOST_FRAMES`] of them.
+#[derive(Debug, Drop)]
+pub struct Film {
+    pub choice: Choice,
+    /// The number of moments that there were, drawn or not.
+    pub moments: u64,
+    pub frames: Vec<Frame>,
+    pub ghost drawn: { AreDrawn choice moments frames.items },
+}
+
+impl Film {
+    /// Returns a film without a moment.
+    pub(crate) fn new(alloc: Global, choice: Choice) -> Film
+        ensures choice { result.choice ≡ choice }
+        ensures moments { result.moments ≡ 0 }
+    {
+        Film {
+            choice,
+            moments: 0,
+            frames: Vec::new(alloc),
+        }
+    }
+
+    /// Adds the moment at which the table is so, and draws it if it is chosen.
+    #[tactic(auto, using(crate::proofs::Drawn::draws_one, crate::proofs::Drawn::draws_none))]
+    pub(crate) fn add(
+        &mut self,
+        alloc: Global,
+        table: &Table<Global>,
+        telling: Telling,
+        row: &str,
+    ) -> Result<(), NoMemory>
+        ensures choice { self.new.choice ≡ self.old.choice }
+        ensures counted { OnOk result (self.new.moments ≡ one_more self.old.moments) }
+        ensures frames { AddsAFrame self.old.frames.items self.new.frames.items }
+    {
+        let moment = self.moments;
+        // Where no number is left, there is none for a moment after this one.
+        let Some(next) = moment.checked_add(1) else {
+            return Ok(());
+        };
+        if self.choice.has(moment) && self.frames.len() < MOST_FRAMES {
+            let frame = frame_of(alloc, table, self.choice, moment, telling, row)?;
+            self.frames.push(frame)?;
+        }
+        self.moments = next;
+        Ok(())
+    }
+
+    /// Adds what a comment says to the newest moment, if that is drawn.
+    pub(crate) fn note(&mut self, comment: &str) -> Result<(), NoMemory>
+        ensures choice { self.new.choice ≡ self.old.choice }
+        ensures moments { self.new.moments ≡ self.old.moments }
+    {
+        match self.moments.checked_sub(1) {
+            Some(newest) => Ok(note_last(&mut self.frames, newest, comment)?),
+            None => Ok(()),
+        }
+    }
+}
+
+/// Adds the comment to the last frame, if it is that of the moment.
+#[tactic(auto, using(crate::proofs::Drawn::same_moments))]
+fn note_last(frames: &mut Vec<Frame>, moment: u64, comment: &str) -> Result<(), AllocError>
+    ensures { moments_of frames.new.items ≡ moments_of frames.old.items }
+{
+    let Some(last) = frames.len().checked_sub(1) else {
+        return Ok(());
+    };
+    if frames[last].moment == moment {
+        add_note(&mut frames[last], comment)?;
+    }
+    Ok(())
+}
+
+/// Adds the comment to what is said of the frame, behind a blank.
+fn add_note(frame: &mut Frame, comment: &str) -> Result<(), AllocError>
+    ensures { frame.new.moment ≡ frame.old.moment }
+{
+    if !frame.note.is_empty() {
+        frame.note.push(' ')?;
+    }
+    frame.note.push_str(comment)
+}
+
+fn frame_of(
+    alloc: Global,
+    table: &Table<Global>,
+    choice: Choice,
+    moment: u64,
+    telling: Telling,
+    row: &str,
+) -> Result<Frame, NoMemory>
+    ensures moment { IfOk result (λ frame. frame.moment ≡ moment) }
+    ensures row { IfOk result (λ frame. string_bytes frame.row ≡ row.now) }
+{
+    let picture = Picture::of(alloc, table)?;
+    let drawing = match choice.key {
+        None => Drawing::of(alloc, &picture)?,
+        Some(key) => Drawing::near(alloc, &picture, key)?,
+    };
+    Ok(Frame {
+        moment,
+        told: format!(in alloc; "{telling}")?,
+        proved: telling.proved(),
+        row: row.to_string(alloc)?,
+        note: String::new(alloc),
+        drawing: format!(in alloc; "{drawing}")?,
+    })
+}

@@ -1,0 +1,87 @@
+//! Films of traces.
+
+ghost use Rattle.std.specs.Prelude.{◌≡◌, IfOk, IfErr, OnOk};
+ghost use Rattle.bw_film.specs.Faults.{IsRowFault, IsRowsFault};
+ghost use Rattle.bw_film.specs.Filming.{DoesRow, IsFilmOf, IsSameChoice};
+
+use crate::camera::{Filmed, Shows};
+use crate::choice::Choice;
+use crate::fault::FilmFault;
+use crate::film::Film;
+use crate::telling::Telling;
+use bw_alone::Alone;
+use bw_delta::NoMemory;
+use bw_keys::Config;
+use bw_procedures::{Steps, do_act};
+use bw_step::Step;
+use bw_table::{NewFault, Table};
+use bw_texts::{Row, write_trace};
+use std::alloc::Global;
+
+/// Does the rows on a new table, one after the other in the order of the trace, and films each step.
+/// One worker does them all, whatever number a row has.
+///
+/// # Errors
+///
+/// Fails with a bad configuration, with the first row that is given up, or if memory runs out.
+#[tactic(auto, using(crate::proofs::Filming::films_begin, crate::proofs::Filming::films_go_on, crate::proofs::Faulty::row_gives_up))]
+pub fn film_rows(
+    alloc: Global,
+    config: Config,
+    choice: Choice,
+    rows: &[Row],
+) -> Result<Film, FilmFault>
+    ensures choice { IfOk result (λ film. film.choice ≡ choice) }
+    ensures moments { IfOk result (IsFilmOf rows.now) }
+    ensures fault { IfErr result (IsRowsFault config rows.now) }
+{
+    let mut table = match Table::new(alloc, alloc, config) {
+        Ok(table) => table,
+        Err(NewFault::BadConfig(bad)) => return Err(FilmFault::Config(bad)),
+        Err(NewFault::NoMemory) => return Err(FilmFault::Memory),
+    };
+    let mut film = Film::new(alloc, choice);
+    film.add(alloc, &table, Telling::Made(config), "")?;
+    let mut filmed = Filmed {
+        steps: Alone::new(alloc, alloc, &mut table),
+        film,
+        row: String::new(alloc),
+        has_failed: false,
+    };
+    for place in 0..rows.len() {
+        do_row(alloc, &mut filmed, rows[place], place + 1)?;
+    }
+    let Filmed { film, .. } = filmed;
+    Ok(film)
+}
+
+/// Does the row with this number, counted from 1.
+fn do_row<S: Steps<Global, Step<Global>> + Shows + Drop>(
+    alloc: Global,
+    filmed: &mut Filmed<S>,
+    row: Row,
+    number: usize,
+) -> Result<(), FilmFault>
+    ensures choice { IsSameChoice filmed.old.film filmed.new.film }
+    ensures done { OnOk result (DoesRow row filmed.old.film (S.seen filmed.old.steps).trail
+        filmed.new.film (S.seen filmed.new.steps).trail) }
+    ensures fault { IfErr result (IsRowFault row.worker number) }
+{
+    filmed.row = row_text(alloc, row, number)?;
+    match do_act(filmed, alloc, row.act) {
+        Err(fault) => Err(FilmFault::Stopped(row.worker as usize, number, fault)),
+        Ok(_) if filmed.has_failed => Err(FilmFault::Memory),
+        Ok(_) => Ok(()),
+    }
+}
+
+/// Returns the row as a trace has it, behind its number.
+fn row_text(alloc: Global, row: Row, number: usize) -> Result<String, NoMemory> {
+    let Ok(written) = write_trace(Vec::new(alloc), &[row]) else {
+        return Err(NoMemory);
+    };
+    let Ok(text) = String::from_utf8(written) else {
+        return Err(NoMemory);
+    };
+    Ok(format!(in alloc; "row {number}: {}", text.trim_end())?)
+}

@@ -1,0 +1,57 @@
+//! The options of `film`.
+
+ghost use Rattle.std.specs.Prelude.{IfOk};
+ghost use Rattle.clap.specs.Words.{found_of};
+ghost use Rattle.bw_trace.specs.Options.{IsFilmedBy, IsFit};
+
+use crate::program::help::OF_FILM;
+use crate::program::options::{Field, if_given, optional};
+use crate::program::setting::{Setting, with_setting};
+use crate::program::show_options::{key_option, steps_flag};
+use bw_keys::Key;
+use clap::{ArgMatches, Command};
+use std::alloc::{AllocError, Global};
+
+/// What is filmed, and which moments of it are drawn.
+#[derive(Clone, Copy)]
+pub(crate) struct FilmOptions {
+    pub setting: Setting,
+    /// Whether a script of steps is read in place of a trace. A script has its own configuration.
+    pub steps: bool,
+    pub from: Option<u64>,
+    /// The last moment.
+    pub to: Option<u64>,
+    pub key: Option<Key>,
+}
+
+impl FilmOptions {
+    /// Reads the options. Fails with the first that is out of its range.
+    pub(crate) fn of(matches: &ArgMatches) -> Result<FilmOptions, Field>
+        ensures asked { IfOk result (IsFilmedBy (found_of matches.now)) }
+        ensures fit { IfOk result (λ options. IsFit options.setting) }
+    {
+        Ok(FilmOptions {
+            setting: Setting::of(matches)?,
+            steps: matches.get_flag("steps"),
+            from: if_given(matches, "from"),
+            to: if_given(matches, "to"),
+            key: if_given(matches, "key"),
+        })
+    }
+}
+
+/// Returns the command `film` with its options and defaults.
+pub(crate) fn film_command<'a>(alloc: Global) -> Result<Command<'a>, AllocError> {
+    let film = Command::new(alloc, "film")
+        .about("Writes a page that shows the table after each step")
+        .after_help(OF_FILM);
+    with_setting(alloc, film)?
+        .arg(steps_flag(alloc)?)?
+        .arg(optional(alloc, "from", "The first moment, 0 if absent"))?
+        .arg(optional(
+            alloc,
+            "to",
+            "The last moment, that of the last step if absent",
+        ))?
+        .arg(key_option(alloc))
+}
