@@ -2,5 +2,6 @@ pub mod Stops
 pub mod Reads
 pub mod Rows
 pub mod Answers
+pub mod Beside
 pub mod Faults
 pub mod Runs

@@ -9,20 +9,22 @@ ghost use Rattle.bw_run.specs.Stops.{MayStop};
 
 use crate::answers::Stop;
 use crate::looks::Looks;
+use crate::progress::Progress;
 use bw_delta::NoMemory;
 use bw_keys::Key;
 use bw_procedures::{Act, Reply, do_act};
 use bw_step::Look;
 use nifforan_shared::Notes;
 
-/// Does the acts in their order, until one is given up, and appends the reply to each. The worker
-/// looks keys up by its reader, if it has one.
+/// Does the acts in their order, until one is given up, appends the reply to each, and counts it. The
+/// worker looks keys up by its reader, if it has one.
 #[tactic(auto, using(crate::proofs::Receipts::none_done))]
 pub(crate) fn do_acts<W: Notes, L: Looks>(
     hand: &mut W,
     reader: &mut Option<L>,
     acts: &[Act],
     replies: &mut Vec<Reply>,
+    progress: &Progress,
 ) -> Result<(), Stop>
     requires new { (W.seen hand.old).trail ≡ [] }
     requires empty { replies.old.items ≡ [] }
@@ -35,6 +37,7 @@ pub(crate) fn do_acts<W: Notes, L: Looks>(
     for act in acts {
         let reply = do_row(hand, reader, *act)?;
         replies.push_reserved(reply);
+        progress.count(replies.len(), &reply);
     }
     Ok(())
 }

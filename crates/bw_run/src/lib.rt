@@ -4,6 +4,7 @@
 
 mod acts;
 mod answers;
+mod beside;
 mod ending;
 mod fault;
 mod judgement;
@@ -11,6 +12,7 @@ mod kits;
 mod looks;
 mod merging;
 mod plan;
+mod progress;
 mod rows;
 mod runner;
 mod stopping;
@@ -19,4 +21,5 @@ pub use bw_procedures::{Act, Reply, do_act};
 pub use bw_texts::{Row, is_trace_for};
 pub use ending::Finished;
 pub use fault::RunFault;
-pub use runner::run;
+pub use progress::Progress;
+pub use runner::{run, run_counted};

@@ -12,6 +12,7 @@ use crate::answers::Answers;
 use crate::fault::RunFault;
 use crate::kits::{Kit, kits_for};
 use crate::looks::Looks;
+use crate::progress::Progress;
 use crate::stopping::check_stops;
 use bw_step::{Receipt, Step};
 use bw_texts::Row;
@@ -27,6 +28,7 @@ use std::thread::Threads;
 #[derive(Drop)]
 struct Rows<'r> {
     rows: &'r [Row],
+    progress: &'r Progress,
 }
 
 impl<'r, L: Looks + Drop> Task<Kit<L>> for Rows<'r> {
@@ -50,7 +52,7 @@ impl<'r, L: Looks + Drop> Task<Kit<L>> for Rows<'r> {
             mut replies,
             mut reader,
         } = kit;
-        let stop = do_acts(hand, &mut reader, &acts, &mut replies).err();
+        let stop = do_acts(hand, &mut reader, &acts, &mut replies, self.progress).err();
         Answers { replies, stop }
     }
 }
@@ -73,6 +75,7 @@ pub(crate) fn do_rows<
     readers: Vec<L>,
     rows: &[Row],
     gate: &G,
+    progress: &Progress,
 ) -> Result<Gathered<I, D, Answers>, RunFault>
     requires few { length shares.items ≤ 64 }
     requires new { All (λ share. share ≡ no_changes) shares.items }
@@ -83,7 +86,8 @@ pub(crate) fn do_rows<
     ensures fault { IfErr result (StopsWithin L.may_close (length shares.items) rows.now) }
 {
     let kits = kits_for(machine, shares.len() as u32, rows, readers)?;
-    let all = work_all(rt, machine, tree, gate, &Rows { rows }, shares, kits)?;
+    let task = Rows { rows, progress };
+    let all = work_all(rt, machine, tree, gate, &task, shares, kits)?;
     check_stops::<L>(rows, &all.outputs)?;
     Ok(all)
 }

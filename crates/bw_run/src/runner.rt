@@ -11,6 +11,7 @@ ghost use Rattle.bw_run.specs.Runs.{IsRunOf, IsLegalRun, TellsItsReplies};
 
 use crate::ending::{Finished, finish};
 use crate::fault::RunFault;
+use crate::progress::Progress;
 use crate::rows::do_rows;
 use bw_keys::{Config, MAX_WORKERS};
 use bw_snap::{Announcements, MAX_READERS, Naming, ReadTree, SnapFault};
@@ -55,10 +56,31 @@ pub fn run<R: Threads + Wait + Sync + Send + Copy, G: Gate + Sync>(
     ensures fine { IsOk result → MayRun config workers readers }
     ensures fault { IfErr result (IsRunFault config workers readers rows.now) }
 {
+    let progress = Progress::new();
+    run_counted(rt, machine, config, workers, readers, rows, gate, &progress)
+}
+
+/// Runs a trace as [`run`] does, and counts its rows meanwhile.
+pub fn run_counted<R: Threads + Wait + Sync + Send + Copy, G: Gate + Sync>(
+    rt: R,
+    machine: Global,
+    config: Config,
+    workers: u32,
+    readers: u32,
+    rows: &[Row],
+    gate: &G,
+    progress: &Progress,
+) -> Result<Finished, RunFault>
+    requires { AllByRecursion (λ row. row.worker < workers) rows.now }
+    ensures finished { IfOk result (IsRunOf workers rows.now) }
+    ensures config { IfOk result (λ finished. finished.table.config ≡ config) }
+    ensures fine { IsOk result → MayRun config workers readers }
+    ensures fault { IfErr result (IsRunFault config workers readers rows.now) }
+{
     check(config, workers, readers)?;
     let blanks = Blanks::new(workers);
     if readers == 0 {
-        return run_locked::<Brand, Brand, R, G>(rt, machine, config, blanks, rows, gate);
+        return run_locked::<Brand, Brand, R, G>(rt, machine, config, blanks, rows, gate, progress);
     }
     run_read::<Brand, Brand, R, G>(
         rt,
@@ -69,6 +91,7 @@ pub fn run<R: Threads + Wait + Sync + Send + Copy, G: Gate + Sync>(
         readers,
         rows,
         gate,
+        progress,
     )
 }
 
@@ -102,6 +125,7 @@ fn run_locked<
     blanks: Blanks,
     rows: &[Row],
     gate: &G,
+    progress: &Progress,
 ) -> Result<Finished, RunFault>
     requires ledgers { OpensFor I.Ledger I.config D.Ledger config blanks }
     requires made { MayBeMade config blanks.workers }
@@ -119,7 +143,7 @@ fn run_locked<
         shares,
         trails,
         outputs,
-    } = do_rows(&rt, machine, &tree, shares, readers, rows, gate)?;
+    } = do_rows(&rt, machine, &tree, shares, readers, rows, gate, progress)?;
     let Ok(table) = tree.close(shares) else {
         unreachable!()
     };
@@ -141,6 +165,7 @@ fn run_read<
     readers: u32,
     rows: &[Row],
     gate: &G,
+    progress: &Progress,
 ) -> Result<Finished, RunFault>
     requires announcements { announcements.seen.book ≡ N.announcements }
     requires ledgers { OpensFor N.Ledger N.config D.Ledger config blanks }
@@ -169,7 +194,7 @@ fn run_read<
         shares,
         trails,
         outputs,
-    } = do_rows(&rt, machine, &tree, shares, readers, rows, gate)?;
+    } = do_rows(&rt, machine, &tree, shares, readers, rows, gate, progress)?;
     let Ok(table) = tree.close(shares) else {
         unreachable!()
     };

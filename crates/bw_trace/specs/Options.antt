@@ -47,6 +47,7 @@ pub record IsAskedFor (found : Found) (options : RunOptions) : Type 0 where
   pub setting : IsSettingFor found options.setting
   pub replies : IsFlagFor found (codes "replies") options.replies
   pub history : IsFlagFor found (codes "history") options.history
+  pub quiet : IsFlagFor found (codes "quiet") options.quiet
 
 pub record IsShownBy (found : Found) (options : ShowOptions) : Type 0 where
   pub setting : IsSettingFor found options.setting

@@ -9,24 +9,28 @@ ghost use Rattle.bw_trace.specs.Verdicts.{IsVerdictOn, verdict_line};
 mod fault;
 mod film_options;
 mod help;
+mod notes;
 mod options;
 mod report;
 mod run_options;
 mod setting;
 mod show;
 mod show_options;
+mod steps;
 
 use crate::program::fault::{AUDIT_NO, BAD_USAGE, DONE, Fault};
 use crate::program::film_options::FilmOptions;
+use crate::program::notes::write_notes;
 use crate::program::options::{Field, commands, ranged};
 use crate::program::report::write_report;
 use crate::program::run_options::RunOptions;
 use crate::program::setting::Setting;
 use crate::program::show::{draw, table_of, tell_stats, write_film};
 use crate::program::show_options::{DrawOptions, ShowOptions};
+use crate::program::steps::write_answers;
 use bw_audit::{Verdict, audit};
 use bw_keys::MAX_WORKERS;
-use bw_run::{Finished, RunFault, run};
+use bw_run::{Finished, Progress, RunFault, run_counted};
 use bw_texts::{MOST_TRACE_ROWS, make, read_history, read_trace, write_history, write_trace};
 use bw_work::Open;
 use clap::ArgMatches;
@@ -60,28 +64,61 @@ pub fn command<T: Threads + Wait + Sync + Send + Copy, R: Read + Drop, W: Write,
 ) -> u8
     ensures { result ≤ 4 }
 {
-    match obey(rt, alloc, words, input, output) {
+    let progress = Progress::new();
+    command_counted(rt, alloc, words, input, output, faults, &progress)
+}
+
+/// Carries out the words as [`command`] does, and counts the rows of a run meanwhile.
+pub fn command_counted<T: Threads + Wait + Sync + Send + Copy, R: Read + Drop, W: Write, E: Write>(
+    rt: T,
+    alloc: Global,
+    words: &[&str],
+    input: R,
+    output: &mut W,
+    faults: &mut E,
+    progress: &Progress,
+) -> u8
+    ensures { result ≤ 4 }
+{
+    match obey(rt, alloc, words, input, output, faults, progress) {
         Ok(status) => status,
         Err(Fault::Usage(error)) => tell_usage(output, faults, &error),
         Err(fault) => tell(faults, &fault),
     }
 }
 
-fn obey<T: Threads + Wait + Sync + Send + Copy, R: Read + Drop, W: Write>(
+fn obey<T: Threads + Wait + Sync + Send + Copy, R: Read + Drop, W: Write, E: Write>(
     rt: T,
     alloc: Global,
     words: &[&str],
     input: R,
     output: &mut W,
+    faults: &mut E,
+    progress: &Progress,
 ) -> Result<u8, Fault>
     ensures { IfOk result (λ status. status ≤ 4) }
 {
     let matches = parse(alloc, words)?;
     match matches.subcommand() {
-        Some(("run", options)) => do_run(rt, alloc, RunOptions::of(options)?, input, output),
-        Some(("draw", options)) => do_draw(rt, alloc, DrawOptions::of(options)?, input, output),
+        Some(("run", options)) => {
+            do_run(
+                rt,
+                alloc,
+                RunOptions::of(options)?,
+                input,
+                output,
+                faults,
+                progress,
+            )
+        }
+        Some(("draw", options)) => {
+            do_draw(rt, alloc, DrawOptions::of(options)?, input, output, faults)
+        }
         Some(("film", options)) => do_film(alloc, FilmOptions::of(options)?, input, output),
-        Some(("stats", options)) => do_stats(rt, alloc, ShowOptions::of(options)?, input, output),
+        Some(("stats", options)) => {
+            do_stats(rt, alloc, ShowOptions::of(options)?, input, output, faults)
+        }
+        Some(("steps", _)) => do_steps(alloc, input, output),
         Some(("make", options)) => do_make(alloc, options, output),
         _ => do_check(alloc, input, output),
     }
@@ -97,12 +134,14 @@ fn parse<'a>(alloc: Global, words: &'a [&'a str]) -> Result<ArgMatches<'a>, clap
 }
 
 /// Runs the trace, and prints nothing before the run has ended.
-fn do_run<T: Threads + Wait + Sync + Send + Copy, R: Read + Drop, W: Write>(
+fn do_run<T: Threads + Wait + Sync + Send + Copy, R: Read + Drop, W: Write, E: Write>(
     rt: T,
     alloc: Global,
     options: RunOptions,
     input: R,
     output: &mut W,
+    faults: &mut E,
+    progress: &Progress,
 ) -> Result<u8, Fault>
     ensures { IfOk result (λ status. status ≤ 4) }
 {
@@ -112,8 +151,14 @@ fn do_run<T: Threads + Wait + Sync + Send + Copy, R: Read + Drop, W: Write>(
         readers,
     } = options.setting;
     let rows = read_trace(alloc, input, workers)?;
-    match run(rt, alloc, config, workers, readers, &rows, &Open) {
-        Ok(finished) => print_run(alloc, options, output, &finished),
+    match run_counted(rt, alloc, config, workers, readers, &rows, &Open, progress) {
+        Ok(finished) => {
+            let status = print_run(alloc, options, output, &finished)?;
+            if !options.quiet {
+                let _ = write_notes(faults, &finished);
+            }
+            Ok(status)
+        }
         Err(RunFault::Audit(worker, receipt)) => {
             print_verdict(output, Verdict::No(worker, receipt))
         }
@@ -140,16 +185,17 @@ fn print_run<W: Write>(
 }
 
 /// Draws the table that the trace or the script leaves.
-fn do_draw<T: Threads + Wait + Sync + Send + Copy, R: Read + Drop, W: Write>(
+fn do_draw<T: Threads + Wait + Sync + Send + Copy, R: Read + Drop, W: Write, E: Write>(
     rt: T,
     alloc: Global,
     options: DrawOptions,
     input: R,
     output: &mut W,
+    faults: &mut E,
 ) -> Result<u8, Fault>
     ensures { IfOk result (λ status. status ≤ 4) }
 {
-    let table = table_of(rt, alloc, options.shown, input)?;
+    let table = table_of(rt, alloc, options.shown, input, faults)?;
     draw(alloc, &table, options.key, output)?;
     Ok(DONE)
 }
@@ -168,17 +214,26 @@ fn do_film<R: Read + Drop, W: Write>(
 }
 
 /// Prints the numbers of the table that the trace or the script leaves.
-fn do_stats<T: Threads + Wait + Sync + Send + Copy, R: Read + Drop, W: Write>(
+fn do_stats<T: Threads + Wait + Sync + Send + Copy, R: Read + Drop, W: Write, E: Write>(
     rt: T,
     alloc: Global,
     options: ShowOptions,
     input: R,
     output: &mut W,
+    faults: &mut E,
 ) -> Result<u8, Fault>
     ensures { IfOk result (λ status. status ≤ 4) }
 {
-    let table = table_of(rt, alloc, options, input)?;
+    let table = table_of(rt, alloc, options, input, faults)?;
     tell_stats(alloc, &table, output)?;
+    Ok(DONE)
+}
+
+/// Prints the answer to each line of the script.
+fn do_steps<R: Read + Drop, W: Write>(alloc: Global, input: R, output: &mut W) -> Result<u8, Fault>
+    ensures { IfOk result (λ status. status ≤ 4) }
+{
+    write_answers(alloc, input, output)?;
     Ok(DONE)
 }
 

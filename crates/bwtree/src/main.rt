@@ -1,9 +1,18 @@
-//! The program `bwtree`: `bw_trace::command` over the standard streams.
+//! The program `bwtree`: `bw_trace::command` over the standard streams. On a terminal it says how
+//! far a run is, and that it reads what is typed.
 #![tactic(auto)]
 
-use bw_trace::command;
+mod streams;
+mod ticker;
+
+use bw_trace::Progress;
+use std::io::IsTerminal;
 use std::process::ExitCode;
-use std::{env, io};
+use std::{env, io, thread};
+use ticker::Ending;
+
+/// What is said before rows are read from a terminal.
+const HINT: &str = "reading standard input, up to Ctrl-D at the start of a line";
 
 fn main(rt: HostRuntime) -> io::Result<ExitCode> {
     let alloc = rt.alloc();
@@ -23,13 +32,30 @@ fn main(rt: HostRuntime) -> io::Result<ExitCode> {
         .skip(1)
         .map(|word| word.as_str())
         .collect(alloc)?;
-    let status = command(
-        rt,
-        alloc,
-        &words,
-        rt.stdin(),
-        &mut rt.stdout(),
-        &mut rt.stderr(),
+    let is_quiet = words.iter().any(|word| *word == "--quiet");
+    let hint = (!is_quiet && rt.stdin().is_terminal()).then_some(HINT);
+    let progress = Progress::new();
+    let ending = Ending::new();
+    let answer = || {
+        let status = streams::answer(
+            rt,
+            alloc,
+            &words,
+            (rt.stdin(), hint),
+            rt.stdout(),
+            rt.stderr(),
+            &progress,
+        );
+        ending.announce(&rt);
+        status
+    };
+    if is_quiet || !rt.stderr().is_terminal() {
+        return Ok(ExitCode::from(answer()));
+    }
+    let (_, status) = thread::join(
+        &rt,
+        || ticker::tell(&rt, alloc, &progress, &ending, &mut rt.stderr()),
+        answer,
     );
     Ok(ExitCode::from(status))
 }

@@ -1,7 +1,7 @@
 //! Goes through cases in files, and reports of each file whether it is answered as foretold, or
 //! where it first isn't. An argument `KIND/NAME` names the files of a case or of a row of cases.
-//! With a kind alone, `steps` or `drawings`, the script on standard input is played or drawn, and
-//! the answers or drawings are printed.
+//! With the kind `drawings` alone the script on standard input is drawn, and the drawings are
+//! printed.
 #![tactic(auto)]
 
 mod commands;
@@ -32,12 +32,9 @@ fn tell<R: Threads + Wait + Sync + Send + Copy + Files + Input + AllocGlobal>(
         Some(("commands", name)) => commands::agree(rt, alloc, &texts::read(&rt, argument)?, name),
         Some(("vectors", name)) => vectors::agree(rt, argument, name),
         Some(("shared", _)) => shared::agree(rt, alloc, &texts::read(&rt, argument)?),
-        Some(("steps", name)) => scripts::agree(&rt, argument, name),
+        Some(("steps", name)) => scripts::agree(rt, argument, name),
         Some(("films", name)) => films::agree(rt, argument, name),
         Some(("drawings", name)) => scripts::agree_drawn(&rt, argument, name),
-        None if argument == "steps" => {
-            scripts::answers(alloc, &io::read_to_string(alloc, rt.reader())?)
-        }
         None if argument == "drawings" => {
             Ok(scripts::drawings(alloc, &io::read_to_string(alloc, rt.reader())?)?.concat(alloc)?)
         }

@@ -1,36 +1,34 @@
 //! Scripts of steps that are built by hand: played, with an answer to each, and drawn.
 
+use crate::program::{Input, answer_to};
 use crate::texts::{compare, read_part};
-use anyhow::{Result, bail};
+use anyhow::{Result, bail, ensure};
 use bw_draw::{Drawing, Picture};
-use bw_scripts::{Answer, Player, ScriptFault};
+use bw_scripts::{Answer, Player};
 use std::alloc::Global;
 use std::rt::Files;
+use std::sync::Wait;
+use std::thread::Threads;
 
-/// Returns a line for each line of the script that asks for something. A line that can't be read is
-/// reported by its number, and ends the script.
-pub(crate) fn answers(alloc: Global, script: &str) -> Result<String> {
-    let mut player = Player::new(alloc);
-    let mut answers = String::new(alloc);
-    for line in script.lines() {
-        match player.play(line) {
-            Ok(None) => {}
-            Ok(Some(answer)) => writeln!(answers, "{answer}")?,
-            Err(ScriptFault::Memory) => bail!("there is no memory left"),
-            Err(fault) => {
-                writeln!(answers, "{fault}")?;
-                break;
-            }
-        }
-    }
-    Ok(answers)
-}
-
-/// Plays a script, and compares its answers with those that lie beside it.
-pub(crate) fn agree<R: Files + AllocGlobal>(rt: &R, path: &str, name: &str) -> Result<String> {
-    let answers = answers(rt.alloc(), &read_part(rt, path, "steps")?)?;
-    compare(&answers, &read_part(rt, path, "answers")?)?;
-    Ok(format!(in rt.alloc(); "{name}: as foretold\n")?)
+/// Has the program answer the script, and compares its answers with those that lie beside it.
+pub(crate) fn agree<R: Threads + Wait + Sync + Send + Copy + Files + AllocGlobal>(
+    rt: R,
+    path: &str,
+    name: &str,
+) -> Result<String> {
+    let alloc = rt.alloc();
+    let script = read_part(&rt, path, "steps")?;
+    let input = Input {
+        text: script.as_bytes(),
+        has_failure: false,
+    };
+    let answer = answer_to(rt, alloc, "steps", "", input)?;
+    ensure!(
+        answer.status == 0 && answer.faults.is_empty(),
+        "the program refused the script"
+    );
+    compare(&answer.output, &read_part(&rt, path, "answers")?)?;
+    Ok(format!(in alloc; "{name}: as foretold\n")?)
 }
 
 /// Returns a drawing for each comment of the script, of the table that the lines before the comment

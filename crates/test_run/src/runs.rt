@@ -66,7 +66,7 @@ static LONG: [Long; 3] = [
 fn long_traces_end_as_worked_out(rt: HostRuntime) -> Result<(), Fail> {
     for (keys, more, word, reply, end) in LONG.iter() {
         let trace = rising(rt.alloc(), *keys, more)?;
-        let output = printed(&rt, &["run", "--replies", word], trace.as_str())?;
+        let output = printed(&rt, &["run", "--quiet", "--replies", word], trace.as_str())?;
         let output = output.as_str();
         assert!(rt; output.contains(reply) && output.ends_with(end), "{more}");
         assert!(rt; !output.contains("full)\ninserted"), "{more}");

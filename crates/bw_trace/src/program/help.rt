@@ -26,8 +26,11 @@ Where row N can't be read, 'bwtree: row N: PART' names its first bad part:
   key     no number: a sign, a blank, 2^64 or more
   value   no number, or one behind get or del
 
+Where a number is out of an option's range, 'bwtree: bad NAME' names the option.
+
 Replies: inserted, present V (put left V there), replaced V, removed V, nokey, found V, none,
-cleared N. 'inserted (table full)' wants more --pages.
+cleared N. 'inserted (table full)' wants more --pages. In the end standard error counts the rows
+with such a fault, and meanwhile, on a terminal, says each second how many rows are done.
 
 Example:
   bwtree make --rows 20 | bwtree run --replies";
@@ -50,6 +53,18 @@ A step that is refused changes nothing, and the next one is tried. Where line N 
 
 Example:
   bwtree make --rows 20 | bwtree draw --fanout 4 --chain 4 > tree.svg";
+
+pub(crate) const OF_STEPS: &str =
+    "Lines are those of draw --steps and questions, and each is answered at once: a step by its receipt,
+or by the number and the name of the refusal, and a question by what the table shows:
+  table 4 4 64 100 0   ok
+  insert 0 0 1 10      inserted 1 1 10
+  insert 0 0 5 50      refused 2 Stale
+  look 0 1             found 10 at 1
+  pairs                1:10
+Empty lines, and those that begin with '#', ask for nothing. Where line N can't be read,
+'bwtree: line N: the line can't be read' says so, and nothing more is answered. docs/STEPS.md has
+all lines, answers and refusals.";
 
 pub(crate) const OF_FILM: &str =
     "Rows, scripts of steps and options are those of draw. It prints a page of HTML that needs no other

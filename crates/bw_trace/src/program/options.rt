@@ -5,7 +5,7 @@ ghost use Rattle.clap.specs.Words.{found_of};
 ghost use Rattle.bw_trace.specs.Options.{IsNumberFor, IsOptionFor};
 
 use crate::program::film_options::film_command;
-use crate::program::help::{OF_ALL, OF_CHECK, OF_MAKE, VERSION};
+use crate::program::help::{OF_ALL, OF_CHECK, OF_MAKE, OF_STEPS, VERSION};
 use crate::program::run_options::run_command;
 use crate::program::show_options::{draw_command, stats_command};
 use clap::{Arg, ArgMatches, Command};
@@ -46,8 +46,15 @@ pub(crate) fn commands<'a>(alloc: Global) -> Result<Command<'a>, AllocError> {
         .subcommand(draw_command(alloc)?)?
         .subcommand(film_command(alloc)?)?
         .subcommand(stats_command(alloc)?)?
+        .subcommand(steps_command(alloc))?
         .subcommand(make_command(alloc)?)?
         .subcommand(check_command(alloc))
+}
+
+fn steps_command<'a>(alloc: Global) -> Command<'a> {
+    Command::new(alloc, "steps")
+        .about("Answers each line of the script of steps on standard input")
+        .after_help(OF_STEPS)
 }
 
 fn make_command<'a>(alloc: Global) -> Result<Command<'a>, AllocError> {

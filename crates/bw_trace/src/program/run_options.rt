@@ -18,6 +18,8 @@ pub(crate) struct RunOptions {
     pub replies: bool,
     /// Whether the history is printed, in place of all else.
     pub history: bool,
+    /// Whether standard error has faults alone.
+    pub quiet: bool,
 }
 
 impl RunOptions {
@@ -30,6 +32,7 @@ impl RunOptions {
             setting: Setting::of(matches)?,
             replies: matches.get_flag("replies"),
             history: matches.get_flag("history"),
+            quiet: matches.get_flag("quiet"),
         })
     }
 }
@@ -39,7 +42,9 @@ pub(crate) fn run_command<'a>(alloc: Global) -> Result<Command<'a>, AllocError> 
     let run = Command::new(alloc, "run")
         .about("Runs the trace on standard input")
         .after_help(OF_RUN);
+    let replies = flag(alloc, "replies", "Prints the replies, too");
     with_setting(alloc, run)?
-        .arg(flag(alloc, "replies", "Prints the replies, too"))?
-        .arg(flag(alloc, "history", "Prints the history alone"))
+        .arg(replies.conflicts_with("history")?)?
+        .arg(flag(alloc, "history", "Prints the history alone"))?
+        .arg(flag(alloc, "quiet", "Says nothing of a run that ends well"))
 }

@@ -7,11 +7,11 @@ use crate::program::fault::Fault;
 use crate::program::film_options::FilmOptions;
 use crate::program::setting::Setting;
 use crate::program::show_options::ShowOptions;
+use crate::program::steps::played_table;
 use bw_draw::{Drawing, Picture, Stats};
 use bw_film::{Choice, film_rows, film_script, page_of};
 use bw_keys::Key;
 use bw_run::run;
-use bw_scripts::play_first;
 use bw_table::Table;
 use bw_texts::read_trace;
 use bw_work::Open;
@@ -21,12 +21,14 @@ use std::io::{BufWriter, Read, Write};
 use std::sync::Wait;
 use std::thread::Threads;
 
-/// Returns the table that the trace or the script leaves.
-pub(crate) fn table_of<T: Threads + Wait + Sync + Send + Copy, R: Read + Drop>(
+/// Returns the table that the trace or the script leaves, and tells which lines of the script were
+/// refused.
+pub(crate) fn table_of<T: Threads + Wait + Sync + Send + Copy, R: Read + Drop, E: Write>(
     rt: T,
     alloc: Global,
     options: ShowOptions,
     input: R,
+    faults: &mut E,
 ) -> Result<Table<Global>, Fault>
     ensures played { options.steps ≡ true → IfOk result IsPlayed }
     ensures done { options.steps ≡ false →
@@ -34,7 +36,7 @@ pub(crate) fn table_of<T: Threads + Wait + Sync + Send + Copy, R: Read + Drop>(
 {
     let after = usize::try_from(options.after.unwrap_or(u64::MAX)).unwrap_or(usize::MAX);
     if options.steps {
-        return Ok(play_first(alloc, input, after)?);
+        return played_table(alloc, input, after, faults);
     }
     let Setting {
         config,

@@ -1,4 +1,4 @@
-use Rattle.bw_run.proofs.runner.run.Given as goal
+use Rattle.bw_run.proofs.runner.run_counted.Given as goal
 
 abbrev pub ghosts-run_locked-I-Ledger : goal.ghosts-run_locked-I-Ledger
 ghosts-run_locked-I-Ledger g a = record { name = a.blanks.insertions.name; parts = a.blanks.insertions.parts }

@@ -1,0 +1,87 @@
+//! Scripts of steps, and what is said of their lines.
+
+ghost use Rattle.std.specs.Prelude.{◌≤◌, IfOk, IfErr, OnOk};
+ghost use Rattle.bw_scripts.specs.declared.script.TheConstants.{MOST_LINES};
+ghost use Rattle.bw_scripts.specs.Answers.{IsAnswered};
+ghost use Rattle.bw_scripts.specs.Faults.{IsLineFault};
+ghost use Rattle.bw_scripts.specs.Played.{IsPlayed, one_more};
+
+use crate::program::fault::Fault;
+use bw_scripts::{Answer, MOST_LINES, Player, ScriptFault};
+use bw_table::Table;
+use std::alloc::Global;
+use std::io;
+use std::io::{BufRead, BufReader, Read, Write};
+
+/// Plays the script, and writes each answer as soon as it is there.
+pub(crate) fn write_answers<R: Read + Drop, W: Write>(
+    alloc: Global,
+    input: R,
+    output: &mut W,
+) -> Result<(), Fault> {
+    let Ok(reader) = BufReader::new(alloc, input) else {
+        return Err(Fault::Memory);
+    };
+    let mut player = Player::new(alloc);
+    for line in reader.lines(alloc) {
+        if let Some(answer) = take(&mut player, line)? {
+            let line = format!(in alloc; "{answer}\n")?;
+            output.write_all(line.as_bytes())?;
+        }
+    }
+    output.flush()?;
+    Ok(())
+}
+
+/// Plays the first lines of the script, this many of them, tells which of them were refused, and
+/// returns the table that they leave.
+#[tactic(auto, using(bw_scripts::proofs::Playing::stays_played))]
+pub(crate) fn played_table<R: Read + Drop, E: Write>(
+    alloc: Global,
+    input: R,
+    lines: usize,
+    faults: &mut E,
+) -> Result<Table<Global>, Fault>
+    ensures { IfOk result IsPlayed }
+{
+    let Ok(reader) = BufReader::new(alloc, input) else {
+        return Err(Fault::Memory);
+    };
+    let mut player = Player::new(alloc);
+    for line in reader.lines(alloc).take(lines) {
+        if let Some(answer) = take(&mut player, line)? {
+            tell_refusal(faults, player.lines(), &answer);
+        }
+    }
+    Ok(player.into_table().ok_or(ScriptFault::NoTable)?)
+}
+
+/// Plays the line, if it was read and isn't one too many.
+fn take(player: &mut Player, line: io::Result<String>) -> Result<Option<Answer>, ScriptFault>
+    ensures answered { IfOk result (λ answer.
+        IsAnswered player.old.table answer player.new.table) }
+    ensures within { OnOk result (player.new.lines ≤ MOST_LINES) }
+    ensures fault { IfErr result (IsLineFault (one_more player.old.lines)) }
+{
+    let number = player.lines().saturating_add(1);
+    match line {
+        Err(error) => Err(ScriptFault::of_reader(number, &error)),
+        Ok(_) if number > MOST_LINES => Err(ScriptFault::Lines),
+        Ok(line) => player.play(&line),
+    }
+}
+
+/// Tells the answer to the line with this number, where it says that the line changed nothing.
+fn tell_refusal<E: Write>(faults: &mut E, line: u64, answer: &Answer) {
+    match answer {
+        Answer::BadConfig(_)
+        | Answer::BadEntries
+        | Answer::Refused(_)
+        | Answer::RefusalForetold(_, _)
+        | Answer::OtherForetold(_)
+        | Answer::Changed(_) => {
+            let _ = writeln!(faults, "line {line}: {answer}");
+        }
+        _ => {}
+    }
+}

@@ -1,0 +1,101 @@
+//! The standard streams of a program that others read.
+
+use bw_trace::{Progress, command_counted};
+use std::alloc::Global;
+use std::cell::Cell;
+use std::io;
+use std::io::{Read, Write};
+use std::sync::Wait;
+use std::thread::Threads;
+
+/// The output. It notes when nobody reads it any more.
+#[derive(Drop)]
+struct Output<'a, W> {
+    stream: W,
+    is_closed: &'a Cell<bool>,
+}
+
+impl<'a, W: Write> Write for Output<'a, W> {
+    fn write(&mut self, buf: &[u8]) -> io::Result<usize> {
+        let written = self.stream.write(buf);
+        if let Err(error) = &written {
+            self.is_closed
+                .set(error.kind() == io::ErrorKind::BrokenPipe);
+        }
+        written
+    }
+
+    fn flush(&mut self) -> io::Result<()> {
+        self.stream.flush()
+    }
+}
+
+/// The faults. Nothing is said any more once nobody reads the output.
+#[derive(Drop)]
+struct Faults<'a, W> {
+    stream: W,
+    is_closed: &'a Cell<bool>,
+}
+
+impl<'a, W: Write> Write for Faults<'a, W> {
+    fn write(&mut self, buf: &[u8]) -> io::Result<usize> {
+        if self.is_closed.get() {
+            return Ok(buf.len());
+        }
+        self.stream.write(buf)
+    }
+
+    fn flush(&mut self) -> io::Result<()> {
+        self.stream.flush()
+    }
+}
+
+/// The input. Its first read writes the hint, if there is one.
+#[derive(Drop)]
+struct Hinted<R, W> {
+    stream: R,
+    faults: W,
+    hint: Option<&'static str>,
+}
+
+impl<R: Read, W: Write> Read for Hinted<R, W> {
+    fn read(&mut self, buf: &mut [u8]) -> io::Result<usize> {
+        if let Some(hint) = self.hint.take() {
+            let _ = writeln!(self.faults, "{hint}");
+        }
+        self.stream.read(buf)
+    }
+}
+
+/// Carries out the words, and returns the exit status. The first read of the input writes the hint
+/// behind it, if there is one.
+pub(crate) fn answer<
+    T: Threads + Wait + Sync + Send + Copy,
+    R: Read + Drop,
+    W: Write + Drop,
+    E: Write + Copy + Drop,
+>(
+    rt: T,
+    alloc: Global,
+    words: &[&str],
+    (input, hint): (R, Option<&'static str>),
+    output: W,
+    faults: E,
+    progress: &Progress,
+) -> u8 {
+    let is_closed = Cell::new(false);
+    let input = Hinted {
+        stream: input,
+        faults,
+        hint,
+    };
+    let mut output = Output {
+        stream: output,
+        is_closed: &is_closed,
+    };
+    let mut faults = Faults {
+        stream: faults,
+        is_closed: &is_closed,
+    };
+    command_counted(rt, alloc, words, input, &mut output, &mut faults, progress)
+}
