@@ -1,5 +1,5 @@
 -- Workers by their numbers, and what their trails tell.
-use Rattle.std.specs.Prelude.{◌≡◌, ◌+◌, ℕ, List, [], ◌∷◌, fold, map, Ok, Some}
+use Rattle.std.specs.Prelude.{◌≡◌, ◌+◌, ℕ, List, [], ◌∷◌, fold, map, slice_get, Option, Ok, Some, None, MatchOption}
 use Rattle.bw_step.specs.declared.receipt.Receipt.{Receipt}
 use Rattle.bw_step.specs.declared.view.Look.{Look}
 use Rattle.bw_tree.specs.Shares.{ShareValue, counted, no_changes, sum_of}
@@ -9,6 +9,12 @@ use Rattle.bw_procedures.specs.Seen.{Seen, Looked}
 -- what is promised of a worker's number, of what that worker brings back, and of its trail at the end
 abbrev pub Promised : Type 0 → Type 1
 Promised O = ℕ → O → List Receipt → Type 0
+
+-- What is promised where the jobs are by the workers' numbers: what the worker's own job promises. A worker past the last job brings nothing back,
+-- and its trail stays empty.
+abbrev pub promised_of_each : {J O : Type 0} → (J → Promised O) → List J → Promised (Option O)
+promised_of_each told jobs worker output trail =
+    MatchOption (slice_get jobs worker) ((output ≡ None) × (trail ≡ [])) (λ job. MatchOption output ⊥ (λ it. told job worker it trail))
 
 -- the share of a worker with this trail
 abbrev pub share_by : List Receipt → ShareValue

@@ -1,6 +1,6 @@
 //! What all workers bring back.
 
-ghost use Rattle.std.specs.Prelude.{◌≡◌, ◌≤◌, [], IfOk, length, map, vec_capacity};
+ghost use Rattle.std.specs.Prelude.{◌≡◌, ◌<◌, ◌≤◌, [], IfOk, length, map, vec_capacity};
 ghost use Rattle.nifforan_shared.specs.Workers.{share_by};
 
 use bw_delta::NoMemory;
@@ -31,15 +31,16 @@ pub struct Gathered<I: Ledger, D: Ledger, O, L: Trail = Vec<Receipt>> {
 }
 
 impl<I: Ledger, D: Ledger, O: Drop, L: Trail> Gathered<I, D, O, L> {
-    /// Makes room for what `workers` workers bring back.
+    /// Makes room for what `workers` workers bring back, and for one share more.
     pub fn with_room(machine: Global, workers: usize) -> Result<Gathered<I, D, O, L>, NoMemory>
+        requires few { workers ≤ 64 }
         ensures empty { IfOk result (λ room. room.shares.items ≡ []) }
-        ensures shares { IfOk result (λ room. workers ≤ vec_capacity room.shares) }
+        ensures shares { IfOk result (λ room. workers < vec_capacity room.shares) }
         ensures trails { IfOk result (λ room. workers ≤ vec_capacity room.trails) }
         ensures outputs { IfOk result (λ room. workers ≤ vec_capacity room.outputs) }
     {
         Ok(Gathered {
-            shares: Vec::with_capacity(machine, workers)?,
+            shares: Vec::with_capacity(machine, workers + 1)?,
             trails: Vec::with_capacity(machine, workers)?,
             outputs: Vec::with_capacity(machine, workers)?,
         })
@@ -53,10 +54,11 @@ pub fn gather<I: Ledger, D: Ledger, O: Drop, L: Trail>(
     all: Vec<Worked<I, D, O, L>>,
 ) -> Gathered<I, D, O, L>
     requires empty { room.shares.items ≡ [] }
-    requires shares { length all.items ≤ vec_capacity room.shares }
+    requires shares { length all.items < vec_capacity room.shares }
     requires trails { length all.items ≤ vec_capacity room.trails }
     requires outputs { length all.items ≤ vec_capacity room.outputs }
     ensures count { length result.shares.items ≡ length all.items }
+    ensures spare { length all.items < vec_capacity result.shares }
     ensures trails { result.trails.items ≡ map (λ worked. worked.trail) all.items }
     ensures outputs { result.outputs.items ≡ map (λ worked. worked.output) all.items }
 {

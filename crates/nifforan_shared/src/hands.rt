@@ -1,6 +1,6 @@
 //! What the workers of a crew do on one tree, each with a hand and a share of its own.
 
-ghost use Rattle.std.specs.Prelude.{◌≡◌, ◌≤◌, IfOk, All, length};
+ghost use Rattle.std.specs.Prelude.{◌≡◌, ◌<◌, ◌≤◌, IfOk, All, length, vec_capacity};
 ghost use Rattle.bw_tree.specs.Shares.{no_changes};
 ghost use Rattle.nifforan_shared.specs.Workers.{AllTold, ByNumber};
 
@@ -64,7 +64,7 @@ impl<
 /// kit at `i`, and calls the gate after each of its steps that changes the tree's shape.
 ///
 /// Fails where memory is wanting before the first thread starts, and where a thread can't be
-/// started: those that were started do their part to the end.
+/// started: those that were started do their part to the end. There is room for one share more.
 pub fn work_all<
     I: Ledger + Send + Sync,
     D: Ledger + Send + Sync,
@@ -89,6 +89,7 @@ pub fn work_all<
     requires new { All (λ share. share ≡ no_changes) shares.items }
     requires given { ByNumber (J.given task.now) 0 kits.items }
     ensures count { IfOk result (λ all. length all.shares.items ≡ length kits.items) }
+    ensures spare { IfOk result (λ all. length kits.items < vec_capacity all.shares) }
     ensures told { IfOk result (λ all.
         AllTold L.added (J.told task.now) all.outputs.items all.trails.items) }
 {

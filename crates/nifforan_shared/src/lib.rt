@@ -3,6 +3,7 @@
 #![tactic(auto)]
 
 mod crew;
+mod each;
 mod fault;
 mod gathering;
 mod hands;
@@ -21,12 +22,15 @@ pub use bw_procedures::{Calls, Cleared, Del, Done, Fault, GivenUp, Put, Set, Sli
 pub use bw_snap::{Closed, MAX_READERS, ScanFault};
 pub use bw_step::Receipt;
 pub use bw_table::Table;
+pub use bw_tree::Unshared;
+pub use bw_work::{Pages, Queries};
+pub use each::Each;
 pub use fault::{CrewFault, ShareFault};
 pub use gathering::Gathered;
 pub use hands::work_all;
 pub use job::{Job, ReadingJob};
 pub use outcome::Outcome;
 pub use reading::{Reading, Reads, readings_of};
-pub use sharing::{share, share_with_readers};
+pub use sharing::{share, share_table, share_with_readers};
 pub use task::Task;
 pub use worker::{Notes, Worker};

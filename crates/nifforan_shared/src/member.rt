@@ -11,7 +11,7 @@ use bw_keys::{Config, Key, Pid, Version};
 use bw_procedures::{Ends, Keep, Steps, Trail};
 use bw_step::{AtOnce, CopyFault, Denied, Look, Next, Place, Receipt, Step, View};
 use bw_tree::{Share, Shared};
-use bw_work::{Gate, Hand};
+use bw_work::{Gate, Hand, Queries};
 use std::alloc::Global;
 use std::marker::Model;
 
@@ -168,6 +168,20 @@ impl<'t, S: Shared<Global, Step<Global>>, G: Gate, L: Trail> Steps<Global, Step<
 
     fn trail_len(&self) -> usize {
         self.hand.trail_len()
+    }
+}
+
+impl<'t, S: Shared<Global, Step<Global>>, G: Gate, L: Trail> Queries for Member<'t, S, G, L> {
+    fn next_at(&self, key: Key) -> Option<(Key, u64)> {
+        self.hand.next_at(key)
+    }
+
+    fn previous_at(&self, key: Key) -> Option<(Key, u64)> {
+        self.hand.previous_at(key)
+    }
+
+    fn len(&self) -> u64 {
+        self.hand.len()
     }
 }
 

@@ -1,10 +1,12 @@
 //! Trees that are shared for the length of one call.
 
-ghost use Rattle.std.specs.Prelude.{◌≡◌, IsOk, IfOk, IfErr, OnOk};
+ghost use Rattle.std.specs.Prelude.{◌≡◌, ◌+◌, ◌<◌, ◌≤◌, IsOk, IfOk, IfErr, OnOk, All, length, vec_capacity};
+ghost use Rattle.bw_tree.specs.Shares.{no_changes};
 ghost use Rattle.bw_tree.specs.Trees.{OpensFor};
-ghost use Rattle.nifforan_shared.specs.Sharing.{IsShared, MayShare, IsShareFault};
+ghost use Rattle.nifforan_shared.specs.Sharing.{IsShared, IsTableShared, IsBack, MayShare, IsShareFault};
+ghost use Rattle.nifforan_shared.specs.Workers.{AllTold};
 
-use crate::fault::ShareFault;
+use crate::fault::{CrewFault, ShareFault};
 use crate::gathering::Gathered;
 use crate::hands::work_all;
 use crate::job::{Job, ReadingJob};
@@ -14,7 +16,8 @@ use crate::task::{ByHand, WithReader};
 use bw_keys::{Config, MAX_WORKERS};
 use bw_procedures::Trail;
 use bw_snap::{Announcements, MAX_READERS, Naming, ReadTree};
-use bw_tree::{Blanks, MadeBy, Tree};
+use bw_table::Table;
+use bw_tree::{Blanks, MadeBy, Share, Tree, Unshared};
 use bw_work::Open;
 use std::alloc::Global;
 use std::marker::Brand;
@@ -47,8 +50,43 @@ pub fn share<
     ensures fault { IfErr result (IsShareFault 64 config workers) }
 {
     check(config, workers, MAX_WORKERS)?;
-    let blanks = Blanks::new(workers);
-    share_locked::<Brand, Brand, O, L, J, R>(rt, machine, config, blanks, job)
+    let Ok(table) = Table::new(machine, machine, config) else {
+        return Err(ShareFault::NoMemory);
+    };
+    match share_table(rt, machine, table, workers, job) {
+        Ok(outcome) => Ok(outcome),
+        Err(unshared) => Err(unshared.fault),
+    }
+}
+
+/// Shares a table that may have pairs already, as [`share`] does a new one. Its book is then that of
+/// the given table with what the trails tell.
+///
+/// Where it fails, the table comes back: as it was, or where a thread couldn't be started, with what
+/// was done by those that were.
+pub fn share_table<
+    O: Drop + Send,
+    L: Trail + Send,
+    J: Job<Output = O, Trail = L> + Sync,
+    R: Threads + Wait + Sync + Send + Copy,
+>(
+    rt: R,
+    machine: Global,
+    table: Table<Global>,
+    workers: u32,
+    job: &J,
+) -> Result<Outcome<O, L>, Unshared<Global, ShareFault>>
+    ensures shared { IfOk result (IsTableShared L.added (J.told job.now) table workers) }
+    ensures fine { IsOk result → MayShare 64 table.config workers }
+    ensures fault { IfErr result (λ unshared.
+        IsShareFault 64 table.config workers unshared.fault) }
+    ensures back { IfErr result (IsBack table) }
+{
+    if let Err(fault) = check(table.config(), workers, MAX_WORKERS) {
+        return Err(Unshared { fault, table });
+    }
+    let blanks = Blanks::new(workers + 1);
+    share_locked::<Brand, Brand, O, L, J, R>(rt, machine, table, workers, blanks, job)
 }
 
 /// Shares a new tree among `workers` workers, 1 to `MAX_READERS`, as [`share`] does. Each of them
@@ -90,8 +128,7 @@ fn check(config: Config, workers: u32, most: u32) -> Result<(), ShareFault>
     Ok(())
 }
 
-/// Shares a tree with these blank ledgers.
-#[tactic(auto, using(crate::proofs::Workers::few_workers))]
+/// Shares a table with these blank ledgers, which have a part for each worker and one more.
 fn share_locked<
     I: MadeBy + Send + Sync,
     D: Ledger + Send + Sync,
@@ -102,25 +139,44 @@ fn share_locked<
 >(
     rt: R,
     machine: Global,
-    config: Config,
+    table: Table<Global>,
+    workers: u32,
     blanks: Blanks,
     job: &J,
-) -> Result<Outcome<O, L>, ShareFault>
-    requires ledgers { OpensFor I.Ledger I.config D.Ledger config blanks }
-    requires made { MayShare 64 config blanks.workers }
-    ensures shared { IfOk result (IsShared L.added (J.told job.now) config blanks.workers) }
-    ensures fault { IfErr result (IsShareFault 64 config blanks.workers) }
+) -> Result<Outcome<O, L>, Unshared<Global, ShareFault>>
+    requires ledgers { OpensFor I.Ledger I.config D.Ledger table.config blanks }
+    requires workers { blanks.workers ≡ workers + 1 }
+    requires made { MayShare 64 table.config workers }
+    ensures shared { IfOk result (IsTableShared L.added (J.told job.now) table workers) }
+    ensures fault { IfErr result (λ unshared.
+        IsShareFault 64 table.config workers unshared.fault) }
+    ensures back { IfErr result (IsBack table) }
 {
-    let Ok((tree, shares)) = Tree::<R, Global, I, D>::new(rt, machine, machine, config, blanks)
-    else {
-        return Err(ShareFault::NoMemory);
+    table.law();
+    let made = Tree::<R, Global, I, D>::from_table(rt, machine, table, blanks);
+    let (tree, shares, opening) = match made {
+        Ok(made) => made,
+        Err(unshared) => {
+            return Err(Unshared {
+                fault: ShareFault::NoMemory,
+                table: unshared.table,
+            });
+        }
     };
-    let kits = Vec::from_elem(machine, (), shares.len())?;
     let Gathered {
-        shares,
+        mut shares,
         trails,
         outputs,
-    } = work_all(&rt, machine, &tree, &Open, &ByHand { job }, shares, kits)?;
+    } = match work_by_hand(&rt, machine, &tree, shares, job) {
+        Ok(gathered) => gathered,
+        Err(fault) => {
+            return Err(Unshared {
+                fault: ShareFault::from(fault),
+                table: tree.into_table(),
+            });
+        }
+    };
+    shares.push_reserved(opening);
     let Ok(table) = tree.close(shares) else {
         unreachable!()
     };
@@ -129,6 +185,33 @@ fn share_locked<
         outputs,
         trails,
     })
+}
+
+/// Does the job with each share, without readers.
+#[tactic(auto, using(crate::proofs::Workers::few_workers))]
+fn work_by_hand<
+    I: MadeBy + Send + Sync,
+    D: Ledger + Send + Sync,
+    O: Drop + Send,
+    L: Trail + Send,
+    J: Job<Output = O, Trail = L> + Sync,
+    R: Threads + Wait + Sync + Send + Copy,
+>(
+    rt: &R,
+    machine: Global,
+    tree: &Tree<R, Global, I, D>,
+    shares: Vec<Share<I, D>>,
+    job: &J,
+) -> Result<Gathered<I, D, O, L>, CrewFault>
+    requires few { length shares.items ≤ 64 }
+    requires new { All (λ share. share ≡ no_changes) shares.items }
+    ensures count { IfOk result (λ all. length all.shares.items ≡ length shares.items) }
+    ensures spare { IfOk result (λ all. length shares.items < vec_capacity all.shares) }
+    ensures told { IfOk result (λ all.
+        AllTold L.added (J.told job.now) all.outputs.items all.trails.items) }
+{
+    let kits = Vec::from_elem(machine, (), shares.len())?;
+    work_all(rt, machine, tree, &Open, &ByHand { job }, shares, kits)
 }
 
 /// Shares a tree with a reader for each worker, with these blank ledgers and announcements.

@@ -4,19 +4,21 @@ use bw_delta::NoMemory;
 use bw_keys::Key;
 use bw_procedures::{Calls, Steps};
 use bw_step::{Look, Step};
+use bw_work::Queries;
 use std::alloc::Global;
 
 /// One of the workers that share a tree. It makes the calls of [`Calls`], each of them of atomic
-/// steps under the tree's lock. Steps of other workers may come between any two of them.
+/// steps under the tree's lock. Steps of other workers may come between any two of them. It asks
+/// what [`Queries`] has, and walks along the map by [`Pages`](crate::Pages).
 ///
 /// A fault in the place of a reply says that the map is as the call found it. It costs no share,
 /// and the worker may go on.
-pub trait Worker: Calls<Global> {}
+pub trait Worker: Calls<Global> + Queries {}
 
-impl<W: Calls<Global>> Worker for W {}
+impl<W: Calls<Global> + Queries> Worker for W {}
 
 /// A worker that also keeps looks which its caller had elsewhere.
-pub trait Notes: Steps<Global, Step<Global>> {
+pub trait Notes: Steps<Global, Step<Global>> + Queries {
     ghost use Rattle.std.specs.Prelude.{◌≡◌, OnOk, OnErr};
     ghost use Rattle.nifforan_shared.specs.Workers.{AddsNote};
 

@@ -63,6 +63,18 @@ impl<'t, S: Shared<Global, Step<Global>>, H: Hook<S>> Shared<Global, Step<Global
         self.hook.look(self.tree, pid, key)
     }
 
+    fn next_at(&self, key: Key) -> Option<(Key, u64)> {
+        self.tree.next_at(key)
+    }
+
+    fn previous_at(&self, key: Key) -> Option<(Key, u64)> {
+        self.tree.previous_at(key)
+    }
+
+    fn len(&self) -> u64 {
+        self.tree.len()
+    }
+
     fn copy_page(
         &self,
         alloc: Global,

@@ -10,19 +10,24 @@ use std::test::Fail;
 
 /// Fanout, chain, and the number of a worker's calls: records on few leaves, leaves of few pairs,
 /// and short chains.
-const TABLES: [(u32, u32, u32); 4] = [(64, 8, 2000), (4, 8, 700), (8, 32, 3), (64, 1, 0)];
+pub(crate) const TABLES: [(u32, u32, u32); 4] = [
+    (64, 8, 2000),
+    (4, 8, 700),
+    (8, 32, 3),
+    (64, 1, 0),
+];
 
 /// Keys near both ends of all keys, and among those that are drawn.
-const BOUNDS: [u64; 9] = [0, 1, 2, 60, 61, 200, u64::MAX - 2, u64::MAX - 1, u64::MAX];
+pub(crate) const BOUNDS: [u64; 9] = [0, 1, 2, 60, 61, 200, u64::MAX - 2, u64::MAX - 1, u64::MAX];
 
 /// From which end a pair is taken, a bit a turn: all from the front, all from behind, in turn, and four from each.
 const TURNS: [u64; 4] = [0, u64::MAX, 0x5555_5555_5555_5555, 0x0f0f_0f0f_0f0f_0f0f];
 
 /// Drawn puts, sets and deletes.
 #[derive(Drop)]
-struct Calls {
-    seed: u64,
-    count: u32,
+pub(crate) struct Calls {
+    pub(crate) seed: u64,
+    pub(crate) count: u32,
 }
 
 impl Calls {
@@ -39,7 +44,7 @@ impl Calls {
     }
 
     /// Makes the same calls on the kit's map.
-    fn plain(&self, machine: Global) -> Result<BTreeMap<u64, u64>, AllocError> {
+    pub(crate) fn plain(&self, machine: Global) -> Result<BTreeMap<u64, u64>, AllocError> {
         let mut plain = BTreeMap::new(machine);
         let mut rng = Pcg32::seed_from_u64(self.seed);
         for _ in 0..self.count {
@@ -74,7 +79,7 @@ impl Job for Calls {
     }
 }
 
-fn owned(pair: (&u64, &u64)) -> (u64, u64) {
+pub(crate) fn owned(pair: (&u64, &u64)) -> (u64, u64) {
     (*pair.0, *pair.1)
 }
 

@@ -1,4 +1,4 @@
-use Rattle.std.proofs.Common.{◌≡◌, ◌+◌, ◌++◌, ◌≤◌, length, map}
+use Rattle.std.proofs.Common.{◌≡◌, ◌+◌, ◌++◌, ◌<◌, ◌≤◌, length, map}
 use Rattle.std.specs.Prelude.{vec_capacity}
 use Rattle.nifforan_shared.specs.Workers.{share_by}
 use Rattle.nifforan_shared.proofs.gathering.gather.Given as goal
@@ -6,7 +6,7 @@ use Rattle.nifforan_shared.proofs.gathering.gather.Given as goal
 abbrev pub invariant-loop-worked : goal.invariant-loop-worked
 invariant-loop-worked g l = record {
   count : length l.shares.items + length l.worked-iterator.rest.items ≡ length l.fn.all.items;
-  room_for_shares : length l.fn.all.items ≤ vec_capacity l.shares;
+  room_for_shares : length l.fn.all.items < vec_capacity l.shares;
   room_for_trails : length l.fn.all.items ≤ vec_capacity l.trails;
   room_for_outputs : length l.fn.all.items ≤ vec_capacity l.outputs;
   trails : l.trails.items ++ map (λ worked. worked.trail) l.worked-iterator.rest.items ≡ map (λ worked. worked.trail) l.fn.all.items;

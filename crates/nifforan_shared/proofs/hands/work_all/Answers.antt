@@ -1,4 +1,3 @@
-use Rattle.std.proofs.Common.{◌≡◌}
 use Rattle.nifforan_shared.proofs.Workers.{all_told, by_number_of}
 use Rattle.nifforan_shared.proofs.hands.work_all.Goals as goal
 

@@ -1,27 +1,8 @@
-use denote.Param.Send.{sendable}
-use Rattle.std.proofs.Common.{rules, ◌≡◌, length, ◌∙◌}
-use Rattle.std.proofs.Crossing.{crosses}
-use Rattle.nifforan_shared.proofs.Crossing.{Tree-sync}
-use Rattle.nifforan_shared.proofs.Trails.{counts_trails}
-use Rattle.nifforan_shared.proofs.Workers.{nothing_asked}
+use Rattle.std.proofs.Common.{refl}
+use Rattle.bw_tree.proofs.Trees.{is_tree}
 use Rattle.nifforan_shared.proofs.sharing.share_locked.Goals as goal
 
-pub work_all-requires-sync-T : goal.work_all-requires-sync-T
-work_all-requires-sync-T g c κs within = search (Tree-sync, sendable, crosses) depth 60 fits 10000
-
-pub work_all-requires-clause-given : goal.work_all-requires-clause-given
-work_all-requires-clause-given g c κs within = nothing_asked 0 c.in_ok-kits.kits.items
-
-pub returns-clause-shared : goal.returns-clause-shared
-returns-clause-shared g c =
-    let all = c.in_ok-shares.field-0 in
-    let closed = c.in-Ok-close.ensures.closed in
-    let many : length c.in_ok-kits.kits.items ≡ c.args.blanks.workers = search rules in
-    record {
-      tree = closed.tree;
-      config = closed.config ∙ c.requires.ledgers.made;
-      outputs = all.answered ∙ (c.in_ok-shares.ensures.count ∙ many);
-      trails = all.trailed ∙ (c.in_ok-shares.ensures.count ∙ many);
-      pairs = counts_trails g.L.Trail.added c.in-Ok-close.table all.shares.items all.trails.items all.counted closed.pairs;
-      told = c.in_ok-shares.ensures.told;
-    }
+pub returns-in-Err-clause-back : goal.returns-in-Err-clause-back
+returns-in-Err-clause-back g c =
+    let back = c.in-Err.ensures.back in
+    rw back (record { tree = is_tree _ c.law.ensures.lawful c.law.ensures.booked; config = refl; same = λ _. refl })

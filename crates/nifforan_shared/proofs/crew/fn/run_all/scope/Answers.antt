@@ -1,6 +1,5 @@
-use Rattle.std.proofs.Common.{rules, ◌≡◌, ◌∷◌, ◌+◌, [], ℕ, length, ap, arith, length-append}
+use Rattle.std.proofs.Common.{rules, ◌≡◌, ◌∷◌, ◌+◌, [], length, ap, arith, length-append}
 use Rattle.std.proofs.lemmas.List.Elements.{All-push}
-use Rattle.nifforan_shared.specs.Workers.{AreNumbered, ByNumber}
 use Rattle.nifforan_shared.proofs.Workers.{numbered_more}
 use Rattle.nifforan_shared.proofs.crew.fn.run_all.scope.Goals as goal
 

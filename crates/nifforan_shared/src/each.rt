@@ -1,0 +1,51 @@
+//! A job for each worker.
+
+use crate::job::{Job, ReadingJob};
+use crate::reading::Reads;
+use crate::worker::Worker;
+
+/// Jobs by the workers' numbers: worker `i` does the job at `i`, and brings back what that returns.
+/// A worker past the last job does nothing, and brings back `None`.
+///
+/// Where the workers differ in kind, `J` is an enum with a variant for each kind of work.
+#[derive(Drop)]
+pub struct Each<'j, J> {
+    pub jobs: &'j [J],
+}
+
+impl<'j, J: Job> Job for Each<'j, J> {
+    ghost use Rattle.nifforan_shared.specs.Workers.{promised_of_each};
+
+    type Output = Option<J::Output>;
+
+    type Trail = J::Trail;
+
+    // the promise of the worker's own job
+    ghost told = { λ each. promised_of_each J.told each.jobs.now };
+
+    fn work<W: Worker>(&self, worker: u32, hand: &mut W) -> Option<J::Output> {
+        let job = self.jobs.get(worker as usize)?;
+        Some(job.work(worker, hand))
+    }
+}
+
+impl<'j, J: ReadingJob> ReadingJob for Each<'j, J> {
+    ghost use Rattle.nifforan_shared.specs.Workers.{promised_of_each};
+
+    type Output = Option<J::Output>;
+
+    type Trail = J::Trail;
+
+    // the promise of the worker's own job
+    ghost told = { λ each. promised_of_each J.told each.jobs.now };
+
+    fn work<W: Worker, R: Reads>(
+        &self,
+        worker: u32,
+        hand: &mut W,
+        reader: &mut R,
+    ) -> Option<J::Output> {
+        let job = self.jobs.get(worker as usize)?;
+        Some(job.work(worker, hand, reader))
+    }
+}
