@@ -2,6 +2,7 @@
 use Rattle.std.proofs.Common.{◌≡◌, ℕ, zero, suc, ◌<◌, ◌≤◌, List, [], ◌∷◌, ◌++◌, length, take, drop, get_or, set, refl, ap, ◌∙◌, length-take-le, length-drop, arith}
 use Rattle.std.specs.List.{zip, insert, remove}
 use Rattle.std.proofs.lemmas.Slice.Zip.{get_or-zip}
+use Rattle.bw_delta.specs.Slices.{HasKeyAt}
 
 module _ {X : Type 0} where
   pub length-zip : (ks : List ℕ) (vs : List X) → length vs ≡ length ks → length (zip ks vs) ≡ length ks
@@ -44,7 +45,7 @@ module _ {X : Type 0} where
   zip-set_value zero v d (k ∷ ks) (w ∷ vs) even inside = refl
   zip-set_value (suc i) v d (k ∷ ks) (w ∷ vs) even inside = ap (λ es. (k, w) ∷ es) (zip-set_value i v d ks vs (omega arith) (omega arith))
 
-  even-take : (n : ℕ) (ks : List ℕ) (vs : List X) → length vs ≡ length ks → length (take n vs) ≡ length (take n ks)
+  pub even-take : (n : ℕ) (ks : List ℕ) (vs : List X) → length vs ≡ length ks → length (take n vs) ≡ length (take n ks)
   even-take zero ks vs even = refl
   even-take (suc n) [] [] even = refl
   even-take (suc n) [] (v ∷ vs) even = absurd (omega arith)
@@ -63,6 +64,13 @@ module _ {X : Type 0} where
 
   pub key_in-zip : (i : ℕ) (d : ℕ × X) (ks : List ℕ) (vs : List X) → length vs ≡ length ks → i < length ks → (get_or (zip ks vs) i d).0 ≡ get_or ks i d.0
   key_in-zip i d ks vs even inside = ap (λ e. e.0) (get_or-zip ks vs i d inside (omega (arith, even)))
+
+  -- the key of an entry
+  pub has_key : (i : ℕ) (d : ℕ) (ks : List ℕ) (vs : List X) → length vs ≡ length ks → i < length ks → HasKeyAt (zip ks vs) i (get_or ks i d)
+  has_key i d [] vs even inside = absurd (omega arith)
+  has_key i d (k ∷ ks) [] even inside = absurd (omega arith)
+  has_key zero d (k ∷ ks) (v ∷ vs) even inside = (v, refl)
+  has_key (suc i) d (k ∷ ks) (v ∷ vs) even inside = has_key i d ks vs (omega arith) (omega arith)
 
   -- no keys, no entries
   pub no_keys : (ks : List ℕ) (vs : List X) → length ks ≡ 0 → zip ks vs ≡ []

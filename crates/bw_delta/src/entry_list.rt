@@ -1,3 +1,5 @@
+#![tactic(auto, using(crate::proofs::Zips::zips))]
+
 ghost use Rattle.std.specs.Prelude.{◌≡◌, ◌≤◌, ◌<◌, ℕ, [], length, take, slice_set, slice_index_or, ◌↔◌, IsTrue, IfOk, OnOk, OnErr};
 ghost use Rattle.std.specs.List.{zip, insert, remove};
 
@@ -59,9 +61,9 @@ impl<X: Copy, A: Allocator> EntryList<X, A> {
     {
         let mut keys = Vec::with_capacity(alloc, entries.len())?;
         let mut values = Vec::with_capacity(alloc, entries.len())?;
-        for (key, value) in entries {
-            keys.push(*key)?;
-            values.push(*value)?;
+        for entry in entries {
+            keys.push(entry.0)?;
+            values.push(entry.1)?;
         }
         Ok(EntryList { keys, values })
     }
@@ -106,9 +108,9 @@ impl<X: Copy, A: Allocator> EntryList<X, A> {
     /// Reports whether there are no entries.
     #[inline(always)]
     pub fn is_empty(&self) -> bool
-        ensures { IsTrue result ↔ (self.now ≡ []) }
+        ensures { IsTrue result ↔ (length self.now ≡ 0) }
     {
-        self.keys.is_empty()
+        self.len() == 0
     }
 
     /// Returns the number of entries that it has room for before it asks for memory again.
@@ -129,9 +131,8 @@ impl<X: Copy, A: Allocator> EntryList<X, A> {
         ensures inserted { OnOk result (self.new ≡ insert self.old place (key, value)) }
         ensures unchanged { OnErr result (self.new ≡ self.old) }
     {
-        if self.keys.reserve(1).is_err() || self.values.insert(place, value).is_err() {
-            return Err(NoMemory);
-        }
+        self.keys.reserve(1)?;
+        self.values.insert(place, value)?;
         match self.keys.insert(place, key) {
             Ok(()) => Ok(()),
             Err(_) => unreachable!(),

@@ -1,4 +1,6 @@
-ghost use Rattle.std.specs.Prelude.{length};
+#![tactic(auto, using(crate::proofs::Zips::zips), unfolding(crate::specs::Slices::list_of))]
+
+ghost use Rattle.std.specs.Prelude.{◌≡◌, length};
 
 use bw_keys::Key;
 use std::alloc::AllocError;
@@ -20,12 +22,11 @@ impl<'a, X> Clone for EntrySlice<'a, X> {
 }
 
 impl<'a, X: Copy> EntrySlice<'a, X> {
-    ghost use Rattle.std.specs.Prelude.{◌≡◌, ◌≤◌, ◌<◌, ◌-◌, ℕ, [], ◌∷◌, ◌++◌, take, drop, Some, IsTrue, ◌↔◌, MatchOption, slice_get, slice_index_or};
+    ghost use Rattle.std.specs.Prelude.{◌≤◌, ◌<◌, ◌-◌, ℕ, [], ◌∷◌, ◌++◌, take, drop, Some, IsTrue, ◌↔◌, MatchOption, slice_get, slice_index_or};
     ghost use Rattle.std.specs.List.{zip};
-    ghost use Rattle.bw_delta.specs.Slices.{list_of};
+    ghost use Rattle.bw_delta.specs.Slices.{list_of, HasKeyAt};
 
     /// Makes a slice of these keys, each with the value at its place.
-    #[tactic(auto, using(crate::proofs::Zips::zips), unfolding(crate::specs::Slices::list_of))]
     #[inline(always)]
     pub fn of(keys: &'a [Key], values: &'a [X]) -> EntrySlice<'a, X>
         requires { length values.now ≡ length keys.now }
@@ -35,7 +36,6 @@ impl<'a, X: Copy> EntrySlice<'a, X> {
     }
 
     /// Returns the slice of no entries.
-    #[tactic(auto, using(crate::proofs::Zips::zips), unfolding(crate::specs::Slices::list_of))]
     #[inline(always)]
     pub fn empty() -> EntrySlice<'a, X>
         ensures { list_of result ≡ [] }
@@ -47,7 +47,6 @@ impl<'a, X: Copy> EntrySlice<'a, X> {
     }
 
     /// Returns the number of entries.
-    #[tactic(auto, using(crate::proofs::Zips::zips), unfolding(crate::specs::Slices::list_of))]
     #[inline(always)]
     pub fn len(self) -> usize
         ensures { result ≡ length (list_of self.entry) }
@@ -56,7 +55,6 @@ impl<'a, X: Copy> EntrySlice<'a, X> {
     }
 
     /// Reports whether there are no entries.
-    #[tactic(auto, using(crate::proofs::Zips::zips), unfolding(crate::specs::Slices::list_of))]
     #[inline(always)]
     pub fn is_empty(self) -> bool
         ensures { IsTrue result ↔ (list_of self.entry ≡ []) }
@@ -65,17 +63,15 @@ impl<'a, X: Copy> EntrySlice<'a, X> {
     }
 
     /// Returns the key of the entry at the place, counted from 0.
-    #[tactic(auto, using(crate::proofs::Zips::zips), unfolding(crate::specs::Slices::list_of))]
     #[inline(always)]
     pub fn key(self, place: usize) -> Key
         requires { place < length (list_of self) }
-        ensures { (d : ℕ × X) → result ≡ (slice_index_or (list_of self.entry) place d).0 }
+        ensures { HasKeyAt (list_of self.entry) place result }
     {
         self.keys[place]
     }
 
     /// Returns the entry at the place, counted from 0.
-    #[tactic(auto, using(crate::proofs::Zips::zips), unfolding(crate::specs::Slices::list_of))]
     #[inline(always)]
     pub fn entry(self, place: usize) -> (Key, X)
         requires { place < length (list_of self) }
@@ -85,7 +81,6 @@ impl<'a, X: Copy> EntrySlice<'a, X> {
     }
 
     /// Returns the entry at the place, counted from 0, if there is one.
-    #[tactic(auto, using(crate::proofs::Zips::zips), unfolding(crate::specs::Slices::list_of))]
     #[inline(always)]
     pub fn get(self, place: usize) -> Option<(Key, X)>
         ensures { result ≡ slice_get (list_of self.entry) place }
@@ -98,7 +93,6 @@ impl<'a, X: Copy> EntrySlice<'a, X> {
     }
 
     /// Returns the first entry, if there is one.
-    #[tactic(auto, using(crate::proofs::Zips::zips), unfolding(crate::specs::Slices::list_of))]
     #[inline(always)]
     pub fn first(self) -> Option<(Key, X)>
         ensures { result ≡ slice_get (list_of self.entry) 0 }
@@ -107,7 +101,6 @@ impl<'a, X: Copy> EntrySlice<'a, X> {
     }
 
     /// Returns the last entry, if there is one.
-    #[tactic(auto, using(crate::proofs::Zips::zips), unfolding(crate::specs::Slices::list_of))]
     #[inline(always)]
     pub fn last(self) -> Option<(Key, X)>
         ensures { result ≡ slice_get (list_of self.entry) (length (list_of self.entry) - 1) }
@@ -119,12 +112,13 @@ impl<'a, X: Copy> EntrySlice<'a, X> {
     }
 
     /// Returns the entries before the place, and those from it on.
-    #[tactic(auto, using(crate::proofs::Zips::zips), unfolding(crate::specs::Slices::list_of))]
     #[inline(always)]
     pub fn split_at(self, place: usize) -> (EntrySlice<'a, X>, EntrySlice<'a, X>)
         requires { place ≤ length (list_of self) }
         ensures front { list_of result.0 ≡ take place (list_of self.entry) }
         ensures back { list_of result.1 ≡ drop place (list_of self.entry) }
+        ensures parts { list_of self.entry ≡ list_of result.0 ++ list_of result.1 }
+        ensures front_len { length (list_of result.0) ≡ place }
     {
         let (keys, later_keys) = self.keys.split_at(place);
         let (values, later_values) = self.values.split_at(place);
@@ -137,7 +131,6 @@ impl<'a, X: Copy> EntrySlice<'a, X> {
     }
 
     /// Returns the first entry and the others, if there is one.
-    #[tactic(auto, using(crate::proofs::Zips::zips), unfolding(crate::specs::Slices::list_of))]
     #[inline(always)]
     pub fn split_first(self) -> Option<((Key, X), EntrySlice<'a, X>)>
         ensures { MatchOption result (list_of self.entry ≡ [])
@@ -149,7 +142,6 @@ impl<'a, X: Copy> EntrySlice<'a, X> {
     }
 
     /// Returns the last entry and the others, if there is one.
-    #[tactic(auto, using(crate::proofs::Zips::zips), unfolding(crate::specs::Slices::list_of))]
     #[inline(always)]
     pub fn split_last(self) -> Option<((Key, X), EntrySlice<'a, X>)>
         ensures { MatchOption result (list_of self.entry ≡ [])

@@ -1,6 +1,6 @@
 //! Searches in a list of entries, as a base page has one.
 
-ghost use Rattle.std.specs.Prelude.{◌≡◌, ◌≤◌, ◌<◌, ◌+◌, ◌*◌, length, take, drop};
+ghost use Rattle.std.specs.Prelude.{◌≡◌, ◌≤◌, ◌<◌, ◌+◌, ◌-◌, min, length, take, drop};
 ghost use Rattle.bw_keys.specs.Ranges.{end_of};
 ghost use Rattle.bw_delta.specs.Entries.{at, below, from, first_from, last_below};
 ghost use Rattle.bw_delta.specs.Slices.{list_of};
@@ -10,11 +10,12 @@ use bw_delta::EntrySlice;
 use bw_keys::{Fence, Key};
 
 /// Counts the entries below the fence.
+#[inline(always)]
 fn count_below<X: Copy>(entries: EntrySlice<'_, X>, fence: Fence) -> usize
     requires ascending { IsAscending (list_of entries) }
     ensures within { result ≤ length (list_of entries.entry) }
-    ensures before { below (end_of fence) (list_of entries.entry) ≡ take result (list_of entries.entry) }
-    ensures after { from (end_of fence) (list_of entries.entry) ≡ drop result (list_of entries.entry) }
+    ensures before { let es = list_of entries.entry in below (end_of fence) es ≡ take result es }
+    ensures after { let es = list_of entries.entry in from (end_of fence) es ≡ drop result es }
 {
     match fence {
         Fence::Key(key) => count_below_key(entries, key),
@@ -22,44 +23,78 @@ fn count_below<X: Copy>(entries: EntrySlice<'_, X>, fence: Fence) -> usize
     }
 }
 
-/// Counts the entries below the key: `passed` of them are found, and at most `left` more are to
-/// come. Each step compares the entries at the ends of three quarters of those left, and adds up
-/// the results without a branch, as no processor can predict the way that a search takes.
+/// Counts the entries below the key: first those of whole blocks of eight, and then those among the
+/// eight entries where the key lies. It adds up comparisons without a branch, as no processor can
+/// predict the way that a search takes, and reads the ends of all blocks, as none has to wait for
+/// another.
+#[inline(always)]
 pub(crate) fn count_below_key<X: Copy>(entries: EntrySlice<'_, X>, key: Key) -> usize
     requires ascending { IsAscending (list_of entries) }
     ensures { result ≡ length (below key (list_of entries.entry)) }
 {
-    let mut passed = 0;
-    let mut left = entries.len();
-    'quarters: while left > 2 {
-        let quarter = (left + 1) / 4;
-        passed += count_quarters(entries, passed, quarter, key);
-        left -= 3 * quarter;
-    }
-    match left {
-        0 => passed,
-        1 => passed + one_if_below(entries, passed, key),
-        _ => passed + one_if_below(entries, passed, key) + one_if_below(entries, passed + 1, key),
+    match entries.len().checked_sub(8) {
+        Some(last) => {
+            let start = count_blocks(entries, key).min(last);
+            start + count_eight(entries, start, key)
+        }
+        None => count_few(entries, key),
     }
 }
 
-/// Counts the entries from the place on that lie below the key, in whole quarters, of which it
-/// looks at three.
+/// Counts the entries of those blocks of eight that lie below the key, each of which its last entry
+/// tells.
 #[inline(always)]
-fn count_quarters<X: Copy>(entries: EntrySlice<'_, X>, place: usize, quarter: usize, key: Key) -> usize
+fn count_blocks<X: Copy>(entries: EntrySlice<'_, X>, key: Key) -> usize
     requires ascending { IsAscending (list_of entries) }
-    requires some { 0 < quarter }
-    requires inside { place + 3 * quarter ≤ length (list_of entries) }
-    requires from { place ≤ length (below key (list_of entries)) }
-    ensures three { result ≤ 3 * quarter }
-    ensures least { place + result ≤ length (below key (list_of entries.entry)) }
-    ensures most { result < 3 * quarter →
-        length (below key (list_of entries.entry)) < place + result + quarter }
+    ensures least { result ≤ length (below key (list_of entries.entry)) }
+    ensures most { length (below key (list_of entries.entry)) < result + 8 }
 {
-    let first = one_if_below(entries, place + quarter - 1, key);
-    let second = one_if_below(entries, place + 2 * quarter - 1, key);
-    let third = one_if_below(entries, place + 3 * quarter - 1, key);
-    (first + second + third) * quarter
+    let mut passed = 0;
+    for block in 0..entries.len() / 8 {
+        passed += 8 * one_if_below(entries, 8 * block + 7, key);
+    }
+    passed
+}
+
+/// Counts the entries below the key one by one.
+#[inline(always)]
+fn count_few<X: Copy>(entries: EntrySlice<'_, X>, key: Key) -> usize
+    requires ascending { IsAscending (list_of entries) }
+    ensures { result ≡ length (below key (list_of entries.entry)) }
+{
+    let mut count = 0;
+    for place in 0..entries.len() {
+        count += one_if_below(entries, place, key);
+    }
+    count
+}
+
+/// Counts the entries below the key among the eight from the place on.
+#[inline(always)]
+fn count_eight<X: Copy>(entries: EntrySlice<'_, X>, place: usize, key: Key) -> usize
+    requires ascending { IsAscending (list_of entries) }
+    requires inside { place + 8 ≤ length (list_of entries) }
+    ensures { result ≡ min (length (below key (list_of entries.entry)) - place) 8 }
+{
+    count_four(entries, place, key) + count_four(entries, place + 4, key)
+}
+
+#[inline(always)]
+fn count_four<X: Copy>(entries: EntrySlice<'_, X>, place: usize, key: Key) -> usize
+    requires ascending { IsAscending (list_of entries) }
+    requires inside { place + 4 ≤ length (list_of entries) }
+    ensures { result ≡ min (length (below key (list_of entries.entry)) - place) 4 }
+{
+    count_two(entries, place, key) + count_two(entries, place + 2, key)
+}
+
+#[inline(always)]
+fn count_two<X: Copy>(entries: EntrySlice<'_, X>, place: usize, key: Key) -> usize
+    requires ascending { IsAscending (list_of entries) }
+    requires inside { place + 2 ≤ length (list_of entries) }
+    ensures { result ≡ min (length (below key (list_of entries.entry)) - place) 2 }
+{
+    one_if_below(entries, place, key) + one_if_below(entries, place + 1, key)
 }
 
 /// Returns 1 if the entry at the place lies below the key, and 0 if not.
@@ -67,9 +102,7 @@ fn count_quarters<X: Copy>(entries: EntrySlice<'_, X>, place: usize, quarter: us
 fn one_if_below<X: Copy>(entries: EntrySlice<'_, X>, place: usize, key: Key) -> usize
     requires ascending { IsAscending (list_of entries) }
     requires inside { place < length (list_of entries) }
-    ensures one { result ≤ 1 }
-    ensures under { 0 < result → place < length (below key (list_of entries.entry)) }
-    ensures past { result ≡ 0 → length (below key (list_of entries.entry)) ≤ place }
+    ensures { result ≡ min (length (below key (list_of entries.entry)) - place) 1 }
 {
     usize::from(entries.key(place) < key)
 }
@@ -84,6 +117,7 @@ pub(crate) fn below_fence<X: Copy>(entries: EntrySlice<'_, X>, fence: Fence) -> 
 }
 
 /// Returns the entries from the fence on.
+#[inline(always)]
 fn from_fence<X: Copy>(entries: EntrySlice<'_, X>, fence: Fence) -> EntrySlice<'_, X>
     requires ascending { IsAscending (list_of entries) }
     ensures { list_of result ≡ from (end_of fence) (list_of entries.entry) }
@@ -109,6 +143,7 @@ pub(crate) fn entries_from<X: Copy>(entries: EntrySlice<'_, X>, fence: Fence) ->
 }
 
 /// Returns the first entry from the fence on.
+#[inline(always)]
 pub(crate) fn first_listed<X: Copy>(entries: EntrySlice<'_, X>, fence: Fence) -> Option<(Key, X)>
     requires ascending { IsAscending (list_of entries) }
     ensures { result ≡ first_from (end_of fence) (list_of entries.entry) }

@@ -50,7 +50,8 @@ fn count_before<X: Copy>(entries: EntrySlice<'_, X>, key: Key) -> usize
     ensures after { from key (list_of entries.entry) ≡ drop result (list_of entries.entry) }
 {
     for i in 0..entries.len() {
-        if key <= entries.key(i) {
+        let here = entries.key(i);
+        if key <= here {
             return i;
         }
     }

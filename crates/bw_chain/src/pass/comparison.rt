@@ -100,8 +100,8 @@ fn are_entries<A: Allocator + Copy, X: EntryValue>(
     requires built { IsWellBuilt chain.now }
     requires high { high ≡ (fences chain.now).high }
     requires deep { depth chain.now ≤ length edits.old }
-    ensures { IsTrue result ↔
-        ((list_of list.entry) ≡ from (end_of fence) (entries_by X.own_entries X.own_change chain.now)) }
+    ensures { IsTrue result ↔ (list_of list.entry
+        ≡ from (end_of fence) (entries_by X.own_entries X.own_change chain.now)) }
 {
     let mut compared = Compared {
         rest: list,

@@ -103,7 +103,8 @@ fn count_edited<X: Copy>(
 ) -> u64
     requires ascending { IsAscending (list_of entries) }
     requires falling { IsFalling edits.now }
-    ensures { result ≡ min (count + length (edited edits.now (list_of entries.entry))) (2 ^ 64 - 1) }
+    ensures { result
+        ≡ min (count + length (edited edits.now (list_of entries.entry))) (2 ^ 64 - 1) }
 {
     let (mut rest, mut left, mut sum) = (entries, edits, count);
     'edits: while let Some((edit, greater)) = left.split_last() {

@@ -87,8 +87,10 @@ fn take_first<B: Allocator>(
 ) -> Result<(), NoMemory>
     requires ascending { IsAscending (list_of entries) }
     requires falling { IsFalling edits.now }
-    ensures taken { OnOk result (Takes first.old (edited edits.now (list_of entries.entry)) first.new) }
-    ensures refused { OnErr result (HasNoRoom first.old (edited edits.now (list_of entries.entry))) }
+    ensures taken { OnOk result
+        (Takes first.old (edited edits.now (list_of entries.entry)) first.new) }
+    ensures refused { OnErr result
+        (HasNoRoom first.old (edited edits.now (list_of entries.entry))) }
 {
     let (mut rest, mut left) = (entries, edits);
     'edits: while let Some((edit, greater)) = left.split_last() {
@@ -115,7 +117,8 @@ fn take_run<B: Allocator>(
     let listed = entries_from(run, first.from);
     let room = first.limit.saturating_sub(first.list.len());
     let (wanted, _) = listed.split_at(listed.len().min(room));
-    append_run(&mut first.list, wanted)
+    append_run(&mut first.list, wanted)?;
+    Ok(())
 }
 
 /// Takes the entry that the edit puts, if it does.

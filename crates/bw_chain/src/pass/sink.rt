@@ -29,8 +29,10 @@ pub(crate) trait Sink<X> {
     ) -> Result<(), Self::Stop>
         requires ascending { IsAscending (list_of entries) }
         requires falling { IsFalling edits.now }
-        ensures taken { OnOk result (takes self.old (edited edits.now (list_of entries.entry)) self.new) }
-        ensures refused { OnErr result (refuses self.old (edited edits.now (list_of entries.entry))) };
+        ensures taken { OnOk result
+            (takes self.old (edited edits.now (list_of entries.entry)) self.new) }
+        ensures refused { OnErr result
+            (refuses self.old (edited edits.now (list_of entries.entry))) };
 
     ghost takes_joined: { (s t u : Self) (es fs : List (ℕ × X)) →
         takes s es t → takes t fs u → takes s (es ++ fs) u };

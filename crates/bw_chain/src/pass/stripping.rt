@@ -31,7 +31,8 @@ impl<'a, X: EntryValue> Sink<X> for Compared<'a, X> {
 
     type Stop = Differs;
 
-    ghost takes = { λ s es t. Begins s.from (list_of s.rest) es (list_of t.rest) × (t.from ≡ s.from) };
+    ghost takes = { λ s es t.
+        Begins s.from (list_of s.rest) es (list_of t.rest) × (t.from ≡ s.from) };
 
     ghost refuses = { λ s es. BeginsOtherwise s.from (list_of s.rest) es };
 
@@ -58,7 +59,8 @@ impl<'a, X: EntryValue> Sink<X> for Compared<'a, X> {
     ghost refuses_more = { λ s es fs other. otherwise_more s.from (list_of s.rest) es fs other };
 
     ghost refuses_later = { λ s t es fs first other.
-        otherwise_later s.from t.from (list_of s.rest) (list_of t.rest) es fs first.1 first.0 other };
+        otherwise_later s.from t.from (list_of s.rest) (list_of t.rest) es fs first.1 first.0
+            other };
 }
 
 /// Returns what comes behind the entries with the edits, if the list begins with those from the

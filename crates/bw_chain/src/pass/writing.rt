@@ -95,7 +95,8 @@ fn copy_before<X: Copy>(
     if count == entries.len() {
         return count;
     }
-    if key <= entries.key(count) {
+    let next = entries.key(count);
+    if key <= next {
         return count;
     }
     write(keys, values, place + count, entries.entry(count));
@@ -127,7 +128,8 @@ fn copy_by_twos<X: Copy>(
 {
     let mut i = 0;
     'twos: while 2 <= entries.len() - i {
-        if key <= entries.key(i + 1) {
+        let next = entries.key(i + 1);
+        if key <= next {
             return i;
         }
         write(keys, values, place + i, entries.entry(i));

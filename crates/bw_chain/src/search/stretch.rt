@@ -90,8 +90,9 @@ fn stretch_under(change: Change<u64>, key: Key, stretch: Stretch<'_>) -> Stretch
     ensures begins { result.low ≤ key }
     ensures pairs { result.pairs ≡ stretch.entry.pairs }
     ensures same { (es : List (ℕ × ℕ)) →
-        AreSameWithin stretch.entry.low (end_of stretch.entry.end) (list_of stretch.entry.pairs) es →
-        AreSameWithin result.low (end_of result.end) (list_of stretch.entry.pairs) (changed change es) }
+        let listed = list_of stretch.entry.pairs in
+        AreSameWithin stretch.entry.low (end_of stretch.entry.end) listed es →
+        AreSameWithin result.low (end_of result.end) listed (changed change es) }
 {
     match change {
         Change::Put(named, _) => beside(stretch, named, key),

@@ -4,6 +4,7 @@ ghost use Rattle.std.specs.Prelude.{◌≡◌, ◌≢◌, ◌+◌, ◌^◌, ◌<
 ghost use Rattle.bw_step.specs.ProposalView.{grow_of};
 ghost use Rattle.bw_law.specs.Effects.{TakesStep, slots_grown};
 ghost use Rattle.bw_law.specs.Refusals.{refusal, grow_reasons, root_page};
+ghost use Rattle.bw_delta.specs.Slices.{list_of};
 ghost use Rattle.bw_law.specs.Same.{is_same_page, are_same_entries, is_same_pid};
 ghost use Rattle.bw_law.specs.Slots.{SlotValue, slot_in};
 ghost use Rattle.bw_table.specs.Answers.{AnswersFirst, fine_unless};
@@ -111,7 +112,14 @@ fn are_root_routes(routes: EntrySlice<'_, Pid>, root: Pid, low: Key, child: Pid)
     if routes.len() != 2 {
         return false;
     }
-    let (first, second) = (routes.entry(0), routes.entry(1));
+    are_these(routes.entry(0), routes.entry(1), root, low, child)
+}
+
+/// Whether the two routes are those of a new root.
+fn are_these(first: (Key, Pid), second: (Key, Pid), root: Pid, low: Key, child: Pid) -> bool
+    ensures { result ≡ are_same_entries is_same_pid (first ∷ second ∷ [])
+        ((0, root) ∷ (low, child) ∷ []) }
+{
     first.0 == 0 && first.1 == root && second.0 == low && second.1 == child
 }
 

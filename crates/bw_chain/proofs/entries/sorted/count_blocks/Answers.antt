@@ -1,0 +1,7 @@
+use Rattle.std.proofs.Common.{arith}
+use Rattle.bw_delta.specs.Slices.{list_of}
+use Rattle.bw_chain.proofs.Sorted.{below-few}
+use Rattle.bw_chain.proofs.entries.sorted.count_blocks.Goals as goal
+
+pub returns-clause-most : goal.returns-clause-most
+returns-clause-most g c = omega (arith, below-few c.args.key (list_of c.args.entries))
