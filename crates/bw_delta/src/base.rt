@@ -146,7 +146,11 @@ impl<A: Allocator + Copy> Base<A> {
     {
         let entries = match &self.entries {
             Entries::Pairs(pairs) => Entries::Pairs(EntryList::copied(alloc, pairs.as_slice(), 0)?),
-            Entries::Routes(routes) => Entries::Routes(EntryList::copied(alloc, routes.as_slice(), 0)?),
+            Entries::Routes(routes) => Entries::Routes(EntryList::copied(
+                alloc,
+                routes.as_slice(),
+                0,
+            )?),
         };
         Ok(Base {
             low: self.low,

@@ -64,7 +64,10 @@ pub(crate) fn lists_pairs<A: Allocator>(base: &Base<A>, pairs: &[(Key, u64)]) ->
 /// Reports whether the slice has these entries.
 fn lists_all<X: Copy + PartialEq>(slice: EntrySlice<'_, X>, entries: &[(Key, X)]) -> bool {
     slice.len() == entries.len()
-        && entries.iter().enumerate().all(|(place, entry)| slice.get(place) == Some(*entry))
+        && entries
+            .iter()
+            .enumerate()
+            .all(|(place, entry)| slice.get(place) == Some(*entry))
 }
 
 pub(crate) fn built<A: Allocator + Copy>(alloc: A, plan: &Plan) -> Result<Chain<A>, BaseFault>

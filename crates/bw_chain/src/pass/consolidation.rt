@@ -74,10 +74,9 @@ fn list<A: Allocator + Copy, X: EntryValue>(
     ensures { IfOk result
         (λ entries. entries ≡ entries_by X.own_entries X.own_change chain.now) }
 {
-    let mut lists = Lists {
-        keys: Vec::with_capacity(alloc, room)?,
-        values: Vec::with_capacity(alloc, room)?,
-    };
+    let keys = Vec::with_capacity(alloc, room)?;
+    let values = Vec::with_capacity(alloc, room)?;
+    let mut lists = Lists { keys, values };
     pass(chain, high, edits, 0, &mut lists)?;
     Ok(EntryList::of_lists(lists.keys, lists.values))
 }

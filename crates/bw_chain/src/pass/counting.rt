@@ -96,11 +96,7 @@ impl<X: EntryValue> Sink<X> for Counted {
 }
 
 /// Returns the count raised by the number of the entries with the edits.
-fn count_edited<X: Copy>(
-    count: u64,
-    entries: EntrySlice<'_, X>,
-    edits: &[(Key, Option<X>)],
-) -> u64
+fn count_edited<X: Copy>(count: u64, entries: EntrySlice<'_, X>, edits: &[(Key, Option<X>)]) -> u64
     requires ascending { IsAscending (list_of entries) }
     requires falling { IsFalling edits.now }
     ensures { result

@@ -39,7 +39,7 @@ impl<X: EntryValue, A: Allocator> Sink<X> for Lists<X, A> {
 
     ghost takes_joined = { λ s t u es fs first second.
         go_on_twice s.keys.items s.values.items t.keys.items t.values.items
-            u.keys.items u.values.items es fs first second };
+        u.keys.items u.values.items es fs first second };
 
     ghost refuses_more = { λ s es fs refused. tt };
 

@@ -89,7 +89,8 @@ pub(crate) fn append_run<B: Allocator>(
 {
     list.reserve(run.len())?;
     let start = list.len();
-    list.resize(start + run.len(), (0, 0))?;
+    let room = start + run.len();
+    list.resize(room, (0, 0))?;
     write_run(list.as_mut_slice(), start, run);
     Ok(())
 }

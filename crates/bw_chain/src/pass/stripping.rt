@@ -60,7 +60,7 @@ impl<'a, X: EntryValue> Sink<X> for Compared<'a, X> {
 
     ghost refuses_later = { λ s t es fs first other.
         otherwise_later s.from t.from (list_of s.rest) (list_of t.rest) es fs first.1 first.0
-            other };
+        other };
 }
 
 /// Returns what comes behind the entries with the edits, if the list begins with those from the
@@ -76,7 +76,7 @@ fn strip_edited<'a, X: EntryValue>(
     ensures { MatchOption result
         (BeginsOtherwise fence (list_of list.entry) (edited edits.now (list_of entries.entry)))
         (λ rest. Begins fence (list_of list.entry) (edited edits.now (list_of entries.entry))
-            (list_of rest)) }
+        (list_of rest)) }
 {
     let (mut list, mut rest, mut left) = (list, entries, edits);
     'edits: while let Some((edit, greater)) = left.split_last() {

@@ -1,5 +1,5 @@
-use Rattle.std.proofs.Common.{◌≡◌, ◌<◌, ◌+◌, ◌∙◌, length, arith}
-use Rattle.std.proofs.lemmas.List.{length-set}
+use Rattle.std.proofs.Common.{◌≡◌, ◌<◌, ◌+◌, ◌++◌, ◌∙◌, length, take, ap, sym, arith}
+use Rattle.std.proofs.lemmas.List.{length-set, take_all}
 use Rattle.bw_delta.specs.Slices.{list_of}
 use Rattle.bw_chain.proofs.Passing.Writes.{one-written}
 use Rattle.bw_chain.proofs.pass.runs.write_run.Goals as goal
@@ -17,4 +17,11 @@ loop-i-preserved c =
     }
 
 pub returns : goal.returns
-returns c = ?
+returns c =
+    let run = list_of c.args.run in
+    let i = c.loop-i.i in
+    let now = c.loop-i.list in
+    let place = c.args.place in
+    sym (take_all (place + i) now (omega (arith, c.loop-i.invariant.as_many, c.requires)))
+    ∙ c.loop-i.invariant.written
+    ∙ ap (λ l. take place c.args.list.now ++ l) (take_all i run (omega arith))

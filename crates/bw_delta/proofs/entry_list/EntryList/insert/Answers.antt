@@ -13,8 +13,8 @@ insert-requires-2 g c =
     let list = c.self.inside in
     omega (arith, c.requires, ap length c.self.view_is, length-zip list.keys.items list.values.items c.self.invariant, list.keys.ok, c.in_ok-reserve.ensures.len)
 
-pub returns-in-Ok-clause-inserted : goal.returns-in-Ok-clause-inserted
-returns-in-Ok-clause-inserted g c =
+pub returns-clause-inserted : goal.returns-clause-inserted
+returns-clause-inserted g c =
     let list = c.self.inside in
     rw (c.in-Ok.ensures.items, c.in_ok-insert.ensures.items, c.in_ok-reserve.ensures.items)
     (zip-insert c.args.place c.args.key c.args.value list.keys.items list.values.items c.self.invariant ∙ ap (λ es. insert es c.args.place (c.args.key, c.args.value)) c.self.view_is)
