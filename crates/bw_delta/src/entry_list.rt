@@ -70,6 +70,7 @@ impl<X: Copy, A: Allocator> EntryList<X, A> {
 
     /// Copies the entries. The copy has room for `room` of them, or for all if that is more, before
     /// it asks for memory again.
+    #[tactic(auto, using(crate::proofs::Zips::zips), unfolding(crate::specs::Slices::list_of))]
     pub fn copied(
         alloc: A,
         entries: EntrySlice<'_, X>,
@@ -87,6 +88,7 @@ impl<X: Copy, A: Allocator> EntryList<X, A> {
     }
 
     /// Lends the entries.
+    #[tactic(auto, using(crate::proofs::Zips::zips), unfolding(crate::specs::Slices::list_of))]
     #[inline(always)]
     pub fn as_slice(&self) -> EntrySlice<'_, X>
         ensures { list_of result ≡ self.now }

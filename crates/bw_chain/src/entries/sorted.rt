@@ -35,7 +35,7 @@ pub(crate) fn count_below_key<X: Copy>(entries: EntrySlice<'_, X>, key: Key) -> 
     match entries.len().checked_sub(8) {
         Some(last) => {
             let start = count_blocks(entries, key).min(last);
-            start + count_eight(entries, start, key)
+            start + count_eight(entries, start + 8, key)
         }
         None => count_few(entries, key),
     }
@@ -69,32 +69,35 @@ fn count_few<X: Copy>(entries: EntrySlice<'_, X>, key: Key) -> usize
     count
 }
 
-/// Counts the entries below the key among the eight from the place on.
+/// Counts the entries below the key among the last eight before the end.
 #[inline(always)]
-fn count_eight<X: Copy>(entries: EntrySlice<'_, X>, place: usize, key: Key) -> usize
+fn count_eight<X: Copy>(entries: EntrySlice<'_, X>, end: usize, key: Key) -> usize
     requires ascending { IsAscending (list_of entries) }
-    requires inside { place + 8 ≤ length (list_of entries) }
-    ensures { result ≡ min (length (below key (list_of entries.entry)) - place) 8 }
+    requires least { 8 ≤ end }
+    requires inside { end ≤ length (list_of entries) }
+    ensures { result ≡ min (length (below key (list_of entries.entry)) - (end - 8)) 8 }
 {
-    count_four(entries, place, key) + count_four(entries, place + 4, key)
+    count_four(entries, end - 4, key) + count_four(entries, end, key)
 }
 
 #[inline(always)]
-fn count_four<X: Copy>(entries: EntrySlice<'_, X>, place: usize, key: Key) -> usize
+fn count_four<X: Copy>(entries: EntrySlice<'_, X>, end: usize, key: Key) -> usize
     requires ascending { IsAscending (list_of entries) }
-    requires inside { place + 4 ≤ length (list_of entries) }
-    ensures { result ≡ min (length (below key (list_of entries.entry)) - place) 4 }
+    requires least { 4 ≤ end }
+    requires inside { end ≤ length (list_of entries) }
+    ensures { result ≡ min (length (below key (list_of entries.entry)) - (end - 4)) 4 }
 {
-    count_two(entries, place, key) + count_two(entries, place + 2, key)
+    count_two(entries, end - 2, key) + count_two(entries, end, key)
 }
 
 #[inline(always)]
-fn count_two<X: Copy>(entries: EntrySlice<'_, X>, place: usize, key: Key) -> usize
+fn count_two<X: Copy>(entries: EntrySlice<'_, X>, end: usize, key: Key) -> usize
     requires ascending { IsAscending (list_of entries) }
-    requires inside { place + 2 ≤ length (list_of entries) }
-    ensures { result ≡ min (length (below key (list_of entries.entry)) - place) 2 }
+    requires least { 2 ≤ end }
+    requires inside { end ≤ length (list_of entries) }
+    ensures { result ≡ min (length (below key (list_of entries.entry)) - (end - 2)) 2 }
 {
-    one_if_below(entries, place, key) + one_if_below(entries, place + 1, key)
+    one_if_below(entries, end - 2, key) + one_if_below(entries, end - 1, key)
 }
 
 /// Returns 1 if the entry at the place lies below the key, and 0 if not.

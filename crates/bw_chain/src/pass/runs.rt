@@ -70,10 +70,10 @@ fn append_edit<B: Allocator>(
 ) -> Result<(), NoMemory>
     ensures { OnOk result (list.new.items ≡ list.old.items ++ entry_of key edit) }
 {
-    if let Some(value) = edit {
-        list.push((key, value))?;
+    match edit {
+        Some(value) => Ok(list.push((key, value))?),
+        None => Ok(()),
     }
-    Ok(())
 }
 
 /// Appends the pairs to the list.
@@ -87,9 +87,10 @@ pub(crate) fn append_run<B: Allocator>(
     ensures full { OnErr result
         (vec_capacity list.old < length list.old.items + length (list_of run.entry)) }
 {
-    list.reserve(run.len())?;
+    let count = run.len();
+    list.reserve(count)?;
     let start = list.len();
-    let room = start + run.len();
+    let room = start + count;
     list.resize(room, (0, 0))?;
     write_run(list.as_mut_slice(), start, run);
     Ok(())

@@ -4,4 +4,4 @@ use Rattle.bw_chain.proofs.Sorted.{below-few}
 use Rattle.bw_chain.proofs.entries.sorted.count_below_key.Goals as goal
 
 pub returns-in-Some : goal.returns-in-Some
-returns-in-Some g c = omega (arith, below-few c.args.key (list_of c.args.entries))
+returns-in-Some g c = omega (arith, c.in-Some.ensures, below-few c.args.key (list_of c.args.entries))

@@ -1,4 +1,4 @@
-use Rattle.std.proofs.Common.{◌≡◌, ◌≤◌, ◌++◌, ◌∙◌, length, length-append, length-take-le, take, ap, sym, arith, rules}
+use Rattle.std.proofs.Common.{◌≡◌, ◌≤◌, ◌+◌, ◌++◌, ◌∙◌, length, length-append, length-take-le, take, ap, sym, arith, rules}
 use Rattle.bw_delta.specs.Slices.{list_of}
 use Rattle.bw_chain.proofs.Passing.Inserts.{refill-whole, grown-front}
 use Rattle.bw_chain.proofs.pass.runs.append_run.Goals as goal
@@ -15,7 +15,7 @@ returns-clause-items g c =
     let upto : start ≤ length slice = omega (arith, filled.len, c.in_ok-resize.ensures.len) in
     let kept : length c.write_run.new.list ≡ length c.resize.new.list.items =
     omega (arith, grown, filled.len, c.in_ok-resize.ensures.len, ap length c.write_run.ensures, length-append (take start slice) run, length-take-le start slice upto) in
-    let front = ap (take start) (filled.value ∙ c.in_ok-resize.ensures.items) ∙ grown-front start c.room c.reserve.new.list.items _ own (omega arith) ∙ c.in_ok-reserve.ensures.items in
+    let front = ap (take start) (filled.value ∙ c.in_ok-resize.ensures.items) ∙ grown-front start (start + c.len-count.result) c.reserve.new.list.items _ own (omega arith) ∙ c.in_ok-reserve.ensures.items in
     refill-whole c.resize.new.list.len c.resize.new.list.items c.write_run.new.list kept grown
     ∙ c.write_run.ensures
     ∙ ap (λ l. l ++ run) front
