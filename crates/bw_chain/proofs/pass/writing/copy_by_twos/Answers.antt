@@ -20,7 +20,7 @@ twos-preserved g c =
     let es = list_of c.args.entries in
     let i = c.twos.i in
     let first = c.entry in
-    let second = c.entry-2 in
+    let second = c.entry-in-twos in
     let now = zip c.twos.keys c.twos.values in
     let place = c.args.place + i in
     let before = c.twos.invariant in
@@ -32,9 +32,9 @@ twos-preserved g c =
       within = omega (arith, inside);
       before = rw next at (below-upto c.args.key (i + 1) c.key-next.result es c.requires.ascending inside c.key-next.ensures (omega (arith, c.if-key-next.false)));
       after = rw next at (from-upto c.args.key (i + 1) c.key-next.result es c.requires.ascending inside c.key-next.ensures (omega (arith, c.if-key-next.false)));
-      as_many = c.write-2.ensures.as_many ∙ c.write.ensures.as_many ∙ before.as_many;
-      even = c.write-2.ensures.even;
-      written = rw (c.write-2.ensures.written, c.write.ensures.written) (pair-written (zip c.args.keys.now c.args.values.now) now es c.args.place i first.result second.result inside room first.ensures second.ensures before.written);
+      as_many = c.write-in-twos.ensures.as_many ∙ c.write.ensures.as_many ∙ before.as_many;
+      even = c.write-in-twos.ensures.even;
+      written = rw (c.write-in-twos.ensures.written, c.write.ensures.written) (pair-written (zip c.args.keys.now c.args.values.now) now es c.args.place i first.result second.result inside room first.ensures second.ensures before.written);
     }
 
 pub returns-clause-last : goal.returns-clause-last
