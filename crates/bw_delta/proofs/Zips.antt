@@ -72,6 +72,13 @@ module _ {X : Type 0} where
   has_key zero d (k ∷ ks) (v ∷ vs) even inside = (v, refl)
   has_key (suc i) d (k ∷ ks) (v ∷ vs) even inside = has_key i d ks vs (omega arith) (omega arith)
 
+  -- the entry of a key and its value
+  pub has_entry : (i k : ℕ) (v : X) (ks : List ℕ) (vs : List X) → length vs ≡ length ks → i < length ks → ◌≡◌ {A = ℕ × X} (get_or ks i k, get_or vs i v) (get_or (zip ks vs) i (get_or ks i k, get_or vs i v))
+  has_entry i k v [] vs even inside = absurd (omega arith)
+  has_entry i k v (l ∷ ks) [] even inside = absurd (omega arith)
+  has_entry zero k v (l ∷ ks) (w ∷ vs) even inside = refl
+  has_entry (suc i) k v (l ∷ ks) (w ∷ vs) even inside = has_entry i k v ks vs (omega arith) (omega arith)
+
   -- no keys, no entries
   pub no_keys : (ks : List ℕ) (vs : List X) → length ks ≡ 0 → zip ks vs ≡ []
   no_keys [] vs none = refl
