@@ -1,6 +1,6 @@
 //! Searches in a list of entries, as a base page has one.
 
-ghost use Rattle.std.specs.Prelude.{◌≡◌, ◌≤◌, ◌<◌, ◌+◌, ◌-◌, min, length, take, drop};
+ghost use Rattle.std.specs.Prelude.{◌≡◌, ◌≤◌, ◌<◌, ◌+◌, ◌-◌, ◌*◌, min, length, take, drop};
 ghost use Rattle.bw_keys.specs.Ranges.{end_of};
 ghost use Rattle.bw_delta.specs.Entries.{at, below, from, first_from, last_below};
 ghost use Rattle.bw_delta.specs.Slices.{list_of};
@@ -23,10 +23,9 @@ fn count_below<X: Copy>(entries: EntrySlice<'_, X>, fence: Fence) -> usize
     }
 }
 
-/// Counts the entries below the key: first those of whole blocks of eight, and then those among the
-/// eight entries where the key lies. It adds up comparisons without a branch, as no processor can
-/// predict the way that a search takes, and reads the ends of all blocks, as none has to wait for
-/// another.
+/// Counts the entries below the key: first by quarters, until eight are left at most, and then those
+/// among eight. It reads keys alone, and adds up what comparisons say without a branch, as no
+/// processor can predict the way that a search takes.
 #[inline(always)]
 pub(crate) fn count_below_key<X: Copy>(entries: EntrySlice<'_, X>, key: Key) -> usize
     requires ascending { IsAscending (list_of entries) }
@@ -34,26 +33,53 @@ pub(crate) fn count_below_key<X: Copy>(entries: EntrySlice<'_, X>, key: Key) -> 
 {
     match entries.len().checked_sub(8) {
         Some(last) => {
-            let start = count_blocks(entries, key).min(last);
+            let start = count_by_quarters(entries, key).min(last);
             start + count_eight(entries, start + 8, key)
         }
         None => count_few(entries, key),
     }
 }
 
-/// Counts the entries of those blocks of eight that lie below the key, each of which its last entry
-/// tells.
+/// Counts the entries below the key but for the last eight of them at most. Each step compares the
+/// keys at the ends of three quarters of the entries left.
 #[inline(always)]
-fn count_blocks<X: Copy>(entries: EntrySlice<'_, X>, key: Key) -> usize
+fn count_by_quarters<X: Copy>(entries: EntrySlice<'_, X>, key: Key) -> usize
     requires ascending { IsAscending (list_of entries) }
     ensures least { result ≤ length (below key (list_of entries.entry)) }
-    ensures most { length (below key (list_of entries.entry)) < result + 8 }
+    ensures most { length (below key (list_of entries.entry)) ≤ result + 8 }
 {
     let mut passed = 0;
-    for block in 0..entries.len() / 8 {
-        passed += 8 * one_if_below(entries, 8 * block + 7, key);
+    let mut left = entries.len();
+    'quarters: while left > 8 {
+        let quarter = (left + 1) / 4;
+        passed += count_quarters(entries, passed, quarter, key);
+        left -= 3 * quarter;
     }
     passed
+}
+
+/// Counts the entries from the place on that lie below the key, in whole quarters, of which it
+/// looks at three.
+#[inline(always)]
+fn count_quarters<X: Copy>(
+    entries: EntrySlice<'_, X>,
+    place: usize,
+    quarter: usize,
+    key: Key,
+) -> usize
+    requires ascending { IsAscending (list_of entries) }
+    requires some { 0 < quarter }
+    requires inside { place + 3 * quarter ≤ length (list_of entries) }
+    requires from { place ≤ length (below key (list_of entries)) }
+    ensures three { result ≤ 3 * quarter }
+    ensures least { place + result ≤ length (below key (list_of entries.entry)) }
+    ensures most { result < 3 * quarter →
+        length (below key (list_of entries.entry)) < place + result + quarter }
+{
+    let first = one_if_below(entries, place + quarter - 1, key);
+    let second = one_if_below(entries, place + 2 * quarter - 1, key);
+    let third = one_if_below(entries, place + 3 * quarter - 1, key);
+    (first + second + third) * quarter
 }
 
 /// Counts the entries below the key one by one.
@@ -105,7 +131,9 @@ fn count_two<X: Copy>(entries: EntrySlice<'_, X>, end: usize, key: Key) -> usize
 fn one_if_below<X: Copy>(entries: EntrySlice<'_, X>, place: usize, key: Key) -> usize
     requires ascending { IsAscending (list_of entries) }
     requires inside { place < length (list_of entries) }
-    ensures { result ≡ min (length (below key (list_of entries.entry)) - place) 1 }
+    ensures one { result ≤ 1 }
+    ensures under { 0 < result → place < length (below key (list_of entries.entry)) }
+    ensures past { result ≡ 0 → length (below key (list_of entries.entry)) ≤ place }
 {
     usize::from(entries.key(place) < key)
 }
