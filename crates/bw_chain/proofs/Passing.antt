@@ -6,6 +6,7 @@ pub mod Fronts
 pub mod Heads
 pub mod Inserts
 pub mod Listing
+pub mod Lists
 pub mod Merges
 pub mod Notes
 pub mod Passes

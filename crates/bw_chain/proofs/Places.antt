@@ -52,6 +52,15 @@ module _ {X : Type 0} where
       let there : e ≡ get_or es (length (below key es)) e = rw (← is) read in
       sym (at-other_place 0 key_count key e es h (rw (← is) inside) (λ same. other (ap (λ (d : ℕ × X). d.0) there ∙ same)))
 
+  key-there : (low end key : ℕ) (y : X) (d : ℕ × X) (es : List (ℕ × X)) → rises low end es ≡ true → at key es ≡ Some y → (get_or es (length (below key es)) d).0 ≡ key
+  key-there low end key y d [] h here = cc
+  key-there low end key y d (e ∷ es) h here =
+      let rest : rises (e.0 + 1) end es ≡ true = grind (arith, nat_tests) in
+      elim (leb_tells key e.0) [
+        | inl past ↦ grind (arith, nat_tests, past.1, below_low (e.0 + 1) end key es, at-before (e.0 + 1) end key es)
+        | inr first ↦ grind (arith, nat_tests, first.1, key-there (e.0 + 1) end key y d es rest)
+      ]
+
   pub put-there : (low end key : ℕ) (x y : X) (es : List (ℕ × X)) → rises low end es ≡ true → at key es ≡ Some y → set es (length (below key es)) (key, x) ≡ put key x es
   put-there low end key x y [] h here = cc
   put-there low end key x y (e ∷ es) h here =
@@ -60,6 +69,10 @@ module _ {X : Type 0} where
         | inl past ↦ grind (arith, nat_tests, past.1, below_low (e.0 + 1) end key es, at-before (e.0 + 1) end key es)
         | inr first ↦ grind (arith, nat_tests, first.1, put-there (e.0 + 1) end key x y es rest)
       ]
+
+  -- the same where the value alone is written
+  pub put-here : (low end key : ℕ) (x y : X) (d : ℕ × X) (es : List (ℕ × X)) → rises low end es ≡ true → at key es ≡ Some y → set es (length (below key es)) ((get_or es (length (below key es)) d).0, x) ≡ put key x es
+  put-here low end key x y d es h here = ap (λ k. set es (length (below key es)) (k, x)) (key-there low end key y d es h here) ∙ put-there low end key x y es h here
 
   pub put-new : (low end key : ℕ) (x : X) (es : List (ℕ × X)) → rises low end es ≡ true → at key es ≡ None → insert es (length (below key es)) (key, x) ≡ put key x es
   put-new low end key x [] h none = refl

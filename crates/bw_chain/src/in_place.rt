@@ -7,6 +7,7 @@ ghost use Rattle.bw_delta.specs.Fence.{fences};
 ghost use Rattle.bw_delta.specs.Pairs.{pairs, pairs_listed};
 ghost use Rattle.bw_delta.specs.Pages.{upper_part};
 ghost use Rattle.bw_delta.specs.Records.{bare, above};
+ghost use Rattle.bw_delta.specs.Slices.{list_of};
 ghost use Rattle.bw_delta.specs.Sound.{LiesIn, page_for};
 ghost use Rattle.bw_chain.specs.Ascends.{IsAscending};
 ghost use Rattle.bw_chain.specs.Pages.Halves.{listed_key_at};
@@ -15,7 +16,7 @@ ghost use Rattle.bw_chain.specs.InPlaces.{IsRouted, IsBehindSplit, delta_for, pa
 use crate::entries::sorted::count_below_key;
 use crate::page::part_from;
 use crate::page::shape::allocator;
-use bw_delta::{Base, Chain, Delta, Entries, Node};
+use bw_delta::{Base, Chain, Delta, Entries, EntryList, EntrySlice, Node};
 use bw_keys::{Fence, Key, Pid};
 use std::alloc::Allocator;
 use std::mem;
@@ -168,31 +169,31 @@ fn change_on_base<A: Allocator + Copy>(
 
 #[inline(always)]
 fn change_listed<A: Allocator + Copy>(
-    pairs: &mut Vec<(Key, u64), A>,
+    pairs: &mut EntryList<u64, A>,
     key: Key,
     wished: Wished,
 ) -> Option<InPlace>
-    requires ascending { IsAscending pairs.old.items }
-    ensures had { IfSome result (λ done. done.had ≡ at key pairs.old.items) }
+    requires ascending { IsAscending pairs.old }
+    ensures had { IfSome result (λ done. done.had ≡ at key pairs.old) }
     ensures delta { IfSome result (λ done. done.delta ≡ delta_for wished key done.had) }
     ensures changed { IfSome result
-        (λ done. pairs.new.items ≡ pairs_with done.delta pairs.old.items) }
-    ensures unchanged { IfNone result (pairs.new.items ≡ pairs.old.items) }
+        (λ done. pairs.new ≡ pairs_with done.delta pairs.old) }
+    ensures unchanged { IfNone result (pairs.new ≡ pairs.old) }
 {
-    let place = count_below_key(pairs, key);
-    let had = entry_at(pairs, key, place);
+    let place = count_below_key(pairs.as_slice(), key);
+    let had = entry_at(pairs.as_slice(), key, place);
     match (wished, had) {
         (Wished::Put(_), Some(_)) | (Wished::Delete, None) => Some(InPlace { had, delta: None }),
         (Wished::Put(value) | Wished::Set(value), None) => insert_at(pairs, place, key, value),
         (Wished::Set(value), Some(_)) => {
-            pairs[place] = (key, value);
+            pairs.set_value(place, value);
             Some(InPlace {
                 had,
                 delta: Some(Delta::Modify(key, value)),
             })
         }
         (Wished::Delete, Some(_)) => {
-            let _pair = pairs.remove(place);
+            pairs.remove(place);
             Some(InPlace {
                 had,
                 delta: Some(Delta::Delete(key)),
@@ -204,21 +205,21 @@ fn change_listed<A: Allocator + Copy>(
 /// Inserts a new pair at its place.
 #[inline(always)]
 fn insert_at<A: Allocator + Copy>(
-    pairs: &mut Vec<(Key, u64), A>,
+    pairs: &mut EntryList<u64, A>,
     place: usize,
     key: Key,
     value: u64,
 ) -> Option<InPlace>
-    requires ascending { IsAscending pairs.old.items }
-    requires place { place ≡ length (below key pairs.old.items) }
-    requires absent { at key pairs.old.items ≡ None }
+    requires ascending { IsAscending pairs.old }
+    requires place { place ≡ length (below key pairs.old) }
+    requires absent { at key pairs.old ≡ None }
     ensures had { IfSome result (λ done. done.had ≡ None) }
     ensures delta { IfSome result (λ done. done.delta ≡ Some (deltas.Insert key value)) }
     ensures changed { IfSome result
-        (λ done. pairs.new.items ≡ pairs_with done.delta pairs.old.items) }
-    ensures unchanged { IfNone result (pairs.new.items ≡ pairs.old.items) }
+        (λ done. pairs.new ≡ pairs_with done.delta pairs.old) }
+    ensures unchanged { IfNone result (pairs.new ≡ pairs.old) }
 {
-    match pairs.insert(place, (key, value)) {
+    match pairs.insert(place, key, value) {
         Ok(()) => Some(InPlace {
             had: None,
             delta: Some(Delta::Insert(key, value)),
@@ -229,14 +230,14 @@ fn insert_at<A: Allocator + Copy>(
 
 /// Returns what stands at the key, given its place.
 #[inline(always)]
-fn entry_at<X: Copy>(entries: &[(Key, X)], key: Key, place: usize) -> Option<X>
-    requires ascending { IsAscending entries.now }
-    requires place { place ≡ length (below key entries.now) }
-    ensures value { result ≡ at key entries.now }
-    ensures inside { IfSome result (λ value. place < length entries.now) }
+fn entry_at<X: Copy>(entries: EntrySlice<'_, X>, key: Key, place: usize) -> Option<X>
+    requires ascending { IsAscending (list_of entries) }
+    requires place { place ≡ length (below key (list_of entries)) }
+    ensures value { result ≡ at key (list_of entries.entry) }
+    ensures inside { IfSome result (λ value. place < length (list_of entries.entry)) }
 {
     if place < entries.len() {
-        let entry = entries[place];
+        let entry = entries.entry(place);
         if entry.0 == key {
             return Some(entry.1);
         }
@@ -272,19 +273,19 @@ fn route_on_base<A: Allocator + Copy>(base: &mut Base<A>, separator: Key, child:
 
 #[inline(always)]
 fn route_listed<A: Allocator + Copy>(
-    routes: &mut Vec<(Key, Pid), A>,
+    routes: &mut EntryList<Pid, A>,
     separator: Key,
     child: Pid,
 ) -> bool
-    requires ascending { IsAscending routes.old.items }
-    ensures absent { result ≡ true → at separator routes.old.items ≡ None }
-    ensures put { result ≡ true → routes.new.items ≡ put separator child routes.old.items }
-    ensures unchanged { result ≡ false → routes.new.items ≡ routes.old.items }
+    requires ascending { IsAscending routes.old }
+    ensures absent { result ≡ true → at separator routes.old ≡ None }
+    ensures put { result ≡ true → routes.new ≡ put separator child routes.old }
+    ensures unchanged { result ≡ false → routes.new ≡ routes.old }
 {
-    let place = count_below_key(routes, separator);
-    match entry_at(routes, separator, place) {
+    let place = count_below_key(routes.as_slice(), separator);
+    match entry_at(routes.as_slice(), separator, place) {
         Some(_) => false,
-        None => routes.insert(place, (separator, child)).is_ok(),
+        None => routes.insert(place, separator, child).is_ok(),
     }
 }
 
@@ -341,10 +342,10 @@ fn cut_base<A: Allocator + Copy>(base: &mut Base<A>, separator: Key, right: Pid)
     base.right = Some(right);
 }
 
-fn cut_listed<A: Allocator + Copy, X: Copy>(entries: &mut Vec<(Key, X), A>, separator: Key)
-    requires ascending { IsAscending entries.old.items }
-    ensures { entries.new.items ≡ below separator entries.old.items }
+fn cut_listed<A: Allocator + Copy, X: Copy>(entries: &mut EntryList<X, A>, separator: Key)
+    requires ascending { IsAscending entries.old }
+    ensures { entries.new ≡ below separator entries.old }
 {
-    let count = count_below_key(entries, separator);
+    let count = count_below_key(entries.as_slice(), separator);
     entries.truncate(count);
 }

@@ -9,6 +9,8 @@ mod counting;
 mod edits;
 mod first;
 mod listing;
+mod lists;
+mod runs;
 mod sink;
 mod stripping;
 mod writing;
@@ -18,6 +20,7 @@ ghost use Rattle.bw_keys.specs.Ranges.{end_of, key_count};
 ghost use Rattle.bw_delta.specs.Entries.{below, from};
 ghost use Rattle.bw_delta.specs.Fence.{fences};
 ghost use Rattle.bw_delta.specs.Records.{depth};
+ghost use Rattle.bw_delta.specs.Slices.{list_of};
 ghost use Rattle.bw_delta.specs.Sound.{IsWellBuilt};
 ghost use Rattle.bw_chain.specs.Ascends.{IsAscending};
 ghost use Rattle.bw_chain.specs.Changes.{entries_by};
@@ -29,7 +32,7 @@ use crate::entries::sorted::below_fence;
 use crate::entries::value::EntryValue;
 use crate::pass::edits::{count_from, note_change};
 use crate::pass::sink::Sink;
-use bw_delta::{Chain, Node};
+use bw_delta::{Chain, EntrySlice, Node};
 use bw_keys::{Fence, Key};
 pub use comparison::{is_upper_part, same};
 pub use consolidation::consolidate;
@@ -84,18 +87,18 @@ pub(crate) fn pass<A: Allocator + Copy, X: EntryValue, S: Sink<X>>(
 /// Hands on the entries of a base page below the end, under the edits below it.
 #[inline(always)]
 fn pass_base<X: EntryValue, S: Sink<X>>(
-    entries: &[(Key, X)],
+    entries: EntrySlice<'_, X>,
     end: Fence,
     edits: &[(Key, Option<X>)],
     sink: &mut S,
 ) -> Result<(), S::Stop>
-    requires ascending { IsAscending entries.now }
+    requires ascending { IsAscending (list_of entries) }
     requires among { end_of end ≤ key_count }
     requires falling { IsFalling edits.now }
     ensures taken { OnOk result
-        (S.takes sink.old (edited_below (end_of end) edits.now entries.now) sink.new) }
+        (S.takes sink.old (edited_below (end_of end) edits.now (list_of entries.entry)) sink.new) }
     ensures refused { OnErr result
-        (S.refuses sink.old (edited_below (end_of end) edits.now entries.now)) }
+        (S.refuses sink.old (edited_below (end_of end) edits.now (list_of entries.entry))) }
 {
     let (_, here) = edits.split_at(count_from(edits, end));
     sink.take_edited(below_end(entries, end), here)
@@ -104,9 +107,9 @@ fn pass_base<X: EntryValue, S: Sink<X>>(
 /// Returns the entries below the end. Most often it is all of them, so the last is looked at before
 /// any search.
 #[inline(always)]
-pub(crate) fn below_end<X: Copy>(entries: &[(Key, X)], end: Fence) -> &[(Key, X)]
-    requires ascending { IsAscending entries.now }
-    ensures { result.now ≡ below (end_of end) entries.now }
+pub(crate) fn below_end<X: Copy>(entries: EntrySlice<'_, X>, end: Fence) -> EntrySlice<'_, X>
+    requires ascending { IsAscending (list_of entries) }
+    ensures { list_of result ≡ below (end_of end) (list_of entries.entry) }
 {
     let Some(greatest) = entries.last() else {
         return entries;

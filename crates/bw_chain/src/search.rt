@@ -26,8 +26,8 @@ use std::alloc::Allocator;
 pub use stretch::{pairs_from, pairs_upto};
 
 /// Returns the value at the key: that of the newest record which names the key, or else the base
-/// page's (Levandoski et al., ICDE 2013, "page search"). The base page is searched by quarters. An
-/// inner page has no values.
+/// page's (Levandoski et al., ICDE 2013, "page search"). Of a base page it reads keys, and the one
+/// value. An inner page has no values.
 #[tactic(auto, using(crate::proofs::Bridges::both_kinds))]
 #[inline(always)]
 pub fn find<A: Allocator + Copy>(chain: &Chain<A>, key: Key) -> Option<u64>

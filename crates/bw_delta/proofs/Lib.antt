@@ -2,3 +2,4 @@ pub mod Following
 pub mod At
 pub mod Rises
 pub mod Stands
+pub mod Zips

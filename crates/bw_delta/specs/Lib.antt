@@ -1,5 +1,6 @@
 pub mod Entries
 pub mod Pages
+pub mod Slices
 pub mod Records
 pub mod Codes
 pub mod PageView

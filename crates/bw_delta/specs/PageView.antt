@@ -7,8 +7,8 @@ use Rattle.bw_delta.specs.declared.base.Entries.{Entries}
 use Rattle.bw_delta.specs.declared.base.Entries.TheVariants.{Pairs, Routes}
 
 abbrev pub listed : {A : Type 0} → Entries A → Listed
-listed (Pairs es) = pairs_of es.items
-listed (Routes es) = routes_of es.items
+listed (Pairs es) = pairs_of es
+listed (Routes es) = routes_of es
 
 abbrev pub page_of : {A : Type 0} → ℕ → Fence → Option Pid → Entries A → Page
 page_of low high right entries = record { low = low; high = high; right = right; listed = listed entries }

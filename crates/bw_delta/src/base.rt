@@ -5,6 +5,7 @@ ghost use Rattle.bw_delta.specs.Entries.{rises};
 ghost use Rattle.bw_delta.specs.declared.fault.BaseFault.TheVariants.{BadEntries};
 ghost use Rattle.bw_delta.specs.Pages.{leaf_page, inner_page, is_page, lists_pairs, listed_length};
 
+use crate::entry_list::EntryList;
 use crate::fault::{BaseFault, NoMemory};
 use bw_keys::{Fence, Key, Pid};
 use std::alloc::Allocator;
@@ -27,9 +28,9 @@ pub struct Base<A: Allocator> {
 #[derive(Drop)]
 pub enum Entries<A: Allocator> {
     /// The keys and values of a leaf.
-    Pairs(Vec<(Key, u64), A>),
+    Pairs(EntryList<u64, A>),
     /// The separators of an inner page, each with the page that is searched from it on.
-    Routes(Vec<(Key, Pid), A>),
+    Routes(EntryList<Pid, A>),
 }
 
 impl<A: Allocator> Model for Base<A> {
@@ -56,7 +57,7 @@ impl<A: Allocator + Copy> Base<A> {
             low: 0,
             high: Fence::Top,
             right: None,
-            entries: Entries::Pairs(Vec::new(alloc)),
+            entries: Entries::Pairs(EntryList::new(alloc)),
         }
     }
 
@@ -75,7 +76,7 @@ impl<A: Allocator + Copy> Base<A> {
         if !high.is_above(low) || !rises_inside(low, high, entries) {
             return Err(BaseFault::BadEntries);
         }
-        let Ok(pairs) = Vec::from_slice(alloc, entries) else {
+        let Ok(pairs) = EntryList::from_entries(alloc, entries) else {
             return Err(BaseFault::NoMemory);
         };
         Ok(Base {
@@ -101,7 +102,7 @@ impl<A: Allocator + Copy> Base<A> {
         if !high.is_above(low) || !rises_inside(low, high, entries) {
             return Err(BaseFault::BadEntries);
         }
-        let Ok(routes) = Vec::from_slice(alloc, entries) else {
+        let Ok(routes) = EntryList::from_entries(alloc, entries) else {
             return Err(BaseFault::NoMemory);
         };
         Ok(Base {
@@ -144,8 +145,12 @@ impl<A: Allocator + Copy> Base<A> {
         ensures { IfOk result (λ copy. copy ≡ self.now) }
     {
         let entries = match &self.entries {
-            Entries::Pairs(pairs) => Entries::Pairs(Vec::from_slice(alloc, pairs)?),
-            Entries::Routes(routes) => Entries::Routes(Vec::from_slice(alloc, routes)?),
+            Entries::Pairs(pairs) => Entries::Pairs(EntryList::copied(alloc, pairs.as_slice(), 0)?),
+            Entries::Routes(routes) => Entries::Routes(EntryList::copied(
+                alloc,
+                routes.as_slice(),
+                0,
+            )?),
         };
         Ok(Base {
             low: self.low,

@@ -6,6 +6,8 @@
 
 mod base;
 mod chain;
+mod entry_list;
+mod entry_slice;
 mod fault;
 mod fences;
 
@@ -13,6 +15,8 @@ ghost use Rattle.bw_delta.specs.Modified.{ModifyLaw};
 
 pub use base::{Base, Entries};
 pub use chain::{Chain, Delta, Merging, Node, Spare};
+pub use entry_list::EntryList;
+pub use entry_slice::EntrySlice;
 pub use fault::{BaseFault, NoMemory};
 pub use fences::Fences;
 

@@ -1,5 +1,5 @@
 -- Tests of equality answer what the facts say.
-use Rattle.std.proofs.Common.{◌≡◌, ◌≢◌, ◌↔◌, ℕ, suc, Bool, true, false, IsTrue, List, [], ◌∷◌, length, refl, sym, ap, arith}
+use Rattle.std.proofs.Common.{◌≡◌, ◌≢◌, ◌↔◌, ℕ, suc, Bool, true, false, IsTrue, List, [], ◌∷◌, length, get_or, refl, sym, ap, arith}
 use Rattle.std.proofs.lemmas.Bool.Decides.{nat_tests}
 use Rattle.bw_delta.specs.Pages.{Page}
 use Rattle.bw_law.specs.Same.{is_same_page, are_same_entries}
@@ -25,3 +25,10 @@ other_length is_same (e ∷ es) (f ∷ fs) other =
     grind (arith, nat_tests, other_length is_same es fs rest)
 
 pub ruleset lengths = (other_length)
+
+-- a list of two, by what was read of it
+pub two_items : {Y : Type 0} → (ys : List Y) (a b : Y) → length ys ≡ 2 → a ≡ get_or ys 0 a → b ≡ get_or ys 1 b → ys ≡ a ∷ b ∷ []
+two_items [] a b two first second = absurd (omega arith)
+two_items (y ∷ []) a b two first second = absurd (omega arith)
+two_items (x ∷ y ∷ []) a b two first second = cc
+two_items (x ∷ y ∷ z ∷ ys) a b two first second = absurd (omega arith)

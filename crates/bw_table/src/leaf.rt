@@ -4,12 +4,14 @@ ghost use Rattle.std.specs.Prelude.{◌≡◌, ◌+◌, ◌<◌, ◌≤◌};
 ghost use Rattle.bw_keys.specs.Ranges.{end_of};
 ghost use Rattle.bw_chain.specs.Passing.Heads.{BeginsWith, EndsWith};
 ghost use Rattle.bw_delta.specs.Entries.{below, first_from, from, last_upto};
+ghost use Rattle.bw_delta.specs.Slices.{list_of};
 ghost use Rattle.bw_law.specs.Laws.{IsLeafOf};
 ghost use Rattle.bw_table.specs.Orders.{ArePairsWithin};
 
 use crate::slot::Slot;
 use crate::table::Table;
 use bw_chain::{pairs_from, pairs_upto};
+use bw_delta::EntrySlice;
 use bw_keys::{Fence, Key, Pid};
 use std::alloc::Allocator;
 use std::marker::Model;
@@ -82,13 +84,13 @@ impl<'t, A: Allocator + Copy> LeafRef<'t, A> {
     /// record of the leaf names one of their keys; then those before the least such key, which may be
     /// none. It takes no memory.
     #[inline(always)]
-    pub fn pairs_from(&self, key: Key) -> &'t [(Key, u64)]
-        ensures { BeginsWith (from key self.now.pairs) result.now }
+    pub fn pairs_from(&self, key: Key) -> EntrySlice<'t, u64>
+        ensures { BeginsWith (from key self.now.pairs) (list_of result) }
     {
         let slot = self.slot;
         match &slot.chain {
             Some(chain) => pairs_from(chain, key),
-            None => &[],
+            None => EntrySlice::empty(),
         }
     }
 
@@ -96,13 +98,13 @@ impl<'t, A: Allocator + Copy> LeafRef<'t, A> {
     /// record of the leaf names one of their keys; then those behind the greatest such key, which may
     /// be none. It takes no memory.
     #[inline(always)]
-    pub fn pairs_upto(&self, key: Key) -> &'t [(Key, u64)]
-        ensures { EndsWith (below (key + 1) self.now.pairs) result.now }
+    pub fn pairs_upto(&self, key: Key) -> EntrySlice<'t, u64>
+        ensures { EndsWith (below (key + 1) self.now.pairs) (list_of result) }
     {
         let slot = self.slot;
         match &slot.chain {
             Some(chain) => pairs_upto(chain, key),
-            None => &[],
+            None => EntrySlice::empty(),
         }
     }
 

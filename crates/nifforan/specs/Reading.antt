@@ -1,6 +1,7 @@
 -- The leaves that are held while a range is read from both ends.
 use Rattle.std.specs.Prelude.{ℕ, ◌+◌, ◌<◌, ◌≤◌, nat_lt, nat_le, if◌then◌else◌, List, Option, Some, None}
 use Rattle.bw_keys.specs.Ranges.{key_count, end_of}
+use Rattle.bw_delta.specs.Slices.{list_of}
 use Rattle.bw_delta.specs.Entries.{from, below}
 use Rattle.bw_chain.specs.Passing.Heads.{BeginsWith, EndsWith}
 use Rattle.bw_law.specs.Tables.{TableValue, Lawful}
@@ -38,7 +39,7 @@ AreLentUnder leaf end lent = 0 < end → EndsWith (below end leaf.pairs) lent
 
 -- a leaf is held from behind, for the keys below the end, and has lent its last pairs
 abbrev pub HoldsUnder : {A : Type 0} → TableValue → ℕ → Back A → Type 0
-HoldsUnder table end back = IsLeafUnder table back.leaf end × AreLentUnder back.leaf end back.lent.now
+HoldsUnder table end back = IsLeafUnder table back.leaf end × AreLentUnder back.leaf end (list_of back.lent)
 
 -- the pair, if its key lies at the start or past it
 abbrev pub from_start : ℕ → Option (ℕ × ℕ) → Option (ℕ × ℕ)

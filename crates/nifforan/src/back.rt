@@ -1,9 +1,11 @@
 //! The back end of a range, from which its pairs are taken backwards.
 
 ghost use Rattle.std.specs.Prelude.{◌≡◌, ◌+◌, [], ◌∷◌, ◌++◌, IfSome, IfNone};
+ghost use Rattle.bw_delta.specs.Slices.{list_of};
 ghost use Rattle.bw_table.specs.Orders.{HasNoKeyWithin, IsPreviousAt};
 ghost use Rattle.nifforan.specs.Reading.{IsLeafUnder, AreLentUnder, HoldsUnder, end_before};
 
+use bw_delta::EntrySlice;
 use bw_keys::Key;
 use bw_table::{LeafRef, Table};
 use std::alloc::Allocator;
@@ -13,7 +15,7 @@ use std::alloc::Allocator;
 pub(crate) struct Back<'m, A: Allocator + Copy> {
     pub(crate) leaf: LeafRef<'m, A>,
     /// The leaf's last pairs, as they lie side by side in it, or some of them.
-    pub(crate) lent: &'m [(Key, u64)],
+    pub(crate) lent: EntrySlice<'m, u64>,
 }
 
 /// Returns the table's pair with the greatest key at or below the key, if there is one. The leaf
@@ -33,7 +35,7 @@ pub(crate) fn previous_from<'m, A: Allocator + Copy>(
         return previous_in(table, &mut held.leaf, &mut held.lent, key);
     }
     let mut leaf = table.leaf_of(key);
-    let mut lent: &'m [(Key, u64)] = &[];
+    let mut lent = EntrySlice::empty();
     let pair = searched_upto(table, &mut leaf, &mut lent, key);
     *back = Some(Back { leaf, lent });
     pair
@@ -45,15 +47,15 @@ pub(crate) fn previous_from<'m, A: Allocator + Copy>(
 fn previous_in<'m, A: Allocator + Copy>(
     table: &'m Table<A>,
     leaf: &mut LeafRef<'m, A>,
-    lent: &mut &'m [(Key, u64)],
+    lent: &mut EntrySlice<'m, u64>,
     key: Key,
 ) -> Option<(Key, u64)>
     requires leaf { IsLeafUnder table.now leaf.old (key + 1) }
-    requires lent { AreLentUnder leaf.old (key + 1) lent.old.now }
+    requires lent { AreLentUnder leaf.old (key + 1) (list_of lent.old) }
     ensures previous { IfSome result (IsPreviousAt table.now key) }
     ensures none { IfNone result (HasNoKeyWithin table.now 0 (key + 1)) }
     ensures leaf { IsLeafUnder table.now leaf.new (end_before result) }
-    ensures lent { AreLentUnder leaf.new (end_before result) lent.new.now }
+    ensures lent { AreLentUnder leaf.new (end_before result) (list_of lent.new) }
 {
     if let Some(pair) = take_last(lent) {
         return Some(pair);
@@ -63,12 +65,11 @@ fn previous_in<'m, A: Allocator + Copy>(
 
 /// Takes the last pair of those lent.
 #[inline(always)]
-fn take_last<'m>(lent: &mut &'m [(Key, u64)]) -> Option<(Key, u64)>
-    ensures last { IfSome result (λ pair. lent.old.now ≡ lent.new.now ++ pair ∷ []) }
-    ensures none { IfNone result (lent.new.now ≡ []) }
+fn take_last<'m>(lent: &mut EntrySlice<'m, u64>) -> Option<(Key, u64)>
+    ensures last { IfSome result (λ pair. (list_of lent.old) ≡ (list_of lent.new) ++ pair ∷ []) }
+    ensures none { IfNone result ((list_of lent.new) ≡ []) }
 {
-    let (last, rest) = lent.split_last()?;
-    let pair = *last;
+    let (pair, rest) = lent.split_last()?;
     *lent = rest;
     Some(pair)
 }
@@ -78,14 +79,14 @@ fn take_last<'m>(lent: &mut &'m [(Key, u64)]) -> Option<(Key, u64)>
 fn searched_upto<'m, A: Allocator + Copy>(
     table: &'m Table<A>,
     leaf: &mut LeafRef<'m, A>,
-    lent: &mut &'m [(Key, u64)],
+    lent: &mut EntrySlice<'m, u64>,
     key: Key,
 ) -> Option<(Key, u64)>
     requires { IsLeafUnder table.now leaf.old (key + 1) }
     ensures previous { IfSome result (IsPreviousAt table.now key) }
     ensures none { IfNone result (HasNoKeyWithin table.now 0 (key + 1)) }
     ensures leaf { IsLeafUnder table.now leaf.new (end_before result) }
-    ensures lent { AreLentUnder leaf.new (end_before result) lent.new.now }
+    ensures lent { AreLentUnder leaf.new (end_before result) (list_of lent.new) }
 {
     let mut upto = key;
     'leaves: loop {

@@ -13,6 +13,7 @@ use crate::bounds::{end_fence, first_key, start_fence};
 use crate::iter::Iter;
 use crate::pairs::Pairs;
 use crate::worker::Worker;
+use bw_delta::EntrySlice;
 use bw_keys::{Config, Fence, Key};
 use bw_procedures::{Cleared, Del, Done, Fault, Put, Set};
 use bw_table::{NewFault, Table};
@@ -195,7 +196,7 @@ impl<A: Allocator + Copy> Map<A> {
         Pairs {
             table,
             leaf: table.leaf_of(first_key(low)),
-            lent: &[],
+            lent: EntrySlice::empty(),
             next: low,
             high,
             back: None,

@@ -2,11 +2,13 @@
 
 ghost use Rattle.std.specs.Prelude.{◌≡◌, ◌+◌, [], ◌∷◌, IfSome, IfNone};
 ghost use Rattle.bw_keys.specs.Ranges.{end_of, key_count};
+ghost use Rattle.bw_delta.specs.Slices.{list_of};
 ghost use Rattle.bw_table.specs.Orders.{HasNoKeyWithin, IsNextAt};
 ghost use Rattle.nifforan.specs.Reading.{IsLeafFor, AreLent, below_end, end_past, from_start, end_before};
 
 use crate::back::{Back, previous_from};
 use crate::bounds::fence_behind;
+use bw_delta::EntrySlice;
 use bw_keys::{Fence, Key};
 use bw_table::{LeafRef, Table};
 use std::alloc::Allocator;
@@ -23,7 +25,7 @@ pub struct Pairs<'m, A: Allocator + Copy> {
     pub(crate) table: &'m Table<A>,
     pub(crate) leaf: LeafRef<'m, A>,
     /// The leaf's next pairs, as they lie side by side in it, or some of them.
-    pub(crate) lent: &'m [(Key, u64)],
+    pub(crate) lent: EntrySlice<'m, u64>,
     /// Where the keys that are left begin.
     pub(crate) next: Fence,
     /// Where they end.
@@ -35,6 +37,7 @@ pub struct Pairs<'m, A: Allocator + Copy> {
 impl<'m, A: Allocator + Copy> Model for Pairs<'m, A> {
     ghost use Rattle.std.specs.Coded.{coded_list, coded×, coded_ℕ};
     ghost use Rattle.std.specs.Prelude.{IfSome};
+    ghost use Rattle.bw_delta.specs.Slices.{list_of};
     ghost use Rattle.bw_keys.specs.Ranges.{end_of};
     ghost use Rattle.nifforan.specs.Maps.{PairList, pairs_of, within};
     ghost use Rattle.nifforan.specs.Reading.{IsLeafFor, AreLent, HoldsUnder};
@@ -46,7 +49,7 @@ impl<'m, A: Allocator + Copy> Model for Pairs<'m, A> {
     ghost view = { λ r. within (end_of r.next) (end_of r.high) (pairs_of r.table.now.slots) };
 
     ghost invariant = { λ r. IsLeafFor r.table.now r.leaf (end_of r.next)
-        × AreLent r.leaf (end_of r.next) r.lent.now
+        × AreLent r.leaf (end_of r.next) (list_of r.lent)
         × IfSome r.back (HoldsUnder r.table.now (end_of r.high)) };
 }
 
@@ -153,16 +156,16 @@ fn before(pair: Option<(Key, u64)>) -> Fence
 fn next_from<'m, A: Allocator + Copy>(
     table: &'m Table<A>,
     leaf: &mut LeafRef<'m, A>,
-    lent: &mut &'m [(Key, u64)],
+    lent: &mut EntrySlice<'m, u64>,
     key: Key,
 ) -> Option<(Key, u64)>
     requires leaf { IsLeafFor table.now leaf.old key }
-    requires lent { AreLent leaf.old key lent.old.now }
+    requires lent { AreLent leaf.old key (list_of lent.old) }
     ensures next { IfSome result (IsNextAt table.now key) }
     ensures none { IfNone result (HasNoKeyWithin table.now key key_count) }
     ensures leaf { IfSome result (λ pair. IsLeafFor table.now leaf.new pair.0) }
     ensures last { IsLeafFor table.now leaf.new key_count }
-    ensures lent { AreLent leaf.new (end_past result) lent.new.now }
+    ensures lent { AreLent leaf.new (end_past result) (list_of lent.new) }
 {
     if let Some(pair) = take_first(lent) {
         return Some(pair);
@@ -172,12 +175,11 @@ fn next_from<'m, A: Allocator + Copy>(
 
 /// Takes the first pair of those lent.
 #[inline(always)]
-fn take_first<'m>(lent: &mut &'m [(Key, u64)]) -> Option<(Key, u64)>
-    ensures first { IfSome result (λ pair. lent.old.now ≡ pair ∷ lent.new.now) }
-    ensures none { IfNone result (lent.new.now ≡ []) }
+fn take_first<'m>(lent: &mut EntrySlice<'m, u64>) -> Option<(Key, u64)>
+    ensures first { IfSome result (λ pair. (list_of lent.old) ≡ pair ∷ (list_of lent.new)) }
+    ensures none { IfNone result ((list_of lent.new) ≡ []) }
 {
-    let (first, rest) = lent.split_first()?;
-    let pair = *first;
+    let (pair, rest) = lent.split_first()?;
     *lent = rest;
     Some(pair)
 }
@@ -187,7 +189,7 @@ fn take_first<'m>(lent: &mut &'m [(Key, u64)]) -> Option<(Key, u64)>
 fn searched_from<'m, A: Allocator + Copy>(
     table: &'m Table<A>,
     leaf: &mut LeafRef<'m, A>,
-    lent: &mut &'m [(Key, u64)],
+    lent: &mut EntrySlice<'m, u64>,
     key: Key,
 ) -> Option<(Key, u64)>
     requires { IsLeafFor table.now leaf.old key }
@@ -195,7 +197,7 @@ fn searched_from<'m, A: Allocator + Copy>(
     ensures none { IfNone result (HasNoKeyWithin table.now key key_count) }
     ensures leaf { IfSome result (λ pair. IsLeafFor table.now leaf.new pair.0) }
     ensures last { IsLeafFor table.now leaf.new key_count }
-    ensures lent { AreLent leaf.new (end_past result) lent.new.now }
+    ensures lent { AreLent leaf.new (end_past result) (list_of lent.new) }
 {
     let mut from = key;
     'leaves: loop {

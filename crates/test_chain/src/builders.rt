@@ -5,7 +5,7 @@ ghost use Rattle.std.specs.Prelude.{◌≡◌, true, IfOk};
 ghost use Rattle.bw_delta.specs.Sound.{IsSound, MayStandOver};
 
 use bw_chain::{depth, fences, find, is_leaf};
-use bw_delta::{Base, BaseFault, Chain, Delta, Entries, Fences, Spare};
+use bw_delta::{Base, BaseFault, Chain, Delta, Entries, EntrySlice, Fences, Spare};
 use bw_keys::{Fence, Key, MAX_DEPTH, Pid, Range};
 use std::alloc::Allocator;
 
@@ -49,16 +49,25 @@ pub(crate) fn base<A: Allocator + Copy>(
 pub(crate) fn lists<A: Allocator>(base: &Base<A>, listed: Listed) -> bool {
     match (&base.entries, listed) {
         (_, Listed::Pairs(pairs)) => lists_pairs(base, pairs),
-        (Entries::Routes(list), Listed::Routes(routes)) => list.as_slice() == routes,
+        (Entries::Routes(list), Listed::Routes(routes)) => lists_all(list.as_slice(), routes),
         (Entries::Pairs(_), Listed::Routes(_)) => false,
     }
 }
 
 pub(crate) fn lists_pairs<A: Allocator>(base: &Base<A>, pairs: &[(Key, u64)]) -> bool {
     match &base.entries {
-        Entries::Pairs(list) => list.as_slice() == pairs,
+        Entries::Pairs(list) => lists_all(list.as_slice(), pairs),
         Entries::Routes(_) => false,
     }
+}
+
+/// Reports whether the slice has these entries.
+fn lists_all<X: Copy + PartialEq>(slice: EntrySlice<'_, X>, entries: &[(Key, X)]) -> bool {
+    slice.len() == entries.len()
+        && entries
+            .iter()
+            .enumerate()
+            .all(|(place, entry)| slice.get(place) == Some(*entry))
 }
 
 pub(crate) fn built<A: Allocator + Copy>(alloc: A, plan: &Plan) -> Result<Chain<A>, BaseFault>

@@ -44,6 +44,10 @@ module _ {Y : Type 0} where
       let none : drop (length ws) xs ≡ [] = drop_all (length ws) xs (omega (arith, as_many)) in
       take-of_take end n (ws ++ drop (length ws) xs) le ∙ ap (λ l. take end (ws ++ l)) none ∙ ap (take end) (append-nil ws)
 
+  -- a list that was written over
+  pub refill-whole : (n : ℕ) (xs ws : List Y) → length ws ≡ length xs → length xs ≡ n → refill n xs ws ≡ ws
+  refill-whole n xs ws as_many is = refill-front n n xs ws as_many is (omega arith) ∙ take_all n ws (omega (arith, as_many, is))
+
   -- a list to which places were added, up to them
   pub grown-front : (start room : ℕ) (xs more : List Y) → length xs ≡ start → start ≤ room → take start (take room xs ++ more) ≡ xs
   grown-front start room xs more is le =

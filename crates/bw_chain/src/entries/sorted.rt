@@ -1,18 +1,21 @@
 //! Searches in a list of entries, as a base page has one.
 
-ghost use Rattle.std.specs.Prelude.{◌≡◌, ◌≤◌, ◌<◌, ◌+◌, ◌*◌, length, take, drop};
+ghost use Rattle.std.specs.Prelude.{◌≡◌, ◌≤◌, ◌<◌, ◌+◌, ◌-◌, ◌*◌, min, length, take, drop};
 ghost use Rattle.bw_keys.specs.Ranges.{end_of};
 ghost use Rattle.bw_delta.specs.Entries.{at, below, from, first_from, last_below};
+ghost use Rattle.bw_delta.specs.Slices.{list_of};
 ghost use Rattle.bw_chain.specs.Ascends.{IsAscending};
 
+use bw_delta::EntrySlice;
 use bw_keys::{Fence, Key};
 
 /// Counts the entries below the fence.
-fn count_below<X: Copy>(entries: &[(Key, X)], fence: Fence) -> usize
-    requires ascending { IsAscending entries.now }
-    ensures within { result ≤ length entries.now }
-    ensures before { below (end_of fence) entries.now ≡ take result entries.now }
-    ensures after { from (end_of fence) entries.now ≡ drop result entries.now }
+#[inline(always)]
+fn count_below<X: Copy>(entries: EntrySlice<'_, X>, fence: Fence) -> usize
+    requires ascending { IsAscending (list_of entries) }
+    ensures within { result ≤ length (list_of entries.entry) }
+    ensures before { let es = list_of entries.entry in below (end_of fence) es ≡ take result es }
+    ensures after { let es = list_of entries.entry in from (end_of fence) es ≡ drop result es }
 {
     match fence {
         Fence::Key(key) => count_below_key(entries, key),
@@ -20,39 +23,58 @@ fn count_below<X: Copy>(entries: &[(Key, X)], fence: Fence) -> usize
     }
 }
 
-/// Counts the entries below the key: `passed` of them are found, and at most `left` more are to
-/// come. Each step compares the entries at the ends of three quarters of those left, and adds up
-/// the results without a branch, as no processor can predict the way that a search takes.
-pub(crate) fn count_below_key<X: Copy>(entries: &[(Key, X)], key: Key) -> usize
-    requires ascending { IsAscending entries.now }
-    ensures { result ≡ length (below key entries.now) }
+/// Counts the entries below the key: first by quarters, until eight are left at most, and then those
+/// among eight. It reads keys alone, and adds up what comparisons say without a branch, as no
+/// processor can predict the way that a search takes.
+#[inline(always)]
+pub(crate) fn count_below_key<X: Copy>(entries: EntrySlice<'_, X>, key: Key) -> usize
+    requires ascending { IsAscending (list_of entries) }
+    ensures { result ≡ length (below key (list_of entries.entry)) }
+{
+    match entries.len().checked_sub(8) {
+        Some(last) => {
+            let start = count_by_quarters(entries, key).min(last);
+            start + count_eight(entries, start + 8, key)
+        }
+        None => count_few(entries, key),
+    }
+}
+
+/// Counts the entries below the key but for the last eight of them at most. Each step compares the
+/// keys at the ends of three quarters of the entries left.
+#[inline(always)]
+fn count_by_quarters<X: Copy>(entries: EntrySlice<'_, X>, key: Key) -> usize
+    requires ascending { IsAscending (list_of entries) }
+    ensures least { result ≤ length (below key (list_of entries.entry)) }
+    ensures most { length (below key (list_of entries.entry)) ≤ result + 8 }
 {
     let mut passed = 0;
     let mut left = entries.len();
-    'quarters: while left > 2 {
+    'quarters: while left > 8 {
         let quarter = (left + 1) / 4;
         passed += count_quarters(entries, passed, quarter, key);
         left -= 3 * quarter;
     }
-    match left {
-        0 => passed,
-        1 => passed + one_if_below(entries, passed, key),
-        _ => passed + one_if_below(entries, passed, key) + one_if_below(entries, passed + 1, key),
-    }
+    passed
 }
 
 /// Counts the entries from the place on that lie below the key, in whole quarters, of which it
 /// looks at three.
 #[inline(always)]
-fn count_quarters<X: Copy>(entries: &[(Key, X)], place: usize, quarter: usize, key: Key) -> usize
-    requires ascending { IsAscending entries.now }
+fn count_quarters<X: Copy>(
+    entries: EntrySlice<'_, X>,
+    place: usize,
+    quarter: usize,
+    key: Key,
+) -> usize
+    requires ascending { IsAscending (list_of entries) }
     requires some { 0 < quarter }
-    requires inside { place + 3 * quarter ≤ length entries.now }
-    requires from { place ≤ length (below key entries.now) }
+    requires inside { place + 3 * quarter ≤ length (list_of entries) }
+    requires from { place ≤ length (below key (list_of entries)) }
     ensures three { result ≤ 3 * quarter }
-    ensures least { place + result ≤ length (below key entries.now) }
+    ensures least { place + result ≤ length (below key (list_of entries.entry)) }
     ensures most { result < 3 * quarter →
-        length (below key entries.now) < place + result + quarter }
+        length (below key (list_of entries.entry)) < place + result + quarter }
 {
     let first = one_if_below(entries, place + quarter - 1, key);
     let second = one_if_below(entries, place + 2 * quarter - 1, key);
@@ -60,41 +82,86 @@ fn count_quarters<X: Copy>(entries: &[(Key, X)], place: usize, quarter: usize, k
     (first + second + third) * quarter
 }
 
+/// Counts the entries below the key one by one.
+#[inline(always)]
+fn count_few<X: Copy>(entries: EntrySlice<'_, X>, key: Key) -> usize
+    requires ascending { IsAscending (list_of entries) }
+    ensures { result ≡ length (below key (list_of entries.entry)) }
+{
+    let mut count = 0;
+    for place in 0..entries.len() {
+        count += one_if_below(entries, place, key);
+    }
+    count
+}
+
+/// Counts the entries below the key among the last eight before the end.
+#[inline(always)]
+fn count_eight<X: Copy>(entries: EntrySlice<'_, X>, end: usize, key: Key) -> usize
+    requires ascending { IsAscending (list_of entries) }
+    requires least { 8 ≤ end }
+    requires inside { end ≤ length (list_of entries) }
+    ensures { result ≡ min (length (below key (list_of entries.entry)) - (end - 8)) 8 }
+{
+    count_four(entries, end - 4, key) + count_four(entries, end, key)
+}
+
+#[inline(always)]
+fn count_four<X: Copy>(entries: EntrySlice<'_, X>, end: usize, key: Key) -> usize
+    requires ascending { IsAscending (list_of entries) }
+    requires least { 4 ≤ end }
+    requires inside { end ≤ length (list_of entries) }
+    ensures { result ≡ min (length (below key (list_of entries.entry)) - (end - 4)) 4 }
+{
+    count_two(entries, end - 2, key) + count_two(entries, end, key)
+}
+
+#[inline(always)]
+fn count_two<X: Copy>(entries: EntrySlice<'_, X>, end: usize, key: Key) -> usize
+    requires ascending { IsAscending (list_of entries) }
+    requires least { 2 ≤ end }
+    requires inside { end ≤ length (list_of entries) }
+    ensures { result ≡ min (length (below key (list_of entries.entry)) - (end - 2)) 2 }
+{
+    one_if_below(entries, end - 2, key) + one_if_below(entries, end - 1, key)
+}
+
 /// Returns 1 if the entry at the place lies below the key, and 0 if not.
 #[inline(always)]
-fn one_if_below<X: Copy>(entries: &[(Key, X)], place: usize, key: Key) -> usize
-    requires ascending { IsAscending entries.now }
-    requires inside { place < length entries.now }
+fn one_if_below<X: Copy>(entries: EntrySlice<'_, X>, place: usize, key: Key) -> usize
+    requires ascending { IsAscending (list_of entries) }
+    requires inside { place < length (list_of entries) }
     ensures one { result ≤ 1 }
-    ensures under { 0 < result → place < length (below key entries.now) }
-    ensures past { result ≡ 0 → length (below key entries.now) ≤ place }
+    ensures under { 0 < result → place < length (below key (list_of entries.entry)) }
+    ensures past { result ≡ 0 → length (below key (list_of entries.entry)) ≤ place }
 {
-    usize::from(entries[place].0 < key)
+    usize::from(entries.key(place) < key)
 }
 
 /// Returns the entries below the fence.
 #[inline(always)]
-pub(crate) fn below_fence<X: Copy>(entries: &[(Key, X)], fence: Fence) -> &[(Key, X)]
-    requires ascending { IsAscending entries.now }
-    ensures { result.now ≡ below (end_of fence) entries.now }
+pub(crate) fn below_fence<X: Copy>(entries: EntrySlice<'_, X>, fence: Fence) -> EntrySlice<'_, X>
+    requires ascending { IsAscending (list_of entries) }
+    ensures { list_of result ≡ below (end_of fence) (list_of entries.entry) }
 {
-    &entries[..count_below(entries, fence)]
+    entries.split_at(count_below(entries, fence)).0
 }
 
 /// Returns the entries from the fence on.
-fn from_fence<X: Copy>(entries: &[(Key, X)], fence: Fence) -> &[(Key, X)]
-    requires ascending { IsAscending entries.now }
-    ensures { result.now ≡ from (end_of fence) entries.now }
+#[inline(always)]
+fn from_fence<X: Copy>(entries: EntrySlice<'_, X>, fence: Fence) -> EntrySlice<'_, X>
+    requires ascending { IsAscending (list_of entries) }
+    ensures { list_of result ≡ from (end_of fence) (list_of entries.entry) }
 {
-    &entries[count_below(entries, fence)..]
+    entries.split_at(count_below(entries, fence)).1
 }
 
 /// Returns the entries from the fence on. Most often it is all of them, so the first is looked at
 /// before any search.
 #[inline(always)]
-pub(crate) fn entries_from<X: Copy>(entries: &[(Key, X)], fence: Fence) -> &[(Key, X)]
-    requires ascending { IsAscending entries.now }
-    ensures { result.now ≡ from (end_of fence) entries.now }
+pub(crate) fn entries_from<X: Copy>(entries: EntrySlice<'_, X>, fence: Fence) -> EntrySlice<'_, X>
+    requires ascending { IsAscending (list_of entries) }
+    ensures { list_of result ≡ from (end_of fence) (list_of entries.entry) }
 {
     let Some(least) = entries.first() else {
         return entries;
@@ -107,28 +174,29 @@ pub(crate) fn entries_from<X: Copy>(entries: &[(Key, X)], fence: Fence) -> &[(Ke
 }
 
 /// Returns the first entry from the fence on.
-pub(crate) fn first_listed<X: Copy>(entries: &[(Key, X)], fence: Fence) -> Option<(Key, X)>
-    requires ascending { IsAscending entries.now }
-    ensures { result ≡ first_from (end_of fence) entries.now }
+#[inline(always)]
+pub(crate) fn first_listed<X: Copy>(entries: EntrySlice<'_, X>, fence: Fence) -> Option<(Key, X)>
+    requires ascending { IsAscending (list_of entries) }
+    ensures { result ≡ first_from (end_of fence) (list_of entries.entry) }
 {
-    from_fence(entries, fence).first().copied()
+    from_fence(entries, fence).first()
 }
 
 /// Returns the last entry below the fence.
 #[inline(always)]
-pub(crate) fn last_listed<X: Copy>(entries: &[(Key, X)], fence: Fence) -> Option<(Key, X)>
-    requires ascending { IsAscending entries.now }
-    ensures { result ≡ last_below (end_of fence) entries.now }
+pub(crate) fn last_listed<X: Copy>(entries: EntrySlice<'_, X>, fence: Fence) -> Option<(Key, X)>
+    requires ascending { IsAscending (list_of entries) }
+    ensures { result ≡ last_below (end_of fence) (list_of entries.entry) }
 {
-    below_fence(entries, fence).last().copied()
+    below_fence(entries, fence).last()
 }
 
 /// Returns what stands at the key.
 #[tactic(auto, using(crate::proofs::Firsts::stands_at))]
 #[inline(always)]
-pub(crate) fn value_at<X: Copy>(entries: &[(Key, X)], key: Key) -> Option<X>
-    requires ascending { IsAscending entries.now }
-    ensures { result ≡ at key entries.now }
+pub(crate) fn value_at<X: Copy>(entries: EntrySlice<'_, X>, key: Key) -> Option<X>
+    requires ascending { IsAscending (list_of entries) }
+    ensures { result ≡ at key (list_of entries.entry) }
 {
     match first_listed(entries, Fence::Key(key)) {
         Some(entry) if entry.0 == key => Some(entry.1),

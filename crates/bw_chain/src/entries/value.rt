@@ -1,8 +1,9 @@
 ghost use Rattle.std.specs.Prelude.{◌≡◌, ◌↔◌, IsTrue};
+ghost use Rattle.bw_delta.specs.Slices.{list_of};
 ghost use Rattle.bw_chain.specs.Ascends.{IsAscending};
 
 use crate::entries::change::Change;
-use bw_delta::{Base, Delta, Entries};
+use bw_delta::{Base, Delta, Entries, EntrySlice};
 use bw_keys::{Key, Pid};
 use std::alloc::Allocator;
 
@@ -22,9 +23,9 @@ pub trait EntryValue: Copy {
     ghost own_change: { Delta → Change Self };
 
     /// Returns the base page's entries of this kind: none, if the page is of the other kind.
-    fn entries_on<A: Allocator>(base: &Base<A>) -> &[(Key, Self)]
-        ensures listed { result.now ≡ own_entries base.now.listed }
-        ensures ascending { IsAscending result.now };
+    fn entries_on<A: Allocator>(base: &Base<A>) -> EntrySlice<'_, Self>
+        ensures listed { list_of result ≡ own_entries base.now.listed }
+        ensures ascending { IsAscending (list_of result) };
 
     /// Returns what the record changes of the entries below it.
     fn change_by(delta: Delta) -> Change<Self>
@@ -57,10 +58,10 @@ impl EntryValue for u64 {
 
     ghost cut = { pairs_cut_at_high };
 
-    fn entries_on<A: Allocator>(base: &Base<A>) -> &[(Key, u64)] {
+    fn entries_on<A: Allocator>(base: &Base<A>) -> EntrySlice<'_, u64> {
         match &base.entries {
-            Entries::Pairs(pairs) => pairs,
-            Entries::Routes(_) => &[],
+            Entries::Pairs(pairs) => pairs.as_slice(),
+            Entries::Routes(_) => EntrySlice::empty(),
         }
     }
 
@@ -95,10 +96,10 @@ impl EntryValue for Pid {
 
     ghost cut = { routes_cut_at_high };
 
-    fn entries_on<A: Allocator>(base: &Base<A>) -> &[(Key, Pid)] {
+    fn entries_on<A: Allocator>(base: &Base<A>) -> EntrySlice<'_, Pid> {
         match &base.entries {
-            Entries::Pairs(_) => &[],
-            Entries::Routes(routes) => routes,
+            Entries::Pairs(_) => EntrySlice::empty(),
+            Entries::Routes(routes) => routes.as_slice(),
         }
     }
 

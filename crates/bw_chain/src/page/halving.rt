@@ -1,11 +1,12 @@
 ghost use Rattle.std.specs.Prelude.{◌≡◌, ◌↔◌, ◌<◌, ◌≤◌, length, drop, Some, None, IfOk, IfSome, IsErrOf};
 ghost use Rattle.bw_delta.specs.Pages.{listed_length, upper_part};
 ghost use Rattle.bw_delta.specs.PageView.{listed};
+ghost use Rattle.bw_delta.specs.Slices.{list_of};
 ghost use Rattle.bw_chain.specs.Pages.Halves.{listed_middle_key, listed_key_at, listed_behind, key_at};
 
-use bw_delta::{Base, Entries};
+use bw_delta::{Base, Entries, EntryList, EntrySlice};
 use bw_keys::Key;
-use std::alloc::{AllocError, Allocator};
+use std::alloc::Allocator;
 use thiserror::Error;
 
 /// Why a base page is not halved.
@@ -45,8 +46,8 @@ pub fn middle_key<A: Allocator + Copy>(base: &Base<A>) -> Option<Key>
         return None;
     }
     match &base.entries {
-        Entries::Pairs(pairs) => Some(pairs[middle].0),
-        Entries::Routes(routes) => Some(routes[middle].0),
+        Entries::Pairs(pairs) => Some(pairs.as_slice().key(middle)),
+        Entries::Routes(routes) => Some(routes.as_slice().key(middle)),
     }
 }
 
@@ -89,11 +90,11 @@ fn listed_from<A: Allocator + Copy>(
 {
     match entries {
         Entries::Pairs(pairs) => {
-            let (separator, upper) = entries_from(alloc, pairs, number, room)?;
+            let (separator, upper) = entries_from(alloc, pairs.as_slice(), number, room)?;
             Ok((separator, Entries::Pairs(upper)))
         }
         Entries::Routes(routes) => {
-            let (separator, upper) = entries_from(alloc, routes, number, room)?;
+            let (separator, upper) = entries_from(alloc, routes.as_slice(), number, room)?;
             Ok((separator, Entries::Routes(upper)))
         }
     }
@@ -102,33 +103,21 @@ fn listed_from<A: Allocator + Copy>(
 /// Returns the key of the entry with the number, and the entries from it on.
 fn entries_from<A: Allocator + Copy, X: Copy>(
     alloc: A,
-    entries: &[(Key, X)],
+    entries: EntrySlice<'_, X>,
     number: usize,
     room: usize,
-) -> Result<(Key, Vec<(Key, X), A>), HalveFault>
-    ensures small { IsErrOf result HalveFault.TooSmall ↔ (length entries.now ≤ number) }
-    ensures separator { IfOk result (λ part. key_at number entries.now ≡ Some part.0) }
-    ensures upper { IfOk result (λ part. part.1.items ≡ drop number entries.now) }
+) -> Result<(Key, EntryList<X, A>), HalveFault>
+    ensures small { IsErrOf result HalveFault.TooSmall ↔ (length (list_of entries.entry) ≤ number) }
+    ensures separator { IfOk result (λ part. key_at number (list_of entries.entry) ≡ Some part.0) }
+    ensures upper { IfOk result (λ part. part.1 ≡ drop number (list_of entries.entry)) }
 {
     if entries.len() <= number {
         return Err(HalveFault::TooSmall);
     }
-    let separator = entries[number].0;
-    match with_room(alloc, &entries[number..], room) {
+    let separator = entries.key(number);
+    let (_, upper) = entries.split_at(number);
+    match EntryList::copied(alloc, upper, room) {
         Ok(upper) => Ok((separator, upper)),
         Err(_) => Err(HalveFault::NoMemory),
     }
-}
-
-/// Copies the entries. The copy has room for `room` of them, or for all if that is more.
-fn with_room<A: Allocator + Copy, X: Copy>(
-    alloc: A,
-    entries: &[(Key, X)],
-    room: usize,
-) -> Result<Vec<(Key, X), A>, AllocError>
-    ensures { IfOk result (λ copy. copy.items ≡ entries.now) }
-{
-    let mut copy = Vec::with_capacity(alloc, room.max(entries.len()))?;
-    copy.extend_from_slice(entries)?;
-    Ok(copy)
 }

@@ -3,15 +3,20 @@
 
 ghost use Rattle.std.specs.Prelude.{◌≡◌, ◌≤◌, ◌+◌, length, take, drop};
 ghost use Rattle.bw_delta.specs.Entries.{below, from};
+ghost use Rattle.bw_delta.specs.Slices.{list_of};
 ghost use Rattle.bw_chain.specs.Ascends.{IsAscending};
 
+use bw_delta::EntrySlice;
 use bw_keys::Key;
 
 /// Returns the entries before the key, and those behind it.
-pub(crate) fn split_around<X: Copy>(entries: &[(Key, X)], key: Key) -> (&[(Key, X)], &[(Key, X)])
-    requires ascending { IsAscending entries.now }
-    ensures before { result.0.now ≡ below key entries.now }
-    ensures after { result.1.now ≡ from (key + 1) entries.now }
+pub(crate) fn split_around<X: Copy>(
+    entries: EntrySlice<'_, X>,
+    key: Key,
+) -> (EntrySlice<'_, X>, EntrySlice<'_, X>)
+    requires ascending { IsAscending (list_of entries) }
+    ensures before { list_of result.0 ≡ below key (list_of entries.entry) }
+    ensures after { list_of result.1 ≡ from (key + 1) (list_of entries.entry) }
 {
     let count = count_before(entries, key);
     let (front, _) = entries.split_at(count);
@@ -20,11 +25,15 @@ pub(crate) fn split_around<X: Copy>(entries: &[(Key, X)], key: Key) -> (&[(Key, 
 
 /// Returns the entries behind the key, given the number of those before it.
 #[inline(always)]
-pub(crate) fn behind<X: Copy>(entries: &[(Key, X)], count: usize, key: Key) -> &[(Key, X)]
-    requires ascending { IsAscending entries.now }
-    requires within { count ≤ length entries.now }
-    requires after { from key entries.now ≡ drop count entries.now }
-    ensures { result.now ≡ from (key + 1) entries.now }
+pub(crate) fn behind<X: Copy>(
+    entries: EntrySlice<'_, X>,
+    count: usize,
+    key: Key,
+) -> EntrySlice<'_, X>
+    requires ascending { IsAscending (list_of entries) }
+    requires within { count ≤ length (list_of entries) }
+    requires after { from key (list_of entries) ≡ drop count (list_of entries) }
+    ensures { list_of result ≡ from (key + 1) (list_of entries.entry) }
 {
     let (_, rest) = entries.split_at(count);
     match rest.split_first() {
@@ -34,14 +43,15 @@ pub(crate) fn behind<X: Copy>(entries: &[(Key, X)], count: usize, key: Key) -> &
 }
 
 /// Counts the entries before the key, one by one.
-fn count_before<X: Copy>(entries: &[(Key, X)], key: Key) -> usize
-    requires ascending { IsAscending entries.now }
-    ensures within { result ≤ length entries.now }
-    ensures before { below key entries.now ≡ take result entries.now }
-    ensures after { from key entries.now ≡ drop result entries.now }
+fn count_before<X: Copy>(entries: EntrySlice<'_, X>, key: Key) -> usize
+    requires ascending { IsAscending (list_of entries) }
+    ensures within { result ≤ length (list_of entries.entry) }
+    ensures before { below key (list_of entries.entry) ≡ take result (list_of entries.entry) }
+    ensures after { from key (list_of entries.entry) ≡ drop result (list_of entries.entry) }
 {
     for i in 0..entries.len() {
-        if key <= entries[i].0 {
+        let here = entries.key(i);
+        if key <= here {
             return i;
         }
     }

@@ -6,6 +6,7 @@ ghost use Rattle.bw_delta.specs.Entries.{from};
 ghost use Rattle.bw_delta.specs.Fence.{fences, is_leaf};
 ghost use Rattle.bw_delta.specs.Pages.{listed_from, upper_part};
 ghost use Rattle.bw_delta.specs.Records.{depth};
+ghost use Rattle.bw_delta.specs.Slices.{list_of};
 ghost use Rattle.bw_delta.specs.Sound.{IsSound, IsWellBuilt, listed_for, page_for};
 ghost use Rattle.bw_chain.specs.Changes.{entries_by};
 
@@ -14,7 +15,7 @@ use crate::page::shape::{Extent, extent_of};
 use crate::pass::edits::{Edits, MOST_EDITS};
 use crate::pass::pass;
 use crate::pass::stripping::{Compared, Differs};
-use bw_delta::{Base, Chain, Entries, Fences};
+use bw_delta::{Base, Chain, Entries, EntrySlice, Fences};
 use bw_keys::{Fence, Key, Pid};
 use std::alloc::Allocator;
 
@@ -72,7 +73,7 @@ fn lists_from<A: Allocator + Copy>(
                 pairs.allocator(),
                 [(0, None); MOST_EDITS],
             );
-            are_entries(pairs, chain, fence, high, edits.as_mut_slice())
+            are_entries(pairs.as_slice(), chain, fence, high, edits.as_mut_slice())
         }
         Entries::Routes(routes) => {
             if extent.is_leaf {
@@ -82,7 +83,7 @@ fn lists_from<A: Allocator + Copy>(
                 routes.allocator(),
                 [(0, None); MOST_EDITS],
             );
-            are_entries(routes, chain, fence, high, edits.as_mut_slice())
+            are_entries(routes.as_slice(), chain, fence, high, edits.as_mut_slice())
         }
     }
 }
@@ -90,7 +91,7 @@ fn lists_from<A: Allocator + Copy>(
 /// Reports whether the list has the chain's entries from the fence on, and no others. There is room
 /// for as many edits as the chain is deep.
 fn are_entries<A: Allocator + Copy, X: EntryValue>(
-    list: &[(Key, X)],
+    list: EntrySlice<'_, X>,
     chain: &Chain<A>,
     fence: Fence,
     high: Fence,
@@ -99,8 +100,8 @@ fn are_entries<A: Allocator + Copy, X: EntryValue>(
     requires built { IsWellBuilt chain.now }
     requires high { high ≡ (fences chain.now).high }
     requires deep { depth chain.now ≤ length edits.old }
-    ensures { IsTrue result ↔
-        (list.now ≡ from (end_of fence) (entries_by X.own_entries X.own_change chain.now)) }
+    ensures { IsTrue result ↔ (list_of list.entry
+        ≡ from (end_of fence) (entries_by X.own_entries X.own_change chain.now)) }
 {
     let mut compared = Compared {
         rest: list,

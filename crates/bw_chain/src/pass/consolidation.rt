@@ -10,8 +10,9 @@ ghost use Rattle.bw_chain.specs.Changes.{entries_by};
 use crate::entries::value::EntryValue;
 use crate::page::shape::{Extent, extent_of};
 use crate::pass::edits::{Edits, MOST_EDITS};
+use crate::pass::lists::Lists;
 use crate::pass::pass;
-use bw_delta::{Base, Chain, Entries, Fences, NoMemory};
+use bw_delta::{Base, Chain, Entries, EntryList, Fences, NoMemory};
 use bw_keys::{Fence, Key, Pid};
 use std::alloc::Allocator;
 
@@ -66,14 +67,16 @@ fn list<A: Allocator + Copy, X: EntryValue>(
     high: Fence,
     room: usize,
     edits: &mut [(Key, Option<X>)],
-) -> Result<Vec<(Key, X), A>, NoMemory>
+) -> Result<EntryList<X, A>, NoMemory>
     requires built { IsWellBuilt chain.now }
     requires high { high ≡ (fences chain.now).high }
     requires deep { depth chain.now ≤ length edits.old }
     ensures { IfOk result
-        (λ entries. entries.items ≡ entries_by X.own_entries X.own_change chain.now) }
+        (λ entries. entries ≡ entries_by X.own_entries X.own_change chain.now) }
 {
-    let mut entries = Vec::with_capacity(alloc, room)?;
-    pass(chain, high, edits, 0, &mut entries)?;
-    Ok(entries)
+    let keys = Vec::with_capacity(alloc, room)?;
+    let values = Vec::with_capacity(alloc, room)?;
+    let mut lists = Lists { keys, values };
+    pass(chain, high, edits, 0, &mut lists)?;
+    Ok(EntryList::of_lists(lists.keys, lists.values))
 }

@@ -3,6 +3,7 @@
 ghost use Rattle.std.specs.Prelude.{◌≡◌, ◌≤◌, ◌+◌, ◌-◌, ◌^◌, min, length};
 ghost use Rattle.bw_delta.specs.Fence.{fences};
 ghost use Rattle.bw_delta.specs.Records.{depth};
+ghost use Rattle.bw_delta.specs.Slices.{list_of};
 ghost use Rattle.bw_delta.specs.Sound.{IsSound, IsWellBuilt, entry_count};
 ghost use Rattle.bw_chain.specs.Ascends.{IsAscending};
 ghost use Rattle.bw_chain.specs.Changes.{entries_by};
@@ -15,7 +16,7 @@ use crate::pass::edits::{Edits, MOST_EDITS};
 use crate::pass::pass;
 use crate::pass::sink::Sink;
 use crate::pass::writing::puts;
-use bw_delta::{Chain, Fences};
+use bw_delta::{Chain, EntrySlice, Fences};
 use bw_keys::{Fence, Key, Pid};
 use std::alloc::Allocator;
 use std::convert::Infallible;
@@ -79,7 +80,7 @@ impl<X: EntryValue> Sink<X> for Counted {
 
     fn take_edited(
         &mut self,
-        entries: &[(Key, X)],
+        entries: EntrySlice<'_, X>,
         edits: &[(Key, Option<X>)],
     ) -> Result<(), Infallible> {
         self.count = count_edited(self.count, entries, edits);
@@ -95,10 +96,11 @@ impl<X: EntryValue> Sink<X> for Counted {
 }
 
 /// Returns the count raised by the number of the entries with the edits.
-fn count_edited<X: Copy>(count: u64, entries: &[(Key, X)], edits: &[(Key, Option<X>)]) -> u64
-    requires ascending { IsAscending entries.now }
+fn count_edited<X: Copy>(count: u64, entries: EntrySlice<'_, X>, edits: &[(Key, Option<X>)]) -> u64
+    requires ascending { IsAscending (list_of entries) }
     requires falling { IsFalling edits.now }
-    ensures { result ≡ min (count + length (edited edits.now entries.now)) (2 ^ 64 - 1) }
+    ensures { result
+        ≡ min (count + length (edited edits.now (list_of entries.entry))) (2 ^ 64 - 1) }
 {
     let (mut rest, mut left, mut sum) = (entries, edits, count);
     'edits: while let Some((edit, greater)) = left.split_last() {

@@ -4,6 +4,7 @@
 ghost use Rattle.std.specs.Prelude.{◌≡◌, ◌≤◌, ◌++◌, length, take, vec_capacity, OnOk, OnErr};
 ghost use Rattle.bw_delta.specs.Entries.{from};
 ghost use Rattle.bw_delta.specs.Pairs.{pairs};
+ghost use Rattle.bw_delta.specs.Slices.{list_of};
 ghost use Rattle.bw_delta.specs.Sound.{IsSound};
 ghost use Rattle.bw_chain.specs.Ascends.{IsAscending};
 ghost use Rattle.bw_chain.specs.Passing.Edited.{IsFalling, edited, entry_of};
@@ -14,8 +15,9 @@ use crate::page::shape::{Extent, allocator, extent_of};
 use crate::pass::around::split_around;
 use crate::pass::edits::{Edits, MOST_EDITS};
 use crate::pass::pass;
+use crate::pass::runs::append_run;
 use crate::pass::sink::Sink;
-use bw_delta::{Chain, Fences, NoMemory};
+use bw_delta::{Chain, EntrySlice, Fences, NoMemory};
 use bw_keys::{Fence, Key};
 use std::alloc::Allocator;
 
@@ -64,7 +66,7 @@ impl<B: Allocator> Sink<u64> for FirstPairs<B> {
 
     fn take_edited(
         &mut self,
-        entries: &[(Key, u64)],
+        entries: EntrySlice<'_, u64>,
         edits: &[(Key, Option<u64>)],
     ) -> Result<(), NoMemory> {
         take_first(self, entries, edits)
@@ -80,13 +82,15 @@ impl<B: Allocator> Sink<u64> for FirstPairs<B> {
 /// Takes the entries with the edits, which come with the greatest key first.
 fn take_first<B: Allocator>(
     first: &mut FirstPairs<B>,
-    entries: &[(Key, u64)],
+    entries: EntrySlice<'_, u64>,
     edits: &[(Key, Option<u64>)],
 ) -> Result<(), NoMemory>
-    requires ascending { IsAscending entries.now }
+    requires ascending { IsAscending (list_of entries) }
     requires falling { IsFalling edits.now }
-    ensures taken { OnOk result (Takes first.old (edited edits.now entries.now) first.new) }
-    ensures refused { OnErr result (HasNoRoom first.old (edited edits.now entries.now)) }
+    ensures taken { OnOk result
+        (Takes first.old (edited edits.now (list_of entries.entry)) first.new) }
+    ensures refused { OnErr result
+        (HasNoRoom first.old (edited edits.now (list_of entries.entry))) }
 {
     let (mut rest, mut left) = (entries, edits);
     'edits: while let Some((edit, greater)) = left.split_last() {
@@ -102,15 +106,18 @@ fn take_first<B: Allocator>(
 
 /// Takes entries that no edit changes.
 #[inline(always)]
-fn take_run<B: Allocator>(first: &mut FirstPairs<B>, run: &[(Key, u64)]) -> Result<(), NoMemory>
-    requires ascending { IsAscending run.now }
-    ensures taken { OnOk result (Takes first.old run.now first.new) }
-    ensures refused { OnErr result (HasNoRoom first.old run.now) }
+fn take_run<B: Allocator>(
+    first: &mut FirstPairs<B>,
+    run: EntrySlice<'_, u64>,
+) -> Result<(), NoMemory>
+    requires ascending { IsAscending (list_of run) }
+    ensures taken { OnOk result (Takes first.old (list_of run.entry) first.new) }
+    ensures refused { OnErr result (HasNoRoom first.old (list_of run.entry)) }
 {
     let listed = entries_from(run, first.from);
     let room = first.limit.saturating_sub(first.list.len());
     let (wanted, _) = listed.split_at(listed.len().min(room));
-    first.list.extend_from_slice(wanted)?;
+    append_run(&mut first.list, wanted)?;
     Ok(())
 }
 
@@ -125,7 +132,7 @@ fn take_edit<B: Allocator>(
     ensures refused { OnErr result (HasNoRoom first.old (entry_of key edit)) }
 {
     match edit {
-        Some(value) => take_run(first, &[(key, value)]),
+        Some(value) => take_run(first, EntrySlice::of(&[key], &[value])),
         None => Ok(()),
     }
 }

@@ -18,10 +18,29 @@ use bw_delta::{Base, Chain, Node};
 use bw_keys::{Fence, Key};
 use std::alloc::Allocator;
 
-/// Returns the greatest entry up to the key. Where no deletion and no merge is in the way, it takes
-/// one walk down the records and one search of the base page.
+/// Returns the greatest entry up to the key. Most pages of routes have no records, so that is looked at
+/// first.
 #[inline(always)]
 pub(crate) fn last_upto<A: Allocator + Copy, X: EntryValue>(
+    chain: &Chain<A>,
+    key: Key,
+) -> Option<(Key, X)>
+    requires ascending { IsAscending (entries_by X.own_entries X.own_change chain.now) }
+    ensures { result ≡ last_upto key (entries_by X.own_entries X.own_change chain.now) }
+{
+    match &chain.node {
+        Node::Bare(base) => last_listed(X::entries_on(base), past(key)),
+        // Taken apart, since an answer that is passed on whole is kept in memory on each way here.
+        Node::Above(_, _) | Node::Merged(_, _, _) => match last_under_records(chain, key) {
+            Some((found, value)) => Some((found, value)),
+            None => None,
+        },
+    }
+}
+
+/// Returns the same. Where no deletion and no merge is in the way, it takes one walk down the records
+/// and one search of the base page.
+fn last_under_records<A: Allocator + Copy, X: EntryValue>(
     chain: &Chain<A>,
     key: Key,
 ) -> Option<(Key, X)>

@@ -1,4 +1,5 @@
 ghost use Rattle.std.specs.Prelude.{◌≡◌, ℕ, List, None, true, false};
+ghost use Rattle.bw_delta.specs.Slices.{list_of};
 ghost use Rattle.bw_chain.specs.Ascends.{IsAscending};
 ghost use Rattle.bw_chain.specs.Changes.{changed};
 ghost use Rattle.bw_chain.specs.Searching.Reaches.{is_open, GoesOn, IsGreatest};
@@ -6,6 +7,7 @@ ghost use Rattle.bw_chain.specs.Searching.Reaches.{is_open, GoesOn, IsGreatest};
 use crate::entries::bounds::past;
 use crate::entries::change::Change;
 use crate::entries::sorted::last_listed;
+use bw_delta::EntrySlice;
 use bw_keys::Key;
 
 /// How far a search for the greatest entry has come on its way down a chain.
@@ -68,9 +70,9 @@ impl<X: Copy> Reach<X> {
 
     /// Returns the greatest entry, where only those of a base page are left.
     #[inline(always)]
-    pub(crate) fn greatest(self, entries: &[(Key, X)]) -> Option<(Key, X)>
-        requires ascending { IsAscending entries.now }
-        ensures { IsGreatest self.upto self.best entries.now result }
+    pub(crate) fn greatest(self, entries: EntrySlice<'_, X>) -> Option<(Key, X)>
+        requires ascending { IsAscending (list_of entries) }
+        ensures { IsGreatest self.upto self.best (list_of entries.entry) result }
     {
         match last_listed(entries, past(self.upto)) {
             Some(entry) => {

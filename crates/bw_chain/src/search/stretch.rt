@@ -6,6 +6,7 @@ ghost use Rattle.std.specs.Prelude.{◌≡◌, ◌≢◌, ℕ, ◌+◌, ◌<◌,
 ghost use Rattle.bw_keys.specs.Ranges.{end_of};
 ghost use Rattle.bw_delta.specs.Entries.{below, from};
 ghost use Rattle.bw_delta.specs.Pairs.{pairs, pairs_listed};
+ghost use Rattle.bw_delta.specs.Slices.{list_of};
 ghost use Rattle.bw_delta.specs.Sound.{IsSound};
 ghost use Rattle.bw_chain.specs.Ascends.{IsAscending};
 ghost use Rattle.bw_chain.specs.Changes.{changed, entries_by, pair_change};
@@ -17,7 +18,7 @@ use crate::entries::change::Change;
 use crate::entries::sorted::entries_from;
 use crate::entries::value::EntryValue;
 use crate::pass::below_end;
-use bw_delta::{Chain, Node};
+use bw_delta::{Chain, EntrySlice, Node};
 use bw_keys::{Fence, Key};
 use std::alloc::Allocator;
 
@@ -25,7 +26,7 @@ use std::alloc::Allocator;
 /// what the chain does.
 #[derive(Clone, Copy)]
 struct Stretch<'a> {
-    pairs: &'a [(Key, u64)],
+    pairs: EntrySlice<'a, u64>,
     low: Key,
     end: Fence,
 }
@@ -33,9 +34,9 @@ struct Stretch<'a> {
 /// Returns the chain's pairs from the key on that lie side by side, up to the first key that a
 /// record names: all of them if none does. It takes one walk down the records, and no memory.
 #[tactic(auto, using(crate::proofs::Bridges::both_kinds))]
-pub fn pairs_from<A: Allocator + Copy>(chain: &Chain<A>, key: Key) -> &[(Key, u64)]
+pub fn pairs_from<A: Allocator + Copy>(chain: &Chain<A>, key: Key) -> EntrySlice<'_, u64>
     requires sound { IsSound chain.now }
-    ensures { BeginsWith (from key (pairs chain.now)) result.now }
+    ensures { BeginsWith (from key (pairs chain.now)) (list_of result) }
 {
     let stretch = stretch_around(chain, key);
     below_end(entries_from(stretch.pairs, Fence::Key(key)), stretch.end)
@@ -44,13 +45,13 @@ pub fn pairs_from<A: Allocator + Copy>(chain: &Chain<A>, key: Key) -> &[(Key, u6
 /// Returns the chain's pairs up to the key that lie side by side, from behind the last key that a
 /// record names: all of them if none does. It takes one walk down the records, and no memory.
 #[tactic(auto, using(crate::proofs::Bridges::both_kinds))]
-pub fn pairs_upto<A: Allocator + Copy>(chain: &Chain<A>, key: Key) -> &[(Key, u64)]
+pub fn pairs_upto<A: Allocator + Copy>(chain: &Chain<A>, key: Key) -> EntrySlice<'_, u64>
     requires sound { IsSound chain.now }
-    ensures { EndsWith (below (key + 1) (pairs chain.now)) result.now }
+    ensures { EndsWith (below (key + 1) (pairs chain.now)) (list_of result) }
 {
     let stretch = stretch_around(chain, key);
     if !stretch.end.is_above(key) {
-        return &[];
+        return EntrySlice::empty();
     }
     let upto = below_end(stretch.pairs, past(key));
     entries_from(upto, Fence::Key(stretch.low))
@@ -59,9 +60,9 @@ pub fn pairs_upto<A: Allocator + Copy>(chain: &Chain<A>, key: Key) -> &[(Key, u6
 /// Returns the stretch round the key, or one that ends there if a record names the key.
 fn stretch_around<A: Allocator + Copy>(chain: &Chain<A>, key: Key) -> Stretch<'_>
     ensures begins { result.low ≤ key }
-    ensures same { AreSameWithin result.low (end_of result.end) result.pairs.now
+    ensures same { AreSameWithin result.low (end_of result.end) (list_of result.pairs)
         (entries_by pairs_listed pair_change chain.now) }
-    ensures ascending { IsAscending result.pairs.now }
+    ensures ascending { IsAscending (list_of result.pairs) }
 {
     match &chain.node {
         Node::Bare(base) => Stretch {
@@ -89,8 +90,9 @@ fn stretch_under(change: Change<u64>, key: Key, stretch: Stretch<'_>) -> Stretch
     ensures begins { result.low ≤ key }
     ensures pairs { result.pairs ≡ stretch.entry.pairs }
     ensures same { (es : List (ℕ × ℕ)) →
-        AreSameWithin stretch.entry.low (end_of stretch.entry.end) stretch.entry.pairs.now es →
-        AreSameWithin result.low (end_of result.end) stretch.entry.pairs.now (changed change es) }
+        let listed = list_of stretch.entry.pairs in
+        AreSameWithin stretch.entry.low (end_of stretch.entry.end) listed es →
+        AreSameWithin result.low (end_of result.end) listed (changed change es) }
 {
     match change {
         Change::Put(named, _) => beside(stretch, named, key),

@@ -65,9 +65,13 @@ fn list<A: Allocator + Copy>(
 /// Returns the number of entries with keys below the end.
 fn entries_below<A: Allocator + Copy>(entries: &Entries<A>, end: Fence) -> usize {
     match entries {
-        Entries::Pairs(pairs) => pairs.iter().filter(|pair| end.is_above(pair.0)).count(),
-        Entries::Routes(routes) => routes.iter().filter(|route| end.is_above(route.0)).count(),
+        Entries::Pairs(pairs) => keys_below(pairs.as_slice().keys, end),
+        Entries::Routes(routes) => keys_below(routes.as_slice().keys, end),
     }
+}
+
+fn keys_below(keys: &[Key], end: Fence) -> usize {
+    keys.iter().filter(|key| end.is_above(**key)).count()
 }
 
 fn line_at<A: Allocator + Copy>(
@@ -76,12 +80,12 @@ fn line_at<A: Allocator + Copy>(
     place: usize,
 ) -> Result<String, NoMemory> {
     match entries {
-        Entries::Pairs(pairs) => match pairs.get(place) {
-            Some((key, value)) => pair(alloc, *key, *value),
+        Entries::Pairs(pairs) => match pairs.as_slice().get(place) {
+            Some((key, value)) => pair(alloc, key, value),
             None => Ok(String::new(alloc)),
         },
-        Entries::Routes(routes) => match routes.get(place) {
-            Some((key, page)) => route(alloc, *key, *page),
+        Entries::Routes(routes) => match routes.as_slice().get(place) {
+            Some((key, page)) => route(alloc, key, page),
             None => Ok(String::new(alloc)),
         },
     }

@@ -4,6 +4,7 @@ ghost use Rattle.std.specs.Prelude.{◌≡◌, ◌≢◌, ◌+◌, ◌^◌, ◌<
 ghost use Rattle.bw_step.specs.ProposalView.{grow_of};
 ghost use Rattle.bw_law.specs.Effects.{TakesStep, slots_grown};
 ghost use Rattle.bw_law.specs.Refusals.{refusal, grow_reasons, root_page};
+ghost use Rattle.bw_delta.specs.Slices.{list_of};
 ghost use Rattle.bw_law.specs.Same.{is_same_page, are_same_entries, is_same_pid};
 ghost use Rattle.bw_law.specs.Slots.{SlotValue, slot_in};
 ghost use Rattle.bw_table.specs.Answers.{AnswersFirst, fine_unless};
@@ -11,7 +12,7 @@ ghost use Rattle.bw_table.specs.Answers.{AnswersFirst, fine_unless};
 use crate::slot::{NOTHING, Slot};
 use crate::steps::shared::check_room;
 use crate::table::Table;
-use bw_delta::{Base, Entries};
+use bw_delta::{Base, Entries, EntrySlice};
 use bw_keys::{Fence, Key, MAX_LEVEL, Pid};
 use bw_step::{Grow, Kind, Receipt, Refused, Stage, Summary};
 use std::alloc::Allocator;
@@ -97,22 +98,29 @@ fn is_root_page<A: Allocator + Copy>(base: &Base<A>, root: Pid, low: Key, child:
         && base.high == Fence::Top
         && base.right.is_none()
         && match &base.entries {
-            Entries::Routes(routes) => are_root_routes(routes, root, low, child),
+            Entries::Routes(routes) => are_root_routes(routes.as_slice(), root, low, child),
             Entries::Pairs(_) => false,
         }
 }
 
 /// Whether the routes are those of a new root.
 #[tactic(auto, using(crate::proofs::Same::lengths))]
-fn are_root_routes(routes: &[(Key, Pid)], root: Pid, low: Key, child: Pid) -> bool
-    ensures { result ≡ are_same_entries is_same_pid routes.now ((0, root) ∷ (low, child) ∷ []) }
+fn are_root_routes(routes: EntrySlice<'_, Pid>, root: Pid, low: Key, child: Pid) -> bool
+    ensures { result ≡ are_same_entries is_same_pid (list_of routes.entry)
+        ((0, root) ∷ (low, child) ∷ []) }
 {
-    match routes {
-        [first, second] => {
-            first.0 == 0 && first.1 == root && second.0 == low && second.1 == child
-        }
-        _ => false,
+    if routes.len() != 2 {
+        return false;
     }
+    are_these(routes.entry(0), routes.entry(1), root, low, child)
+}
+
+/// Whether the two routes are those of a new root.
+fn are_these(first: (Key, Pid), second: (Key, Pid), root: Pid, low: Key, child: Pid) -> bool
+    ensures { result ≡ are_same_entries is_same_pid (first ∷ second ∷ [])
+        ((0, root) ∷ (low, child) ∷ []) }
+{
+    first.0 == 0 && first.1 == root && second.0 == low && second.1 == child
 }
 
 /// Puts the base into the new root's slot, and posts the child.

@@ -5,5 +5,5 @@ use Rattle.bw_chain.proofs.in_place.cut_listed.Goals as goal
 
 pub returns : goal.returns
 returns g c =
-    c.truncate.ensures.items
-    ∙ rw (c.count_below_key-count.ensures, c.deref.ensures.value) (sym (below-front 0 key_count c.args.separator c.args.entries.now.items c.requires.ascending))
+    c.truncate.ensures
+    ∙ rw (c.count_below_key-count.ensures, c.as_slice.ensures) (sym (below-front 0 key_count c.args.separator c.args.entries.now c.requires.ascending))

@@ -5,8 +5,8 @@ use Rattle.bw_chain.proofs.Sorted.{below-few}
 use Rattle.bw_chain.proofs.in_place.insert_at.Goals as goal
 
 pub insert-requires : goal.insert-requires
-insert-requires g c = omega (arith, below-few c.args.key c.args.pairs.now.items, c.requires.place, c.args.pairs.now.ok)
+insert-requires g c = omega (arith, below-few c.args.key c.args.pairs.now, c.requires.place)
 
 pub returns-in-Ok-clause-changed : goal.returns-in-Ok-clause-changed
 returns-in-Ok-clause-changed g c =
-    c.in-Ok.ensures.items ∙ rw c.requires.place (put-new 0 key_count c.args.key c.args.value c.args.pairs.now.items c.requires.ascending c.requires.absent)
+    c.in-Ok.ensures.inserted ∙ rw c.requires.place (put-new 0 key_count c.args.key c.args.value c.args.pairs.now c.requires.ascending c.requires.absent)

@@ -19,6 +19,6 @@ invariant_of-base g c =
       | in-Routes w ↦
           let done = w.route_listed.ensures in
           rw w.base-inside-is
-          (routed_is_page (page_of base.low base.high base.right base.entries) w.in-Routes.routes.items (ap listed w.in-Routes.is) c.args.separator c.args.child _ _ c.base.invariant
+          (routed_is_page (page_of base.low base.high base.right base.entries) w.in-Routes.routes (ap listed w.in-Routes.is) c.args.separator c.args.child _ _ c.base.invariant
           (rw (← c.base.view_is) at c.requires.within) done.put done.unchanged)
     ]

@@ -3,17 +3,18 @@ use Rattle.std.specs.Prelude.{◌≡◌, max}
 use Rattle.bw_keys.specs.Ranges.{key_count, end_of}
 use Rattle.bw_chain.proofs.Firsts.{first_from-bound}
 use Rattle.bw_table.specs.Orders.{HasNoKeyWithin}
+use Rattle.bw_delta.specs.Slices.{list_of}
 use Rattle.nifforan.proofs.Reading.{lent_is_next, lent_is_held, rest_is_next, next_is_here, none_is_here, none_before_next, held_for}
 use Rattle.nifforan.proofs.pairs.searched_from.Goals as goal
 
 pub returns-in-Some-clause-next : goal.returns-in-Some-clause-next
-returns-in-Some-clause-next g c = lent_is_next c.args.table.now c.leaves.leaf c.args.key c.leaves.from c.leaves.invariant c.in-Some.pair c.take_first.new.lent.now (rw c.in-Some.ensures.first at c.pairs_from.ensures)
+returns-in-Some-clause-next g c = lent_is_next c.args.table.now c.leaves.leaf c.args.key c.leaves.from c.leaves.invariant c.in-Some.pair (list_of c.take_first.new.lent) (rw c.in-Some.ensures.first at c.pairs_from.ensures)
 
 pub returns-in-Some-clause-leaf : goal.returns-in-Some-clause-leaf
-returns-in-Some-clause-leaf g c = lent_is_held c.args.table.now c.leaves.leaf c.args.key c.leaves.from c.leaves.invariant c.in-Some.pair c.take_first.new.lent.now (rw c.in-Some.ensures.first at c.pairs_from.ensures)
+returns-in-Some-clause-leaf g c = lent_is_held c.args.table.now c.leaves.leaf c.args.key c.leaves.from c.leaves.invariant c.in-Some.pair (list_of c.take_first.new.lent) (rw c.in-Some.ensures.first at c.pairs_from.ensures)
 
 pub returns-in-Some-clause-lent : goal.returns-in-Some-clause-lent
-returns-in-Some-clause-lent g c _ = rest_is_next c.args.table.now c.leaves.leaf c.args.key c.leaves.from c.leaves.invariant c.in-Some.pair c.take_first.new.lent.now (rw c.in-Some.ensures.first at c.pairs_from.ensures)
+returns-in-Some-clause-lent g c _ = rest_is_next c.args.table.now c.leaves.leaf c.args.key c.leaves.from c.leaves.invariant c.in-Some.pair (list_of c.take_first.new.lent) (rw c.in-Some.ensures.first at c.pairs_from.ensures)
 
 pub returns-in-Some-next_at-clause-next : goal.returns-in-Some-next_at-clause-next
 returns-in-Some-next_at-clause-next g c = next_is_here c.args.table.now c.leaves.leaf c.args.key c.leaves.from c.leaves.invariant c.in-Some-next_at.pair (sym c.next_at.ensures ∙ c.in-Some-next_at.is)

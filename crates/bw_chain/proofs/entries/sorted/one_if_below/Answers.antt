@@ -1,7 +1,7 @@
 use Rattle.std.proofs.Common.{◌≡◌, ◌<◌, ℕ, Bool, true, false, refl, arith}
 use Rattle.std.proofs.lemmas.Bool.{ltb-true, ltb-false}
-use Rattle.bw_keys.specs.Ranges.{key_count}
-use Rattle.bw_chain.proofs.Sorted.{below-less, below-most}
+use Rattle.bw_delta.specs.Slices.{list_of}
+use Rattle.bw_chain.proofs.KeysAt.{below-less, below-most}
 use mir.Val.{bool_byte}
 use Rattle.bw_chain.proofs.entries.sorted.one_if_below.Goals as goal
 
@@ -15,10 +15,8 @@ byte-none false n is none = refl
 
 pub returns-clause-under : goal.returns-clause-under
 returns-clause-under g c = λ some.
-    let less = ltb-true _ _ (byte-some _ _ c.from.ensures some) in
-    below-less 0 key_count c.args.key c.args.place c.index-entries-place.result c.args.entries.now c.requires.ascending c.requires.inside less
+    below-less c.args.key c.args.place c.key.result (list_of c.args.entries) c.requires.ascending c.requires.inside c.key.ensures (ltb-true _ _ (byte-some _ _ c.from.ensures some))
 
 pub returns-clause-past : goal.returns-clause-past
 returns-clause-past g c = λ none.
-    let past = ltb-false _ _ (byte-none _ _ c.from.ensures none) in
-    below-most 0 key_count c.args.key c.args.place c.index-entries-place.result c.args.entries.now c.requires.ascending c.requires.inside past
+    below-most c.args.key c.args.place c.key.result (list_of c.args.entries) c.requires.ascending c.requires.inside c.key.ensures (ltb-false _ _ (byte-none _ _ c.from.ensures none))

@@ -1,5 +1,6 @@
 use Rattle.std.proofs.Common.{◌+◌, length, ap, arith}
 use Rattle.bw_keys.specs.Ranges.{key_count}
+use Rattle.bw_delta.specs.Slices.{list_of}
 use Rattle.bw_chain.proofs.Passing.Merges.{length-edited-last}
 use Rattle.bw_chain.proofs.Passing.Passes.{ascending-from, falls-front}
 use Rattle.bw_chain.proofs.pass.counting.count_edited.Goals as goal
@@ -7,7 +8,7 @@ use Rattle.bw_chain.proofs.pass.counting.count_edited.Goals as goal
 pub edits-preserved : goal.edits-preserved
 edits-preserved g c =
     let edit = c.in-Some.edit.now in
-    let rest = c.edits.rest.now in
+    let rest = (list_of c.edits.rest) in
     let parts = c.in-Some.ensures.cases.0 in
     let before = c.edits.invariant in
     let more = length-edited-last c.edits.left.now c.in-Some.greater.now edit rest parts before.falling before.ascending in

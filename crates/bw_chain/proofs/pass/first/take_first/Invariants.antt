@@ -1,4 +1,5 @@
 use Rattle.std.proofs.Common.{length}
+use Rattle.bw_delta.specs.Slices.{list_of}
 use Rattle.bw_chain.specs.Ascends.{IsAscending}
 use Rattle.bw_chain.specs.Passing.Edited.{IsFalling, edited}
 use Rattle.bw_chain.proofs.Passing.Taking.{IsTaken}
@@ -7,8 +8,8 @@ use Rattle.bw_chain.proofs.pass.first.take_first.Given as goal
 abbrev pub invariant-edits : goal.invariant-edits
 invariant-edits g l =
     record {
-      taken : IsTaken l.fn.first (edited l.edits l.entries) (edited l.left l.rest) l.first;
-      ascending : IsAscending l.rest;
+      taken : IsTaken l.fn.first (edited l.edits (list_of l.entries)) (edited l.left (list_of l.rest)) l.first;
+      ascending : IsAscending (list_of l.rest);
       falling : IsFalling l.left;
     }
 

@@ -1,4 +1,5 @@
 use Rattle.std.proofs.Common.{length}
+use Rattle.bw_delta.specs.Slices.{list_of}
 use Rattle.bw_chain.specs.Ascends.{IsAscending}
 use Rattle.bw_chain.specs.Passing.Edited.{IsFalling, edited}
 use Rattle.bw_chain.proofs.Passing.Fronts.{IsFront}
@@ -7,8 +8,8 @@ use Rattle.bw_chain.proofs.pass.stripping.strip_edited.Given as goal
 abbrev pub invariant-edits : goal.invariant-edits
 invariant-edits g l =
     record {
-      front : IsFront l.fence l.fn.list (edited l.edits l.entries) (edited l.left l.rest) l.list;
-      ascending : IsAscending l.rest;
+      front : IsFront l.fence (list_of l.fn.list) (edited l.edits (list_of l.entries)) (edited l.left (list_of l.rest)) (list_of l.list);
+      ascending : IsAscending (list_of l.rest);
       falling : IsFalling l.left;
     }
 

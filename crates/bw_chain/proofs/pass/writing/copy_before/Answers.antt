@@ -1,31 +1,48 @@
 use Rattle.std.proofs.Common.{suc, ◌≡◌, ◌<◌, ◌+◌, ◌++◌, ◌∙◌, take, length, append-nil, ap, arith}
-use Rattle.bw_keys.specs.Ranges.{key_count}
-use Rattle.bw_chain.proofs.Passing.Around.{below-drop, from-drop, last-below, last-after}
+use Rattle.std.specs.List.{zip}
+use Rattle.bw_delta.specs.Slices.{list_of}
+use Rattle.bw_delta.proofs.Zips.{length-zip}
+use Rattle.bw_chain.proofs.KeysAt.{below-drop, from-drop, last-below, last-after}
+use Rattle.bw_chain.proofs.Passing.Writes.{one-written}
 use Rattle.bw_chain.proofs.pass.writing.copy_before.Goals as goal
 
-pub returns-then-key-entries-clause-before : goal.returns-then-key-entries-clause-before
-returns-then-key-entries-clause-before g c =
-    let pairs = c.copy_by_twos-count in
-    let inside : pairs.result < length c.args.entries.now = omega (arith, pairs.ensures.within, c.if-count-entries.false) in
-    let none = below-drop 0 key_count c.args.key pairs.result c.index-entries-count.result c.args.entries.now c.requires.ascending inside c.if-key-entries.true in
-    pairs.ensures.before ∙ ap (λ l. take pairs.result c.args.entries.now ++ l) none ∙ append-nil _
+pub returns-then-key-next-clause-before : goal.returns-then-key-next-clause-before
+returns-then-key-next-clause-before g c =
+    let es = list_of c.args.entries in
+    let twos = c.copy_by_twos-count in
+    let inside : twos.result < length es = omega (arith, twos.ensures.within, c.if-count-entries.false) in
+    let none = below-drop c.args.key twos.result c.key-next.result es c.requires.ascending inside c.key-next.ensures c.if-key-next.true in
+    twos.ensures.before ∙ ap (λ l. take twos.result es ++ l) none ∙ append-nil _
 
-pub returns-then-key-entries-clause-after : goal.returns-then-key-entries-clause-after
-returns-then-key-entries-clause-after g c =
-    let pairs = c.copy_by_twos-count in
-    let inside : pairs.result < length c.args.entries.now = omega (arith, pairs.ensures.within, c.if-count-entries.false) in
-    pairs.ensures.after ∙ from-drop 0 key_count c.args.key pairs.result c.index-entries-count.result c.args.entries.now c.requires.ascending inside c.if-key-entries.true
+pub returns-then-key-next-clause-after : goal.returns-then-key-next-clause-after
+returns-then-key-next-clause-after g c =
+    let es = list_of c.args.entries in
+    let twos = c.copy_by_twos-count in
+    let inside : twos.result < length es = omega (arith, twos.ensures.within, c.if-count-entries.false) in
+    twos.ensures.after ∙ from-drop c.args.key twos.result c.key-next.result es c.requires.ascending inside c.key-next.ensures c.if-key-next.true
 
 pub returns-clause-before : goal.returns-clause-before
 returns-clause-before g c =
-    let pairs = c.copy_by_twos-count in
-    let inside : pairs.result < length c.args.entries.now = omega (arith, pairs.ensures.within, c.if-count-entries.false) in
-    let next : suc pairs.result ≡ pairs.result + 1 = omega arith in
-    rw next at (last-below c.args.key pairs.result c.index-entries-count.result c.args.entries.now c.requires.ascending inside (omega (arith, c.if-key-entries.false)) pairs.ensures.last)
+    let es = list_of c.args.entries in
+    let twos = c.copy_by_twos-count in
+    let inside : twos.result < length es = omega (arith, twos.ensures.within, c.if-count-entries.false) in
+    let next : suc twos.result ≡ twos.result + 1 = omega arith in
+    rw next at (last-below c.args.key twos.result c.key-next.result es c.requires.ascending inside c.key-next.ensures (omega (arith, c.if-key-next.false)) twos.ensures.last)
 
 pub returns-clause-after : goal.returns-clause-after
 returns-clause-after g c =
-    let pairs = c.copy_by_twos-count in
-    let inside : pairs.result < length c.args.entries.now = omega (arith, pairs.ensures.within, c.if-count-entries.false) in
-    let next : suc pairs.result ≡ pairs.result + 1 = omega arith in
-    rw next at (last-after c.args.key pairs.result c.index-entries-count.result c.args.entries.now c.requires.ascending inside (omega (arith, c.if-key-entries.false)) pairs.ensures.last)
+    let es = list_of c.args.entries in
+    let twos = c.copy_by_twos-count in
+    let inside : twos.result < length es = omega (arith, twos.ensures.within, c.if-count-entries.false) in
+    let next : suc twos.result ≡ twos.result + 1 = omega arith in
+    rw next at (last-after c.args.key twos.result c.key-next.result es c.requires.ascending inside c.key-next.ensures (omega (arith, c.if-key-next.false)) twos.ensures.last)
+
+pub returns-clause-written : goal.returns-clause-written
+returns-clause-written g c =
+    let es = list_of c.args.entries in
+    let twos = c.copy_by_twos-count in
+    let now = zip twos.new.keys twos.new.values in
+    let long = length-zip twos.new.keys twos.new.values twos.ensures.even in
+    let inside : twos.result < length es = omega (arith, twos.ensures.within, c.if-count-entries.false) in
+    let room : c.args.place + twos.result < length now = omega (arith, inside, c.requires.room, twos.ensures.as_many, long) in
+    rw c.write.ensures.written (one-written (zip c.args.keys.now c.args.values.now) now es c.args.place twos.result c.entry.result inside room c.entry.ensures twos.ensures.written)

@@ -1,4 +1,6 @@
 use Rattle.std.proofs.Common.{◌≡◌, ◌≤◌, ◌+◌, ◌++◌, length, take}
+use Rattle.std.specs.List.{zip}
+use Rattle.bw_delta.specs.Slices.{list_of}
 use Rattle.bw_chain.specs.Ascends.{IsAscending}
 use Rattle.bw_chain.specs.Passing.Edited.{IsFalling, edited, put_count}
 use Rattle.bw_chain.proofs.pass.writing.write_edited.Given as goal
@@ -6,10 +8,11 @@ use Rattle.bw_chain.proofs.pass.writing.write_edited.Given as goal
 abbrev pub invariant-edits : goal.invariant-edits
 invariant-edits g l =
     record {
-      done : take l.end l.list ++ edited l.left l.rest ≡ take l.start l.fn.list ++ edited l.edits l.entries;
-      room : l.end + length l.rest + put_count l.left ≤ length l.list;
-      as_many : length l.list ≡ length l.fn.list;
-      ascending : IsAscending l.rest;
+      done : take l.end (zip l.keys l.values) ++ edited l.left (list_of l.rest) ≡ take l.start (zip l.fn.keys l.fn.values) ++ edited l.edits (list_of l.entries);
+      room : l.end + length (list_of l.rest) + put_count l.left ≤ length l.keys;
+      as_many : length l.keys ≡ length l.fn.keys;
+      even : length l.values ≡ length l.keys;
+      ascending : IsAscending (list_of l.rest);
       falling : IsFalling l.left;
     }
 

@@ -2,7 +2,7 @@ use Rattle.std.proofs.Common.{sym}
 use Rattle.bw_chain.specs.Changes.{entries_by}
 use Rattle.bw_chain.specs.Searching.Reaches.{IsGreatest}
 use Rattle.bw_chain.proofs.Searching.Reaches.{greatest_is_last}
-use Rattle.bw_chain.proofs.search.greatest.last_upto.Goals as goal
+use Rattle.bw_chain.proofs.search.greatest.last_under_records.Goals as goal
 
 pub returns-in-Bare : goal.returns-in-Bare
 returns-in-Bare g c =
