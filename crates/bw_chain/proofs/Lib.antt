@@ -2,6 +2,7 @@ pub mod Ascending
 pub mod Bridges
 pub mod Firsts
 pub mod InPlaces
+pub mod Quarters
 pub mod KeysAt
 pub mod Lasts
 pub mod Overlays

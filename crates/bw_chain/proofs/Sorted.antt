@@ -1,5 +1,7 @@
 -- The number of rising entries below a key: what one entry says of it, and which entries they are.
-use Rattle.std.proofs.Common.{◌≡◌, ℕ, zero, suc, ◌+◌, ◌<◌, ◌≤◌, true, List, [], ◌∷◌, length, take, drop, get_or, refl, arith, inl, inr}
+use Rattle.std.proofs.Common.{◌≡◌, ℕ, zero, suc, ◌+◌, ◌-◌, ◌<◌, ◌≤◌, true, None, List, [], ◌∷◌, length, take, drop, get_or, refl, arith, inl, inr}
+use Rattle.std.specs.Prelude.{slice_get}
+use Rattle.std.proofs.lemmas.Option.{slice_get-get_or}
 use Rattle.std.proofs.lemmas.Bool.Decides.{nat_tests, leb_tells}
 use Rattle.bw_delta.specs.Entries.{rises, below, from}
 use Rattle.bw_delta.proofs.Rises.{from_all}
@@ -55,3 +57,16 @@ module _ {X : Type 0} where
   pub from_end : (low end key : ℕ) (es : List (ℕ × X)) → rises low end es ≡ true → end ≤ key → from key es ≡ []
   from_end low end key [] h past = refl
   from_end low end key (e ∷ es) h past = grind (arith, nat_tests, from_end (e.0 + 1) end key es)
+
+module _ {X : Type 0} (bound : ℕ) where
+  -- no first entry, no entries
+  pub from-nothing : (es : List (ℕ × X)) → slice_get es 0 ≡ None → es ≡ from bound es
+  from-nothing [] none = refl
+  from-nothing (e ∷ es) none = cc
+
+  -- no last entry, no entries
+  pub below-nothing : (es : List (ℕ × X)) → slice_get es (length es - 1) ≡ None → es ≡ below bound es
+  below-nothing [] none = refl
+  below-nothing (e ∷ es) none =
+      let some = slice_get-get_or (e ∷ es) (length (e ∷ es) - 1) e (omega arith) in
+      cc (some, none)

@@ -101,7 +101,8 @@ fn pass_base<X: EntryValue, S: Sink<X>>(
         (S.refuses sink.old (edited_below (end_of end) edits.now (list_of entries.entry))) }
 {
     let (_, here) = edits.split_at(count_from(edits, end));
-    sink.take_edited(below_end(entries, end), here)
+    let listed = below_end(entries, end);
+    sink.take_edited(listed.keys, listed.values, here)
 }
 
 /// Returns the entries below the end. Most often it is all of them, so the last is looked at before

@@ -88,10 +88,10 @@ impl<'t, A: Allocator + Copy> LeafRef<'t, A> {
         ensures { BeginsWith (from key self.now.pairs) (list_of result) }
     {
         let slot = self.slot;
-        match &slot.chain {
-            Some(chain) => pairs_from(chain, key),
-            None => EntrySlice::empty(),
-        }
+        let Some(chain) = &slot.chain else {
+            return EntrySlice::empty();
+        };
+        pairs_from(chain, key)
     }
 
     /// Returns pairs of the leaf up to the key, as they lie side by side: all of them, unless a
@@ -102,10 +102,10 @@ impl<'t, A: Allocator + Copy> LeafRef<'t, A> {
         ensures { EndsWith (below (key + 1) self.now.pairs) (list_of result) }
     {
         let slot = self.slot;
-        match &slot.chain {
-            Some(chain) => pairs_upto(chain, key),
-            None => EntrySlice::empty(),
-        }
+        let Some(chain) = &slot.chain else {
+            return EntrySlice::empty();
+        };
+        pairs_upto(chain, key)
     }
 
     /// Returns the pair with the greatest key at or below the key, if the leaf has one. It takes no

@@ -66,8 +66,8 @@ fn previous_in<'m, A: Allocator + Copy>(
 /// Takes the last pair of those lent.
 #[inline(always)]
 fn take_last<'m>(lent: &mut EntrySlice<'m, u64>) -> Option<(Key, u64)>
-    ensures last { IfSome result (λ pair. (list_of lent.old) ≡ (list_of lent.new) ++ pair ∷ []) }
-    ensures none { IfNone result ((list_of lent.new) ≡ []) }
+    ensures last { IfSome result (λ pair. list_of lent.old ≡ list_of lent.new ++ pair ∷ []) }
+    ensures none { IfNone result (list_of lent.new ≡ []) }
 {
     let (pair, rest) = lent.split_last()?;
     *lent = rest;

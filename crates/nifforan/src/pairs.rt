@@ -176,8 +176,8 @@ fn next_from<'m, A: Allocator + Copy>(
 /// Takes the first pair of those lent.
 #[inline(always)]
 fn take_first<'m>(lent: &mut EntrySlice<'m, u64>) -> Option<(Key, u64)>
-    ensures first { IfSome result (λ pair. (list_of lent.old) ≡ pair ∷ (list_of lent.new)) }
-    ensures none { IfNone result ((list_of lent.new) ≡ []) }
+    ensures first { IfSome result (λ pair. list_of lent.old ≡ pair ∷ list_of lent.new) }
+    ensures none { IfNone result (list_of lent.new ≡ []) }
 {
     let (pair, rest) = lent.split_first()?;
     *lent = rest;

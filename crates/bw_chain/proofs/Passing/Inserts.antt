@@ -46,7 +46,9 @@ module _ {Y : Type 0} where
 
   -- a list that was written over
   pub refill-whole : (n : ℕ) (xs ws : List Y) → length ws ≡ length xs → length xs ≡ n → refill n xs ws ≡ ws
-  refill-whole n xs ws as_many is = refill-front n n xs ws as_many is (omega arith) ∙ take_all n ws (omega (arith, as_many, is))
+  refill-whole n xs ws as_many is =
+      let none : drop (length ws) xs ≡ [] = drop_all (length ws) xs (omega (arith, as_many)) in
+      ap (λ l. take n (ws ++ l)) none ∙ ap (take n) (append-nil ws) ∙ take_all n ws (omega (arith, as_many, is))
 
   -- a list to which places were added, up to them
   pub grown-front : (start room : ℕ) (xs more : List Y) → length xs ≡ start → start ≤ room → take start (take room xs ++ more) ≡ xs

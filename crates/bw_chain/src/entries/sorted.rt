@@ -1,6 +1,6 @@
 //! Searches in a list of entries, as a base page has one.
 
-ghost use Rattle.std.specs.Prelude.{◌≡◌, ◌≤◌, ◌<◌, ◌+◌, ◌-◌, ◌*◌, min, length, take, drop};
+ghost use Rattle.std.specs.Prelude.{◌≡◌, ◌≤◌, ◌<◌, ◌+◌, ◌-◌, ◌*◌, ◌^◌, min, length, take, drop};
 ghost use Rattle.bw_keys.specs.Ranges.{end_of};
 ghost use Rattle.bw_delta.specs.Entries.{at, below, from, first_from, last_below};
 ghost use Rattle.bw_delta.specs.Slices.{list_of};
@@ -51,7 +51,7 @@ fn count_by_quarters<X: Copy>(entries: EntrySlice<'_, X>, key: Key) -> usize
     let mut passed = 0;
     let mut left = entries.len();
     'quarters: while left > 8 {
-        let quarter = (left + 1) / 4;
+        let quarter = left / 4;
         passed += count_quarters(entries, passed, quarter, key);
         left -= 3 * quarter;
     }
@@ -70,6 +70,7 @@ fn count_quarters<X: Copy>(
     requires ascending { IsAscending (list_of entries) }
     requires some { 0 < quarter }
     requires inside { place + 3 * quarter ≤ length (list_of entries) }
+    requires fits { place + 3 * quarter < 2 ^ 64 }
     requires from { place ≤ length (below key (list_of entries)) }
     ensures three { result ≤ 3 * quarter }
     ensures least { place + result ≤ length (below key (list_of entries.entry)) }
@@ -131,9 +132,7 @@ fn count_two<X: Copy>(entries: EntrySlice<'_, X>, end: usize, key: Key) -> usize
 fn one_if_below<X: Copy>(entries: EntrySlice<'_, X>, place: usize, key: Key) -> usize
     requires ascending { IsAscending (list_of entries) }
     requires inside { place < length (list_of entries) }
-    ensures one { result ≤ 1 }
-    ensures under { 0 < result → place < length (below key (list_of entries.entry)) }
-    ensures past { result ≡ 0 → length (below key (list_of entries.entry)) ≤ place }
+    ensures { result ≡ min (length (below key (list_of entries.entry)) - place) 1 }
 {
     usize::from(entries.key(place) < key)
 }

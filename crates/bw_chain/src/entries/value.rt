@@ -59,10 +59,10 @@ impl EntryValue for u64 {
     ghost cut = { pairs_cut_at_high };
 
     fn entries_on<A: Allocator>(base: &Base<A>) -> EntrySlice<'_, u64> {
-        match &base.entries {
-            Entries::Pairs(pairs) => pairs.as_slice(),
-            Entries::Routes(_) => EntrySlice::empty(),
-        }
+        let Entries::Pairs(pairs) = &base.entries else {
+            return EntrySlice::empty();
+        };
+        pairs.as_slice()
     }
 
     fn change_by(delta: Delta) -> Change<u64> {
@@ -97,10 +97,10 @@ impl EntryValue for Pid {
     ghost cut = { routes_cut_at_high };
 
     fn entries_on<A: Allocator>(base: &Base<A>) -> EntrySlice<'_, Pid> {
-        match &base.entries {
-            Entries::Pairs(_) => EntrySlice::empty(),
-            Entries::Routes(routes) => routes.as_slice(),
-        }
+        let Entries::Routes(routes) = &base.entries else {
+            return EntrySlice::empty();
+        };
+        routes.as_slice()
     }
 
     fn change_by(delta: Delta) -> Change<Pid> {

@@ -80,10 +80,11 @@ impl<X: EntryValue> Sink<X> for Counted {
 
     fn take_edited(
         &mut self,
-        entries: EntrySlice<'_, X>,
+        keys: &[Key],
+        values: &[X],
         edits: &[(Key, Option<X>)],
     ) -> Result<(), Infallible> {
-        self.count = count_edited(self.count, entries, edits);
+        self.count = count_edited(self.count, EntrySlice::of(keys, values), edits);
         Ok(())
     }
 

@@ -66,10 +66,11 @@ impl<B: Allocator> Sink<u64> for FirstPairs<B> {
 
     fn take_edited(
         &mut self,
-        entries: EntrySlice<'_, u64>,
+        keys: &[Key],
+        values: &[u64],
         edits: &[(Key, Option<u64>)],
     ) -> Result<(), NoMemory> {
-        take_first(self, entries, edits)
+        take_first(self, EntrySlice::of(keys, values), edits)
     }
 
     ghost takes_joined = { takes_joined };

@@ -31,10 +31,17 @@ impl<X: EntryValue, A: Allocator> Sink<X> for Lists<X, A> {
 
     fn take_edited(
         &mut self,
-        entries: EntrySlice<'_, X>,
+        keys: &[Key],
+        values: &[X],
         edits: &[(Key, Option<X>)],
     ) -> Result<(), NoMemory> {
-        append_edited(&mut self.keys, &mut self.values, X::blank(), entries, edits)
+        append_edited(
+            &mut self.keys,
+            &mut self.values,
+            X::blank(),
+            EntrySlice::of(keys, values),
+            edits,
+        )
     }
 
     ghost takes_joined = { λ s t u es fs first second.

@@ -24,10 +24,11 @@ impl<B: Allocator> Sink<u64> for Vec<(Key, u64), B> {
 
     fn take_edited(
         &mut self,
-        entries: EntrySlice<'_, u64>,
+        keys: &[Key],
+        values: &[u64],
         edits: &[(Key, Option<u64>)],
     ) -> Result<(), NoMemory> {
-        append_edited(self, entries, edits)
+        append_edited(self, EntrySlice::of(keys, values), edits)
     }
 
     ghost takes_joined = { λ s t u es fs first second.

@@ -38,10 +38,11 @@ impl<'a, X: EntryValue> Sink<X> for Compared<'a, X> {
 
     fn take_edited(
         &mut self,
-        entries: EntrySlice<'_, X>,
+        keys: &[Key],
+        values: &[X],
         edits: &[(Key, Option<X>)],
     ) -> Result<(), Differs> {
-        match strip_edited(self.rest, self.from, entries, edits) {
+        match strip_edited(self.rest, self.from, EntrySlice::of(keys, values), edits) {
             Some(rest) => {
                 self.rest = rest;
                 Ok(())

@@ -8,8 +8,8 @@ use Rattle.bw_chain.proofs.in_place.route_listed.Goals as goal
 
 -- what an insertion that succeeded did
 inserted : {T E : Type 0} {P : Type 0} (r : Result T E) → OnOk r P → is_ok r ≡ true → P
-inserted (Ok x) done yes = done
-inserted (Err e) done yes = cc
+inserted (Ok x) done is = done
+inserted (Err e) done is = cc
 
 pub insert-requires : goal.insert-requires
 insert-requires g c =

@@ -15,7 +15,7 @@ pub returns-in-Key-clause-after : goal.returns-in-Key-clause-after
 returns-in-Key-clause-after g c = rw (c.in-Key.is, c.count_below_key.ensures) (from-behind 0 key_count c.in-Key.key (list_of c.args.entries) c.requires.ascending)
 
 pub returns-in-Top-clause-before : goal.returns-in-Top-clause-before
-returns-in-Top-clause-before g c = rw c.in-Top.is (below_end 0 key_count key_count (list_of c.args.entries) c.requires.ascending (omega arith) ∙ sym (take-length (list_of c.args.entries)))
+returns-in-Top-clause-before g c = rw (c.in-Top.is, c.len.ensures) (below_end 0 key_count key_count (list_of c.args.entries) c.requires.ascending (omega arith) ∙ sym (take-length (list_of c.args.entries)))
 
 pub returns-in-Top-clause-after : goal.returns-in-Top-clause-after
-returns-in-Top-clause-after g c = rw c.in-Top.is (from_end 0 key_count key_count (list_of c.args.entries) c.requires.ascending (omega arith) ∙ sym (drop-length (list_of c.args.entries)))
+returns-in-Top-clause-after g c = rw (c.in-Top.is, c.len.ensures) (from_end 0 key_count key_count (list_of c.args.entries) c.requires.ascending (omega arith) ∙ sym (drop-length (list_of c.args.entries)))

@@ -1,8 +1,5 @@
 use Rattle.std.proofs.Common.{append-nil, sym}
 use Rattle.bw_chain.proofs.pass.runs.append_edit.Goals as goal
 
-pub returns-in-Some : goal.returns-in-Some
-returns-in-Some g c = rw c.in-Some.is c.in_ok-push.ensures.items
-
 pub returns-in-None : goal.returns-in-None
 returns-in-None g c = rw c.in-None.is (sym (append-nil c.args.list.now.items))

@@ -10,7 +10,7 @@ pub returns-then-key-next-clause-before : goal.returns-then-key-next-clause-befo
 returns-then-key-next-clause-before g c =
     let es = list_of c.args.entries in
     let twos = c.copy_by_twos-count in
-    let inside : twos.result < length es = omega (arith, twos.ensures.within, c.if-count-entries.false) in
+    let inside : twos.result < length es = omega (arith, twos.ensures.within, c.if-count-len.false) in
     let none = below-drop c.args.key twos.result c.key-next.result es c.requires.ascending inside c.key-next.ensures c.if-key-next.true in
     twos.ensures.before ∙ ap (λ l. take twos.result es ++ l) none ∙ append-nil _
 
@@ -18,14 +18,14 @@ pub returns-then-key-next-clause-after : goal.returns-then-key-next-clause-after
 returns-then-key-next-clause-after g c =
     let es = list_of c.args.entries in
     let twos = c.copy_by_twos-count in
-    let inside : twos.result < length es = omega (arith, twos.ensures.within, c.if-count-entries.false) in
+    let inside : twos.result < length es = omega (arith, twos.ensures.within, c.if-count-len.false) in
     twos.ensures.after ∙ from-drop c.args.key twos.result c.key-next.result es c.requires.ascending inside c.key-next.ensures c.if-key-next.true
 
 pub returns-clause-before : goal.returns-clause-before
 returns-clause-before g c =
     let es = list_of c.args.entries in
     let twos = c.copy_by_twos-count in
-    let inside : twos.result < length es = omega (arith, twos.ensures.within, c.if-count-entries.false) in
+    let inside : twos.result < length es = omega (arith, twos.ensures.within, c.if-count-len.false) in
     let next : suc twos.result ≡ twos.result + 1 = omega arith in
     rw next at (last-below c.args.key twos.result c.key-next.result es c.requires.ascending inside c.key-next.ensures (omega (arith, c.if-key-next.false)) twos.ensures.last)
 
@@ -33,7 +33,7 @@ pub returns-clause-after : goal.returns-clause-after
 returns-clause-after g c =
     let es = list_of c.args.entries in
     let twos = c.copy_by_twos-count in
-    let inside : twos.result < length es = omega (arith, twos.ensures.within, c.if-count-entries.false) in
+    let inside : twos.result < length es = omega (arith, twos.ensures.within, c.if-count-len.false) in
     let next : suc twos.result ≡ twos.result + 1 = omega arith in
     rw next at (last-after c.args.key twos.result c.key-next.result es c.requires.ascending inside c.key-next.ensures (omega (arith, c.if-key-next.false)) twos.ensures.last)
 
@@ -43,6 +43,6 @@ returns-clause-written g c =
     let twos = c.copy_by_twos-count in
     let now = zip twos.new.keys twos.new.values in
     let long = length-zip twos.new.keys twos.new.values twos.ensures.even in
-    let inside : twos.result < length es = omega (arith, twos.ensures.within, c.if-count-entries.false) in
+    let inside : twos.result < length es = omega (arith, twos.ensures.within, c.if-count-len.false) in
     let room : c.args.place + twos.result < length now = omega (arith, inside, c.requires.room, twos.ensures.as_many, long) in
     rw c.write.ensures.written (one-written (zip c.args.keys.now c.args.values.now) now es c.args.place twos.result c.entry.result inside room c.entry.ensures twos.ensures.written)
