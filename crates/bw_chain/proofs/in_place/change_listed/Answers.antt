@@ -1,7 +1,6 @@
 use Rattle.std.proofs.Common.{◌≡◌, Some, ap, sym, ◌∙◌}
 use Rattle.bw_keys.specs.Ranges.{key_count}
 use Rattle.bw_delta.specs.Entries.{at}
-use Rattle.bw_delta.specs.Slices.{list_of}
 use Rattle.bw_chain.proofs.Places.{put-here, without-there}
 use Rattle.bw_chain.proofs.in_place.change_listed.Goals as goal
 

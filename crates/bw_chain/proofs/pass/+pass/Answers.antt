@@ -1,4 +1,4 @@
-use Rattle.std.proofs.Common.{rules, ◌≤◌, ◌<◌, ◌∙◌, min, true, length, length-take-le, take, refl, ap, subst, arith}
+use Rattle.std.proofs.Common.{rules, ◌≤◌, ◌<◌, ◌∙◌, min, length, length-take-le, take, refl, ap, subst, arith}
 use Rattle.std.proofs.lemmas.Result.{on_ok_weaker, on_err_weaker}
 use Rattle.bw_keys.specs.Ranges.{key_count, end_of}
 use Rattle.bw_delta.specs.Entries.{from}
