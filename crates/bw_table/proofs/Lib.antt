@@ -11,6 +11,7 @@ pub mod Same
 pub mod Ways
 pub mod Whole
 pub mod Writes
+pub mod Zips
 pub mod Gets
 pub mod Listings
 pub mod Cuts

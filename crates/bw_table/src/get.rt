@@ -42,7 +42,18 @@ impl<A: Allocator + Copy> Table<A> {
         ensures lawful { Lawful self.now }
         ensures leaf { IsLeafOf self.now key result.0 }
     {
-        let mut page = Pid(self.root);
+        self.walk(Pid(self.root), key)
+    }
+
+    /// The leaf whose range holds the key, from a page on that begins at or below it.
+    #[inline(always)]
+    pub(crate) fn walk(&self, page: Pid, key: Key) -> Pid
+        requires { IsUpTo self.now key page.0 }
+        ensures lawful { Lawful self.now }
+        ensures leaf { IsLeafOf self.now key result.0 }
+    {
+        self.law();
+        let mut page = page;
         'walk: while let Some(next) = self.onward(page, key) {
             page = next;
         }
@@ -51,7 +62,7 @@ impl<A: Allocator + Copy> Table<A> {
 
     /// The next page of a search for the key; none after the leaf.
     #[inline(always)]
-    fn onward(&self, page: Pid, key: Key) -> Option<Pid>
+    pub(crate) fn onward(&self, page: Pid, key: Key) -> Option<Pid>
         requires { IsUpTo self.now key page.0 }
         ensures { LeadsOn self.now key page.0 result }
     {

@@ -8,6 +8,7 @@ mod fault;
 mod free;
 mod fresh;
 mod get;
+mod get_many;
 mod leaf;
 mod listing;
 mod order;
