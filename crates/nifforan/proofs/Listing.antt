@@ -1,7 +1,8 @@
 -- The list that is a table's map, and what it is after a change.
-use Rattle.std.proofs.Common.{◌≡◌, ◌≢◌, ◌⊎◌, ◌↔◌, ℕ, zero, suc, ◌+◌, ◌-◌, ◌<◌, ◌≤◌, ◌^◌, true, false, cond, eqb, List, [], ◌∷◌, length, Option, Some, None, refl, sym, ◌∙◌, ap, subst, inl, inr, ⊎_elim, arith}
+use Rattle.std.proofs.Common.{◌≡◌, ◌≢◌, ◌⊎◌, ◌↔◌, ℕ, zero, suc, ◌+◌, ◌-◌, ◌<◌, ◌≤◌, ◌^◌, true, false, cond, eqb, List, [], ◌∷◌, length, map, Option, Some, None, refl, sym, ◌∙◌, ap, ap₂, subst, inl, inr, ⊎_elim, arith}
 use Rattle.std.proofs.lemmas.Bool.{cases_eq, cases_lt, cases_Bool, and_parts, eqb-true}
 use Rattle.std.proofs.lemmas.Bool.Decides.{nat_tests}
+use Rattle.std.specs.List.{AllZip}
 use Rattle.bw_keys.specs.declared.config.Config.{Config}
 use Rattle.bw_keys.specs.Limits.{first_bad_field}
 use Rattle.bw_keys.specs.Ranges.{key_count, end_of}
@@ -126,6 +127,12 @@ module _ (table : TableValue) (law : Lawful table) where
   pub value_is : (key : ℕ) (found : Option ℕ) → IsValueAt table.slots key found → found ≡ at key (pairs_of table.slots)
   value_is key found is = same_option found (at key (pairs_of table.slots))
       (λ value. ((λ some. (pairs_are.same key value).1 ((is value).0 some)), (λ there. (is value).1 ((pairs_are.same key value).0 there))))
+
+  pub values_are : (keys : List ℕ) (found : List (Option ℕ)) → AllZip (IsValueAt table.slots) keys found → found ≡ map (λ key. at key (pairs_of table.slots)) keys
+  values_are [] [] zip = refl
+  values_are [] (value ∷ found) zip = absurd zip
+  values_are (key ∷ keys) [] zip = absurd zip
+  values_are (key ∷ keys) (value ∷ found) zip = ap₂ (λ first rest. first ∷ rest) (value_is key value zip.0) (values_are keys found zip.1)
 
 -- a new table's free pages are all but one
 free_ids : (n : ℕ) → length (ids_down n) ≡ n - 1

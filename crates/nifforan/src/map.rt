@@ -1,4 +1,4 @@
-ghost use Rattle.std.specs.Prelude.{◌≡◌, ◌↔◌, ◌-◌, [], None, length, true};
+ghost use Rattle.std.specs.Prelude.{◌≡◌, ◌↔◌, ◌-◌, [], None, length, map, true};
 ghost use Rattle.std.specs.Prelude.{IsTrue, IsSome, IsOk, IfOk, IfErr, OnErr};
 ghost use Rattle.bw_keys.specs.Limits.{first_bad_field};
 ghost use Rattle.bw_keys.specs.Ranges.{end_of, key_count};
@@ -138,6 +138,15 @@ impl<A: Allocator + Copy> Map<A> {
         ensures { result ≡ at key self.now.pairs }
     {
         self.worker.owner.table.value.get(key)
+    }
+
+    /// Returns the values of the keys, each in the place of its key: what as many gets return. Takes
+    /// no memory. See [`Table::get_many`] for how many keys are worth a call.
+    #[inline]
+    pub fn get_many<const N: usize>(&self, keys: [Key; N]) -> [Option<u64>; N]
+        ensures { result ≡ map (λ key. at key self.now.pairs) keys.entry }
+    {
+        self.worker.owner.table.value.get_many(keys)
     }
 
     /// Returns whether the key has a value. Takes no memory.
