@@ -1,5 +1,6 @@
 -- What a reader answers: what there is in a table where a list of accepted steps leads.
 use Rattle.std.specs.Prelude.{◌≡◌, ℕ, ◌+◌, List, Option, MatchOption, MatchResult}
+use Rattle.std.specs.List.{AllZip}
 use Rattle.bw_keys.specs.declared.config.Config.{Config}
 use Rattle.bw_keys.specs.Ranges.{key_count, end_of}
 use Rattle.bw_step.specs.Proposals.{Proposal}
@@ -16,6 +17,10 @@ use Rattle.bw_snap.specs.Snapshots.{IsSnapshot}
 -- what was found is the value at the key, beside the number of changes of the map
 abbrev pub IsLookAt : TableValue → ℕ → Look → Type 0
 IsLookAt table key look = IsMapAt table key look.found × (look.at ≡ number_of table.book)
+
+-- what was found at each of the keys is the value there
+abbrev pub AreMapAt : TableValue → List ℕ → List (Option ℕ) → Type 0
+AreMapAt table = AllZip (IsMapAt table)
 
 -- what was found is the first pair at the key or past it, or none where there is no such pair
 abbrev pub IsFirstFrom : TableValue → ℕ → Option (ℕ × ℕ) → Type 0
@@ -40,7 +45,11 @@ IsAnswerIn config answers steps answer = (table : TableValue) × IsSnapshot conf
 abbrev pub IsFoundIn : Config → ℕ → List Proposal → Option ℕ → Type 0
 IsFoundIn config key = IsAnswerIn config (λ table. IsMapAt table key)
 
--- and this number of changes of the map is among them
+-- what was found at each of the keys is the value that the map has there after these same steps
+abbrev pub AreFoundIn : Config → List ℕ → List Proposal → List (Option ℕ) → Type 0
+AreFoundIn config keys = IsAnswerIn config (λ table. AreMapAt table keys)
+
+-- what was found is the value at the key after these steps, and this number of changes of the map is among them
 abbrev pub IsLookIn : Config → ℕ → List Proposal → Look → Type 0
 IsLookIn config key = IsAnswerIn config (λ table. IsLookAt table key)
 

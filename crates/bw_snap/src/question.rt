@@ -38,6 +38,23 @@ impl Question for LookAt {
     }
 }
 
+/// What does the map have at each of the keys?
+#[derive(Drop)]
+pub struct GetMany<const N: usize>(pub [Key; N]);
+
+impl<const N: usize> Question for GetMany<N> {
+    ghost use Rattle.bw_snap.specs.Answers.{AreMapAt};
+
+    type Answer = [Option<u64>; N];
+
+    ghost answers = { λ question table found. AreMapAt table question.0 found };
+
+    #[inline(always)]
+    fn ask(self, table: &Table<Global>) -> [Option<u64>; N] {
+        table.get_many(self.0)
+    }
+}
+
 /// Which pair is the first at the key or past it?
 #[derive(Drop)]
 pub struct NextAt(pub Key);

@@ -4,13 +4,13 @@ ghost use Rattle.std.specs.Prelude.{◌≡◌, ◌⊎◌, [], IfOk, OnOk, OnErr}
 ghost use Rattle.left_right.specs.Sides.{view};
 ghost use Rattle.bw_keys.specs.Ranges.{end_of};
 ghost use Rattle.bw_snap.specs.Snapshots.{BeginsWith};
-ghost use Rattle.bw_snap.specs.Answers.{IsAnswerIn, IsFoundIn, IsLookIn, IsFirstIn, IsLastIn};
+ghost use Rattle.bw_snap.specs.Answers.{IsAnswerIn, IsFoundIn, AreFoundIn, IsLookIn, IsFirstIn, IsLastIn};
 ghost use Rattle.bw_snap.specs.Answers.{IsNextIn, IsPreviousIn, IsNumberIn, IsLenIn, IsListedIn, IsRangeIn};
 
 use crate::ends::{Answered, ReadingEnd, ask};
 use crate::fault::{Closed, ScanFault};
 use crate::front::{Front, Naming};
-use crate::question::{Len, Listing, LookAt, NextAt, Number, PreviousAt, Question};
+use crate::question::{GetMany, Len, Listing, LookAt, NextAt, Number, PreviousAt, Question};
 use crate::stamp::Stamp;
 use bw_delta::NoMemory;
 use bw_keys::{Fence, Key};
@@ -94,6 +94,17 @@ impl<N: Naming> Reader<N> {
             Ok(look) => Ok(look.found),
             Err(Closed) => Err(Closed),
         }
+    }
+
+    /// Returns the values that the keys have after one such list of steps, each in the place of its
+    /// key. See [`Table::get_many`] for how many keys are worth a call.
+    #[inline]
+    pub fn get_many<const K: usize>(&mut self, keys: [Key; K]) -> Result<[Option<u64>; K], Closed>
+        ensures seen { BeginsWith self.new self.old }
+        ensures found { IfOk result (AreFoundIn N.config keys.entry self.new) }
+        ensures closed { OnErr result (self.new ≡ self.old) }
+    {
+        self.ask(GetMany(keys))
     }
 
     /// Returns what `get` does, with the number of the map's changes in that list.

@@ -16,7 +16,8 @@ pub trait Reads {
     ghost use Rattle.bw_keys.specs.declared.config.Config.{Config};
     ghost use Rattle.bw_step.specs.Proposals.{Proposal};
     ghost use Rattle.bw_keys.specs.Ranges.{end_of};
-    ghost use Rattle.bw_snap.specs.Answers.{IsFoundIn, IsFirstIn, IsLastIn, IsNextIn, IsPreviousIn};
+    ghost use Rattle.bw_snap.specs.Answers.{IsFoundIn, AreFoundIn, IsFirstIn, IsLastIn};
+    ghost use Rattle.bw_snap.specs.Answers.{IsNextIn, IsPreviousIn};
     ghost use Rattle.bw_snap.specs.Answers.{IsNumberIn, IsLenIn, IsListedIn, IsRangeIn};
     ghost use Rattle.bw_snap.specs.Snapshots.{BeginsWith};
 
@@ -38,6 +39,14 @@ pub trait Reads {
         ensures made_by { made_by self.new ≡ made_by self.old }
         ensures seen { BeginsWith (list self.new) (list self.old) }
         ensures found { IfOk result (IsFoundIn (made_by self.old) key (list self.new)) }
+        ensures closed { OnErr result (list self.new ≡ list self.old) };
+
+    /// Returns the values at the keys, each in the place of its key, all after one list of steps.
+    /// See `Table::get_many` for how many keys are worth a call.
+    fn get_many<const K: usize>(&mut self, keys: [Key; K]) -> Result<[Option<u64>; K], Closed>
+        ensures made_by { made_by self.new ≡ made_by self.old }
+        ensures seen { BeginsWith (list self.new) (list self.old) }
+        ensures found { IfOk result (AreFoundIn (made_by self.old) keys.entry (list self.new)) }
         ensures closed { OnErr result (list self.new ≡ list self.old) };
 
     /// Returns the pair with the least key, if there is any.
@@ -141,6 +150,10 @@ impl<'t, R: Wait + Copy, N: Naming, D: Ledger> Reads for Reading<'t, R, N, D> {
 
     fn get(&mut self, key: Key) -> Result<Option<u64>, Closed> {
         self.reader.get(key)
+    }
+
+    fn get_many<const K: usize>(&mut self, keys: [Key; K]) -> Result<[Option<u64>; K], Closed> {
+        self.reader.get_many(keys)
     }
 
     fn first(&mut self) -> Result<Option<(Key, u64)>, Closed> {
