@@ -13,6 +13,8 @@ mod frozen;
 #[cfg(test)]
 mod given_up;
 #[cfg(test)]
+mod many;
+#[cfg(test)]
 mod queries;
 #[cfg(test)]
 mod shared;

@@ -82,6 +82,28 @@ impl Shown {
         found
     }
 
+    /// Returns the value of the key.
+    fn value_at(&self, key: Key) -> Option<u64> {
+        let mut found = None;
+        for pair in self.pairs.iter() {
+            if pair.0 == key {
+                found = Some(pair.1);
+            }
+        }
+        found
+    }
+
+    /// Reports whether the reader finds the values of the key, which it is asked for twice, of both ends
+    /// and of other keys, at once and one by one.
+    fn has_values<N: Naming>(&self, reader: &mut Reader<N>, key: Key) -> Result<bool, Fail> {
+        let keys = [Key::MAX, key, 0, key, 1000, key.wrapping_add(1), 17];
+        let mut is_found = reader.get_many(keys)? == keys.map(|asked| self.value_at(asked));
+        for asked in keys {
+            is_found = is_found && reader.get(asked)? == self.value_at(asked);
+        }
+        Ok(is_found)
+    }
+
     /// Reports whether the reader finds the first pair and the last one, the pairs around the key, and
     /// the numbers of changes and of pairs.
     fn is_found<N: Naming>(&self, reader: &mut Reader<N>, key: Key) -> Result<bool, Fail> {
@@ -171,7 +193,7 @@ fn ask_beside<R: Wait + Copy, N: Naming, D: Ledger, S: Steps<Global, Step<Global
             _ => Fence::Key(key_numbered(rng.next_u32() % KEYS)),
         };
         let limit = LIMITS[(rng.next_u32() % 4) as usize];
-        let is_found = shown.is_found(reader, key)?;
+        let is_found = shown.is_found(reader, key)? && shown.has_values(reader, key)?;
         if !is_found || !shown.is_listed(reader, (key, high), limit, &mut list)? {
             return Ok(Some(round));
         }
@@ -223,7 +245,7 @@ fn put_both_ends<R: Wait + Copy, N: Naming, D: Ledger, S: Steps<Global, Step<Glo
 fn is_closed<N: Naming>(machine: Global, reader: &mut Reader<N>) -> Result<bool, Fail> {
     let mut list = Vec::new(machine);
     list.push(STALE)?;
-    let mut is_closed = true;
+    let mut is_closed = reader.get_many([0, 1]) == Err(Closed);
     for pair in [
         reader.first(),
         reader.last(),

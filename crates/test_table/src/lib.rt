@@ -1,5 +1,5 @@
 //! Tests of the mapping table and of what stands on it, beyond what scripts of steps can say:
-//! summaries, leaves at rest, what is done at once, and memory that runs out; steps that two
+//! summaries, leaves at rest, several gets and what is done at once, and memory that runs out; steps that two
 //! threads propose to a shared tree, a tree whose share is lost, and histories and runs that were
 //! judged by hand.
 #![tactic(auto)]
@@ -16,6 +16,8 @@ mod halving;
 mod handed_out;
 #[cfg(test)]
 mod histories;
+#[cfg(test)]
+mod many;
 #[cfg(test)]
 mod memory;
 #[cfg(test)]

@@ -1,0 +1,112 @@
+//! Several gets of a map at once, beside its single gets and a plain list of pairs.
+
+use nifforan::{Config, Map};
+use rand_core::{Rng, SeedableRng};
+use rand_pcg::Pcg32;
+use std::alloc::Global;
+use std::test::Fail;
+
+/// Fanout and chain: leaves of few pairs, with records and without, and the usual pages.
+const TABLES: [(u32, u32); 3] = [(4, 1), (4, 3), (64, 1)];
+
+/// The number of keys that are drawn.
+const KEYS: u32 = 300;
+
+const ROUNDS: u32 = 400;
+
+/// Returns one of the keys: 0, 3, 6 and so on, and the last one.
+fn drawn_key(rng: &mut Pcg32) -> u64 {
+    match rng.next_u32() % KEYS {
+        0 => u64::MAX,
+        drawn => 3 * u64::from(drawn - 1),
+    }
+}
+
+/// A map, and a plain list of its pairs.
+#[derive(Drop)]
+struct Both {
+    map: Map<Global>,
+    pairs: Vec<(u64, u64)>,
+}
+
+impl Both {
+    fn value_at(&self, key: u64) -> Option<u64> {
+        let mut found = None;
+        for pair in &self.pairs {
+            if pair.0 == key {
+                found = Some(pair.1);
+            }
+        }
+        found
+    }
+
+    fn set(&mut self, key: u64, value: u64) -> Result<(), Fail> {
+        self.pairs.retain(|pair| pair.0 != key);
+        self.pairs.push((key, value))?;
+        let _done = self.map.set(key, value)?;
+        Ok(())
+    }
+
+    fn delete(&mut self, key: u64) -> Result<(), Fail> {
+        self.pairs.retain(|pair| pair.0 != key);
+        let _done = self.map.delete(key)?;
+        Ok(())
+    }
+
+    /// Returns whether the keys have the values of the list, at once and one by one.
+    fn is_found<const N: usize>(&self, keys: [u64; N]) -> bool {
+        let found = self.map.get_many(keys);
+        let mut is_found = true;
+        for place in 0..N {
+            let wanted = self.value_at(keys[place]);
+            is_found &= found[place] == wanted && self.map.get(keys[place]) == wanted;
+        }
+        is_found
+    }
+}
+
+/// Returns the first round in which the keys hadn't the values of the list, if there is one.
+fn first_wrong(machine: Global, fanout: u32, chain: u32) -> Result<Option<u32>, Fail> {
+    let config = Config {
+        fanout,
+        chain,
+        ..Config::default()
+    };
+    let mut rng = Pcg32::seed_from_u64(fanout.into());
+    let mut both = Both {
+        map: Map::new(machine, machine, config)?,
+        pairs: Vec::new(machine),
+    };
+    for round in 0..ROUNDS {
+        let (key, value) = (drawn_key(&mut rng), rng.next_u64());
+        match rng.next_u32() % 3 {
+            0 => both.delete(key)?,
+            _ => both.set(key, value)?,
+        }
+        let other = drawn_key(&mut rng);
+        // the key is asked for twice, and most keys beside drawn ones have no value
+        let eight = [
+            other,
+            key,
+            0,
+            key.wrapping_add(1),
+            u64::MAX,
+            key,
+            897,
+            other / 2,
+        ];
+        if !both.is_found(eight) || !both.is_found([key]) || !both.is_found([]) {
+            return Ok(Some(round));
+        }
+    }
+    Ok(None)
+}
+
+#[test]
+fn several_gets_find_what_the_list_has(rt: HostRuntime) -> Result<(), Fail> {
+    for (fanout, chain) in TABLES {
+        let wrong = first_wrong(rt.alloc(), fanout, chain)?;
+        assert_eq!(rt; wrong, None, "fanout {fanout}, chain {chain}");
+    }
+    Ok(())
+}
