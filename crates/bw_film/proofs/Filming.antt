@@ -1,7 +1,9 @@
 -- Films of steps that follow each other.
-use Rattle.std.proofs.Common.{◌≡◌, ℕ, ◌+◌, ◌<◌, length, map, get_or, length-append, Bool, true, false, cond, List, [], ◌∷◌, ◌++◌, Option, Some, None, Result, Ok, Err, refl, sym, ◌∙◌, ap, subst, arith}
+use Rattle.std.proofs.Common.{◌≡◌, ℕ, ◌+◌, ◌-◌, ◌<◌, take, length, map, get_or, length-append, Bool, true, false, cond, List, [], ◌∷◌, ◌++◌, Option, Some, None, Result, Ok, Err, refl, sym, ◌∙◌, ap, subst, arith}
 use Rattle.std.specs.Prelude.{if◌then◌else◌}
-use Rattle.std.proofs.lemmas.List.{length-map, get_or-map}
+use Rattle.std.proofs.lemmas.List.{length-map, get_or-map, take-append-le, take_all}
+use Rattle.std.proofs.lemmas.List.Elements.{All-append, All-weaker}
+use Rattle.std.specs.List.{All}
 use Rattle.std.proofs.lemmas.List.Sums.{sum_by_push}
 use Rattle.bw_step.specs.declared.receipt.Receipt.{Receipt}
 use Rattle.bw_step.specs.declared.receipt.Receipt.TheVariants.{Inserted, Deleted, Modified, Looked, Shaped}
@@ -13,12 +15,17 @@ use Rattle.bw_delta.specs.declared.fault.NoMemory.{NoMemory}
 use Rattle.bw_procedures.specs.Seen.{Seen, IsAccepted, Looked as LooksAt, is_kept, trail_after_look}
 use Rattle.bw_step.specs.Tellings.{told_in}
 use Rattle.bw_procedures.specs.declared.act.Act.{Act}
+use Rattle.bw_procedures.specs.declared.reply.Reply.{Reply}
 use Rattle.bw_procedures.specs.Told.{GoesWith}
 use Rattle.bw_procedures.proofs.Receipts.{go_more, go_none}
 use Rattle.bw_texts.specs.declared.trace.row.Row.{Row}
 use Rattle.bw_film.specs.declared.film.Film.{Film}
 use Rattle.bw_film.specs.Choices.{one_more}
-use Rattle.bw_film.specs.Filming.{DoesRow, IsFilmed, IsFilmedUpTo, IsSameChoice, after_more, filmed_as, is_step, moments_after, steps_in}
+use Rattle.bw_film.specs.declared.crew.Standing.{Standing}
+use Rattle.bw_film.specs.declared.frame.Frame.{Frame}
+use Rattle.bw_film.specs.Crews.{AnswersRow, BeginsRow, IsCrew}
+use Rattle.bw_film.specs.Films.{AddsAFrame}
+use Rattle.bw_film.specs.Filming.{DoesRow, IsFilmed, IsFilmedUpTo, IsFrameOf, IsSameChoice, after_more, filmed_as, is_step, moments_after, steps_in}
 
 pub filmed_same : (film : Film) (failed : Bool) (old new : List Receipt) → new ≡ old → IsFilmed film failed old film failed new
 filmed_same film failed old new same = filmed_as film failed old new (ap steps_in same)
@@ -64,9 +71,11 @@ step_of (term_delete a b c d) (Looked at key found) told = absurd told
 
 -- a step is a moment
 pub filmed_step : {a b : Film} {f g : Bool} (step : Proposal) (receipt : Receipt) (old new : Seen) → IsAccepted step receipt old new → IsSameChoice a b → (g ≡ false → f ≡ false) → (g ≡ false → b.moments ≡ one_more a.moments)
-    → IsFilmed a f old.trail b g new.trail
-filmed_step step receipt old new accepted same failed counted = record {
+    → b.crew.items ≡ a.crew.items → AddsAFrame a.crew.items a.frames.items b.frames.items → IsFilmed a f old.trail b g new.trail
+filmed_step step receipt old new accepted same failed counted crew frames = record {
   choice = same;
+  crew = crew;
+  frames = record { added = frames.added; shown = frames.shown; kept = frames.kept };
   failed = failed;
   added = λ is. record {
     steps = 1;
@@ -75,21 +84,76 @@ filmed_step step receipt old new accepted same failed counted = record {
   };
 }
 
--- before the first row there is the moment of the new table
-pub films_begin : (rows : List Row) (film : Film) → film.moments ≡ 1 → IsFilmedUpTo rows 0 film []
-films_begin rows film one = record { replies = []; many = refl; told = go_none (map (λ (row : Row). row.act) rows); moments = one }
-
--- and then one row after the other
-pub films_go_on : (rows : List Row) (place : ℕ) (row : Row) (a b : Film) (old new : List Receipt) → place < length rows → get_or rows place row ≡ row → IsFilmedUpTo rows place a old → DoesRow row a old b new → IsFilmedUpTo rows (place + 1) b new
-films_go_on rows place row a b old new inside at before does =
-    let acts : List Act = map (λ (r : Row). r.act) rows in
-    let d : Act = row.act in
-    let act : get_or acts place d ≡ row.act = get_or-map (λ (r : Row). r.act) rows place row d inside ∙ ap (λ (r : Row). r.act) at in
-    let answers : GoesWith (get_or acts place d) does.reply does.told.added = subst (λ (a : Act). GoesWith a does.reply does.told.added) (sym act) does.told.answers in
-    let room : place < length acts = omega (arith, length-map rows (λ (r : Row). r.act), inside) in
+-- a frame of the rows so far is one of those and a row more
+frame_stays : (rows : List Row) (replies : List Reply) (reply : Reply) (workers more : ℕ) (frame : Frame) → more ≡ workers → IsFrameOf rows replies workers frame → IsFrameOf rows (replies ++ reply ∷ []) more frame
+frame_stays rows replies reply workers more frame same is =
+    let long = length-append replies (reply ∷ []) in
+    let kept : take (is.begun - 1) (replies ++ reply ∷ []) ≡ take (is.begun - 1) replies = take-append-le (is.begun - 1) replies (reply ∷ []) (omega (arith, is.within)) in
     record {
-      replies = before.replies ++ does.reply ∷ [];
-      many = omega (arith, length-append before.replies (does.reply ∷ []), before.many);
-      told = rw does.told.trail (go_more acts before.replies (told_in old) does.reply place d does.told.added before.many room before.told answers);
-      moments = does.moments.moments ∙ ap (moments_after does.moments.steps) before.moments ∙ after_more does.moments.steps (steps_in old) 1 ∙ ap (λ k. moments_after k 1) (sym does.moments.longer);
+      begun = is.begun;
+      within = omega (arith, is.within, long);
+      many = is.many ∙ sym same;
+      crew = subst (λ (l : List Reply). IsCrew rows l is.begun frame.crew.items) (sym kept) is.crew;
+    }
+
+-- a frame of the row behind those that are done
+frame_now : (rows : List Row) (replies : List Reply) (reply : Reply) (place workers : ℕ) (crew : List Standing) (frame : Frame) → length replies ≡ place → length crew ≡ workers → IsCrew rows replies (place + 1) crew → frame.crew.items ≡ crew
+    → IsFrameOf rows (replies ++ reply ∷ []) workers frame
+frame_now rows replies reply place workers crew frame many long is shown =
+    let more = length-append replies (reply ∷ []) in
+    let kept : take (place + 1 - 1) (replies ++ reply ∷ []) ≡ replies =
+        take-append-le (place + 1 - 1) replies (reply ∷ []) (omega (arith, many)) ∙ take_all (place + 1 - 1) replies (omega (arith, many)) in
+    record {
+      begun = place + 1;
+      within = omega (arith, many, more);
+      many = ap length shown ∙ long;
+      crew = subst (λ (l : List Reply). IsCrew rows l (place + 1) frame.crew.items) (sym kept) (subst (λ (l : List Standing). IsCrew rows replies (place + 1) l) (sym shown) is);
+    }
+
+frame_first : (rows : List Row) (crew : List Standing) (frame : Frame) → IsCrew rows [] 0 crew → frame.crew.items ≡ crew → IsFrameOf rows [] (length crew) frame
+frame_first rows crew frame is shown = record {
+  begun = 0;
+  within = omega arith;
+  many = ap length shown;
+  crew = subst (λ (l : List Standing). IsCrew rows [] 0 l) (sym shown) is;
+}
+
+-- before the first row there is the moment of the new table
+pub films_begin : (rows : List Row) (film : Film) (none : List Frame) → film.moments ≡ 1 → none ≡ [] → IsCrew rows [] 0 film.crew.items → AddsAFrame film.crew.items none film.frames.items → IsFilmedUpTo rows 0 film []
+films_begin rows film none one empty crew frames =
+    let are : film.frames.items ≡ frames.added = frames.kept ∙ ap (λ l. l ++ frames.added) empty in
+    record {
+      replies = [];
+      many = refl;
+      told = go_none (map (λ (row : Row). row.act) rows);
+      moments = one;
+      crew = crew;
+      frames = subst (λ l. All (IsFrameOf rows [] (length film.crew.items)) l) (sym are)
+        (All-weaker (λ (frame : Frame). frame.crew.items ≡ film.crew.items) (IsFrameOf rows [] (length film.crew.items)) (λ frame shown. frame_first rows film.crew.items frame crew shown) frames.added frames.shown);
+    }
+
+-- and then one row after the other is begun, done and answered
+pub films_go_on : (rows : List Row) (place : ℕ) (row : Row) (reply : Reply) (a b c d : Film) (old new : List Receipt) → place < length rows → get_or rows place row ≡ row → IsFilmedUpTo rows place a old
+    → BeginsRow rows place a.crew.items b.crew.items → b.moments ≡ a.moments → b.frames.items ≡ a.frames.items → DoesRow row reply b old c new
+    → AnswersRow rows place reply c.crew.items d.crew.items → d.moments ≡ c.moments → d.frames.items ≡ c.frames.items → IsFilmedUpTo rows (place + 1) d new
+films_go_on rows place row reply a b c d old new inside at before begun moments frames does answered moments_then frames_then =
+    let acts : List Act = map (λ (r : Row). r.act) rows in
+    let none : Act = row.act in
+    let act : get_or acts place none ≡ row.act = get_or-map (λ (r : Row). r.act) rows place row none inside ∙ ap (λ (r : Row). r.act) at in
+    let answers : GoesWith (get_or acts place none) reply does.told.added = subst (λ (a : Act). GoesWith a reply does.told.added) (sym act) does.told.answers in
+    let room : place < length acts = omega (arith, length-map rows (λ (r : Row). r.act), inside) in
+    let crew : IsCrew rows before.replies (place + 1) b.crew.items = begun.crew before.replies before.many before.crew in
+    let long : length d.crew.items ≡ length b.crew.items = answered.many ∙ ap length does.crew in
+    let are : d.frames.items ≡ a.frames.items ++ does.frames.added = frames_then ∙ does.frames.kept ∙ ap (λ l. l ++ does.frames.added) frames in
+    let shown = IsFrameOf rows (before.replies ++ reply ∷ []) (length d.crew.items) in
+    record {
+      replies = before.replies ++ reply ∷ [];
+      many = omega (arith, length-append before.replies (reply ∷ []), before.many);
+      told = rw does.told.trail (go_more acts before.replies (told_in old) reply place none does.told.added before.many room before.told answers);
+      moments = moments_then ∙ does.moments.moments ∙ ap (moments_after does.moments.steps) (moments ∙ before.moments) ∙ after_more does.moments.steps (steps_in old) 1 ∙ ap (λ k. moments_after k 1) (sym does.moments.longer);
+      crew = answered.crew before.replies before.many (subst (λ (l : List Standing). IsCrew rows before.replies (place + 1) l) (sym does.crew) crew);
+      frames = subst (λ l. All shown l) (sym are)
+        (All-append shown a.frames.items does.frames.added
+          (All-weaker (IsFrameOf rows before.replies (length a.crew.items)) shown (λ frame is. frame_stays rows before.replies reply (length a.crew.items) (length d.crew.items) frame (long ∙ begun.many) is) a.frames.items before.frames)
+          (All-weaker (λ (frame : Frame). frame.crew.items ≡ b.crew.items) shown (λ frame is. frame_now rows before.replies reply place (length d.crew.items) b.crew.items frame before.many (sym long) crew is) does.frames.added does.frames.shown));
     }

@@ -1,6 +1,9 @@
 -- What a worker's steps make of a film.
-use Rattle.std.specs.Prelude.{◌≡◌, refl, ℕ, zero, suc, ◌+◌, Bool, true, false, List, length, map, Option, Some, None, count_by}
-use Rattle.std.proofs.Common.{◌∙◌, ap, arith}
+use Rattle.std.specs.Prelude.{◌≡◌, refl, ℕ, zero, suc, ◌+◌, ◌-◌, ◌≤◌, [], ◌++◌, take, Bool, true, false, List, length, map, Option, Some, None, count_by}
+use Rattle.std.specs.List.{All}
+use Rattle.std.proofs.Common.{◌∙◌, ap, sym, subst, append_assoc, arith}
+use Rattle.std.proofs.lemmas.List.{append-nil}
+use Rattle.std.proofs.lemmas.List.Elements.{All-append, All-nil}
 use Rattle.bw_step.specs.declared.receipt.Receipt.{Receipt}
 use Rattle.bw_step.specs.declared.receipt.Receipt.TheVariants.{Looked}
 use Rattle.bw_step.specs.Tellings.{told_in}
@@ -10,7 +13,11 @@ use Rattle.bw_scripts.specs.declared.answer.Answer.{Answer}
 use Rattle.bw_scripts.specs.declared.answer.Answer.TheVariants as answers
 use Rattle.bw_texts.specs.declared.trace.row.Row.{Row}
 use Rattle.bw_film.specs.declared.film.Film.{Film}
+use Rattle.bw_film.specs.declared.crew.Standing.{Standing}
+use Rattle.bw_film.specs.declared.frame.Frame.{Frame}
 use Rattle.bw_film.specs.Choices.{one_more}
+use Rattle.bw_film.specs.Crews.{IsCrew}
+use Rattle.bw_film.specs.Films.{AddsFrames, Show}
 
 -- the receipt is that of a step, and not of a look
 abbrev pub is_step : Receipt → Bool
@@ -35,9 +42,11 @@ pub record AddsMoments (old : Film) (old_trail : List Receipt) (new : Film) (new
   pub longer : steps_in new_trail ≡ steps + steps_in old_trail
   pub moments : new.moments ≡ moments_after steps old.moments
 
--- the same, as long as memory wasn't wanting for a moment
+-- the same, as long as memory wasn't wanting for a moment; and each frame that they made shows what the workers do meanwhile
 pub record IsFilmed (old : Film) (old_failed : Bool) (old_trail : List Receipt) (new : Film) (new_failed : Bool) (new_trail : List Receipt) : Type 0 where
   pub choice : IsSameChoice old new
+  pub crew : new.crew.items ≡ old.crew.items
+  pub frames : AddsFrames old.crew.items old.frames.items new.frames.items
   pub failed : new_failed ≡ false → old_failed ≡ false
   pub added : new_failed ≡ false → AddsMoments old old_trail new new_trail
 
@@ -58,37 +67,60 @@ adds_more {a} {b} {c} first then = record {
   moments = then.moments ∙ ap (moments_after then.steps) first.moments ∙ after_more then.steps first.steps a.moments;
 }
 
+frames_none : (crew : List Standing) (frames : List Frame) → AddsFrames crew frames frames
+frames_none crew frames = record { added = []; shown = All-nil (λ (frame : Frame). frame.crew.items ≡ crew); kept = sym (append-nil frames) }
+
+frames_more : (crew middle : List Standing) (a b c : List Frame) → middle ≡ crew → AddsFrames crew a b → AddsFrames middle b c → AddsFrames crew a c
+frames_more crew middle a b c same first then = record {
+  added = first.added ++ then.added;
+  shown = All-append (λ (frame : Frame). frame.crew.items ≡ crew) first.added then.added first.shown (subst (λ (l : List Standing). Show l then.added) same then.shown);
+  kept = then.kept ∙ ap (λ l. l ++ then.added) first.kept ∙ append_assoc {A = Frame} a first.added then.added;
+}
+
 -- without a step more there is no moment more
 pub filmed_as : (film : Film) (failed : Bool) (old new : List Receipt) → steps_in new ≡ steps_in old → IsFilmed film failed old film failed new
-filmed_as film failed old new same = record { choice = refl; failed = λ is. is; added = λ is. adds_none film old new same }
+filmed_as film failed old new same = record { choice = refl; crew = refl; frames = frames_none film.crew.items film.frames.items; failed = λ is. is; added = λ is. adds_none film old new same }
 
 pub filmed_stay : (film : Film) (failed : Bool) (trail : List Receipt) → IsFilmed film failed trail film failed trail
 filmed_stay film failed trail = filmed_as film failed trail trail refl
 
 pub filmed_join : {a b c : Film} {f g h : Bool} {x y z : List Receipt} → IsFilmed a f x b g y → IsFilmed b g y c h z → IsFilmed a f x c h z
-filmed_join first then = record {
+filmed_join {a} {b} {c} first then = record {
   choice = then.choice ∙ first.choice;
+  crew = then.crew ∙ first.crew;
+  frames = frames_more a.crew.items b.crew.items a.frames.items b.frames.items c.frames.items first.crew first.frames then.frames;
   failed = λ is. first.failed (then.failed is);
   added = λ is. adds_more (first.added (then.failed is)) (then.added is);
 }
 
--- the rows before a place are done, by a worker with this trail, and the film has a moment for the new table and one for each of its steps
+-- a frame shows what each worker does at a moment of a row, or before the first one
+pub record IsFrameOf (rows : List Row) (replies : List Reply) (workers : ℕ) (frame : Frame) : Type 0 where
+  -- how many rows are begun; all but the last of them are done
+  pub begun : ℕ
+  pub within : begun ≤ length replies
+  pub many : length frame.crew.items ≡ workers
+  pub crew : IsCrew rows (take (begun - 1) replies) begun frame.crew.items
+
+-- the rows before a place are done, by a worker with this trail, and the film has a moment for the new table and one for each of its steps; its frames show what each of the rows' workers does
 pub record IsFilmedUpTo (rows : List Row) (place : ℕ) (film : Film) (trail : List Receipt) : Type 0 where
   pub replies : List Reply
   pub many : length replies ≡ place
   pub told : GoWith (map (λ row. row.act) rows) replies (told_in trail)
   pub moments : film.moments ≡ moments_after (steps_in trail) 1
+  pub crew : IsCrew rows replies place film.crew.items
+  pub frames : All (IsFrameOf rows replies (length film.crew.items)) film.frames.items
 
 -- the film of a trace has a moment for the new table and one for each step that did its rows
 pub record IsFilmOf (rows : List Row) (film : Film) : Type 0 where
   pub trail : List Receipt
   pub done : IsFilmedUpTo rows (length rows) film trail
 
--- a row is done: its receipts go with a reply, and its steps are moments
-pub record DoesRow (row : Row) (old : Film) (old_trail : List Receipt) (new : Film) (new_trail : List Receipt) : Type 0 where
-  pub reply : Reply
+-- a row is done: its receipts go with the reply, its steps are moments, and their frames show what the workers do meanwhile
+pub record DoesRow (row : Row) (reply : Reply) (old : Film) (old_trail : List Receipt) (new : Film) (new_trail : List Receipt) : Type 0 where
   pub told : AddsTold row.act reply old_trail new_trail
   pub moments : AddsMoments old old_trail new new_trail
+  pub crew : new.crew.items ≡ old.crew.items
+  pub frames : AddsFrames old.crew.items old.frames.items new.frames.items
 
 -- an answer makes a moment where the table is new or a step was taken
 abbrev pub moments_with : Option Answer → ℕ → ℕ

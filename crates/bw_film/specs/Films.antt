@@ -1,6 +1,7 @@
 -- Which moments a film has.
 use Rattle.std.specs.Prelude.{◌≡◌, ℕ, List, ◌++◌, length, ◌≤◌, map}
-use Rattle.std.specs.List.{range_with_len}
+use Rattle.std.specs.List.{All, range_with_len}
+use Rattle.bw_film.specs.declared.crew.Standing.{Standing}
 use Rattle.bw_film.specs.declared.choice.Choice.{Choice}
 use Rattle.bw_film.specs.declared.frame.Frame.{Frame}
 use Rattle.bw_film.specs.Choices.{drawn_count}
@@ -12,8 +13,19 @@ moments_of frames = map (λ frame. frame.moment) frames
 abbrev pub AreDrawn : Choice → ℕ → List Frame → Type 0
 AreDrawn choice moments frames = moments_of frames ≡ range_with_len choice.from (drawn_count 200 choice.from choice.to moments)
 
--- the frames that were there stay, and one may be added
-pub record AddsAFrame (old new : List Frame) : Type 0 where
+-- the frames show that the workers do this
+abbrev pub Show : List Standing → List Frame → Type 0
+Show crew frames = All (λ frame. frame.crew.items ≡ crew) frames
+
+-- the frames that were there stay, and one may be added, which shows that the workers do this
+pub record AddsAFrame (crew : List Standing) (old new : List Frame) : Type 0 where
   pub added : List Frame
   pub one : length added ≤ 1
+  pub shown : Show crew added
+  pub kept : new ≡ old ++ added
+
+-- the same of several
+pub record AddsFrames (crew : List Standing) (old new : List Frame) : Type 0 where
+  pub added : List Frame
+  pub shown : Show crew added
   pub kept : new ≡ old ++ added

@@ -3,3 +3,5 @@ pub mod Pages
 pub mod Films
 pub mod Filming
 pub mod Faults
+pub mod Crews
+pub mod CrewPages

@@ -4,7 +4,9 @@ use Rattle.std.specs.String.{string_bytes}
 use Rattle.std.specs.Str.{byte}
 use Rattle.bw_film.specs.declared.film.Film.{Film}
 use Rattle.bw_film.specs.declared.frame.Frame.{Frame}
-use Rattle.bw_film.specs.declared.page.text.TheConstants.{HEAD, BODY, SCRIPT}
+use Rattle.bw_film.specs.declared.crew.Standing.{Standing}
+use Rattle.bw_film.specs.declared.page.text.TheConstants.{HEAD, CREW_STYLE, TOP, BODY, CREW, SCRIPT}
+use Rattle.bw_film.specs.CrewPages.{crew_with}
 
 -- a byte as it stands between the quotes of an attribute
 abbrev pub escaped_byte : ℕ → List ℕ
@@ -33,11 +35,11 @@ attributes_text frame =
     ++ attribute_text (codes "note") (string_bytes frame.note)
 
 abbrev pub drawing_text : List ℕ → List ℕ
-drawing_text drawing = codes "\">\n" ++ drawing ++ codes "\n</template>\n"
+drawing_text drawing = codes "\">\n" ++ drawing ++ codes "\n"
 
--- a frame: its texts are attributes, and its drawing is what the element has
+-- a frame: its texts are attributes, and the element has its drawing, and a table of what the workers do, where that is shown
 abbrev pub frame_text : Frame → List ℕ
-frame_text frame = moment_text frame.moment ++ attributes_text frame ++ drawing_text (string_bytes frame.drawing)
+frame_text frame = moment_text frame.moment ++ attributes_text frame ++ drawing_text (string_bytes frame.drawing) ++ crew_with CREW.now frame.crew.items ++ codes "</template>\n"
 
 abbrev pub whole_text : ℕ → ℕ → ℕ → List ℕ
 whole_text first last moments = codes "Moments " ++ decimal first ++ codes " to " ++ decimal last ++ codes " are shown, of " ++ decimal moments ++ codes " in all."
@@ -59,9 +61,17 @@ span_from first last moments to = codes "None of the " ++ decimal moments ++ cod
 abbrev pub span_text : Film → List ℕ
 span_text film = span_from (slice_get film.frames.items 0) (slice_get film.frames.items (length film.frames.items - 1)) film.moments film.choice.to
 
-abbrev pub page_with : List ℕ → List ℕ → List ℕ → List Frame → List ℕ → List ℕ
-page_with head span body frames script = head ++ span ++ body ++ flat_map frame_text frames ++ script
+-- no style where no worker is shown
+abbrev pub style_for : List ℕ → List Standing → List ℕ
+style_for style [] = []
+style_for style (it ∷ more) = style
+
+abbrev pub above_film : List ℕ → List ℕ → List ℕ → List ℕ → List ℕ → List ℕ
+above_film head style top span body = head ++ style ++ top ++ span ++ body
+
+abbrev pub page_with : List ℕ → List Frame → List ℕ → List ℕ
+page_with above frames script = above ++ flat_map frame_text frames ++ script
 
 -- the page has each frame of the film once, in their order
 abbrev pub page_text : Film → List ℕ
-page_text film = page_with HEAD.now (span_text film) BODY.now film.frames.items SCRIPT.now
+page_text film = page_with (above_film HEAD.now (style_for CREW_STYLE.now film.crew.items) TOP.now (span_text film) BODY.now) film.frames.items SCRIPT.now

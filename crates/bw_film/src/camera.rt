@@ -3,6 +3,7 @@
 ghost use Rattle.std.specs.Prelude.{◌≡◌, false};
 ghost use Rattle.bw_film.specs.Choices.{one_more};
 ghost use Rattle.bw_film.specs.Filming.{IsSameChoice};
+ghost use Rattle.bw_film.specs.Films.{AddsAFrame};
 
 use crate::film::Film;
 use crate::telling::Telling;
@@ -41,6 +42,9 @@ impl<S: Steps<Global, Step<Global>> + Shows + Drop> Filmed<S> {
     fn film_step(&mut self, receipt: Receipt)
         ensures steps { self.new.steps ≡ self.old.steps }
         ensures choice { IsSameChoice self.old.film self.new.film }
+        ensures crew { self.new.film.crew ≡ self.old.film.crew }
+        ensures frames { AddsAFrame self.old.film.crew.items
+            self.old.film.frames.items self.new.film.frames.items }
         ensures failed { self.new.has_failed ≡ false → self.old.has_failed ≡ false }
         ensures counted { self.new.has_failed ≡ false
             → self.new.film.moments ≡ one_more self.old.film.moments }

@@ -1,11 +1,12 @@
 //! Films, and how they are taken.
 
-ghost use Rattle.std.specs.Prelude.{◌≡◌, OnOk, OnErr, IfOk};
+ghost use Rattle.std.specs.Prelude.{◌≡◌, [], OnOk, OnErr, IfOk};
 ghost use Rattle.std.specs.String.{string_bytes};
 ghost use Rattle.bw_film.specs.Choices.{one_more};
 ghost use Rattle.bw_film.specs.Films.{AddsAFrame, AreDrawn, moments_of};
 
 use crate::choice::Choice;
+use crate::crew::Standing;
 use crate::frame::Frame;
 use crate::telling::Telling;
 use bw_delta::NoMemory;
@@ -23,19 +24,24 @@ pub struct Film {
     /// The number of moments that there were, drawn or not.
     pub moments: u64,
     pub frames: Vec<Frame>,
+    /// What each worker does at the newest moment or since, if that is shown.
+    pub crew: Vec<Standing>,
     pub ghost drawn: { AreDrawn choice moments frames.items },
 }
 
 impl Film {
-    /// Returns a film without a moment.
-    pub(crate) fn new(alloc: Global, choice: Choice) -> Film
+    /// Returns a film without a moment, of workers who do this, or of none that are shown.
+    pub(crate) fn new(alloc: Global, choice: Choice, crew: Vec<Standing>) -> Film
         ensures choice { result.choice ≡ choice }
         ensures moments { result.moments ≡ 0 }
+        ensures crew { result.crew ≡ crew }
+        ensures frames { result.frames.items ≡ [] }
     {
         Film {
             choice,
             moments: 0,
             frames: Vec::new(alloc),
+            crew,
         }
     }
 
@@ -50,7 +56,9 @@ impl Film {
     ) -> Result<(), NoMemory>
         ensures choice { self.new.choice ≡ self.old.choice }
         ensures counted { OnOk result (self.new.moments ≡ one_more self.old.moments) }
-        ensures frames { AddsAFrame self.old.frames.items self.new.frames.items }
+        ensures crew { self.new.crew ≡ self.old.crew }
+        ensures frames { AddsAFrame self.old.crew.items
+            self.old.frames.items self.new.frames.items }
     {
         let moment = self.moments;
         // Where no number is left, there is none for a moment after this one.
@@ -58,7 +66,7 @@ impl Film {
             return Ok(());
         };
         if self.choice.has(moment) && self.frames.len() < MOST_FRAMES {
-            let frame = frame_of(alloc, table, self.choice, moment, telling, row)?;
+            let frame = frame_of(alloc, table, self.choice, moment, telling, row, &self.crew)?;
             self.frames.push(frame)?;
         }
         self.moments = next;
@@ -69,6 +77,7 @@ impl Film {
     pub(crate) fn note(&mut self, comment: &str) -> Result<(), NoMemory>
         ensures choice { self.new.choice ≡ self.old.choice }
         ensures moments { self.new.moments ≡ self.old.moments }
+        ensures crew { self.new.crew ≡ self.old.crew }
     {
         match self.moments.checked_sub(1) {
             Some(newest) => Ok(note_last(&mut self.frames, newest, comment)?),
@@ -108,9 +117,11 @@ fn frame_of(
     moment: u64,
     telling: Telling,
     row: &str,
+    crew: &[Standing],
 ) -> Result<Frame, NoMemory>
     ensures moment { IfOk result (λ frame. frame.moment ≡ moment) }
     ensures row { IfOk result (λ frame. string_bytes frame.row ≡ row.now) }
+    ensures crew { IfOk result (λ frame. frame.crew.items ≡ crew.now) }
 {
     let picture = Picture::of(alloc, table)?;
     let drawing = match choice.key {
@@ -123,6 +134,7 @@ fn frame_of(
         proved: telling.proved(),
         row: row.to_string(alloc)?,
         note: String::new(alloc),
+        crew: Vec::from_slice(alloc, crew)?,
         drawing: format!(in alloc; "{drawing}")?,
     })
 }

@@ -1,3 +1,5 @@
+use crate::crew::Standing;
+
 /// A moment of a film.
 #[derive(Debug, Drop)]
 pub struct Frame {
@@ -11,6 +13,8 @@ pub struct Frame {
     pub row: String,
     /// What a comment of the script says of it.
     pub note: String,
+    /// What each worker does, in the order of their numbers. It is empty where that isn't shown.
+    pub crew: Vec<Standing>,
     /// The table as an SVG image.
     pub drawing: String,
 }

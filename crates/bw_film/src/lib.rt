@@ -4,6 +4,7 @@
 
 mod camera;
 mod choice;
+mod crew;
 mod fault;
 mod film;
 mod frame;
@@ -13,6 +14,7 @@ mod script;
 mod telling;
 
 pub use choice::Choice;
+pub use crew::{AnsweredRow, NumberedRow, Standing};
 pub use fault::FilmFault;
 pub use film::{Film, MOST_FRAMES};
 pub use frame::Frame;

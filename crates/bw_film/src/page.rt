@@ -2,15 +2,19 @@
 
 ghost use Rattle.std.specs.Prelude.{◌≡◌, ◌++◌, IfOk, OnOk, codes, decimal, flat_map};
 ghost use Rattle.std.specs.String.{string_bytes};
-ghost use Rattle.bw_film.specs.Pages.{attribute_text, attributes_text, cut_text, drawing_text};
-ghost use Rattle.bw_film.specs.Pages.{escaped, escaped_byte, frame_text, moment_text, page_text};
-ghost use Rattle.bw_film.specs.Pages.{page_with, span_between, span_text, whole_text};
+ghost use Rattle.bw_film.specs.Pages.{above_film, attribute_text, attributes_text, cut_text};
+ghost use Rattle.bw_film.specs.Pages.{drawing_text, escaped, escaped_byte, frame_text, moment_text};
+ghost use Rattle.bw_film.specs.Pages.{page_text, page_with, span_between, span_text, style_for};
+ghost use Rattle.bw_film.specs.Pages.{whole_text};
 
+mod crew;
 mod text;
 
+use crate::crew::Standing;
 use crate::film::{Film, MOST_FRAMES};
 use crate::frame::Frame;
-use crate::page::text::{BODY, HEAD, SCRIPT};
+use crate::page::crew::push_crew;
+use crate::page::text::{BODY, CREW, CREW_STYLE, HEAD, SCRIPT, TOP};
 use bw_delta::NoMemory;
 use itoa::Buffer;
 use std::alloc::{AllocError, Global};
@@ -21,25 +25,50 @@ pub fn page_of(alloc: Global, film: &Film) -> Result<Vec<u8>, NoMemory>
     ensures { IfOk result (λ page. page.items ≡ page_text film.now) }
 {
     let span = span_of(alloc, film)?;
-    page_with(alloc, HEAD, &span, BODY, &film.frames, SCRIPT)
+    let style = style_for(CREW_STYLE, &film.crew);
+    let above = above_film(alloc, HEAD, style, TOP, &span, BODY)?;
+    page_with(alloc, above, &film.frames, SCRIPT)
 }
 
-/// Returns the texts with the frames before the last one.
-fn page_with(
+/// Returns the style, unless no worker is shown.
+fn style_for<'a>(style: &'a str, crew: &[Standing]) -> &'a str
+    ensures { result.now ≡ style_for style.now crew.now }
+{
+    if crew.is_empty() { "" } else { style }
+}
+
+/// Returns the texts, one behind the other.
+fn above_film(
     alloc: Global,
     head: &str,
+    style: &str,
+    top: &str,
     span: &str,
     body: &str,
+) -> Result<Vec<u8>, AllocError>
+    ensures { IfOk result (λ above. above.items
+        ≡ above_film head.now style.now top.now span.now body.now) }
+{
+    let mut above = Vec::from_slice(alloc, head.as_bytes())?;
+    above.extend_from_slice(style.as_bytes())?;
+    above.extend_from_slice(top.as_bytes())?;
+    above.extend_from_slice(span.as_bytes())?;
+    above.extend_from_slice(body.as_bytes())?;
+    Ok(above)
+}
+
+/// Returns what stands above the film, the film, and the script.
+fn page_with(
+    alloc: Global,
+    above: Vec<u8>,
     frames: &[Frame],
     script: &str,
 ) -> Result<Vec<u8>, NoMemory>
     ensures { IfOk result (λ page. page.items
-        ≡ page_with head.now span.now body.now frames.now script.now) }
+        ≡ page_with above.items frames.now script.now) }
 {
-    let mut page = Vec::from_slice(alloc, head.as_bytes())?;
-    page.extend_from_slice(span.as_bytes())?;
-    page.extend_from_slice(body.as_bytes())?;
-    push_frames(&mut page, frames)?;
+    let mut page = above;
+    push_frames(alloc, &mut page, frames)?;
     page.extend_from_slice(script.as_bytes())?;
     Ok(page)
 }
@@ -96,22 +125,25 @@ fn cut_span(
 }
 
 /// Appends the frames in their order.
-fn push_frames(page: &mut Vec<u8>, frames: &[Frame]) -> Result<(), AllocError>
+fn push_frames(alloc: Global, page: &mut Vec<u8>, frames: &[Frame]) -> Result<(), NoMemory>
     ensures { OnOk result (page.new.items ≡ page.old.items ++ flat_map frame_text frames.now) }
 {
     for frame in frames {
-        push_frame(page, frame)?;
+        push_frame(alloc, page, frame)?;
     }
     Ok(())
 }
 
 /// Appends a frame.
-fn push_frame(page: &mut Vec<u8>, frame: &Frame) -> Result<(), AllocError>
+fn push_frame(alloc: Global, page: &mut Vec<u8>, frame: &Frame) -> Result<(), NoMemory>
     ensures { OnOk result (page.new.items ≡ page.old.items ++ frame_text frame.now) }
 {
     push_moment(page, frame.moment)?;
     push_texts(page, frame)?;
-    push_drawing(page, &frame.drawing)
+    push_drawing(page, &frame.drawing)?;
+    push_crew(alloc, page, CREW, &frame.crew)?;
+    page.extend_from_slice(b"</template>\n")?;
+    Ok(())
 }
 
 /// Begins the element of a moment, up to its first attribute's value.
@@ -135,13 +167,13 @@ fn push_texts(page: &mut Vec<u8>, frame: &Frame) -> Result<(), AllocError>
     Ok(())
 }
 
-/// Ends the last attribute, and appends what the element has.
+/// Ends the last attribute, and appends the drawing.
 fn push_drawing(page: &mut Vec<u8>, drawing: &str) -> Result<(), AllocError>
     ensures { OnOk result (page.new.items ≡ page.old.items ++ drawing_text drawing.now) }
 {
     page.extend_from_slice(b"\">\n")?;
     page.extend_from_slice(drawing.as_bytes())?;
-    page.extend_from_slice(b"\n</template>\n")?;
+    page.extend_from_slice(b"\n")?;
     Ok(())
 }
 

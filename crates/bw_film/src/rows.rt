@@ -1,25 +1,27 @@
 //! Films of traces.
 
-ghost use Rattle.std.specs.Prelude.{◌≡◌, IfOk, IfErr, OnOk};
+ghost use Rattle.std.specs.Prelude.{◌≡◌, IfOk, IfErr, length};
 ghost use Rattle.bw_film.specs.Faults.{IsRowFault, IsRowsFault};
 ghost use Rattle.bw_film.specs.Filming.{DoesRow, IsFilmOf, IsSameChoice};
 
 use crate::camera::{Filmed, Shows};
 use crate::choice::Choice;
+use crate::crew::{answer, begin, crew_of};
 use crate::fault::FilmFault;
 use crate::film::Film;
 use crate::telling::Telling;
 use bw_alone::Alone;
 use bw_delta::NoMemory;
 use bw_keys::Config;
-use bw_procedures::{Steps, do_act};
+use bw_procedures::{Reply, Steps, do_act};
 use bw_step::Step;
 use bw_table::{NewFault, Table};
 use bw_texts::{Row, write_trace};
 use std::alloc::Global;
 
 /// Does the rows on a new table, one after the other in the order of the trace, and films each step.
-/// One worker does them all, whatever number a row has.
+/// One worker does them all, whatever number a row has; but if `workers` isn't 0, each frame shows
+/// what the rows' own workers below that number do.
 ///
 /// # Errors
 ///
@@ -29,10 +31,12 @@ pub fn film_rows(
     alloc: Global,
     config: Config,
     choice: Choice,
+    workers: u32,
     rows: &[Row],
 ) -> Result<Film, FilmFault>
     ensures choice { IfOk result (λ film. film.choice ≡ choice) }
     ensures moments { IfOk result (IsFilmOf rows.now) }
+    ensures workers { IfOk result (λ film. length film.crew.items ≡ workers) }
     ensures fault { IfErr result (IsRowsFault config rows.now) }
 {
     let mut table = match Table::new(alloc, alloc, config) {
@@ -40,7 +44,7 @@ pub fn film_rows(
         Err(NewFault::BadConfig(bad)) => return Err(FilmFault::Config(bad)),
         Err(NewFault::NoMemory) => return Err(FilmFault::Memory),
     };
-    let mut film = Film::new(alloc, choice);
+    let mut film = Film::new(alloc, choice, crew_of(alloc, rows, workers)?);
     film.add(alloc, &table, Telling::Made(config), "")?;
     let mut filmed = Filmed {
         steps: Alone::new(alloc, alloc, &mut table),
@@ -49,21 +53,25 @@ pub fn film_rows(
         has_failed: false,
     };
     for place in 0..rows.len() {
-        do_row(alloc, &mut filmed, rows[place], place + 1)?;
+        let row = rows[place];
+        begin(&mut filmed.film.crew, rows, place);
+        let reply = do_row(alloc, &mut filmed, row, place + 1)?;
+        answer(&mut filmed.film.crew, rows, place, reply);
     }
     let Filmed { film, .. } = filmed;
     Ok(film)
 }
 
-/// Does the row with this number, counted from 1.
+/// Does the row with this number, counted from 1, and returns the reply.
 fn do_row<S: Steps<Global, Step<Global>> + Shows + Drop>(
     alloc: Global,
     filmed: &mut Filmed<S>,
     row: Row,
     number: usize,
-) -> Result<(), FilmFault>
+) -> Result<Reply, FilmFault>
     ensures choice { IsSameChoice filmed.old.film filmed.new.film }
-    ensures done { OnOk result (DoesRow row filmed.old.film (S.seen filmed.old.steps).trail
+    ensures done { IfOk result (λ reply. DoesRow row reply
+        filmed.old.film (S.seen filmed.old.steps).trail
         filmed.new.film (S.seen filmed.new.steps).trail) }
     ensures fault { IfErr result (IsRowFault row.worker number) }
 {
@@ -71,7 +79,7 @@ fn do_row<S: Steps<Global, Step<Global>> + Shows + Drop>(
     match do_act(filmed, alloc, row.act) {
         Err(fault) => Err(FilmFault::Stopped(row.worker as usize, number, fault)),
         Ok(_) if filmed.has_failed => Err(FilmFault::Memory),
-        Ok(_) => Ok(()),
+        Ok(reply) => Ok(reply),
     }
 }
 

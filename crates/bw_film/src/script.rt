@@ -36,7 +36,7 @@ pub fn film_script<R: Read + Drop>(
         return Err(FilmFault::Memory);
     };
     let mut player = Player::new(alloc);
-    let mut film = Film::new(alloc, choice);
+    let mut film = Film::new(alloc, choice, Vec::new(alloc));
     for line in lines.lines(alloc) {
         take(alloc, &mut player, &mut film, line)?;
     }

@@ -1,7 +1,7 @@
 //! What a page has beside its film. The drawings stand in templates, of which one at a time is shown,
 //! since each has the same styles and names.
 
-/// Up to the sentence that says which moments are shown.
+/// Up to the end of the styles.
 pub(crate) const HEAD: &str = r#"<!DOCTYPE html>
 <html lang="en">
 <head>
@@ -32,12 +32,33 @@ button[aria-disabled=true] { opacity: .45; cursor: default; }
 #row { color: var(--faint); overflow-wrap: anywhere; }
 #stage { margin: .75rem 0; overflow-x: auto; }
 #stage svg { display: block; }
-</style>
+"#;
+
+/// The styles of the table of what the workers do. It stands beside the drawing or, where there is no
+/// room, above.
+pub(crate) const CREW_STYLE: &str =
+    r#"#stage { display: flex; flex-wrap: wrap-reverse; gap: 1.25rem; align-items: flex-end; }
+table { border-collapse: collapse; font-size: .9rem; }
+caption { padding: .25rem .6rem; color: var(--faint); text-align: left; }
+th, td { padding: .25rem .6rem; border-bottom: 1px solid var(--edge); text-align: left; vertical-align: top; white-space: nowrap; }
+.acts { background: var(--key); box-shadow: inset 4px 0 var(--accent); }
+.acts td:nth-child(3) { font-weight: 600; }
+"#;
+
+/// From there up to the sentence that says which moments are shown.
+pub(crate) const TOP: &str = r#"</style>
 </head>
 <body>
 <main>
 <h1>A Bw-tree, step by step</h1>
 <p id="span">"#;
+
+/// The table of what the workers do, up to the first of them.
+pub(crate) const CREW: &str = r#"<table>
+<caption>What each worker does</caption>
+<thead><tr><th scope="col">Worker</th><th scope="col">Did last</th><th scope="col">Does now</th><th scope="col">Does next</th></tr></thead>
+<tbody>
+"#;
 
 /// Up to the film.
 pub(crate) const BODY: &str = r#"</p>

@@ -70,8 +70,9 @@ pub(crate) const OF_FILM: &str =
     "Rows, scripts of steps and options are those of draw. It prints a page of HTML that needs no other
 file: the drawing after each step, with the row or line that wanted the step, and what a comment
 of a script says behind it. Moment 0 is the new table, and each step makes the next one. A page
-has 200 moments at most, from --from on. The rows of a trace are done one after the other, as one
-worker does them, whatever their workers' numbers, and --readers changes nothing.
+has 200 moments at most, from --from on. The rows of a trace are done one after the other, each up
+to its end, and --readers changes nothing. With --workers 2 and more the page says at each moment
+which row each worker did last, and what was answered, which it does now, and which is next.
 
 Example:
   bwtree make --rows 20 | bwtree film --fanout 4 --chain 4 > film.html";

@@ -1,6 +1,6 @@
 //! Drawings and numbers of a table.
 
-ghost use Rattle.std.specs.Prelude.{◌≡◌, IfOk, false, true};
+ghost use Rattle.std.specs.Prelude.{◌≡◌, ◌<◌, ◌≤◌, IfOk, false, true};
 ghost use Rattle.bw_scripts.specs.Played.{IsPlayed};
 
 use crate::program::fault::Fault;
@@ -86,12 +86,20 @@ pub(crate) fn write_film<R: Read + Drop, W: Write>(
         film_script(alloc, choice, input)?
     } else {
         let rows = read_trace(alloc, input, setting.workers)?;
-        film_rows(alloc, setting.config, choice, &rows)?
+        film_rows(alloc, setting.config, choice, shown_workers(setting.workers), &rows)?
     };
     let page = page_of(alloc, &film)?;
     output.write_all(&page)?;
     output.flush()?;
     Ok(())
+}
+
+/// Returns of how many workers a film shows what they do: of one alone each row tells it.
+fn shown_workers(workers: u32) -> u32
+    ensures several { 1 < workers → result ≡ workers }
+    ensures alone { workers ≤ 1 → result ≡ 0 }
+{
+    if workers > 1 { workers } else { 0 }
 }
 
 /// Writes the numbers of the table.
