@@ -31,7 +31,7 @@ pub none_more : (rows : List Row) (worker low middle high place : ℕ) (it : Num
     → NoneOf rows worker low middle → NoneOf rows worker low high
 none_more rows worker low middle high place it here more number at other before i d from below is =
     ⊎_elim (λ e. other (sym (ap (λ (r : Row). r.worker) (ap (λ k. get_or rows k d) e ∙ row_is rows it.row.worker place it number at d)) ∙ is))
-           (λ n. before i d from (omega (arith, n, here, more, below)) is) (cases_eq i place)
+    (λ n. before i d from (omega (arith, n, here, more, below)) is) (cases_eq i place)
 
 first_here : (rows : List Row) (low high place : ℕ) (it : NumberedRow) → low ≡ place → high ≡ place + 1 → it.number ≡ place + 1 → IsRowAt rows it.row.worker it → IsFirst rows it.row.worker low high (Some it)
 first_here rows low high place it here more number at = record {
@@ -56,7 +56,7 @@ first_later rows worker place high it (Some x) number at other before =
 -- no other worker is at the row that is begun
 still_none : (rows : List Row) (worker low place : ℕ) (it : NumberedRow) (x : Option NumberedRow) → low ≡ place → it.number ≡ place + 1 → IsRowAt rows it.row.worker it → it.row.worker ≢ worker → IsFirst rows worker low place x → IsFirst rows worker low (place + 1) x
 still_none rows worker low place it None here number at other before = none_more rows worker low place (place + 1) place it refl refl number at other before
-still_none rows worker low place it (Some x) here number at other before = absurd (omega (arith, here, before.from, before.before) : ⊥)
+still_none rows worker low place it (Some x) here number at other before = let no : ⊥ = omega (arith, here, before.from, before.before) in absurd no
 
 -- and none was at it
 none_since : (rows : List Row) (worker low high place : ℕ) (it : NumberedRow) (x : Option NumberedRow) → low ≡ place → high ≡ place + 1 → it.number ≡ place + 1 → IsRowAt rows it.row.worker it → it.row.worker ≢ worker → IsFirst rows worker low (place + 1) x → IsFirst rows worker high (place + 1) x
@@ -96,9 +96,9 @@ crew_set : (rows : List Row) (replies : List Reply) (begun place : ℕ) (crew : 
     → ((i : ℕ) (d : Standing) → i ≢ place → i < length crew → IsStanding rows replies begun i (get_or crew i d)) → IsCrew rows replies begun (set crew place it)
 crew_set rows replies begun place crew it inside own others i d within =
     ⊎_elim
-      (λ e. subst (λ k. IsStanding rows replies begun k (get_or (set crew place it) k d)) (sym e) (subst (λ (s : Standing). IsStanding rows replies begun place s) (sym (get_or-set_same crew place it d inside)) own))
-      (λ n. subst (λ (s : Standing). IsStanding rows replies begun i s) (sym (get_or-set_other crew place i it d n)) (others i d n (omega (arith, length-set crew place it, within))))
-      (cases_eq i place)
+    (λ e. subst (λ k. IsStanding rows replies begun k (get_or (set crew place it) k d)) (sym e) (subst (λ (s : Standing). IsStanding rows replies begun place s) (sym (get_or-set_same crew place it d inside)) own))
+    (λ n. subst (λ (s : Standing). IsStanding rows replies begun i s) (sym (get_or-set_other crew place i it d n)) (others i d n (omega (arith, length-set crew place it, within))))
+    (cases_eq i place)
 
 turned : {a b : ℕ} → a ≢ b → b ≢ a
 turned other e = other (sym e)
@@ -108,8 +108,8 @@ pub begins : (rows : List Row) (place : ℕ) (row : NumberedRow) (crew : List St
 begins rows place row crew old it number at inside was worker done doing next = record {
   many = length-set crew row.row.worker it;
   crew = λ replies many before.
-    let own : IsStanding rows replies place row.row.worker old = subst (λ (s : Standing). IsStanding rows replies place row.row.worker s) (sym was) (before row.row.worker old inside) in
-    crew_set rows replies (place + 1) row.row.worker crew it inside
+      let own : IsStanding rows replies place row.row.worker old = subst (λ (s : Standing). IsStanding rows replies place row.row.worker s) (sym was) (before row.row.worker old inside) in
+      crew_set rows replies (place + 1) row.row.worker crew it inside
       (record {
         worker = worker ∙ own.worker;
         done = subst (λ (x : Option AnsweredRow). IsLastDone rows replies row.row.worker x) (sym done) own.done;
@@ -129,9 +129,9 @@ pub answers : (rows : List Row) (place : ℕ) (row : NumberedRow) (reply : Reply
 answers rows place row reply crew old it done number at inside was worker is_done is_row is_reply doing next = record {
   many = length-set crew row.row.worker it;
   crew = λ replies many before.
-    let more : length (replies ++ reply ∷ []) ≡ place + 1 = omega (arith, many, length-append replies (reply ∷ [])) in
-    let own : IsStanding rows replies (place + 1) row.row.worker old = subst (λ (s : Standing). IsStanding rows replies (place + 1) row.row.worker s) (sym was) (before row.row.worker old inside) in
-    crew_set rows (replies ++ reply ∷ []) (place + 1) row.row.worker crew it inside
+      let more : length (replies ++ reply ∷ []) ≡ place + 1 = omega (arith, many, length-append replies (reply ∷ [])) in
+      let own : IsStanding rows replies (place + 1) row.row.worker old = subst (λ (s : Standing). IsStanding rows replies (place + 1) row.row.worker s) (sym was) (before row.row.worker old inside) in
+      crew_set rows (replies ++ reply ∷ []) (place + 1) row.row.worker crew it inside
       (record {
         worker = worker ∙ own.worker;
         done = subst (λ (x : Option AnsweredRow). IsLastDone rows (replies ++ reply ∷ []) row.row.worker x) (sym is_done) (done_now rows replies reply place row done many number at is_row is_reply);
@@ -154,29 +154,29 @@ pub begins_apart : (rows : List Row) (place : ℕ) (row : NumberedRow) (crew : L
 begins_apart rows place row crew number at outside = record {
   many = refl;
   crew = λ replies many before i d within.
-    let same = before i d within in
-    let other = apart rows place row crew outside i within in
-    record {
-      worker = same.worker;
-      done = same.done;
-      doing = still_none rows i (length replies) place row (get_or crew i d).doing many number at other same.doing;
-      next = first_later rows i place (length rows) row (get_or crew i d).next number at other same.next;
-    };
+      let same = before i d within in
+      let other = apart rows place row crew outside i within in
+      record {
+        worker = same.worker;
+        done = same.done;
+        doing = still_none rows i (length replies) place row (get_or crew i d).doing many number at other same.doing;
+        next = first_later rows i place (length rows) row (get_or crew i d).next number at other same.next;
+      };
 }
 
 pub answers_apart : (rows : List Row) (place : ℕ) (row : NumberedRow) (reply : Reply) (crew : List Standing) → row.number ≡ place + 1 → IsRowAt rows row.row.worker row → length crew ≤ row.row.worker → AnswersRow rows place reply crew crew
 answers_apart rows place row reply crew number at outside = record {
   many = refl;
   crew = λ replies many before i d within.
-    let same = before i d within in
-    let other = apart rows place row crew outside i within in
-    let more : length (replies ++ reply ∷ []) ≡ place + 1 = omega (arith, many, length-append replies (reply ∷ [])) in
-    record {
-      worker = same.worker;
-      done = done_before rows replies reply i place row (get_or crew i d).done many number at other same.done;
-      doing = none_since rows i (length replies) (length (replies ++ reply ∷ [])) place row (get_or crew i d).doing many more number at other same.doing;
-      next = same.next;
-    };
+      let same = before i d within in
+      let other = apart rows place row crew outside i within in
+      let more : length (replies ++ reply ∷ []) ≡ place + 1 = omega (arith, many, length-append replies (reply ∷ [])) in
+      record {
+        worker = same.worker;
+        done = done_before rows replies reply i place row (get_or crew i d).done many number at other same.done;
+        doing = none_since rows i (length replies) (length (replies ++ reply ∷ [])) place row (get_or crew i d).doing many more number at other same.doing;
+        next = same.next;
+      };
 }
 
 pub row_at : (rows : List Row) (place : ℕ) (row : Row) (it : NumberedRow) → place < length rows → get_or rows place row ≡ row → it.number ≡ place + 1 → it.row ≡ row → IsRowAt rows it.row.worker it
@@ -209,15 +209,15 @@ passed rows worker from place it number at other none = none_more rows worker fr
 pub crew_more : (rows : List Row) (crew : List Standing) (it : Standing) → it.worker ≡ length crew → it.done ≡ None → it.doing ≡ None → IsFirst rows (length crew) 0 (length rows) it.next → IsCrew rows [] 0 crew → IsCrew rows [] 0 (crew ++ it ∷ [])
 crew_more rows crew it worker done doing next before i d within =
     ⊎_elim
-      (λ e. subst (λ k. IsStanding rows [] 0 k (get_or (crew ++ it ∷ []) k d)) (sym e) (subst (λ (s : Standing). IsStanding rows [] 0 (length crew) s) (sym (get_or_push crew it d (length crew) refl)) record {
-        worker = worker;
-        done = subst (λ (x : Option AnsweredRow). IsLastDone rows [] (length crew) x) (sym done) (none_in rows (length crew) 0 0 (omega arith));
-        doing = subst (λ (x : Option NumberedRow). IsFirst rows (length crew) 0 0 x) (sym doing) (none_in rows (length crew) 0 0 (omega arith));
-        next = next;
-      }))
-      (λ n. let inside : i < length crew = omega (arith, n, within, length-append crew (it ∷ [])) in
-        subst (λ (s : Standing). IsStanding rows [] 0 i s) (sym (get_or_append_left crew (it ∷ []) d i inside)) (before i d inside))
-      (cases_eq i (length crew))
+    (λ e. subst (λ k. IsStanding rows [] 0 k (get_or (crew ++ it ∷ []) k d)) (sym e) (subst (λ (s : Standing). IsStanding rows [] 0 (length crew) s) (sym (get_or_push crew it d (length crew) refl)) record {
+      worker = worker;
+      done = subst (λ (x : Option AnsweredRow). IsLastDone rows [] (length crew) x) (sym done) (none_in rows (length crew) 0 0 (omega arith));
+      doing = subst (λ (x : Option NumberedRow). IsFirst rows (length crew) 0 0 x) (sym doing) (none_in rows (length crew) 0 0 (omega arith));
+      next = next;
+    }))
+    (λ n. let inside : i < length crew = omega (arith, n, within, length-append crew (it ∷ [])) in
+    subst (λ (s : Standing). IsStanding rows [] 0 i s) (sym (get_or_append_left crew (it ∷ []) d i inside)) (before i d inside))
+    (cases_eq i (length crew))
 
 pub crew_none : (rows : List Row) (crew : List Standing) → length crew ≡ 0 → IsCrew rows [] 0 crew
-crew_none rows crew none i d within = absurd (omega (arith, none, within) : ⊥)
+crew_none rows crew none i d within = let no : ⊥ = omega (arith, none, within) in absurd no

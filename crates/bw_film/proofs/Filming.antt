@@ -4,6 +4,7 @@ use Rattle.std.specs.Prelude.{if◌then◌else◌}
 use Rattle.std.proofs.lemmas.List.{length-map, get_or-map, take-append-le, take_all}
 use Rattle.std.proofs.lemmas.List.Elements.{All-append, All-weaker}
 use Rattle.std.specs.List.{All}
+use Rattle.std.specs.String.{string_bytes}
 use Rattle.std.proofs.lemmas.List.Sums.{sum_by_push}
 use Rattle.bw_step.specs.declared.receipt.Receipt.{Receipt}
 use Rattle.bw_step.specs.declared.receipt.Receipt.TheVariants.{Inserted, Deleted, Modified, Looked, Shaped}
@@ -24,8 +25,8 @@ use Rattle.bw_film.specs.Choices.{one_more}
 use Rattle.bw_film.specs.declared.crew.Standing.{Standing}
 use Rattle.bw_film.specs.declared.frame.Frame.{Frame}
 use Rattle.bw_film.specs.Crews.{AnswersRow, BeginsRow, IsCrew}
-use Rattle.bw_film.specs.Films.{AddsAFrame}
-use Rattle.bw_film.specs.Filming.{DoesRow, IsFilmed, IsFilmedUpTo, IsFrameOf, IsSameChoice, after_more, filmed_as, is_step, moments_after, steps_in}
+use Rattle.bw_film.specs.Films.{AddsAFrame, Shows}
+use Rattle.bw_film.specs.Filming.{DoesRow, IsFilmed, IsFilmedUpTo, IsFrameOf, IsSameChoice, NamesRow, after_more, filmed_as, is_step, moments_after, steps_in}
 
 pub filmed_same : (film : Film) (failed : Bool) (old new : List Receipt) → new ≡ old → IsFilmed film failed old film failed new
 filmed_same film failed old new same = filmed_as film failed old new (ap steps_in same)
@@ -71,9 +72,10 @@ step_of (term_delete a b c d) (Looked at key found) told = absurd told
 
 -- a step is a moment
 pub filmed_step : {a b : Film} {f g : Bool} (step : Proposal) (receipt : Receipt) (old new : Seen) → IsAccepted step receipt old new → IsSameChoice a b → (g ≡ false → f ≡ false) → (g ≡ false → b.moments ≡ one_more a.moments)
-    → b.crew.items ≡ a.crew.items → AddsAFrame a.crew.items a.frames.items b.frames.items → IsFilmed a f old.trail b g new.trail
-filmed_step step receipt old new accepted same failed counted crew frames = record {
+    → string_bytes b.row ≡ string_bytes a.row → b.crew.items ≡ a.crew.items → AddsAFrame (string_bytes a.row) a.crew.items a.frames.items b.frames.items → IsFilmed a f old.trail b g new.trail
+filmed_step step receipt old new accepted same failed counted row crew frames = record {
   choice = same;
+  row = row;
   crew = crew;
   frames = record { added = frames.added; shown = frames.shown; kept = frames.kept };
   failed = failed;
@@ -92,35 +94,38 @@ frame_stays rows replies reply workers more frame same is =
     record {
       begun = is.begun;
       within = omega (arith, is.within, long);
+      row = is.row;
       many = is.many ∙ sym same;
       crew = subst (λ (l : List Reply). IsCrew rows l is.begun frame.crew.items) (sym kept) is.crew;
     }
 
 -- a frame of the row behind those that are done
-frame_now : (rows : List Row) (replies : List Reply) (reply : Reply) (place workers : ℕ) (crew : List Standing) (frame : Frame) → length replies ≡ place → length crew ≡ workers → IsCrew rows replies (place + 1) crew → frame.crew.items ≡ crew
+frame_now : (rows : List Row) (replies : List Reply) (reply : Reply) (place workers : ℕ) (row : List ℕ) (crew : List Standing) (frame : Frame) → length replies ≡ place → length crew ≡ workers → IsCrew rows replies (place + 1) crew → NamesRow (place + 1) row → Shows row crew frame
     → IsFrameOf rows (replies ++ reply ∷ []) workers frame
-frame_now rows replies reply place workers crew frame many long is shown =
+frame_now rows replies reply place workers row crew frame many long is named shown =
     let more = length-append replies (reply ∷ []) in
     let kept : take (place + 1 - 1) (replies ++ reply ∷ []) ≡ replies =
-        take-append-le (place + 1 - 1) replies (reply ∷ []) (omega (arith, many)) ∙ take_all (place + 1 - 1) replies (omega (arith, many)) in
+    take-append-le (place + 1 - 1) replies (reply ∷ []) (omega (arith, many)) ∙ take_all (place + 1 - 1) replies (omega (arith, many)) in
     record {
       begun = place + 1;
       within = omega (arith, many, more);
-      many = ap length shown ∙ long;
-      crew = subst (λ (l : List Reply). IsCrew rows l (place + 1) frame.crew.items) (sym kept) (subst (λ (l : List Standing). IsCrew rows replies (place + 1) l) (sym shown) is);
+      row = λ _. subst (λ (l : List ℕ). NamesRow (place + 1) l) (sym shown.row) named;
+      many = ap length shown.crew ∙ long;
+      crew = subst (λ (l : List Reply). IsCrew rows l (place + 1) frame.crew.items) (sym kept) (subst (λ (l : List Standing). IsCrew rows replies (place + 1) l) (sym shown.crew) is);
     }
 
-frame_first : (rows : List Row) (crew : List Standing) (frame : Frame) → IsCrew rows [] 0 crew → frame.crew.items ≡ crew → IsFrameOf rows [] (length crew) frame
-frame_first rows crew frame is shown = record {
+frame_first : (rows : List Row) (row : List ℕ) (crew : List Standing) (frame : Frame) → IsCrew rows [] 0 crew → Shows row crew frame → IsFrameOf rows [] (length crew) frame
+frame_first rows row crew frame is shown = record {
   begun = 0;
   within = omega arith;
-  many = ap length shown;
-  crew = subst (λ (l : List Standing). IsCrew rows [] 0 l) (sym shown) is;
+  row = λ some. (let no : ⊥ = omega (arith, some) in absurd no);
+  many = ap length shown.crew;
+  crew = subst (λ (l : List Standing). IsCrew rows [] 0 l) (sym shown.crew) is;
 }
 
 -- before the first row there is the moment of the new table
-pub films_begin : (rows : List Row) (film : Film) (none : List Frame) → film.moments ≡ 1 → none ≡ [] → IsCrew rows [] 0 film.crew.items → AddsAFrame film.crew.items none film.frames.items → IsFilmedUpTo rows 0 film []
-films_begin rows film none one empty crew frames =
+pub films_begin : (rows : List Row) (film : Film) (row : List ℕ) (none : List Frame) → film.moments ≡ 1 → none ≡ [] → IsCrew rows [] 0 film.crew.items → AddsAFrame row film.crew.items none film.frames.items → IsFilmedUpTo rows 0 film []
+films_begin rows film row none one empty crew frames =
     let are : film.frames.items ≡ frames.added = frames.kept ∙ ap (λ l. l ++ frames.added) empty in
     record {
       replies = [];
@@ -129,12 +134,12 @@ films_begin rows film none one empty crew frames =
       moments = one;
       crew = crew;
       frames = subst (λ l. All (IsFrameOf rows [] (length film.crew.items)) l) (sym are)
-        (All-weaker (λ (frame : Frame). frame.crew.items ≡ film.crew.items) (IsFrameOf rows [] (length film.crew.items)) (λ frame shown. frame_first rows film.crew.items frame crew shown) frames.added frames.shown);
+          (All-weaker (Shows row film.crew.items) (IsFrameOf rows [] (length film.crew.items)) (λ frame shown. frame_first rows row film.crew.items frame crew shown) frames.added frames.shown);
     }
 
 -- and then one row after the other is begun, done and answered
 pub films_go_on : (rows : List Row) (place : ℕ) (row : Row) (reply : Reply) (a b c d : Film) (old new : List Receipt) → place < length rows → get_or rows place row ≡ row → IsFilmedUpTo rows place a old
-    → BeginsRow rows place a.crew.items b.crew.items → b.moments ≡ a.moments → b.frames.items ≡ a.frames.items → DoesRow row reply b old c new
+    → BeginsRow rows place a.crew.items b.crew.items → b.moments ≡ a.moments → b.frames.items ≡ a.frames.items → DoesRow row (place + 1) reply b old c new
     → AnswersRow rows place reply c.crew.items d.crew.items → d.moments ≡ c.moments → d.frames.items ≡ c.frames.items → IsFilmedUpTo rows (place + 1) d new
 films_go_on rows place row reply a b c d old new inside at before begun moments frames does answered moments_then frames_then =
     let acts : List Act = map (λ (r : Row). r.act) rows in
@@ -153,7 +158,7 @@ films_go_on rows place row reply a b c d old new inside at before begun moments 
       moments = moments_then ∙ does.moments.moments ∙ ap (moments_after does.moments.steps) (moments ∙ before.moments) ∙ after_more does.moments.steps (steps_in old) 1 ∙ ap (λ k. moments_after k 1) (sym does.moments.longer);
       crew = answered.crew before.replies before.many (subst (λ (l : List Standing). IsCrew rows before.replies (place + 1) l) (sym does.crew) crew);
       frames = subst (λ l. All shown l) (sym are)
-        (All-append shown a.frames.items does.frames.added
+          (All-append shown a.frames.items does.frames.added
           (All-weaker (IsFrameOf rows before.replies (length a.crew.items)) shown (λ frame is. frame_stays rows before.replies reply (length a.crew.items) (length d.crew.items) frame (long ∙ begun.many) is) a.frames.items before.frames)
-          (All-weaker (λ (frame : Frame). frame.crew.items ≡ b.crew.items) shown (λ frame is. frame_now rows before.replies reply place (length d.crew.items) b.crew.items frame before.many (sym long) crew is) does.frames.added does.frames.shown));
+          (All-weaker (Shows (string_bytes c.row) b.crew.items) shown (λ frame is. frame_now rows before.replies reply place (length d.crew.items) (string_bytes c.row) b.crew.items frame before.many (sym long) crew does.row is) does.frames.added does.frames.shown));
     }

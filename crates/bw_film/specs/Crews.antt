@@ -40,11 +40,11 @@ IsLastDone rows replies worker None = NoneOf rows worker 0 (length replies)
 IsLastDone rows replies worker (Some it) = IsLastAnswer rows replies worker it
 
 -- what a worker does where so many rows are begun, and those before them have these replies
-pub record IsStanding (rows : List Row) (replies : List Reply) (begun worker : ℕ) (it : Standing) : Type 0 where
-  pub worker : it.worker ≡ worker
-  pub done : IsLastDone rows replies worker it.done
-  pub doing : IsFirst rows worker (length replies) begun it.doing
-  pub next : IsFirst rows worker begun (length rows) it.next
+pub record IsStanding (rows : List Row) (replies : List Reply) (begun own : ℕ) (it : Standing) : Type 0 where
+  pub worker : it.worker ≡ own
+  pub done : IsLastDone rows replies own it.done
+  pub doing : IsFirst rows own (length replies) begun it.doing
+  pub next : IsFirst rows own begun (length rows) it.next
 
 -- what each of the workers does, in the order of their numbers
 abbrev pub IsCrew : List Row → List Reply → ℕ → List Standing → Type 0

@@ -1,6 +1,7 @@
 -- What a worker's steps make of a film.
-use Rattle.std.specs.Prelude.{◌≡◌, refl, ℕ, zero, suc, ◌+◌, ◌-◌, ◌≤◌, [], ◌++◌, take, Bool, true, false, List, length, map, Option, Some, None, count_by}
+use Rattle.std.specs.Prelude.{◌≡◌, refl, ℕ, zero, suc, ◌+◌, ◌-◌, ◌<◌, ◌≤◌, [], ◌++◌, take, codes, decimal, Bool, true, false, List, length, map, Option, Some, None, count_by}
 use Rattle.std.specs.List.{All}
+use Rattle.std.specs.String.{string_bytes}
 use Rattle.std.proofs.Common.{◌∙◌, ap, sym, subst, append_assoc, arith}
 use Rattle.std.proofs.lemmas.List.{append-nil}
 use Rattle.std.proofs.lemmas.List.Elements.{All-append, All-nil}
@@ -17,7 +18,7 @@ use Rattle.bw_film.specs.declared.crew.Standing.{Standing}
 use Rattle.bw_film.specs.declared.frame.Frame.{Frame}
 use Rattle.bw_film.specs.Choices.{one_more}
 use Rattle.bw_film.specs.Crews.{IsCrew}
-use Rattle.bw_film.specs.Films.{AddsFrames, Show}
+use Rattle.bw_film.specs.Films.{AddsFrames, Shows}
 
 -- the receipt is that of a step, and not of a look
 abbrev pub is_step : Receipt → Bool
@@ -45,8 +46,9 @@ pub record AddsMoments (old : Film) (old_trail : List Receipt) (new : Film) (new
 -- the same, as long as memory wasn't wanting for a moment; and each frame that they made shows what the workers do meanwhile
 pub record IsFilmed (old : Film) (old_failed : Bool) (old_trail : List Receipt) (new : Film) (new_failed : Bool) (new_trail : List Receipt) : Type 0 where
   pub choice : IsSameChoice old new
+  pub row : string_bytes new.row ≡ string_bytes old.row
   pub crew : new.crew.items ≡ old.crew.items
-  pub frames : AddsFrames old.crew.items old.frames.items new.frames.items
+  pub frames : AddsFrames (string_bytes old.row) old.crew.items old.frames.items new.frames.items
   pub failed : new_failed ≡ false → old_failed ≡ false
   pub added : new_failed ≡ false → AddsMoments old old_trail new new_trail
 
@@ -67,19 +69,19 @@ adds_more {a} {b} {c} first then = record {
   moments = then.moments ∙ ap (moments_after then.steps) first.moments ∙ after_more then.steps first.steps a.moments;
 }
 
-frames_none : (crew : List Standing) (frames : List Frame) → AddsFrames crew frames frames
-frames_none crew frames = record { added = []; shown = All-nil (λ (frame : Frame). frame.crew.items ≡ crew); kept = sym (append-nil frames) }
+frames_none : (row : List ℕ) (crew : List Standing) (frames : List Frame) → AddsFrames row crew frames frames
+frames_none row crew frames = record { added = []; shown = All-nil (Shows row crew); kept = sym (append-nil frames) }
 
-frames_more : (crew middle : List Standing) (a b c : List Frame) → middle ≡ crew → AddsFrames crew a b → AddsFrames middle b c → AddsFrames crew a c
-frames_more crew middle a b c same first then = record {
+frames_more : (row : List ℕ) (crew : List Standing) (a b c : List Frame) → AddsFrames row crew a b → AddsFrames row crew b c → AddsFrames row crew a c
+frames_more row crew a b c first then = record {
   added = first.added ++ then.added;
-  shown = All-append (λ (frame : Frame). frame.crew.items ≡ crew) first.added then.added first.shown (subst (λ (l : List Standing). Show l then.added) same then.shown);
+  shown = All-append (Shows row crew) first.added then.added first.shown then.shown;
   kept = then.kept ∙ ap (λ l. l ++ then.added) first.kept ∙ append_assoc {A = Frame} a first.added then.added;
 }
 
 -- without a step more there is no moment more
 pub filmed_as : (film : Film) (failed : Bool) (old new : List Receipt) → steps_in new ≡ steps_in old → IsFilmed film failed old film failed new
-filmed_as film failed old new same = record { choice = refl; crew = refl; frames = frames_none film.crew.items film.frames.items; failed = λ is. is; added = λ is. adds_none film old new same }
+filmed_as film failed old new same = record { choice = refl; row = refl; crew = refl; frames = frames_none (string_bytes film.row) film.crew.items film.frames.items; failed = λ is. is; added = λ is. adds_none film old new same }
 
 pub filmed_stay : (film : Film) (failed : Bool) (trail : List Receipt) → IsFilmed film failed trail film failed trail
 filmed_stay film failed trail = filmed_as film failed trail trail refl
@@ -87,17 +89,26 @@ filmed_stay film failed trail = filmed_as film failed trail trail refl
 pub filmed_join : {a b c : Film} {f g h : Bool} {x y z : List Receipt} → IsFilmed a f x b g y → IsFilmed b g y c h z → IsFilmed a f x c h z
 filmed_join {a} {b} {c} first then = record {
   choice = then.choice ∙ first.choice;
+  row = then.row ∙ first.row;
   crew = then.crew ∙ first.crew;
-  frames = frames_more a.crew.items b.crew.items a.frames.items b.frames.items c.frames.items first.crew first.frames then.frames;
+  frames = frames_more (string_bytes a.row) a.crew.items a.frames.items b.frames.items c.frames.items first.frames
+      (subst (λ (s : List ℕ). AddsFrames s a.crew.items b.frames.items c.frames.items) first.row
+      (subst (λ (l : List Standing). AddsFrames (string_bytes b.row) l b.frames.items c.frames.items) first.crew then.frames));
   failed = λ is. first.failed (then.failed is);
   added = λ is. adds_more (first.added (then.failed is)) (then.added is);
 }
 
--- a frame shows what each worker does at a moment of a row, or before the first one
+-- a text names the row with this number
+pub record NamesRow (number : ℕ) (text : List ℕ) : Type 0 where
+  pub rest : List ℕ
+  pub is : text ≡ codes "row " ++ decimal number ++ codes ": " ++ rest
+
+-- a frame shows what each worker does at a moment of the row that it names, or before the first one
 pub record IsFrameOf (rows : List Row) (replies : List Reply) (workers : ℕ) (frame : Frame) : Type 0 where
   -- how many rows are begun; all but the last of them are done
   pub begun : ℕ
   pub within : begun ≤ length replies
+  pub row : 0 < begun → NamesRow begun (string_bytes frame.row)
   pub many : length frame.crew.items ≡ workers
   pub crew : IsCrew rows (take (begun - 1) replies) begun frame.crew.items
 
@@ -116,11 +127,12 @@ pub record IsFilmOf (rows : List Row) (film : Film) : Type 0 where
   pub done : IsFilmedUpTo rows (length rows) film trail
 
 -- a row is done: its receipts go with the reply, its steps are moments, and their frames show what the workers do meanwhile
-pub record DoesRow (row : Row) (reply : Reply) (old : Film) (old_trail : List Receipt) (new : Film) (new_trail : List Receipt) : Type 0 where
-  pub told : AddsTold row.act reply old_trail new_trail
+pub record DoesRow (it : Row) (number : ℕ) (reply : Reply) (old : Film) (old_trail : List Receipt) (new : Film) (new_trail : List Receipt) : Type 0 where
+  pub told : AddsTold it.act reply old_trail new_trail
   pub moments : AddsMoments old old_trail new new_trail
+  pub row : NamesRow number (string_bytes new.row)
   pub crew : new.crew.items ≡ old.crew.items
-  pub frames : AddsFrames old.crew.items old.frames.items new.frames.items
+  pub frames : AddsFrames (string_bytes new.row) old.crew.items old.frames.items new.frames.items
 
 -- an answer makes a moment where the table is new or a step was taken
 abbrev pub moments_with : Option Answer → ℕ → ℕ

@@ -1,6 +1,7 @@
 -- Which moments a film has.
 use Rattle.std.specs.Prelude.{◌≡◌, ℕ, List, ◌++◌, length, ◌≤◌, map}
 use Rattle.std.specs.List.{All, range_with_len}
+use Rattle.std.specs.String.{string_bytes}
 use Rattle.bw_film.specs.declared.crew.Standing.{Standing}
 use Rattle.bw_film.specs.declared.choice.Choice.{Choice}
 use Rattle.bw_film.specs.declared.frame.Frame.{Frame}
@@ -13,19 +14,20 @@ moments_of frames = map (λ frame. frame.moment) frames
 abbrev pub AreDrawn : Choice → ℕ → List Frame → Type 0
 AreDrawn choice moments frames = moments_of frames ≡ range_with_len choice.from (drawn_count 200 choice.from choice.to moments)
 
--- the frames show that the workers do this
-abbrev pub Show : List Standing → List Frame → Type 0
-Show crew frames = All (λ frame. frame.crew.items ≡ crew) frames
+-- a frame shows this row, and that the workers do this
+pub record Shows (text : List ℕ) (workers : List Standing) (frame : Frame) : Type 0 where
+  pub row : string_bytes frame.row ≡ text
+  pub crew : frame.crew.items ≡ workers
 
--- the frames that were there stay, and one may be added, which shows that the workers do this
-pub record AddsAFrame (crew : List Standing) (old new : List Frame) : Type 0 where
+-- the frames that were there stay, and one may be added, which shows this row and this crew
+pub record AddsAFrame (row : List ℕ) (crew : List Standing) (old new : List Frame) : Type 0 where
   pub added : List Frame
   pub one : length added ≤ 1
-  pub shown : Show crew added
+  pub shown : All (Shows row crew) added
   pub kept : new ≡ old ++ added
 
 -- the same of several
-pub record AddsFrames (crew : List Standing) (old new : List Frame) : Type 0 where
+pub record AddsFrames (row : List ℕ) (crew : List Standing) (old new : List Frame) : Type 0 where
   pub added : List Frame
-  pub shown : Show crew added
+  pub shown : All (Shows row crew) added
   pub kept : new ≡ old ++ added

@@ -1,6 +1,7 @@
 //! A worker each of whose steps is filmed.
 
 ghost use Rattle.std.specs.Prelude.{◌≡◌, false};
+ghost use Rattle.std.specs.String.{string_bytes};
 ghost use Rattle.bw_film.specs.Choices.{one_more};
 ghost use Rattle.bw_film.specs.Filming.{IsSameChoice};
 ghost use Rattle.bw_film.specs.Films.{AddsAFrame};
@@ -31,8 +32,6 @@ impl<'t> Shows for Alone<'t, Global> {
 pub(crate) struct Filmed<S: Drop> {
     pub(crate) steps: S,
     pub(crate) film: Film,
-    /// The row that is done.
-    pub(crate) row: String,
     /// Whether memory was wanting for a moment.
     pub(crate) has_failed: bool,
 }
@@ -42,17 +41,16 @@ impl<S: Steps<Global, Step<Global>> + Shows + Drop> Filmed<S> {
     fn film_step(&mut self, receipt: Receipt)
         ensures steps { self.new.steps ≡ self.old.steps }
         ensures choice { IsSameChoice self.old.film self.new.film }
-        ensures crew { self.new.film.crew ≡ self.old.film.crew }
-        ensures frames { AddsAFrame self.old.film.crew.items
+        ensures row { string_bytes self.new.film.row ≡ string_bytes self.old.film.row }
+        ensures crew { self.new.film.crew.items ≡ self.old.film.crew.items }
+        ensures frames { AddsAFrame (string_bytes self.old.film.row) self.old.film.crew.items
             self.old.film.frames.items self.new.film.frames.items }
         ensures failed { self.new.has_failed ≡ false → self.old.has_failed ≡ false }
         ensures counted { self.new.has_failed ≡ false
             → self.new.film.moments ≡ one_more self.old.film.moments }
     {
         let (alloc, table) = (self.steps.alloc(), self.steps.table());
-        let added = self
-            .film
-            .add(alloc, table, Telling::Step(receipt), self.row.as_str());
+        let added = self.film.add(alloc, table, Telling::Step(receipt));
         self.has_failed = self.has_failed || added.is_err();
     }
 }

@@ -1,6 +1,6 @@
 //! What each worker of a trace does.
 
-ghost use Rattle.std.specs.Prelude.{◌≡◌, ◌<◌, [], IfOk, length};
+ghost use Rattle.std.specs.Prelude.{◌≡◌, ◌<◌, ◌+◌, [], IfOk, length};
 ghost use Rattle.bw_film.specs.Crews.{AnswersRow, BeginsRow, IsCrew, IsFirst, IsRowAt};
 
 use bw_delta::NoMemory;

@@ -24,7 +24,9 @@ pub struct Film {
     /// The number of moments that there were, drawn or not.
     pub moments: u64,
     pub frames: Vec<Frame>,
-    /// What each worker does at the newest moment or since, if that is shown.
+    /// The row or the line of the input that is done.
+    pub row: String,
+    /// What each worker does, in the order of their numbers. It is empty where that isn't shown.
     pub crew: Vec<Standing>,
     pub ghost drawn: { AreDrawn choice moments frames.items },
 }
@@ -34,13 +36,14 @@ impl Film {
     pub(crate) fn new(alloc: Global, choice: Choice, crew: Vec<Standing>) -> Film
         ensures choice { result.choice ≡ choice }
         ensures moments { result.moments ≡ 0 }
-        ensures crew { result.crew ≡ crew }
+        ensures crew { result.crew.items ≡ crew.items }
         ensures frames { result.frames.items ≡ [] }
     {
         Film {
             choice,
             moments: 0,
             frames: Vec::new(alloc),
+            row: String::new(alloc),
             crew,
         }
     }
@@ -52,12 +55,12 @@ impl Film {
         alloc: Global,
         table: &Table<Global>,
         telling: Telling,
-        row: &str,
     ) -> Result<(), NoMemory>
         ensures choice { self.new.choice ≡ self.old.choice }
         ensures counted { OnOk result (self.new.moments ≡ one_more self.old.moments) }
-        ensures crew { self.new.crew ≡ self.old.crew }
-        ensures frames { AddsAFrame self.old.crew.items
+        ensures row { string_bytes self.new.row ≡ string_bytes self.old.row }
+        ensures crew { self.new.crew.items ≡ self.old.crew.items }
+        ensures frames { AddsAFrame (string_bytes self.old.row) self.old.crew.items
             self.old.frames.items self.new.frames.items }
     {
         let moment = self.moments;
@@ -66,7 +69,15 @@ impl Film {
             return Ok(());
         };
         if self.choice.has(moment) && self.frames.len() < MOST_FRAMES {
-            let frame = frame_of(alloc, table, self.choice, moment, telling, row, &self.crew)?;
+            let frame = frame_of(
+                alloc,
+                table,
+                self.choice,
+                moment,
+                telling,
+                &self.row,
+                &self.crew,
+            )?;
             self.frames.push(frame)?;
         }
         self.moments = next;
@@ -77,7 +88,7 @@ impl Film {
     pub(crate) fn note(&mut self, comment: &str) -> Result<(), NoMemory>
         ensures choice { self.new.choice ≡ self.old.choice }
         ensures moments { self.new.moments ≡ self.old.moments }
-        ensures crew { self.new.crew ≡ self.old.crew }
+        ensures crew { self.new.crew.items ≡ self.old.crew.items }
     {
         match self.moments.checked_sub(1) {
             Some(newest) => Ok(note_last(&mut self.frames, newest, comment)?),

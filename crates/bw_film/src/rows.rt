@@ -2,7 +2,8 @@
 
 ghost use Rattle.std.specs.Prelude.{◌≡◌, IfOk, IfErr, length};
 ghost use Rattle.bw_film.specs.Faults.{IsRowFault, IsRowsFault};
-ghost use Rattle.bw_film.specs.Filming.{DoesRow, IsFilmOf, IsSameChoice};
+ghost use Rattle.std.specs.String.{string_bytes};
+ghost use Rattle.bw_film.specs.Filming.{DoesRow, IsFilmOf, IsSameChoice, NamesRow};
 
 use crate::camera::{Filmed, Shows};
 use crate::choice::Choice;
@@ -45,11 +46,10 @@ pub fn film_rows(
         Err(NewFault::NoMemory) => return Err(FilmFault::Memory),
     };
     let mut film = Film::new(alloc, choice, crew_of(alloc, rows, workers)?);
-    film.add(alloc, &table, Telling::Made(config), "")?;
+    film.add(alloc, &table, Telling::Made(config))?;
     let mut filmed = Filmed {
         steps: Alone::new(alloc, alloc, &mut table),
         film,
-        row: String::new(alloc),
         has_failed: false,
     };
     for place in 0..rows.len() {
@@ -70,12 +70,12 @@ fn do_row<S: Steps<Global, Step<Global>> + Shows + Drop>(
     number: usize,
 ) -> Result<Reply, FilmFault>
     ensures choice { IsSameChoice filmed.old.film filmed.new.film }
-    ensures done { IfOk result (λ reply. DoesRow row reply
+    ensures done { IfOk result (λ reply. DoesRow row number reply
         filmed.old.film (S.seen filmed.old.steps).trail
         filmed.new.film (S.seen filmed.new.steps).trail) }
     ensures fault { IfErr result (IsRowFault row.worker number) }
 {
-    filmed.row = row_text(alloc, row, number)?;
+    filmed.film.row = row_text(alloc, row, number)?;
     match do_act(filmed, alloc, row.act) {
         Err(fault) => Err(FilmFault::Stopped(row.worker as usize, number, fault)),
         Ok(_) if filmed.has_failed => Err(FilmFault::Memory),
@@ -84,7 +84,9 @@ fn do_row<S: Steps<Global, Step<Global>> + Shows + Drop>(
 }
 
 /// Returns the row as a trace has it, behind its number.
-fn row_text(alloc: Global, row: Row, number: usize) -> Result<String, NoMemory> {
+fn row_text(alloc: Global, row: Row, number: usize) -> Result<String, NoMemory>
+    ensures { IfOk result (λ text. NamesRow number (string_bytes text)) }
+{
     let Ok(written) = write_trace(Vec::new(alloc), &[row]) else {
         return Err(NoMemory);
     };

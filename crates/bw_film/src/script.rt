@@ -94,6 +94,6 @@ fn film_answer(
         Some(Answer::Accepted(receipt)) => Telling::Step(receipt),
         Some(_) => return Ok(()),
     };
-    let row = format!(in alloc; "line {}: {line}", player.lines())?;
-    film.add(alloc, table, telling, &row)
+    film.row = format!(in alloc; "line {}: {line}", player.lines())?;
+    film.add(alloc, table, telling)
 }

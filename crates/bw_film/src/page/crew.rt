@@ -1,12 +1,14 @@
 //! The table of what the workers do.
 
-ghost use Rattle.std.specs.Prelude.{◌≡◌, ◌++◌, OnOk, decimal, flat_map};
-ghost use Rattle.bw_film.specs.CrewPages.{answer_text, crew_with, done_cell, numbered_text};
+ghost use Rattle.std.specs.Prelude.{◌≡◌, ◌++◌, OnOk, Some, decimal, flat_map};
+ghost use Rattle.bw_procedures.specs.Texts.{reply_text};
+ghost use Rattle.bw_film.specs.CrewPages.{answer_text, bare_text, crew_with, done_cell};
+ghost use Rattle.bw_film.specs.CrewPages.{fault_of, fault_text, fault_words, numbered_text};
 ghost use Rattle.bw_film.specs.CrewPages.{row_cell, standing_text, worker_cell};
 
 use crate::crew::{AnsweredRow, NumberedRow, Standing};
 use bw_delta::NoMemory;
-use bw_procedures::Reply;
+use bw_procedures::{Cleared, Done, Fault, Reply};
 use bw_texts::write_trace;
 use itoa::Buffer;
 use std::alloc::{AllocError, Global};
@@ -120,9 +122,58 @@ fn push_numbered(alloc: Global, page: &mut Vec<u8>, it: NumberedRow) -> Result<(
 fn push_reply(alloc: Global, page: &mut Vec<u8>, reply: Reply) -> Result<(), NoMemory>
     ensures { OnOk result (page.new.items ≡ page.old.items ++ answer_text reply) }
 {
-    let text = format!(in alloc; "{reply}")?;
+    let (bare, fault) = parted(reply);
+    let text = format!(in alloc; "{bare}")?;
     page.extend_from_slice(b"<br>answered <code>")?;
     page.extend_from_slice(text.as_bytes())?;
+    push_fault(page, fault)?;
     page.extend_from_slice(b"</code>")?;
     Ok(())
+}
+
+/// Returns the reply without the fault that stands beside it, and that fault.
+fn parted(reply: Reply) -> (Reply, Option<Fault>)
+    ensures text { reply_text result.0 ≡ Some (bare_text reply) }
+    ensures fault { result.1 ≡ fault_of reply }
+{
+    match reply {
+        Reply::Put(Done { reply, fault }) => (Reply::Put(Done { reply, fault: None }), fault),
+        Reply::Set(Done { reply, fault }) => (Reply::Set(Done { reply, fault: None }), fault),
+        Reply::Delete(Done { reply, fault }) => (Reply::Delete(Done { reply, fault: None }), fault),
+        Reply::Get(_) => (reply, None),
+        Reply::Clear(Cleared { removed, fault }) => {
+            (
+                Reply::Clear(Cleared {
+                    removed,
+                    fault: None,
+                }),
+                fault,
+            )
+        }
+    }
+}
+
+/// Appends the fault in brackets, if there is one.
+fn push_fault(page: &mut Vec<u8>, fault: Option<Fault>) -> Result<(), AllocError>
+    ensures { OnOk result (page.new.items ≡ page.old.items ++ fault_text fault) }
+{
+    if let Some(fault) = fault {
+        page.extend_from_slice(b" (")?;
+        page.extend_from_slice(fault_words(fault).as_bytes())?;
+        page.extend_from_slice(b")")?;
+    }
+    Ok(())
+}
+
+/// Returns the fault's name. No clause says what its own text is.
+fn fault_words(fault: Fault) -> &'static str
+    ensures { result.now ≡ fault_words fault }
+{
+    match fault {
+        Fault::Contended => "contended",
+        Fault::NoMemory => "no memory",
+        Fault::TableFull => "table full",
+        Fault::TooTall => "too tall",
+        Fault::Worn => "worn",
+    }
 }

@@ -38,6 +38,7 @@ button[aria-disabled=true] { opacity: .45; cursor: default; }
 /// room, above.
 pub(crate) const CREW_STYLE: &str =
     r#"#stage { display: flex; flex-wrap: wrap-reverse; gap: 1.25rem; align-items: flex-end; }
+#stage svg { flex: none; }
 table { border-collapse: collapse; font-size: .9rem; }
 caption { padding: .25rem .6rem; color: var(--faint); text-align: left; }
 th, td { padding: .25rem .6rem; border-bottom: 1px solid var(--edge); text-align: left; vertical-align: top; white-space: nowrap; }
