@@ -124,17 +124,18 @@ frame_first rows row crew frame is shown = record {
 }
 
 -- before the first row there is the moment of the new table
-pub films_begin : (rows : List Row) (film : Film) (row : List ℕ) (none : List Frame) → film.moments ≡ 1 → none ≡ [] → IsCrew rows [] 0 film.crew.items → AddsAFrame row film.crew.items none film.frames.items → IsFilmedUpTo rows 0 film []
-films_begin rows film row none one empty crew frames =
-    let are : film.frames.items ≡ frames.added = frames.kept ∙ ap (λ l. l ++ frames.added) empty in
+pub films_begin : (rows : List Row) (film : Film) (row : List ℕ) (crew : List Standing) (none : List Frame) → film.moments ≡ 1 → none ≡ [] → film.crew.items ≡ crew → IsCrew rows [] 0 crew → AddsAFrame row crew none film.frames.items
+    → IsFilmedUpTo rows 0 film []
+films_begin rows film row crew none one empty same is frames =
+    let are : film.frames.items ≡ frames.added = frames.kept ∙ ap (λ (l : List Frame). l ++ frames.added) empty in
+    let first = All-weaker (Shows row crew) (IsFrameOf rows [] (length crew)) (λ frame shown. frame_first rows row crew frame is shown) frames.added frames.shown in
     record {
       replies = [];
       many = refl;
       told = go_none (map (λ (row : Row). row.act) rows);
       moments = one;
-      crew = crew;
-      frames = subst (λ l. All (IsFrameOf rows [] (length film.crew.items)) l) (sym are)
-          (All-weaker (Shows row film.crew.items) (IsFrameOf rows [] (length film.crew.items)) (λ frame shown. frame_first rows row film.crew.items frame crew shown) frames.added frames.shown);
+      crew = subst (λ (l : List Standing). IsCrew rows [] 0 l) (sym same) is;
+      frames = subst (λ (l : List Standing). All (IsFrameOf rows [] (length l)) film.frames.items) (sym same) (subst (λ (l : List Frame). All (IsFrameOf rows [] (length crew)) l) (sym are) first);
     }
 
 -- and then one row after the other is begun, done and answered
@@ -149,7 +150,7 @@ films_go_on rows place row reply a b c d old new inside at before begun moments 
     let room : place < length acts = omega (arith, length-map rows (λ (r : Row). r.act), inside) in
     let crew : IsCrew rows before.replies (place + 1) b.crew.items = begun.crew before.replies before.many before.crew in
     let long : length d.crew.items ≡ length b.crew.items = answered.many ∙ ap length does.crew in
-    let are : d.frames.items ≡ a.frames.items ++ does.frames.added = frames_then ∙ does.frames.kept ∙ ap (λ l. l ++ does.frames.added) frames in
+    let are : d.frames.items ≡ a.frames.items ++ does.frames.added = frames_then ∙ does.frames.kept ∙ ap (λ (l : List Frame). l ++ does.frames.added) frames in
     let shown = IsFrameOf rows (before.replies ++ reply ∷ []) (length d.crew.items) in
     record {
       replies = before.replies ++ reply ∷ [];
@@ -157,7 +158,7 @@ films_go_on rows place row reply a b c d old new inside at before begun moments 
       told = rw does.told.trail (go_more acts before.replies (told_in old) reply place none does.told.added before.many room before.told answers);
       moments = moments_then ∙ does.moments.moments ∙ ap (moments_after does.moments.steps) (moments ∙ before.moments) ∙ after_more does.moments.steps (steps_in old) 1 ∙ ap (λ k. moments_after k 1) (sym does.moments.longer);
       crew = answered.crew before.replies before.many (subst (λ (l : List Standing). IsCrew rows before.replies (place + 1) l) (sym does.crew) crew);
-      frames = subst (λ l. All shown l) (sym are)
+      frames = subst (λ (l : List Frame). All shown l) (sym are)
           (All-append shown a.frames.items does.frames.added
           (All-weaker (IsFrameOf rows before.replies (length a.crew.items)) shown (λ frame is. frame_stays rows before.replies reply (length a.crew.items) (length d.crew.items) frame (long ∙ begun.many) is) a.frames.items before.frames)
           (All-weaker (Shows (string_bytes c.row) b.crew.items) shown (λ frame is. frame_now rows before.replies reply place (length d.crew.items) (string_bytes c.row) b.crew.items frame before.many (sym long) crew does.row is) does.frames.added does.frames.shown));

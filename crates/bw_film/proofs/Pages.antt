@@ -47,3 +47,7 @@ pub whole : (first last moments to next : ℕ) → next ≡ min (last + 1) (2 ^ 
 whole first last moments to next is why =
     let after = min (last + 1) (2 ^ 64 - 1) in
     sym (not_both after moments last to (cut_text first last moments after) (whole_text first last moments) (subst (λ k. ((k < moments) × (to ≤ last)) ⊎ (moments ≤ k)) is why))
+
+-- four texts, one behind the other
+pub four : (p a b c d x y z w : List ℕ) → x ≡ p ++ a → y ≡ x ++ b → z ≡ y ++ c → w ≡ z ++ d → w ≡ p ++ (((a ++ b) ++ c) ++ d)
+four p a b c d x y z w first second third fourth = behind p ((a ++ b) ++ c) d z w (behind p (a ++ b) c y z (behind p a b x y first second) third) fourth

@@ -1,6 +1,6 @@
 //! Films of traces.
 
-ghost use Rattle.std.specs.Prelude.{◌≡◌, IfOk, IfErr, length};
+ghost use Rattle.std.specs.Prelude.{◌≡◌, ◌++◌, IfOk, IfErr, codes, decimal, length};
 ghost use Rattle.bw_film.specs.Faults.{IsRowFault, IsRowsFault};
 ghost use Rattle.std.specs.String.{string_bytes};
 ghost use Rattle.bw_film.specs.Filming.{DoesRow, IsFilmOf, IsSameChoice, NamesRow};
@@ -18,7 +18,7 @@ use bw_procedures::{Reply, Steps, do_act};
 use bw_step::Step;
 use bw_table::{NewFault, Table};
 use bw_texts::{Row, write_trace};
-use std::alloc::Global;
+use std::alloc::{AllocError, Global};
 
 /// Does the rows on a new table, one after the other in the order of the trace, and films each step.
 /// One worker does them all, whatever number a row has; but if `workers` isn't 0, each frame shows
@@ -93,5 +93,12 @@ fn row_text(alloc: Global, row: Row, number: usize) -> Result<String, NoMemory>
     let Ok(text) = String::from_utf8(written) else {
         return Err(NoMemory);
     };
-    Ok(format!(in alloc; "row {number}: {}", text.trim_end())?)
+    Ok(row_named(alloc, number, text.trim_end())?)
+}
+
+fn row_named(alloc: Global, number: usize, row: &str) -> Result<String, AllocError>
+    ensures { IfOk result (λ text. string_bytes text
+        ≡ codes "row " ++ decimal number ++ codes ": " ++ row.now) }
+{
+    format!(in alloc; "row {number}: {row}")
 }

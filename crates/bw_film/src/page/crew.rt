@@ -123,7 +123,7 @@ fn push_reply(alloc: Global, page: &mut Vec<u8>, reply: Reply) -> Result<(), NoM
     ensures { OnOk result (page.new.items ≡ page.old.items ++ answer_text reply) }
 {
     let (bare, fault) = parted(reply);
-    let text = format!(in alloc; "{bare}")?;
+    let text = bare.to_string(alloc)?;
     page.extend_from_slice(b"<br>answered <code>")?;
     page.extend_from_slice(text.as_bytes())?;
     push_fault(page, fault)?;
