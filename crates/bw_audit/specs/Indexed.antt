@@ -1,7 +1,7 @@
--- What an index of changes keeps: the first place of each number, and the value of each key after each number.
-use Rattle.std.specs.Prelude.{ℕ, ◌≡◌, ◌==◌, cond, suc, List, [], ◌∷◌, Option, Some, None, option_map}
+-- What an index of changes keeps: the first place of each number up to their count, and each numbered change by its key.
+use Rattle.std.specs.Prelude.{ℕ, ◌+◌, ◌≤◌, ◌≡◌, ◌==◌, ◌&&◌, ◌||◌, cond, suc, zero, List, [], ◌∷◌, ◌++◌, length, Bool, Option, Some, None, option_map, nat_lt, nat_le, slice_index_or}
+use Rattle.std.specs.List.Sorted.{IsPermutation, IsSorted}
 use Rattle.std.specs.Ordering.{nat_cmp, ordering_then}
-use Rattle.std.specs.BTreeMap.{BTreeMap, get}
 use Rattle.std.specs.declared.cmp.Ordering.{Ordering}
 use Rattle.bw_audit.specs.declared.change.Change.{Change}
 use Rattle.bw_audit.specs.Changes.{bearer}
@@ -11,19 +11,35 @@ abbrev pub first_place : List Change → ℕ → Option ℕ
 first_place [] number = None
 first_place (c ∷ cs) number = cond (c.number == number) (Some 0) (option_map suc (first_place cs number))
 
--- what a key has after a change, if the change is of the key
-abbrev pub value_there : Option Change → ℕ → Option (Option ℕ)
-value_there None key = None
-value_there (Some c) key = cond (c.key == key) (Some c.after) None
+-- the first places of the numbers from 0 to n
+pub record ArePlaces (changes : List Change) (n : ℕ) (places : List (Option ℕ)) : Type 0 where
+  pub counted : length places ≡ n + 1
+  pub placed : (number : ℕ) → number ≤ n → slice_index_or places number None ≡ first_place changes number
+
+-- what the key of a change has after it
+abbrev pub after_of : Option Change → Option ℕ
+after_of None = None
+after_of (Some c) = c.after
+
+-- the key and the number of a change
+abbrev pub row_of : Option Change → List (ℕ × ℕ)
+row_of None = []
+row_of (Some c) = (c.key, c.number) ∷ []
+
+-- those of the first change of each number from 1 to n
+abbrev pub rows_upto : List Change → ℕ → List (ℕ × ℕ)
+rows_upto cs zero = []
+rows_upto cs (suc n) = rows_upto cs n ++ row_of (bearer cs (suc n))
 
 -- keys, and then numbers
 abbrev pub pair_cmp : ℕ × ℕ → ℕ × ℕ → Ordering
 pair_cmp a b = ordering_then (nat_cmp a.0 b.0) (nat_cmp a.1 b.1)
 
-pub record IsIndexOf (changes : List Change) (places : ℕ → Option ℕ) (values : ℕ × ℕ → Option (Option ℕ)) : Type 0 where
-  pub placed : (number : ℕ) → places number ≡ first_place changes number
-  pub valued : (number key : ℕ) → values (key, number) ≡ value_there (bearer changes number) key
+abbrev pub is_upto : ℕ → ℕ → ℕ × ℕ → Bool
+is_upto key number row = nat_lt row.0 key || (row.0 == key && nat_le row.1 number)
 
--- the maps are an index of the changes
-abbrev pub Indexes : BTreeMap ℕ ℕ → BTreeMap (ℕ × ℕ) (Option ℕ) → List Change → Type 0
-Indexes places values changes = IsIndexOf changes (get nat_cmp places) (get pair_cmp values)
+-- the lists are an index of the changes
+pub record Indexes (places : List (Option ℕ)) (rows : List (ℕ × ℕ)) (changes : List Change) : Type 0 where
+  pub placed : ArePlaces changes (length changes) places
+  pub kept : IsPermutation (rows_upto changes (length changes)) rows
+  pub in_order : IsSorted pair_cmp rows

@@ -1,22 +1,23 @@
-ghost use Rattle.std.specs.Prelude.{◌≡◌, ◌+◌, ◌<◌, IfOk, OnOk, length, take, is_some};
+ghost use Rattle.std.specs.Prelude.{◌≡◌, ◌≢◌, ◌+◌, ◌<◌, ◌≤◌, IfOk, length, take, None};
 ghost use Rattle.bw_audit.specs.Changes.{bearer, value_at};
-ghost use Rattle.bw_audit.specs.Indexed.{Indexes};
+ghost use Rattle.bw_audit.specs.Verdicts.{is_misnumbered};
+ghost use Rattle.bw_audit.specs.Indexed.{after_of, is_upto, rows_upto, ArePlaces, Indexes};
 
 use crate::change::Change;
 use crate::verdict::AuditFault;
 use bw_keys::Key;
 use std::alloc::Global;
-use std::collections::BTreeMap;
 use std::marker::Model;
 
 /// The changes of a history, by number and by key. Contracts see the list of changes.
 #[derive(Drop)]
 pub struct Index {
     changes: Vec<Change>,
-    /// The first place of each number.
-    places: BTreeMap<u64, usize>,
-    /// The value of a key after the change with a number, if that is a change of the key.
-    values: BTreeMap<(Key, u64), Option<u64>>,
+    /// The first place of each number from 0 to the count of changes. Greater numbers are false, and
+    /// take no memory.
+    places: Vec<Option<usize>>,
+    /// The key and the number of the first change of each number from 1 to the count, in order.
+    rows: Vec<(Key, u64)>,
 }
 
 impl Model for Index {
@@ -28,7 +29,7 @@ impl Model for Index {
 
     ghost view = { λ s. s.changes.items };
 
-    ghost invariant = { λ s. Indexes s.places s.values s.changes.items };
+    ghost invariant = { λ s. Indexes s.places.items s.rows.items s.changes.items };
 }
 
 impl Index {
@@ -36,15 +37,13 @@ impl Index {
     pub fn new(machine: Global, changes: Vec<Change>) -> Result<Index, AuditFault>
         ensures { IfOk result (λ index. index ≡ changes.items) }
     {
-        let mut places = BTreeMap::new(machine);
-        let mut values = BTreeMap::new(machine);
-        for place in 0..changes.len() {
-            enter(&mut places, &mut values, changes.as_slice(), place)?;
-        }
+        let places = first_places(machine, changes.as_slice())?;
+        let mut rows = numbered_rows(machine, changes.as_slice(), places.as_slice())?;
+        rows.sort_unstable();
         Ok(Index {
             changes,
             places,
-            values,
+            rows,
         })
     }
 
@@ -62,47 +61,97 @@ impl Index {
         self.changes.len() as u64
     }
 
-    /// Returns whether one of the first `before` changes has the number.
-    #[tactic(auto, using(crate::proofs::Indexing::borne_before))]
-    pub fn is_borne_before(&self, before: usize, number: u64) -> bool
-        ensures { result ≡ is_some (bearer (take before self.now) number) }
+    /// Returns whether the number is none of 1 to the count, or is that of one of the first `before`
+    /// changes.
+    #[tactic(auto, using(crate::proofs::Indexing::borne_at))]
+    pub fn is_misnumbered(&self, before: usize, number: u64) -> bool
+        ensures { result ≡ is_misnumbered self.now before number }
     {
-        match self.places.get(&number) {
-            Some(place) => *place < before,
+        if number == 0 || self.count() < number {
+            return true;
+        }
+        match self.places[number as usize] {
+            Some(place) => place < before,
             None => false,
         }
     }
 
     /// Returns the value of the key after the changes 1 to `number`.
     pub fn value_after(&self, number: u64, key: Key) -> Option<u64>
+        requires { number ≤ length self.now }
         ensures { result ≡ value_at self.now number key }
     {
-        if number == 0 {
+        let end = self.rows.partition_point(|row| is_upto(*row, key, number));
+        if end == 0 {
             return None;
         }
-        match self.values.range((key, 1)..=(key, number)).next_back() {
-            Some((_, after)) => *after,
+        let (last_key, last_number) = self.rows[end - 1];
+        if last_key == key {
+            self.after(last_number)
+        } else {
+            None
+        }
+    }
+
+    /// Returns what the first change with the number leaves of its key.
+    #[tactic(auto, using(crate::proofs::Indexing::placed_at, crate::proofs::Indexing::after_placed, crate::proofs::Indexing::unplaced_at))]
+    fn after(&self, number: u64) -> Option<u64>
+        requires { number ≤ length self.now }
+        ensures { result ≡ after_of (bearer self.now number) }
+    {
+        match self.places[number as usize] {
+            Some(place) => self.changes[place].after,
             None => None,
         }
     }
 }
 
-/// Enters the change at a place, unless an earlier one has its number.
-fn enter(
-    places: &mut BTreeMap<u64, usize>,
-    values: &mut BTreeMap<(Key, u64), Option<u64>>,
-    changes: &[Change],
-    place: usize,
-) -> Result<(), AuditFault>
-    requires inside { place < length changes.now }
-    requires index { Indexes places.old values.old (take place changes.now) }
-    ensures { OnOk result (Indexes places.new values.new (take (place + 1) changes.now)) }
+/// Returns whether the row is of a lower key, or of this key and a number of at most this.
+#[inline]
+fn is_upto(row: (Key, u64), key: Key, number: u64) -> bool
+    ensures { result ≡ is_upto key number row }
 {
-    let change = &changes[place];
-    if places.contains_key(&change.number) {
-        return Ok(());
+    row.0 < key || row.0 == key && row.1 <= number
+}
+
+/// Returns the first place of each number from 0 to the count of changes.
+fn first_places(machine: Global, changes: &[Change]) -> Result<Vec<Option<usize>>, AuditFault>
+    ensures { IfOk result (λ places. ArePlaces changes.now (length changes.now) places.items) }
+{
+    let mut places = Vec::from_elem(machine, None, changes.len() + 1)?;
+    for place in 0..changes.len() {
+        enter(&mut places, changes, place);
     }
-    places.insert(change.number, place)?;
-    values.insert((change.key, change.number), change.after)?;
-    Ok(())
+    Ok(places)
+}
+
+/// Enters the place of a change, unless an earlier one has its number, or that is too great.
+fn enter(places: &mut Vec<Option<usize>>, changes: &[Change], place: usize)
+    requires inside { place < length changes.now }
+    requires places { ArePlaces (take place changes.now) (length changes.now) places.old.items }
+    ensures { ArePlaces (take (place + 1) changes.now) (length changes.now) places.new.items }
+{
+    let number = changes[place].number as usize;
+    if number < places.len() && places[number].is_none() {
+        places[number] = Some(place);
+    }
+}
+
+/// Returns the key and the number of the first change of each number, in the order of the numbers.
+fn numbered_rows(
+    machine: Global,
+    changes: &[Change],
+    places: &[Option<usize>],
+) -> Result<Vec<(Key, u64)>, AuditFault>
+    requires { ArePlaces changes.now (length changes.now) places.now }
+    ensures { IfOk result (λ rows. rows.items ≡ rows_upto changes.now (length changes.now)) }
+{
+    let mut rows = Vec::with_capacity(machine, changes.len())?;
+    for last in 0..changes.len() {
+        if let Some(place) = places[last + 1] {
+            let change = &changes[place];
+            rows.push((change.key, change.number))?;
+        }
+    }
+    Ok(rows)
 }

@@ -38,17 +38,10 @@ fn moved_on(last: u64, receipt: &Receipt) -> u64
     }
 }
 
-/// Returns whether the number is none of 1 to the count, or is that of an earlier change.
-fn is_misnumbered(index: &Index, before: usize, number: u64) -> bool
-    ensures { result ≡ is_misnumbered index.now before number }
-{
-    number == 0 || index.count() < number || index.is_borne_before(before, number)
-}
-
 fn is_bad_change(index: &Index, before: usize, change: &Change) -> bool
     ensures { result ≡ is_bad_change index.now before change.now }
 {
-    if is_misnumbered(index, before, change.number) {
+    if index.is_misnumbered(before, change.number) {
         return true;
     }
     index.value_after(change.number - 1, change.key) != change.before

@@ -1,16 +1,18 @@
-use Rattle.std.proofs.Common.{sym, ◌∙◌}
-use Rattle.std.specs.Ordering.{nat_cmp}
-use Rattle.std.specs.BTreeMap.{get}
-use Rattle.bw_audit.specs.Indexed.{pair_cmp}
-use Rattle.bw_audit.proofs.Indexing.{next_known, next_new}
+use Rattle.std.proofs.Common.{rules, arith}
+use Rattle.std.proofs.lemmas.Bool.Decides.{nat_tests}
+use Rattle.bw_audit.proofs.Indexing.{enter_new, enter_known, enter_beyond, no_change}
 use Rattle.bw_audit.proofs.index.enter.Goals as goal
+use Rattle.bw_audit.proofs.index.enter.Goals.{else-number-len-via-then-number-len+else-is_none, else-number-len-via-else-number-len}
 
-pub returns-then-contains_key : goal.returns-then-contains_key
-returns-then-contains_key c =
-    next_known c.args.changes.now c.args.place _ c.requires.inside _ _ c.requires.index (sym c.contains_key.ensures ∙ c.if-contains_key.true)
+pub returns-then-is_none : goal.returns-then-is_none
+returns-then-is_none c =
+    enter_new c.args.changes.now _ c.args.place _ c.requires.inside c.args.places.now.items c.requires.places (search rules) (search rules)
 
-pub returns : goal.returns
-returns c =
-    next_new c.args.changes.now c.args.place _ c.requires.inside _ _ c.requires.index
-    (get nat_cmp c.insert.new.self) (get pair_cmp c.insert-2.new.self) (sym c.contains_key.ensures ∙ c.if-contains_key.false)
-    c.in_ok-insert.ensures.updates.0 c.in_ok-insert-2.ensures.updates.0
+pub returns-else-number-len : goal.returns-else-number-len
+returns-else-number-len c =
+    elim c.else-number-len.branch [
+      | else-number-len-via-then-number-len+else-is_none w ↦
+          enter_known c.args.changes.now _ c.args.place no_change c.requires.inside c.args.places.now.items c.requires.places w.index.result.now w.index.ensures (search rules) (search rules)
+      | else-number-len-via-else-number-len w ↦
+          enter_beyond c.args.changes.now _ c.args.place no_change c.requires.inside c.args.places.now.items c.requires.places (search rules)
+    ]

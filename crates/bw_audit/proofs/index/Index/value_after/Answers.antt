@@ -1,22 +1,43 @@
-use Rattle.std.proofs.Common.{rules, sym}
-use Rattle.std.specs.BTreeMap.{get}
-use Rattle.bw_audit.proofs.Indexing.{last_in_row, none_in_row}
-use Rattle.bw_audit.specs.Indexed.{pair_cmp}
+use Rattle.std.proofs.Common.{ℕ, ◌≡◌, ◌∙◌, rules, sym, ap}
+use Rattle.std.proofs.lemmas.List.Sorted.{IsPartitionPoint-from_clause}
+use Rattle.bw_audit.specs.Indexed.{is_upto}
+use Rattle.bw_audit.proofs.Indexing.{rows_part, none_before, other_last, last_row, own_last}
 use Rattle.bw_audit.proofs.index.Index.value_after.Goals as goal
 
-pub returns-in-Some : goal.returns-in-Some
-returns-in-Some c =
+pub returns-then-end-eq0 : goal.returns-then-end-eq0
+returns-then-end-eq0 c =
     let s = c.self.inside in
-    let h = rw (c.new.ensures.start, c.new.ensures.end) at (c.range.ensures.in_range (search rules)) in
-    let p = h.3 _ _ c.in-Some.ensures.steps in
-    let q = h.4 _ _ c.in-Some.ensures.steps in
+    let i = c.self.invariant in
+    let parted = rows_part s.rows.items c.args.key c.args.number i.in_order in
+    let point = IsPartitionPoint-from_clause (is_upto c.args.key c.args.number) _ _ (rw c.deref.ensures.value at c.partition_point-end.ensures.partitioned) parted (λ a r q k. search rules) in
     rw (← c.self.view_is)
-    (sym (last_in_row s.changes.items (get pair_cmp s.values) c.args.key c.args.number _ _ (λ j k. c.self.invariant.valued j k) p.0 p.1 q))
+    (sym (none_before s.changes.items s.rows.items i.kept i.in_order c.args.key c.args.number _ (rw (← c.self.view_is) at c.requires) (search rules) point (search rules)))
 
-pub returns-in-None : goal.returns-in-None
-returns-in-None c =
+pub after-requires : goal.after-requires
+after-requires c =
     let s = c.self.inside in
-    let h = rw (c.new.ensures.start, c.new.ensures.end) at (c.range.ensures.in_range (search rules)) in
-    let none = h.5 (search rules) in
+    let i = c.self.invariant in
+    let parted = rows_part s.rows.items c.args.key c.args.number i.in_order in
+    let point = IsPartitionPoint-from_clause (is_upto c.args.key c.args.number) _ _ (rw c.deref.ensures.value at c.partition_point-end.ensures.partitioned) parted (λ a r q k. search rules) in
+    rw (← c.self.view_is, c.index.ensures)
+    (last_row s.changes.items s.rows.items i.kept i.in_order c.args.key c.args.number _ (rw (← c.self.view_is) at c.requires) (search rules) point (search rules) _).1
+
+pub returns-then-last_key-key : goal.returns-then-last_key-key
+returns-then-last_key-key c =
+    let s = c.self.inside in
+    let i = c.self.invariant in
+    let parted = rows_part s.rows.items c.args.key c.args.number i.in_order in
+    let point = IsPartitionPoint-from_clause (is_upto c.args.key c.args.number) _ _ (rw c.deref.ensures.value at c.partition_point-end.ensures.partitioned) parted (λ a r q k. search rules) in
+    c.after.ensures ∙
+    rw (← c.self.view_is, c.index.ensures)
+    (sym (own_last s.changes.items s.rows.items i.kept i.in_order c.args.key c.args.number _ (rw (← c.self.view_is) at c.requires) (search rules) point (search rules) _ (search rules)))
+
+pub returns-else-last_key-key : goal.returns-else-last_key-key
+returns-else-last_key-key c =
+    let s = c.self.inside in
+    let i = c.self.invariant in
+    let parted = rows_part s.rows.items c.args.key c.args.number i.in_order in
+    let point = IsPartitionPoint-from_clause (is_upto c.args.key c.args.number) _ _ (rw c.deref.ensures.value at c.partition_point-end.ensures.partitioned) parted (λ a r q k. search rules) in
     rw (← c.self.view_is)
-    (sym (none_in_row s.changes.items (get pair_cmp s.values) c.args.key c.args.number (λ j k. c.self.invariant.valued j k) none))
+    (sym (other_last s.changes.items s.rows.items i.kept i.in_order c.args.key c.args.number _ (rw (← c.self.view_is) at c.requires) (search rules) point (search rules) c.index.result.now
+    (λ same. c.if-last_key-key.false (ap (λ (row : ℕ × ℕ). row.0) c.index.ensures ∙ same))))
