@@ -188,7 +188,7 @@ pairs_fine cs low (p ∷ ps) up h =
     ] refl in
     rw (alike (value_at cs (length cs) p.0) (Some p.1) here) (pairs_fine cs (p.0 + 1) ps rest later)
 
-leaves_fine : (cs : List Change) (pairs : List (ℕ × ℕ)) → IsAscending pairs → ((key : ℕ) → value_at cs (length cs) key ≡ at key pairs) → leaves cs pairs ≡ true
+pub leaves_fine : (cs : List Change) (pairs : List (ℕ × ℕ)) → IsAscending pairs → ((key : ℕ) → value_at cs (length cs) key ≡ at key pairs) → leaves cs pairs ≡ true
 leaves_fine cs pairs up h = rw (pairs_fine cs 0 pairs up (λ key value e. h key ∙ e), changes_fine cs pairs cs h) refl
 
 yes_from_legal : (trails : List (List Receipt)) (pairs : List (ℕ × ℕ)) → IsAscending pairs → IsLegal trails pairs → verdict_of trails pairs ≡ Yes

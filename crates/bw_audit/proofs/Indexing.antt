@@ -1,5 +1,5 @@
 -- The first places of numbers, and the last change of a key as the last row up to a number.
-use Rattle.std.proofs.Common.{◌≡◌, ◌≢◌, ◌∙◌, ◌+◌, ◌-◌, ◌<◌, ◌≤◌, ◌==◌, ◌&&◌, ◌||◌, ◌⊎◌, inl, inr, ℕ, zero, suc, true, false, not, cond, List, Option, Some, None, refl, arith, sym, ap, subst, Bool, ◌++◌, ◌∷◌, [], length, take, get_or, set, replicate, length-take-le, append-nil}
+use Rattle.std.proofs.Common.{◌≡◌, ◌≢◌, ◌∙◌, ◌+◌, ◌-◌, ◌<◌, ◌≤◌, ◌==◌, ◌&&◌, ◌||◌, ◌⊎◌, inl, inr, ℕ, zero, suc, true, false, cond, List, Option, Some, None, refl, arith, sym, ap, subst, Bool, ◌++◌, ◌∷◌, [], length, take, get_or, set, replicate, length-take-le, append-nil}
 use Rattle.std.proofs.lemmas.Bool.Decides.{nat_tests}
 use Rattle.std.specs.Prelude.{is_some, nat_lt, nat_le, option_map}
 use Rattle.std.specs.Cmp.{IsStrictWeakOrder}
@@ -12,8 +12,7 @@ use Rattle.std.proofs.lemmas.Cmp.{nat_cmp_total, on_total, then_total}
 use Rattle.std.specs.Ordering.{nat_cmp, ordering_then, is_lt}
 use Rattle.bw_audit.specs.declared.change.Change.{Change}
 use Rattle.bw_audit.specs.Changes.{bearer, changed_by, value_at}
-use Rattle.bw_audit.specs.Verdicts.{is_misnumbered}
-use Rattle.bw_audit.specs.Indexed.{ArePlaces, Indexes, after_of, first_place, is_upto, pair_cmp, row_of, rows_upto}
+use Rattle.bw_audit.specs.Indexed.{ArePlaces, after_of, first_place, is_upto, pair_cmp, row_of, rows_upto}
 
 -- what a key has after a change, if the change is of the key
 abbrev pub value_there : Option Change → ℕ → Option (Option ℕ)
@@ -240,7 +239,7 @@ module _ (cs : List Change) (n i : ℕ) (d : Change) (inside : i < length cs) (p
 abbrev key_borne : Option Change → Option ℕ
 key_borne o = option_map (λ (c : Change). c.key) o
 
-abbrev IsRow : List Change → ℕ → ℕ × ℕ → Type 0
+abbrev pub IsRow : List Change → ℕ → ℕ × ℕ → Type 0
 IsRow cs n row = (0 < row.1) × (row.1 ≤ n) × (key_borne (bearer cs row.1) ≡ Some row.0)
 
 bears_it : (cs : List Change) (m : ℕ) (c : Change) → bearer cs m ≡ Some c → c.number ≡ m
@@ -260,7 +259,7 @@ row_is cs m (Some c) above h =
     let number : c.number ≡ m = bears_it cs m c h in
     All-cons (IsRow cs m) (c.key, c.number) [] (omega (arith, number, above), omega (arith, number), rw (number, h) refl) (All-nil (IsRow cs m))
 
-rows_are : (cs : List Change) (n : ℕ) → All (IsRow cs n) (rows_upto cs n)
+pub rows_are : (cs : List Change) (n : ℕ) → All (IsRow cs n) (rows_upto cs n)
 rows_are cs zero = All-nil (IsRow cs 0)
 rows_are cs (suc n) =
     All-append (IsRow cs (suc n)) (rows_upto cs n) (row_of (bearer cs (suc n)))
@@ -314,7 +313,7 @@ number_upto key m k i passes same = grind (arith, nat_tests)
 not_later : (key k i j : ℕ) → is_lt (ordering_then (nat_cmp k key) (nat_cmp i j)) ≡ false → k ≡ key → j ≤ i
 not_later key k i j far same = grind (arith, nat_tests)
 
-pair_order : IsStrictWeakOrder (λ x y. is_lt (pair_cmp x y))
+pub pair_order : IsStrictWeakOrder (λ x y. is_lt (pair_cmp x y))
 pair_order = ranks_by (then_total (on_total (λ (p : ℕ × ℕ). p.0) nat_cmp_total) (on_total (λ (p : ℕ × ℕ). p.1) nat_cmp_total)) (λ p. p)
 
 pub rows_part : (rows : List (ℕ × ℕ)) (key m : ℕ) → IsSorted pair_cmp rows → IsPartitionedBy (is_upto key m) rows

@@ -3,8 +3,10 @@ use Rattle.std.specs.Prelude.{ℕ, ◌+◌, ◌≤◌, ◌≡◌, ◌==◌, ◌&
 use Rattle.std.specs.List.Sorted.{IsPermutation, IsSorted}
 use Rattle.std.specs.Ordering.{nat_cmp, ordering_then}
 use Rattle.std.specs.declared.cmp.Ordering.{Ordering}
+use Rattle.bw_delta.specs.Entries.{at}
+use Rattle.bw_chain.specs.Ascends.{IsAscending}
 use Rattle.bw_audit.specs.declared.change.Change.{Change}
-use Rattle.bw_audit.specs.Changes.{bearer}
+use Rattle.bw_audit.specs.Changes.{bearer, value_at}
 
 -- the place of the first change that bears a number
 abbrev pub first_place : List Change → ℕ → Option ℕ
@@ -43,3 +45,20 @@ pub record Indexes (places : List (Option ℕ)) (rows : List (ℕ × ℕ)) (chan
   pub placed : ArePlaces changes (length changes) places
   pub kept : IsPermutation (rows_upto changes (length changes)) rows
   pub in_order : IsSorted pair_cmp rows
+
+-- the pairs of the map after all changes
+pub record IsLeftBy (changes : List Change) (pairs : List (ℕ × ℕ)) : Type 0 where
+  pub ascending : IsAscending pairs
+  pub told : (key : ℕ) → at key pairs ≡ value_at changes (length changes) key
+
+abbrev pub pair_of : ℕ → Option ℕ → Option (ℕ × ℕ)
+pair_of key None = None
+pair_of key (Some value) = Some (key, value)
+
+-- the next row is of the same key
+abbrev pub goes_on : List (ℕ × ℕ) → ℕ → Bool
+goes_on rows place = nat_lt (place + 1) (length rows) && ((slice_index_or rows (place + 1) (0, 0)).0 == (slice_index_or rows place (0, 0)).0)
+
+-- the pair that the last row of a key leaves
+abbrev pub pair_left : List Change → List (ℕ × ℕ) → ℕ → Option (ℕ × ℕ)
+pair_left changes rows place = cond (goes_on rows place) None (pair_of (slice_index_or rows place (0, 0)).0 (after_of (bearer changes (slice_index_or rows place (0, 0)).1)))

@@ -1,11 +1,11 @@
 ghost use Rattle.std.specs.Prelude.{◌≡◌, ◌↔◌, IfOk};
 ghost use Rattle.bw_keys.specs.Ranges.{key_count};
-ghost use Rattle.bw_delta.specs.Entries.{at, from, rises};
+ghost use Rattle.bw_delta.specs.Entries.{rises};
 ghost use Rattle.bw_chain.specs.Ascends.{IsAscending};
 ghost use Rattle.bw_step.specs.Trails.{lists_of};
 ghost use Rattle.bw_audit.specs.Changes.{all_changes};
 ghost use Rattle.bw_audit.specs.Legal.{IsLegal};
-ghost use Rattle.bw_audit.specs.Verdicts.{changes_hold, pairs_hold, verdict_of};
+ghost use Rattle.bw_audit.specs.Verdicts.{leaves, verdict_of};
 
 use crate::change::gather;
 use crate::index::Index;
@@ -45,7 +45,7 @@ pub fn audit(
 {
     let changes = gather(machine, trails)?;
     let index = Index::new(machine, changes)?;
-    Ok(judge(&index, trails, pairs))
+    judge(machine, &index, trails, pairs)
 }
 
 /// Returns whether the keys of the pairs rise strictly, as [`audit`] requires.
@@ -66,62 +66,31 @@ pub fn is_ascending(pairs: &[(Key, u64)]) -> bool
 }
 
 /// Returns the first bad receipt, or else whether the changes leave the pairs.
-fn judge(index: &Index, trails: &[Vec<Receipt>], pairs: &[(Key, u64)]) -> Verdict
+fn judge(
+    machine: Global,
+    index: &Index,
+    trails: &[Vec<Receipt>],
+    pairs: &[(Key, u64)],
+) -> Result<Verdict, AuditFault>
     requires ascending { IsAscending pairs.now }
     requires indexed { index.now ≡ all_changes (lists_of trails.now) }
-    ensures { result ≡ verdict_of (lists_of trails.now) pairs.now }
+    ensures { IfOk result (λ verdict. verdict ≡ verdict_of (lists_of trails.now) pairs.now) }
 {
     if let Some((worker, place)) = first_fault(index, trails) {
-        return Verdict::No(worker, place);
+        return Ok(Verdict::No(worker, place));
     }
-    if do_pairs_hold(index, pairs) && do_changes_hold(index, pairs) {
-        Verdict::Yes
+    if does_leave(machine, index, pairs)? {
+        Ok(Verdict::Yes)
     } else {
-        Verdict::No(trails.len(), 0)
+        Ok(Verdict::No(trails.len(), 0))
     }
 }
 
-/// Returns whether the map after all changes has each of the pairs.
-fn do_pairs_hold(index: &Index, pairs: &[(Key, u64)]) -> bool
-    ensures { result ≡ pairs_hold index.now pairs.now }
-{
-    for pair in pairs {
-        if index.value_after(index.count(), pair.0) != Some(pair.1) {
-            return false;
-        }
-    }
-    true
-}
-
-/// Returns whether the pairs have, at each changed key, what the map has after all changes.
-fn do_changes_hold(index: &Index, pairs: &[(Key, u64)]) -> bool
+/// Returns whether the map after all changes has these pairs and no others.
+fn does_leave(machine: Global, index: &Index, pairs: &[(Key, u64)]) -> Result<bool, AuditFault>
     requires ascending { IsAscending pairs.now }
-    ensures { result ≡ changes_hold index.now pairs.now index.now }
+    ensures { IfOk result (λ same. same ≡ leaves index.now pairs.now) }
 {
-    for change in index.changes() {
-        if index.value_after(index.count(), change.key) != value_among(pairs, change.key) {
-            return false;
-        }
-    }
-    true
-}
-
-/// Returns the value of the key among the pairs.
-#[tactic(auto, using(bw_chain::proofs::Firsts::stands_at))]
-fn value_among(pairs: &[(Key, u64)], key: Key) -> Option<u64>
-    requires ascending { IsAscending pairs.now }
-    ensures { result ≡ at key pairs.now }
-{
-    match from_key(pairs, key).first().copied() {
-        Some(pair) if pair.0 == key => Some(pair.1),
-        _ => None,
-    }
-}
-
-/// Returns the pairs from the key on, by binary search.
-fn from_key(pairs: &[(Key, u64)], key: Key) -> &[(Key, u64)]
-    requires ascending { IsAscending pairs.now }
-    ensures { result.now ≡ from key pairs.now }
-{
-    pairs.split_at(pairs.partition_point(|pair| pair.0 < key)).1
+    let left = index.pairs(machine)?;
+    Ok(left.as_slice() == pairs)
 }

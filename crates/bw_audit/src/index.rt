@@ -1,7 +1,8 @@
-ghost use Rattle.std.specs.Prelude.{◌≡◌, ◌≢◌, ◌+◌, ◌<◌, ◌≤◌, IfOk, length, take, None};
+ghost use Rattle.std.specs.Prelude.{◌≡◌, ◌+◌, ◌<◌, ◌≤◌, IfOk, IfSome, length, take};
+ghost use Rattle.bw_keys.specs.Ranges.{key_count};
 ghost use Rattle.bw_audit.specs.Changes.{bearer, value_at};
 ghost use Rattle.bw_audit.specs.Verdicts.{is_misnumbered};
-ghost use Rattle.bw_audit.specs.Indexed.{after_of, is_upto, rows_upto, ArePlaces, Indexes};
+ghost use Rattle.bw_audit.specs.Indexed.{after_of, is_upto, pair_left, rows_upto, ArePlaces, Indexes, IsLeftBy};
 
 use crate::change::Change;
 use crate::verdict::AuditFault;
@@ -87,22 +88,34 @@ impl Index {
         }
         let (last_key, last_number) = self.rows[end - 1];
         if last_key == key {
-            self.after(last_number)
+            after(self.changes.as_slice(), self.places.as_slice(), last_number)
         } else {
             None
         }
     }
 
-    /// Returns what the first change with the number leaves of its key.
-    #[tactic(auto, using(crate::proofs::Indexing::placed_at, crate::proofs::Indexing::after_placed, crate::proofs::Indexing::unplaced_at))]
-    fn after(&self, number: u64) -> Option<u64>
-        requires { number ≤ length self.now }
-        ensures { result ≡ after_of (bearer self.now number) }
+    /// Returns the pairs that all changes leave.
+    pub fn pairs(&self, machine: Global) -> Result<Vec<(Key, u64)>, AuditFault>
+        ensures { IfOk result (λ pairs. IsLeftBy self.now pairs.items) }
     {
-        match self.places[number as usize] {
-            Some(place) => self.changes[place].after,
-            None => None,
-        }
+        pairs_left(
+            machine,
+            self.changes.as_slice(),
+            self.places.as_slice(),
+            self.rows.as_slice(),
+        )
+    }
+}
+
+/// Returns what the first change with the number leaves of its key.
+fn after(changes: &[Change], places: &[Option<usize>], number: u64) -> Option<u64>
+    requires places { ArePlaces changes.now (length changes.now) places.now }
+    requires number { number ≤ length changes.now }
+    ensures { result ≡ after_of (bearer changes.now number) }
+{
+    match places[number as usize] {
+        Some(place) => changes[place].after,
+        None => None,
     }
 }
 
@@ -154,4 +167,43 @@ fn numbered_rows(
         }
     }
     Ok(rows)
+}
+
+/// Returns the pairs that all changes leave, in the order of the rows.
+fn pairs_left(
+    machine: Global,
+    changes: &[Change],
+    places: &[Option<usize>],
+    rows: &[(Key, u64)],
+) -> Result<Vec<(Key, u64)>, AuditFault>
+    requires { Indexes places.now rows.now changes.now }
+    ensures { IfOk result (λ pairs. IsLeftBy changes.now pairs.items) }
+{
+    let mut pairs = Vec::new(machine);
+    for place in 0..rows.len() {
+        if let Some(pair) = pair_left(changes, places, rows, place) {
+            pairs.push(pair)?;
+        }
+    }
+    Ok(pairs)
+}
+
+/// Returns the pair that a row leaves in the end, if it is the last of its key.
+fn pair_left(
+    changes: &[Change],
+    places: &[Option<usize>],
+    rows: &[(Key, u64)],
+    place: usize,
+) -> Option<(Key, u64)>
+    requires index { Indexes places.now rows.now changes.now }
+    requires inside { place < length rows.now }
+    ensures pair { result ≡ pair_left changes.now rows.now place }
+    ensures below { IfSome result (λ pair. pair.0 < key_count) }
+{
+    let (key, number) = rows[place];
+    if place + 1 < rows.len() && rows[place + 1].0 == key {
+        return None;
+    }
+    let value = after(changes, places, number)?;
+    Some((key, value))
 }

@@ -1,5 +1,4 @@
-use Rattle.std.proofs.Common.{rules, arith}
-use Rattle.std.proofs.lemmas.Bool.Decides.{nat_tests}
+use Rattle.std.proofs.Common.{rules}
 use Rattle.bw_audit.proofs.Indexing.{enter_new, enter_known, enter_beyond, no_change}
 use Rattle.bw_audit.proofs.index.enter.Goals as goal
 use Rattle.bw_audit.proofs.index.enter.Goals.{else-number-len-via-then-number-len+else-is_none, else-number-len-via-else-number-len}

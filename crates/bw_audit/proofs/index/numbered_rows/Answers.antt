@@ -1,4 +1,4 @@
-use Rattle.std.proofs.Common.{◌≡◌, ◌+◌, ◌<◌, ◌∙◌, rules, arith, length}
+use Rattle.std.proofs.Common.{◌+◌, ◌<◌, ◌∙◌, rules, arith, length}
 use Rattle.bw_audit.proofs.Indexing.{placed_at, read_itself, row_more, row_none}
 use Rattle.bw_audit.proofs.index.numbered_rows.Goals as goal
 use Rattle.bw_audit.proofs.index.numbered_rows.Goals.{in-Some+in_ok-push, in_default}

@@ -1,8 +1,7 @@
-use Rattle.std.proofs.Common.{◌≡◌, ◌≤◌, rules, arith, length, take}
-use Rattle.std.proofs.lemmas.Bool.Decides.{nat_tests}
+use Rattle.std.proofs.Common.{◌≡◌, ◌≤◌, rules, length, take}
 use Rattle.std.specs.Prelude.{is_some, nat_lt}
 use Rattle.bw_audit.specs.Changes.{bearer}
-use Rattle.bw_audit.proofs.Indexing.{borne_at, is_placed_before}
+use Rattle.bw_audit.proofs.Indexing.{borne_at}
 use Rattle.bw_audit.proofs.index.Index.is_misnumbered.Goals as goal
 
 pub returns-in-Some : goal.returns-in-Some
