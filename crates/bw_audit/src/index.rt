@@ -48,13 +48,6 @@ impl Index {
         })
     }
 
-    /// Returns the changes, in the order of their receipts.
-    pub fn changes(&self) -> &[Change]
-        ensures { result.now ≡ self.now }
-    {
-        self.changes.as_slice()
-    }
-
     /// Returns the number of changes.
     pub fn count(&self) -> u64
         ensures { result ≡ length self.now }
