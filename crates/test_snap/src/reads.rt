@@ -1,8 +1,8 @@
 //! What readers do, without a runtime value: none of these functions can wait for a lock.
 ghost use Rattle.std.specs.Prelude.{IfOk, OnOk};
 ghost use Rattle.bw_keys.specs.Ranges.{end_of};
-ghost use Rattle.bw_snap.specs.Answers.{IsFoundIn, IsLookIn, IsFirstIn, IsLastIn, IsNextIn, IsPreviousIn};
-ghost use Rattle.bw_snap.specs.Answers.{IsNumberIn, IsLenIn, IsListedIn, IsRangeIn};
+ghost use Rattle.bw_snap.specs.Answers.{IsFoundIn, AreFoundIn, IsLookIn, IsFirstIn, IsLastIn};
+ghost use Rattle.bw_snap.specs.Answers.{IsNextIn, IsPreviousIn, IsNumberIn, IsLenIn, IsListedIn, IsRangeIn};
 ghost use Rattle.bw_snap.specs.Snapshots.{BeginsWith};
 
 use bw_keys::{Fence, Key};
@@ -24,6 +24,20 @@ pub fn get_after<N: Naming>(
     reader.learn(one);
     reader.learn(other);
     reader.get(key)
+}
+
+/// Returns the values of several keys, once the stamp was learnt.
+pub fn get_many_after<const K: usize, N: Naming>(
+    reader: &mut Reader<N>,
+    stamp: Stamp<N>,
+    keys: [Key; K],
+) -> Result<[Option<u64>; K], Closed>
+    ensures found { IfOk result (AreFoundIn N.config keys.entry reader.new) }
+    ensures own { BeginsWith reader.new reader.old }
+    ensures stamp { BeginsWith reader.new stamp }
+{
+    reader.learn(stamp);
+    reader.get_many(keys)
 }
 
 /// Returns what `get_after` does, with the number of changes that were seen.
