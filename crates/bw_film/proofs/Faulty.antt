@@ -9,7 +9,7 @@ use Rattle.bw_film.specs.declared.fault.FilmFault.TheVariants.{Config as BadConf
 use Rattle.bw_scripts.specs.Played.{one_more}
 use Rattle.bw_scripts.specs.declared.script.TheConstants.{MOST_LINES}
 use Rattle.bw_scripts.specs.declared.fault.ScriptFault.TheVariants as scripts
-use Rattle.bw_film.specs.Faults.{IsLineFault, IsRowFault, IsRowOf, IsRowsFault, IsScriptFault}
+use Rattle.bw_film.specs.Faults.{IsFaultAtRow, IsLineFault, IsRowFault, IsRowOf, IsRowsFault, IsScriptFault}
 
 own_row : (rows : List Row) (place : ℕ) (row : Row) → place < length rows → get_or rows place row ≡ row → IsRowOf rows row.worker (place + 1)
 own_row rows place row inside at =
@@ -20,13 +20,19 @@ own_row rows place row inside at =
       own = λ d. ap (λ k. (get_or rows k d).worker) back ∙ ap (λ (r : Row). r.worker) (get_or_default rows place d row inside ∙ at);
     }
 
--- the fault of a row is that of the trace
-pub row_gives_up : (config : Config) (rows : List Row) (place : ℕ) (row : Row) (fault : FilmFault) → place < length rows → get_or rows place row ≡ row → first_bad_field config ≡ None → IsRowFault row.worker (place + 1) fault
-    → IsRowsFault config rows fault
-row_gives_up config rows place row (BadConfig bad) inside at good is = absurd is
-row_gives_up config rows place row (Stopped worker number fault) inside at good is = (good, rw (is.0, is.1) (own_row rows place row inside at))
-row_gives_up config rows place row (Script fault) inside at good is = absurd is
-row_gives_up config rows place row Memory inside at good is = tt
+-- the fault of a row is that of its worker at its place
+pub row_gives_up : (rows : List Row) (place : ℕ) (row : Row) (fault : FilmFault) → place < length rows → get_or rows place row ≡ row → IsRowFault row.worker (place + 1) fault → IsFaultAtRow rows place fault
+row_gives_up rows place row (BadConfig bad) inside at is = absurd is
+row_gives_up rows place row (Stopped worker number fault) inside at is = (is.1, rw (is.0, is.1) (own_row rows place row inside at))
+row_gives_up rows place row (Script fault) inside at is = absurd is
+row_gives_up rows place row Memory inside at is = tt
+
+-- and that of the trace
+pub rows_give_up : (config : Config) (rows : List Row) (place : ℕ) (fault : FilmFault) → first_bad_field config ≡ None → IsFaultAtRow rows place fault → IsRowsFault config rows fault
+rows_give_up config rows place (BadConfig bad) good is = absurd is
+rows_give_up config rows place (Stopped worker number fault) good is = (good, is.1)
+rows_give_up config rows place (Script fault) good is = absurd is
+rows_give_up config rows place Memory good is = tt
 
 -- the fault of a line is that of the script
 pub line_gives_up : (lines : ℕ) (fault : FilmFault) → lines ≤ MOST_LINES → IsLineFault (one_more lines) fault → IsScriptFault fault

@@ -51,3 +51,7 @@ whole first last moments to next is why =
 -- four texts, one behind the other
 pub four : (p a b c d x y z w : List ℕ) → x ≡ p ++ a → y ≡ x ++ b → z ≡ y ++ c → w ≡ z ++ d → w ≡ p ++ (((a ++ b) ++ c) ++ d)
 four p a b c d x y z w first second third fourth = behind p ((a ++ b) ++ c) d z w (behind p (a ++ b) c y z (behind p a b x y first second) third) fourth
+
+-- five texts, one behind the other
+pub five : (p a b c d e x y z w v : List ℕ) → x ≡ p ++ a → y ≡ x ++ b → z ≡ y ++ c → w ≡ z ++ d → v ≡ w ++ e → v ≡ p ++ ((((a ++ b) ++ c) ++ d) ++ e)
+five p a b c d e x y z w v first second third fourth fifth = behind p (((a ++ b) ++ c) ++ d) e w v (four p a b c d x y z w first second third fourth) fifth

@@ -1,5 +1,5 @@
 -- Why there is no film.
-use Rattle.std.specs.Prelude.{◌≡◌, ℕ, ◌-◌, ◌≤◌, List, length, None, Some, slice_index_or}
+use Rattle.std.specs.Prelude.{◌≡◌, ℕ, ◌+◌, ◌-◌, ◌≤◌, List, length, None, Some, slice_index_or}
 use Rattle.bw_keys.specs.declared.config.Config.{Config}
 use Rattle.bw_keys.specs.Limits.{first_bad_field}
 use Rattle.bw_scripts.specs.Faults.{NamesALine}
@@ -20,6 +20,13 @@ IsRowFault worker number (BadConfig bad) = ⊥
 IsRowFault worker number (Stopped who at fault) = (who ≡ worker) × (at ≡ number)
 IsRowFault worker number (Script fault) = ⊥
 IsRowFault worker number Memory = Unit
+
+-- of the row at the place: it was given up, or memory was wanting
+abbrev pub IsFaultAtRow : List Row → ℕ → FilmFault → Type 0
+IsFaultAtRow rows place (BadConfig bad) = ⊥
+IsFaultAtRow rows place (Stopped worker number fault) = (number ≡ place + 1) × IsRowOf rows worker number
+IsFaultAtRow rows place (Script fault) = ⊥
+IsFaultAtRow rows place Memory = Unit
 
 -- of a trace: a bad configuration, a row that was given up, or want of memory
 abbrev pub IsRowsFault : Config → List Row → FilmFault → Type 0

@@ -1,9 +1,9 @@
 //! Films of traces.
 
-ghost use Rattle.std.specs.Prelude.{◌≡◌, ◌++◌, IfOk, IfErr, codes, decimal, length};
-ghost use Rattle.bw_film.specs.Faults.{IsRowFault, IsRowsFault};
+ghost use Rattle.std.specs.Prelude.{◌≡◌, ◌<◌, ◌+◌, ◌++◌, IfOk, IfErr, OnOk, codes, decimal, length};
+ghost use Rattle.bw_film.specs.Faults.{IsFaultAtRow, IsRowFault, IsRowsFault};
 ghost use Rattle.std.specs.String.{string_bytes};
-ghost use Rattle.bw_film.specs.Filming.{DoesRow, IsFilmOf, IsSameChoice, NamesRow};
+ghost use Rattle.bw_film.specs.Filming.{DoesRow, IsFilmOf, IsFilmedUpTo, IsSameChoice, NamesRow};
 
 use crate::camera::{Filmed, Shows};
 use crate::choice::Choice;
@@ -27,7 +27,7 @@ use std::alloc::{AllocError, Global};
 /// # Errors
 ///
 /// Fails with a bad configuration, with the first row that is given up, or if memory runs out.
-#[tactic(auto, using(crate::proofs::Filming::films_begin, crate::proofs::Filming::films_go_on, crate::proofs::Faulty::row_gives_up))]
+#[tactic(auto, using(crate::proofs::Filming::films_begin, crate::proofs::Faulty::rows_give_up))]
 pub fn film_rows(
     alloc: Global,
     config: Config,
@@ -53,13 +53,37 @@ pub fn film_rows(
         has_failed: false,
     };
     for place in 0..rows.len() {
-        let row = rows[place];
-        begin(&mut filmed.film.crew, rows, place);
-        let reply = do_row(alloc, &mut filmed, row, place + 1)?;
-        answer(&mut filmed.film.crew, rows, place, reply);
+        film_row(alloc, &mut filmed, rows, place)?;
     }
     let Filmed { film, .. } = filmed;
     Ok(film)
+}
+
+/// Does the row at the place, and notes what its worker does meanwhile and then.
+#[tactic(auto, using(crate::proofs::Faulty::row_gives_up))]
+fn film_row<S: Steps<Global, Step<Global>> + Shows + Drop>(
+    alloc: Global,
+    filmed: &mut Filmed<S>,
+    rows: &[Row],
+    place: usize,
+) -> Result<(), FilmFault>
+    requires inside { place < length rows.now }
+    requires before { IsFilmedUpTo rows.now place
+        filmed.old.film (S.seen filmed.old.steps).trail }
+    ensures choice { IsSameChoice filmed.old.film filmed.new.film }
+    ensures workers { OnOk result
+        (length filmed.new.film.crew.items ≡ length filmed.old.film.crew.items) }
+    ensures done { OnOk result (IsFilmedUpTo rows.now (place + 1)
+        filmed.new.film (S.seen filmed.new.steps).trail) }
+    ensures fault { IfErr result (IsFaultAtRow rows.now place) }
+{
+    let row = rows[place];
+    let film = &mut filmed.film;
+    begin(&mut film.crew, rows, place);
+    let reply = do_row(alloc, filmed, row, place + 1)?;
+    let film = &mut filmed.film;
+    answer(&mut film.crew, rows, place, reply);
+    Ok(())
 }
 
 /// Does the row with this number, counted from 1, and returns the reply.
