@@ -41,9 +41,9 @@ pub trait Reads {
         ensures found { IfOk result (IsFoundIn (made_by self.old) key (list self.new)) }
         ensures closed { OnErr result (list self.new ≡ list self.old) };
 
-    /// Returns the values at the keys, each in the place of its key, all after one list of steps.
-    /// See `Table::get_many` for how many keys are worth a call.
-    fn get_many<const K: usize>(&mut self, keys: [Key; K]) -> Result<[Option<u64>; K], Closed>
+    /// Returns the values at the keys, each in the place of its key, all after one list of steps:
+    /// what `Reader::get_many` does for eight keys, as a trait's method has no const parameter here.
+    fn get_eight(&mut self, keys: [Key; 8]) -> Result<[Option<u64>; 8], Closed>
         ensures made_by { made_by self.new ≡ made_by self.old }
         ensures seen { BeginsWith (list self.new) (list self.old) }
         ensures found { IfOk result (AreFoundIn (made_by self.old) keys.entry (list self.new)) }
@@ -152,7 +152,7 @@ impl<'t, R: Wait + Copy, N: Naming, D: Ledger> Reads for Reading<'t, R, N, D> {
         self.reader.get(key)
     }
 
-    fn get_many<const K: usize>(&mut self, keys: [Key; K]) -> Result<[Option<u64>; K], Closed> {
+    fn get_eight(&mut self, keys: [Key; 8]) -> Result<[Option<u64>; 8], Closed> {
         self.reader.get_many(keys)
     }
 

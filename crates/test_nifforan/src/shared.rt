@@ -70,10 +70,10 @@ fn call_each<W: Worker>(hand: &mut W, first: u64) -> Answers
 }
 
 /// What a reader finds at keys that its worker put and didn't put, and a list of pairs.
-type Read = ([Option<u64>; 4], Vec<(u64, u64)>);
+type Read = ([Option<u64>; 8], Vec<(u64, u64)>);
 
-/// Each worker publishes its own keys, gets four keys at once, one of them twice and one that isn't
-/// there, and lists the first five from its fourth on.
+/// Each worker publishes its own keys, gets eight keys at once, one of them twice and two that
+/// aren't there, and lists the first five from its fourth on.
 impl ReadingJob for Calls {
     type Output = Result<Read, ScanFault>;
 
@@ -90,7 +90,17 @@ impl ReadingJob for Calls {
             let _done = hand.put(key, worker.into());
         }
         let _published = reader.publish();
-        let Ok(found) = reader.get_many([first + 99, first, first + 100, first]) else {
+        let keys = [
+            first + 99,
+            first,
+            first + 100,
+            first,
+            first + 1,
+            first + 50,
+            first + 98,
+            first + 999,
+        ];
+        let Ok(found) = reader.get_eight(keys) else {
             return Err(ScanFault::Closed);
         };
         let mut list = Vec::new(self.machine);
@@ -143,8 +153,8 @@ const TOLD: &str =
 1: (([Some(Inserted), Some(Present(7000))], [Some(Inserted), Some(Replaced(7000))], [Some(Removed(7007)), Some(NoKey)]), Some(Some(1)), 10, Some((1050, 7350)))
 2: (([Some(Inserted), Some(Present(14000))], [Some(Inserted), Some(Replaced(14000))], [Some(Removed(14007)), Some(NoKey)]), Some(Some(1)), 10, Some((2050, 14350)))
 3 trails, Book { inserted: 306, removed: 33, modified: 3 }
-Ok(([Some(0), Some(0), None, Some(0)], [(3, 0), (4, 0), (5, 0), (6, 0), (7, 0)]))
-Ok(([Some(1), Some(1), None, Some(1)], [(1003, 1), (1004, 1), (1005, 1), (1006, 1), (1007, 1)]))
+Ok(([Some(0), Some(0), None, Some(0), Some(0), Some(0), Some(0), None], [(3, 0), (4, 0), (5, 0), (6, 0), (7, 0)]))
+Ok(([Some(1), Some(1), None, Some(1), Some(1), Some(1), Some(1), None], [(1003, 1), (1004, 1), (1005, 1), (1006, 1), (1007, 1)]))
 ";
 
 #[test]
