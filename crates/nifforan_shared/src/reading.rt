@@ -46,7 +46,7 @@ pub trait Reads {
     fn get_eight(&mut self, keys: [Key; 8]) -> Result<[Option<u64>; 8], Closed>
         ensures made_by { made_by self.new ≡ made_by self.old }
         ensures seen { BeginsWith (list self.new) (list self.old) }
-        ensures found { IfOk result (AreFoundIn (made_by self.old) keys.entry (list self.new)) }
+        ensures found { IfOk result (AreFoundIn (made_by self.old) keys (list self.new)) }
         ensures closed { OnErr result (list self.new ≡ list self.old) };
 
     /// Returns the pair with the least key, if there is any.
