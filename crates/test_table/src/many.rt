@@ -39,7 +39,10 @@ const BEGUN: [(usize, Key); 8] = [
 fn several_gets_pass_a_tree_that_grows(rt: HostRuntime) -> Result<(), Fail> {
     for (steps, last) in BEGUN.iter() {
         let mut table = Table::new(rt.alloc(), rt.alloc(), SMALL)?;
-        take_all(rt.alloc(), &mut table, &THREE_LEAVES[..*steps])?;
+        let Some(begun) = THREE_LEAVES.get(..*steps) else {
+            return Err("there are fewer steps".into());
+        };
+        take_all(rt.alloc(), &mut table, begun)?;
         assert!(rt; are_found(&table, *last), "after {steps} steps");
     }
     Ok(())
