@@ -86,7 +86,13 @@ pub(crate) fn write_film<R: Read + Drop, W: Write>(
         film_script(alloc, choice, input)?
     } else {
         let rows = read_trace(alloc, input, setting.workers)?;
-        film_rows(alloc, setting.config, choice, shown_workers(setting.workers), &rows)?
+        film_rows(
+            alloc,
+            setting.config,
+            choice,
+            shown_workers(setting.workers),
+            &rows,
+        )?
     };
     let page = page_of(alloc, &film)?;
     output.write_all(&page)?;
