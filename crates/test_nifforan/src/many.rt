@@ -53,15 +53,17 @@ impl Both {
         Ok(())
     }
 
-    /// Returns whether the keys have the values of the list, at once and one by one.
-    fn is_found<const N: usize>(&self, keys: [u64; N]) -> bool {
+    /// Returns whether the keys have the values of the list, eight at once, one at once and by single
+    /// gets.
+    fn are_found(&self, keys: [u64; 8]) -> bool {
         let found = self.map.get_many(keys);
-        let mut is_found = true;
-        for place in 0..N {
-            let wanted = self.value_at(keys[place]);
-            is_found &= found[place] == wanted && self.map.get(keys[place]) == wanted;
+        let mut are_found = true;
+        for place in 0..8 {
+            let (key, wanted) = (keys[place], self.value_at(keys[place]));
+            are_found &= found[place] == wanted && self.map.get(key) == wanted;
+            are_found &= self.map.get_many([key]) == [wanted];
         }
-        is_found
+        are_found
     }
 }
 
@@ -95,7 +97,7 @@ fn first_wrong(machine: Global, fanout: u32, chain: u32) -> Result<Option<u32>, 
             897,
             other / 2,
         ];
-        if !both.is_found(eight) || !both.is_found([key]) || !both.is_found([]) {
+        if !both.are_found(eight) || !both.map.get_many([]).is_empty() {
             return Ok(Some(round));
         }
     }
