@@ -1,6 +1,7 @@
 ghost use Rattle.std.specs.Prelude.{◌≡◌, ◌↔◌, ◌+◌, ◌-◌, ◌/◌, ◌<◌, ◌≤◌, None, Some, IsOk, IfErr, IfSome, IfNone};
 ghost use Rattle.bw_keys.specs.Limits.{first_bad_field, usual_config, usual_with};
 ghost use Rattle.bw_keys.specs.Rooms.{half, HasRoomFor, most_pairs};
+ghost use Rattle.bw_keys.specs.Texts.{field_text};
 
 use std::fmt;
 use thiserror::Error;
@@ -106,6 +107,8 @@ impl Default for Config {
 }
 
 impl fmt::Display for Field {
+    ghost output = { λ field. Some (field_text field) };
+
     fn fmt<W: fmt::Write>(&self, f: &mut fmt::Formatter<W>) -> fmt::Result {
         f.write_str(match self {
             Field::Fanout => "fanout",
