@@ -90,7 +90,7 @@ const HALF: u64 = 32;
 const MOST_LEVELS: u64 = 5;
 
 /// The usual configuration of a map: 16,384 pages of 64 entries, consolidated after each change. A
-/// table takes some 2.7 MB for them at once, and they have room for 507,000 pairs in any order of
+/// table takes some 2.9 MB for them at once, and they have room for 507,000 pairs in any order of
 /// insertion (see [`Config::for_pairs`]).
 impl Default for Config {
     ghost is_default = { λ config. config ≡ usual_config };
