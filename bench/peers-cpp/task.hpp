@@ -61,6 +61,8 @@ inline constexpr std::array works = {
     Work{"fill", Work::Kind::scan},
     Work{"fill-rising", Work::Kind::scan, 0, true},
     Work{"100", Work::Kind::mix, 100},
+    // which other structures do eight at once
+    Work{"eights", Work::Kind::mix, 100},
     Work{"95", Work::Kind::mix, 95},
     Work{"50", Work::Kind::mix, 50},
     Work{"zipf", Work::Kind::zipf, 100},

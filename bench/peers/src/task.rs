@@ -28,6 +28,8 @@ pub enum Work {
     Mix { gets: u32 },
     /// The same by Zipf's distribution, so that a few keys are drawn often.
     Zipf { gets: u32 },
+    /// Gets, which other structures do eight at once.
+    Eights,
     /// Keys that are there are given other values.
     Set,
     /// Each key of a map is taken out once.
@@ -40,12 +42,13 @@ pub enum Work {
 
 impl Work {
     /// The kinds that `bench/compare` times.
-    pub const ALL: [Work; 13] = [
+    pub const ALL: [Work; 14] = [
         Work::Load(Order::Drawn),
         Work::Load(Order::Rising),
         Work::Fill(Order::Drawn),
         Work::Fill(Order::Rising),
         Work::Mix { gets: 100 },
+        Work::Eights,
         Work::Mix { gets: 95 },
         Work::Mix { gets: 50 },
         Work::Zipf { gets: 100 },
@@ -62,6 +65,7 @@ impl Work {
             "rising" => Some(Work::Load(Order::Rising)),
             "fill" => Some(Work::Fill(Order::Drawn)),
             "fill-rising" => Some(Work::Fill(Order::Rising)),
+            "eights" => Some(Work::Eights),
             "set" => Some(Work::Set),
             "delete" => Some(Work::Delete),
             "scan" => Some(Work::Scan),
@@ -101,6 +105,7 @@ impl fmt::Display for Work {
             Work::Mix { gets } => write!(f, "{gets}"),
             Work::Zipf { gets: 100 } => f.write_str("zipf"),
             Work::Zipf { gets } => write!(f, "zipf{gets}"),
+            Work::Eights => f.write_str("eights"),
             Work::Set => f.write_str("set"),
             Work::Delete => f.write_str("delete"),
             Work::Scan => f.write_str("scan"),
@@ -192,6 +197,7 @@ impl Task {
             Work::Load(_) => self.load(worker, keys, &mut index),
             Work::Delete => self.delete_each(worker, keys, &mut index),
             Work::Mix { gets } | Work::Zipf { gets } => self.mix(worker, gets, keys, &mut index),
+            Work::Eights => self.mix(worker, 100, keys, &mut index),
             Work::Set => self.set_often(worker, &mut index),
             Work::Fill(_) | Work::Scan | Work::List => self.scan_often(worker, &mut index),
         }

@@ -4,7 +4,7 @@ use crate::Stop;
 use crate::tally::Tally;
 use crate::task::{Task, Work};
 use crate::trees::Timed;
-use crate::work::{SCANNED, drawn_part, filled_key, key_at};
+use crate::work::{SCANNED, drawn_part, eight_keys, filled_key, key_at};
 use bw_keys::Key;
 use nifforan::Map;
 use rand_core::Rng;
@@ -25,6 +25,7 @@ pub(crate) fn run_map(rt: &impl Clock, alloc: Global, task: &Task) -> Result<Tim
         Work::Load(_) => load(&mut map, keys.as_slice())?,
         Work::Delete => delete_each(&mut map, keys.as_slice())?,
         Work::Mix { gets } | Work::Zipf { gets } => mix(&mut map, task, gets, keys.as_slice())?,
+        Work::Eights => get_by_eights(&map, task),
         Work::Set => set_often(&mut map, task)?,
         Work::Fill(_) | Work::Scan | Work::List => scan_often(&map, alloc, task)?,
     };
@@ -85,6 +86,17 @@ fn mix(map: &mut Map<Global>, task: &Task, gets: u32, keys: &[u32]) -> Result<Ta
         tally = tally.plus(answered);
     }
     Ok(tally)
+}
+
+/// Gets the values of eight drawn keys at once.
+fn get_by_eights(map: &Map<Global>, task: &Task) -> Tally {
+    let mut tally = Tally::default();
+    let mut rng = Pcg32::new(0, 1);
+    for _ in 0..task.turns() / 8 {
+        let found = map.get_many(eight_keys(&mut rng, task));
+        tally = tally.plus(Tally::of_gets(found));
+    }
+    tally
 }
 
 /// Sets drawn keys that have values to drawn ones.

@@ -7,7 +7,7 @@ use crate::Stop;
 use crate::tally::Tally;
 use crate::task::{Task, Work};
 use crate::trees::{PART, Timed, fill_by_hand};
-use crate::work::{change_one, drawn_part, key_at, work};
+use crate::work::{change_one, drawn_part, eight_keys, key_at, work};
 use bw_keys::Config;
 use bw_snap::{Announcements, Naming, ReadTree, Reader, ScanFault};
 use bw_tree::{Blanks, Share};
@@ -188,6 +188,22 @@ impl Crew {
         Ok(tally)
     }
 
+    /// Gets the values of eight drawn keys at once.
+    fn get_by_eights<N: Naming>(
+        &self,
+        reader: &mut Reader<N>,
+        rng: &mut Pcg32,
+    ) -> Result<Tally, ScanFault> {
+        let mut tally = Tally::default();
+        for _ in 0..self.task.turns() / 8 {
+            let Ok(found) = reader.get_many(eight_keys(rng, &self.task)) else {
+                return Err(ScanFault::Closed);
+            };
+            tally = tally.plus(Tally::of_gets(found));
+        }
+        Ok(tally)
+    }
+
     /// Scans from drawn keys on, or lists all pairs.
     fn scan_often<N: Naming>(
         &self,
@@ -209,10 +225,10 @@ impl Working for Crew {
     fn read<N: Naming>(&self, reader: Reader<N>, number: u32) -> Result<Tally, ScanFault> {
         let mut reader = reader;
         let mut rng = Pcg32::new(u64::from(number), 1);
-        if self.task.work.scans() {
-            self.scan_often(&mut reader, &mut rng)
-        } else {
-            self.get_often(&mut reader, &mut rng, number)
+        match self.task.work {
+            Work::Eights => self.get_by_eights(&mut reader, &mut rng),
+            Work::Fill(_) | Work::Scan | Work::List => self.scan_often(&mut reader, &mut rng),
+            _ => self.get_often(&mut reader, &mut rng, number),
         }
     }
 

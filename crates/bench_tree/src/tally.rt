@@ -28,6 +28,15 @@ impl Tally {
         }
     }
 
+    /// Returns the tally of eight gets.
+    pub(crate) fn of_gets(found: [Option<u64>; 8]) -> Tally {
+        let mut tally = Tally::default();
+        for value in found {
+            tally = tally.plus(Tally::of_get(value));
+        }
+        tally
+    }
+
     /// Returns the tally of a put.
     pub(crate) fn of_put(reply: Put) -> Tally {
         Tally {

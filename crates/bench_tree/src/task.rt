@@ -27,6 +27,8 @@ pub(crate) enum Work {
     Mix { gets: u32 },
     /// The same by Zipf's distribution, so that a few keys are drawn often.
     Zipf { gets: u32 },
+    /// Gets, eight at once where the structure has a call for that.
+    Eights,
     /// Replaces values.
     Set,
     /// Deletes each key of a map once.
@@ -39,12 +41,13 @@ pub(crate) enum Work {
 
 impl Work {
     /// The kinds that `bench/compare` times in its maps, by their words.
-    pub(crate) const ALL: [(&'static str, Work); 13] = [
+    pub(crate) const ALL: [(&'static str, Work); 14] = [
         ("load", Work::Load(Order::Drawn)),
         ("rising", Work::Load(Order::Rising)),
         ("fill", Work::Fill(Order::Drawn)),
         ("fill-rising", Work::Fill(Order::Rising)),
         ("100", Work::Mix { gets: 100 }),
+        ("eights", Work::Eights),
         ("95", Work::Mix { gets: 95 }),
         ("50", Work::Mix { gets: 50 }),
         ("zipf", Work::Zipf { gets: 100 }),
@@ -60,13 +63,8 @@ impl Work {
         match self {
             Work::Load(_) | Work::Set | Work::Delete => false,
             Work::Mix { gets } | Work::Zipf { gets } => gets == 100,
-            Work::Fill(_) | Work::Scan | Work::List => true,
+            Work::Eights | Work::Fill(_) | Work::Scan | Work::List => true,
         }
-    }
-
-    /// Returns whether its operations are scans.
-    pub(crate) fn scans(self) -> bool {
-        matches!(self, Work::Fill(_) | Work::Scan | Work::List)
     }
 
     /// Returns whether the map is loaded or filled by rising keys.

@@ -41,6 +41,7 @@ pub(crate) fn work<S: Steps<Global, Step<Global>>>(
     match task.work {
         Work::Load(_) | Work::Delete => each_key(steps, task, worker, keys),
         Work::Mix { gets } | Work::Zipf { gets } => mix(steps, task, worker, gets, keys),
+        Work::Eights => mix(steps, task, worker, 100, keys),
         Work::Set => set_often(steps, task, worker),
         Work::Fill(_) | Work::Scan | Work::List => scan_often(steps, alloc, task, worker),
     }
@@ -165,6 +166,17 @@ pub(crate) fn key_at(rng: &mut Pcg32, task: &Task, part: &[u32], turn: u32) -> K
 /// Returns a key below twice their number.
 pub(crate) fn drawn_key(rng: &mut Pcg32, task: &Task) -> Key {
     u64::from(rng.next_u32() % task.end())
+}
+
+/// Returns eight keys, those of as many gets one after the other.
+pub(crate) fn eight_keys(rng: &mut Pcg32, task: &Task) -> [Key; 8] {
+    let mut keys = [0; 8];
+    for key in keys.iter_mut() {
+        *key = drawn_key(rng, task);
+        // workers draw once more, for what they do
+        let _draw = rng.next_u32();
+    }
+    keys
 }
 
 /// Returns a key that the map was filled with.
