@@ -116,9 +116,7 @@ impl<X: Copy, A: Allocator> EntryList<X, A> {
     }
 
     /// Returns the number of entries that it has room for before it asks for memory again.
-    pub fn capacity(&self) -> usize
-        ensures { length self.now ≤ result }
-    {
+    pub fn capacity(&self) -> usize {
         self.keys.capacity().min(self.values.capacity())
     }
 

@@ -2,4 +2,3 @@ pub mod Ranges
 pub mod Reasons
 pub mod Limits
 pub mod Rooms
-pub mod Texts

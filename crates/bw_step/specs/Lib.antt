@@ -4,4 +4,3 @@ pub mod ProposalView
 pub mod Steps
 pub mod Tellings
 pub mod Trails
-pub mod Texts
