@@ -1,12 +1,12 @@
 //! Changes of one key that are made in the list of a base page, in place of a record over it.
 
-ghost use Rattle.std.specs.Prelude.{◌≡◌, ◌<◌, None, Some, true, false, length, IfSome, IfNone};
+ghost use Rattle.std.specs.Prelude.{◌≡◌, ◌↔◌, ◌<◌, None, Some, true, false, length, IfSome, IfNone, IsTrue};
 ghost use Rattle.bw_delta.specs.declared.chain.Delta.TheVariants as deltas;
 ghost use Rattle.bw_delta.specs.Entries.{at, put, below};
 ghost use Rattle.bw_delta.specs.Fence.{fences};
 ghost use Rattle.bw_delta.specs.Pairs.{pairs, pairs_listed};
 ghost use Rattle.bw_delta.specs.Pages.{upper_part};
-ghost use Rattle.bw_delta.specs.Records.{bare, above};
+ghost use Rattle.bw_delta.specs.Records.{bare, above, depth};
 ghost use Rattle.bw_delta.specs.Slices.{list_of};
 ghost use Rattle.bw_delta.specs.Sound.{LiesIn, page_for};
 ghost use Rattle.bw_chain.specs.Ascends.{IsAscending};
@@ -318,6 +318,7 @@ pub fn cut_in_place<A: Allocator + Copy>(chain: &mut Chain<A>, separator: Key, r
     requires later { (fences chain.old).low < separator }
     ensures cut { result ≡ true →
         chain.new ≡ bare (page_for (above (deltas.Split separator right) chain.old)) }
+    ensures bare { IsTrue result ↔ (depth chain.old ≡ 0) }
     ensures unchanged { result ≡ false → chain.new ≡ chain.old }
 {
     match &mut chain.node {

@@ -1,5 +1,5 @@
 -- Keys, and what stands at each, in lists of their own.
-use Rattle.std.proofs.Common.{◌≡◌, ℕ, zero, suc, ◌<◌, ◌≤◌, List, [], ◌∷◌, ◌++◌, length, take, drop, get_or, set, refl, ap, ◌∙◌, arith}
+use Rattle.std.proofs.Common.{◌≡◌, ℕ, zero, suc, ◌<◌, List, [], ◌∷◌, ◌++◌, length, take, drop, get_or, set, refl, ap, ◌∙◌, arith}
 use Rattle.std.specs.List.{zip, insert, remove}
 use Rattle.std.proofs.lemmas.Slice.Zip.{get_or-zip}
 use Rattle.bw_delta.specs.Slices.{HasKeyAt}

@@ -116,7 +116,9 @@ impl<X: Copy, A: Allocator> EntryList<X, A> {
     }
 
     /// Returns the number of entries that it has room for before it asks for memory again.
-    pub fn capacity(&self) -> usize {
+    pub fn capacity(&self) -> usize
+        ensures { length self.now ≤ result }
+    {
         self.keys.capacity().min(self.values.capacity())
     }
 

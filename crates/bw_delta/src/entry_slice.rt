@@ -16,6 +16,12 @@ pub struct EntrySlice<'a, X> {
 impl<'a, X> Copy for EntrySlice<'a, X> {}
 
 impl<'a, X> Clone for EntrySlice<'a, X> {
+    ghost use Rattle.std.specs.Prelude.{⊤};
+
+    ghost is_clone = { λ slice copy. copy ≡ slice };
+
+    ghost is_infallible = { λ slice. ⊤ };
+
     fn clone(&self) -> Result<EntrySlice<'a, X>, AllocError> {
         Ok(*self)
     }

@@ -2,3 +2,4 @@ pub mod Ranges
 pub mod Reasons
 pub mod Limits
 pub mod Rooms
+pub mod Texts

@@ -1,6 +1,7 @@
 ghost use Rattle.std.specs.Prelude.{◌≡◌, ◌↔◌, ◌+◌, ◌-◌, ◌/◌, ◌<◌, ◌≤◌, None, Some, IsOk, IfErr, IfSome, IfNone};
 ghost use Rattle.bw_keys.specs.Limits.{first_bad_field, usual_config, usual_with};
 ghost use Rattle.bw_keys.specs.Rooms.{half, HasRoomFor, most_pairs};
+ghost use Rattle.bw_keys.specs.Texts.{field_text};
 
 use std::fmt;
 use thiserror::Error;
@@ -89,7 +90,7 @@ const HALF: u64 = 32;
 const MOST_LEVELS: u64 = 5;
 
 /// The usual configuration of a map: 16,384 pages of 64 entries, consolidated after each change. A
-/// table takes some 2.7 MB for them at once, and they have room for 507,000 pairs in any order of
+/// table takes some 2.9 MB for them at once, and they have room for 507,000 pairs in any order of
 /// insertion (see [`Config::for_pairs`]).
 impl Default for Config {
     ghost is_default = { λ config. config ≡ usual_config };
@@ -106,6 +107,8 @@ impl Default for Config {
 }
 
 impl fmt::Display for Field {
+    ghost output = { λ field. Some (field_text field) };
+
     fn fmt<W: fmt::Write>(&self, f: &mut fmt::Formatter<W>) -> fmt::Result {
         f.write_str(match self {
             Field::Fanout => "fanout",

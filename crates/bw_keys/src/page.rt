@@ -1,3 +1,5 @@
+ghost use Rattle.std.specs.Prelude.{Some, decimal};
+
 use std::fmt;
 
 /// The greatest depth of a delta chain: how many records may stand above a base page, counted
@@ -20,12 +22,16 @@ pub struct Pid(pub u32);
 pub struct Version(pub u64);
 
 impl fmt::Display for Pid {
+    ghost output = { λ pid. Some (decimal pid.0) };
+
     fn fmt<W: fmt::Write>(&self, f: &mut fmt::Formatter<W>) -> fmt::Result {
         write!(f, "{}", self.0)
     }
 }
 
 impl fmt::Display for Version {
+    ghost output = { λ version. Some (decimal version.0) };
+
     fn fmt<W: fmt::Write>(&self, f: &mut fmt::Formatter<W>) -> fmt::Result {
         write!(f, "{}", self.0)
     }

@@ -1,5 +1,6 @@
-ghost use Rattle.std.specs.Prelude.{◌<◌, ◌↔◌, IsTrue};
+ghost use Rattle.std.specs.Prelude.{◌<◌, ◌↔◌, IsTrue, Some};
 ghost use Rattle.bw_keys.specs.Ranges.{Holds, end_of};
+ghost use Rattle.bw_keys.specs.Texts.{fence_text};
 
 use std::fmt;
 
@@ -28,6 +29,8 @@ impl Fence {
 }
 
 impl fmt::Display for Fence {
+    ghost output = { λ fence. Some (fence_text fence) };
+
     fn fmt<W: fmt::Write>(&self, f: &mut fmt::Formatter<W>) -> fmt::Result {
         match self {
             Fence::Key(high) => write!(f, "{high}"),

@@ -97,7 +97,7 @@ impl<N: Naming> Reader<N> {
     }
 
     /// Returns the values that the keys have after one such list of steps, each in the place of its
-    /// key. See [`Table::get_many`] for how many keys are worth a call.
+    /// key.
     #[inline]
     pub fn get_many<const K: usize>(&mut self, keys: [Key; K]) -> Result<[Option<u64>; K], Closed>
         ensures seen { BeginsWith self.new self.old }

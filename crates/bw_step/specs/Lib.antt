@@ -4,3 +4,4 @@ pub mod ProposalView
 pub mod Steps
 pub mod Tellings
 pub mod Trails
+pub mod Texts

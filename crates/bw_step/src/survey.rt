@@ -1,3 +1,6 @@
+ghost use Rattle.std.specs.Prelude.{Some};
+ghost use Rattle.bw_step.specs.Texts.{leaf_text};
+
 use crate::view::Stage;
 use bw_keys::{Fence, Key, Pid, Range};
 use std::fmt;
@@ -39,6 +42,8 @@ pub struct Leaf {
 
 /// The range and the number of pairs: `LOW HIGH COUNT`.
 impl fmt::Display for Leaf {
+    ghost output = { λ leaf. Some (leaf_text leaf) };
+
     fn fmt<W: fmt::Write>(&self, f: &mut fmt::Formatter<W>) -> fmt::Result {
         write!(f, "{} {} {}", self.range.low, self.range.high, self.count)
     }

@@ -11,8 +11,7 @@ use std::alloc::Allocator;
 
 impl<A: Allocator + Copy> Table<A> {
     /// Returns the values that the map has at the keys, each in the place of its key. It takes no
-    /// memory. In a map that is larger than the processor's caches, eight keys at a time take less
-    /// time than eight gets.
+    /// memory. Whether that is faster than as many gets depends on the program around it.
     #[inline]
     pub fn get_many<const N: usize>(&self, keys: [Key; N]) -> [Option<u64>; N]
         ensures { AllZip (IsMapAt self.now) keys.entry result }

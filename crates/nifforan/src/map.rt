@@ -141,7 +141,7 @@ impl<A: Allocator + Copy> Map<A> {
     }
 
     /// Returns the values of the keys, each in the place of its key: what as many gets return. Takes
-    /// no memory. See [`Table::get_many`] for how many keys are worth a call.
+    /// no memory.
     #[inline]
     pub fn get_many<const N: usize>(&self, keys: [Key; N]) -> [Option<u64>; N]
         ensures { result ≡ map (λ key. at key self.now.pairs) keys.entry }

@@ -1,4 +1,4 @@
-use Rattle.std.proofs.Common.{take, drop, sym}
+use Rattle.std.proofs.Common.{sym}
 use Rattle.std.proofs.lemmas.List.{take-append-drop, length-take-le}
 use Rattle.std.specs.List.{zip}
 use Rattle.bw_delta.specs.Slices.{list_of}
