@@ -1,18 +1,18 @@
 -- The first places of numbers, and the last change of a key as the last row up to a number.
-use Rattle.std.proofs.Common.{◌≡◌, ◌≢◌, ◌∙◌, ◌+◌, ◌-◌, ◌<◌, ◌≤◌, ◌==◌, ◌&&◌, ◌||◌, ◌⊎◌, inl, inr, ℕ, zero, suc, true, false, cond, List, Option, Some, None, refl, arith, sym, ap, subst, Bool, ◌++◌, ◌∷◌, [], length, take, get_or, set, replicate, length-take-le, append-nil}
+use Rattle.std.proofs.Common.{◌≡◌, ◌≢◌, ◌∙◌, ◌+◌, ◌-◌, ◌<◌, ◌≤◌, ◌==◌, ◌&&◌, ◌||◌, ◌⊎◌, inl, inr, ℕ, zero, suc, true, false, cond, List, Option, Some, None, refl, arith, sym, ap, subst, Bool, ◌++◌, ◌∷◌, [], length, take, get_or, set, replicate, length-take-le, append-nil, slice_range, drop, map}
 use Rattle.std.proofs.lemmas.Bool.Decides.{nat_tests}
 use Rattle.std.specs.Prelude.{is_some, nat_lt, nat_le, option_map}
 use Rattle.std.specs.Cmp.{IsStrictWeakOrder}
 use Rattle.std.specs.List.{All, Contains}
 use Rattle.std.specs.List.Sorted.{IsPermutation, IsSorted, IsPartitionedBy, IsPartitionPoint}
-use Rattle.std.proofs.lemmas.List.{take_more, get_or_default, get_or-set_same, get_or-set_other, get_or-replicate, length-set, length-replicate}
+use Rattle.std.proofs.lemmas.List.{take_more, get_or_default, get_or-set_same, get_or-set_other, get_or-replicate, length-set, length-replicate, length-drop, get_or-take, get_or-drop, get_or-map, map-append}
 use Rattle.std.proofs.lemmas.List.Elements.{All-append, All-weaker, All-nil, All-cons, All-get_or, Contains-append_left, Contains-append_right, at_from_Contains}
 use Rattle.std.proofs.lemmas.List.Sorted.{sorted_far, ranks_by, All-permutation, Contains-permutation}
 use Rattle.std.proofs.lemmas.Cmp.{nat_cmp_total, on_total, then_total}
 use Rattle.std.specs.Ordering.{nat_cmp, ordering_then, is_lt}
 use Rattle.bw_audit.specs.declared.change.Change.{Change}
 use Rattle.bw_audit.specs.Changes.{bearer, changed_by, value_at}
-use Rattle.bw_audit.specs.Indexed.{ArePlaces, after_of, first_place, is_upto, pair_cmp, row_of, rows_upto}
+use Rattle.bw_audit.specs.Indexed.{AreLeft, ArePlaces, IsCountUpto, after_of, first_place, is_upto, is_within, pair_cmp, row_of, rows_upto}
 
 -- what a key has after a change, if the change is of the key
 abbrev pub value_there : Option Change → ℕ → Option (Option ℕ)
@@ -321,6 +321,83 @@ rows_part rows key m up i j d below inside passes =
     later_passes key m (get_or rows j d).0 (get_or rows j d).1 (get_or rows i d).0 (get_or rows i d).1
     (sorted_far (λ x y. is_lt (pair_cmp x y)) pair_order rows up i j d below inside) passes
 
+-- a count among the rows of a range is the count among all, where the neighbours of the range tell so
+module _ (rows : List (ℕ × ℕ)) (key m from to : ℕ) (up : IsSorted pair_cmp rows) (within : is_within key m from to rows ≡ true) where
+  in_order : from ≤ to
+  in_order = grind (arith, nat_tests)
+
+  inside : to ≤ length rows
+  inside = grind (arith, nat_tests)
+
+  low : 0 < from → is_upto key m (get_or rows (from - 1) (0, 0)) ≡ true
+  low some = grind (arith, nat_tests)
+
+  high : to < length rows → is_upto key m (get_or rows to (0, 0)) ≡ false
+  high more = grind (arith, nat_tests)
+
+  parted : IsPartitionedBy (is_upto key m) rows
+  parted = rows_part rows key m up
+
+  before : (k : ℕ) (d : ℕ × ℕ) → k < from → is_upto key m (get_or rows k d) ≡ true
+  before k d below =
+      let last : from - 1 < length rows = omega (arith, below, in_order, inside) in
+      parted k (from - 1) d (omega (arith, below)) last
+      (rw (get_or_default rows (from - 1) d (0, 0) last) (low (omega (arith, below))))
+
+  behind : (k : ℕ) (d : ℕ × ℕ) → to ≤ k → k < length rows → is_upto key m (get_or rows k d) ≡ false
+  behind k d from_to under = by_test (is_upto key m (get_or rows k d)) refl
+    where
+      by_test : (t : Bool) → is_upto key m (get_or rows k d) ≡ t → is_upto key m (get_or rows k d) ≡ false
+      by_test false is = is
+      by_test true is =
+          let here : to < length rows = omega (arith, from_to, under) in
+          let passes : is_upto key m (get_or rows to (0, 0)) ≡ true = rw (get_or_default rows to d (0, 0) here) at (parted to k d from_to under is) in
+          cc (passes, high here)
+
+  middle : (k : ℕ) (d : ℕ × ℕ) → k < to - from → get_or (slice_range rows from to) k d ≡ get_or rows (from + k) d
+  middle k d below = get_or-take (to - from) (drop from rows) k d below ∙ get_or-drop from rows k d
+
+  width : length (slice_range rows from to) ≡ to - from
+  width = length-take-le (to - from) (drop from rows) (omega (arith, length-drop from rows, inside))
+
+  at_middle : (k : ℕ) (d : ℕ × ℕ) (t : Bool) → from ≤ k → k < to → is_upto key m (get_or (slice_range rows from to) (k - from) d) ≡ t → is_upto key m (get_or rows k d) ≡ t
+  at_middle k d t above below is =
+      let here : from + (k - from) ≡ k = omega (arith, above) in
+      rw here at (rw (middle (k - from) d (omega (arith, above, below))) at is)
+
+  pub part_of_range : IsPartitionedBy (is_upto key m) (slice_range rows from to)
+  part_of_range i j d first second passes =
+      let below : j < to - from = omega (arith, second, width) in
+      rw (middle i d (omega (arith, first, below)))
+      (parted (from + i) (from + j) d (omega (arith, first)) (omega (arith, below, inside)) (rw (middle j d below) at passes))
+
+  pub count_of_range : (e : ℕ) → e ≤ length (slice_range rows from to)
+      → IsPartitionPoint (λ y. is_upto key m y ≡ true) (λ y. is_upto key m y ≡ false) (slice_range rows from to) e → IsCountUpto rows key m (from + e)
+  count_of_range e bound point = record {
+    bound = omega (arith, bound, width, in_order, inside);
+    point = (
+      (λ k d start below. counted k d below (nat_lt k from) refl),
+      (λ k d start under. beyond k d start under (nat_lt k to) refl),
+    );
+  }
+    where
+      counted : (k : ℕ) (d : ℕ × ℕ) → k < from + e → (t : Bool) → nat_lt k from ≡ t → is_upto key m (get_or rows k d) ≡ true
+      counted k d below true is = before k d (grind (arith, nat_tests))
+      counted k d below false is =
+          let above : from ≤ k = grind (arith, nat_tests) in
+          at_middle k d true above (omega (arith, below, bound, width, in_order)) (point.0 (k - from) d (omega arith) (omega (arith, above, below)))
+
+      beyond : (k : ℕ) (d : ℕ × ℕ) → from + e ≤ k → k < length rows → (t : Bool) → nat_lt k to ≡ t → is_upto key m (get_or rows k d) ≡ false
+      beyond k d start under true is =
+          let less : k < to = grind (arith, nat_tests) in
+          at_middle k d false (omega (arith, start)) less (point.1 (k - from) d (omega (arith, start)) (omega (arith, start, less, width)))
+      beyond k d start under false is = behind k d (grind (arith, nat_tests)) under
+
+-- what one more row leaves
+pub left_more : (cs : List Change) (rows : List (ℕ × ℕ)) (i : ℕ) (d : ℕ × ℕ) → i < length rows
+    → map (λ (row : ℕ × ℕ). after_of (bearer cs row.1)) (take (i + 1) rows) ≡ map (λ (row : ℕ × ℕ). after_of (bearer cs row.1)) (take i rows) ++ after_of (bearer cs (get_or rows i d).1) ∷ []
+left_more cs rows i d inside = ap (map (λ (row : ℕ × ℕ). after_of (bearer cs row.1))) (take_more rows i d inside) ∙ map-append (λ (row : ℕ × ℕ). after_of (bearer cs row.1)) (take i rows) (get_or rows i d ∷ [])
+
 -- the last row up to a key and a number tells what the key has after it
 module _ (cs : List Change) (rows : List (ℕ × ℕ)) (kept : IsPermutation (rows_upto cs (length cs)) rows) (up : IsSorted pair_cmp rows) (key m end : ℕ)
     (within : m ≤ length cs) (bound : end ≤ length rows) (point : IsPartitionPoint (λ y. is_upto key m y ≡ true) (λ y. is_upto key m y ≡ false) rows end) where
@@ -378,3 +455,16 @@ module _ (cs : List Change) (rows : List (ℕ × ℕ)) (kept : IsPermutation (ro
           let has = contained j (omega (arith, above)) below own.0 own.1 own.2 in
           let last = not_later key (get_or rows (end - 1) d).0 (get_or rows (end - 1) d).1 j ((latest j below has).1 d) same in
           absurd (omega (arith, above, last))
+
+  -- the last of the counted rows, and what it leaves
+  module _ (last : ℕ) (next : end ≡ last + 1) (d : ℕ × ℕ) where
+    back : end - 1 ≡ last
+    back = omega (arith, next)
+
+    pub by_other : ((get_or rows last d).0 ≡ key → ⊥) → value_at cs m key ≡ None
+    by_other apart = other_last (omega (arith, next)) d (λ same. apart (rw back at same))
+
+    pub by_own : (left : List (Option ℕ)) → AreLeft cs rows left → (e : Option ℕ) → (get_or rows last d).0 ≡ key → get_or left last e ≡ value_at cs m key
+    by_own left are e same =
+        let own : value_at cs m key ≡ after_of (bearer cs (get_or rows last d).1) = rw back at (own_last (omega (arith, next)) d (rw back same)) in
+        rw are (get_or-map (λ (row : ℕ × ℕ). after_of (bearer cs row.1)) rows last d e (omega (arith, next, bound)) ∙ sym own)

@@ -1,6 +1,6 @@
 -- What an index of changes keeps: the first place of each number up to their count, and each numbered change by its key.
-use Rattle.std.specs.Prelude.{ℕ, ◌+◌, ◌≤◌, ◌≡◌, ◌==◌, ◌&&◌, ◌||◌, cond, suc, zero, List, [], ◌∷◌, ◌++◌, length, Bool, Option, Some, None, option_map, nat_lt, nat_le, slice_index_or}
-use Rattle.std.specs.List.Sorted.{IsPermutation, IsSorted}
+use Rattle.std.specs.Prelude.{ℕ, ◌+◌, ◌≤◌, ◌≡◌, ◌==◌, ◌&&◌, ◌||◌, cond, suc, zero, List, [], ◌∷◌, ◌++◌, length, Bool, Option, Some, None, option_map, nat_lt, nat_le, slice_index_or, ◌-◌, not, true, false, map}
+use Rattle.std.specs.List.Sorted.{IsPartitionPoint, IsPermutation, IsSorted}
 use Rattle.std.specs.Ordering.{nat_cmp, ordering_then}
 use Rattle.std.specs.declared.cmp.Ordering.{Ordering}
 use Rattle.bw_delta.specs.Entries.{at}
@@ -39,6 +39,21 @@ pair_cmp a b = ordering_then (nat_cmp a.0 b.0) (nat_cmp a.1 b.1)
 
 abbrev pub is_upto : ℕ → ℕ → ℕ × ℕ → Bool
 is_upto key number row = nat_lt row.0 key || (row.0 == key && nat_le row.1 number)
+
+-- so many rows are of a lower key, or of this key and a number of at most this: the first ones
+pub record IsCountUpto (rows : List (ℕ × ℕ)) (key number count : ℕ) : Type 0 where
+  pub bound : count ≤ length rows
+  pub point : IsPartitionPoint (λ row. is_upto key number row ≡ true) (λ row. is_upto key number row ≡ false) rows count
+
+-- the neighbours of a range tell that the count is in it
+abbrev pub is_within : ℕ → ℕ → ℕ → ℕ → List (ℕ × ℕ) → Bool
+is_within key number from to rows =
+    nat_le from to && nat_le to (length rows) && ((from == 0) || is_upto key number (slice_index_or rows (from - 1) (0, 0)))
+    && ((to == length rows) || not (is_upto key number (slice_index_or rows to (0, 0))))
+
+-- what each row leaves of its key
+abbrev pub AreLeft : List Change → List (ℕ × ℕ) → List (Option ℕ) → Type 0
+AreLeft changes rows left = left ≡ map (λ row. after_of (bearer changes row.1)) rows
 
 -- the lists are an index of the changes
 pub record Indexes (places : List (Option ℕ)) (rows : List (ℕ × ℕ)) (changes : List Change) : Type 0 where

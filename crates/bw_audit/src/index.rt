@@ -2,9 +2,11 @@ ghost use Rattle.std.specs.Prelude.{◌≡◌, ◌+◌, ◌<◌, ◌≤◌, IfOk
 ghost use Rattle.bw_keys.specs.Ranges.{key_count};
 ghost use Rattle.bw_audit.specs.Changes.{bearer, value_at};
 ghost use Rattle.bw_audit.specs.Verdicts.{is_misnumbered};
-ghost use Rattle.bw_audit.specs.Indexed.{after_of, is_upto, pair_left, rows_upto, ArePlaces, Indexes, IsLeftBy};
+ghost use Rattle.std.specs.List.Sorted.{IsSorted};
+ghost use Rattle.bw_audit.specs.Indexed.{after_of, is_upto, is_within, pair_cmp, pair_left, rows_upto, AreLeft, ArePlaces, Indexes, IsCountUpto, IsLeftBy};
 
 use crate::change::Change;
+use crate::guide::Guide;
 use crate::verdict::AuditFault;
 use bw_keys::Key;
 use std::alloc::Global;
@@ -19,18 +21,22 @@ pub struct Index {
     places: Vec<Option<usize>>,
     /// The key and the number of the first change of each number from 1 to the count, in order.
     rows: Vec<(Key, u64)>,
+    /// What each of these leaves of its key: a look-up reads two lists, and no change.
+    left: Vec<Option<u64>>,
+    guide: Guide,
 }
 
 impl Model for Index {
     ghost use Rattle.std.specs.Prelude.{List};
     ghost use Rattle.bw_audit.specs.declared.change.Change.{Change};
-    ghost use Rattle.bw_audit.specs.Indexed.{Indexes};
+    ghost use Rattle.bw_audit.specs.Indexed.{AreLeft, Indexes};
 
     ghost Value = { List Change };
 
     ghost view = { λ s. s.changes.items };
 
-    ghost invariant = { λ s. Indexes s.places.items s.rows.items s.changes.items };
+    ghost invariant = { λ s. Indexes s.places.items s.rows.items s.changes.items
+        × AreLeft s.changes.items s.rows.items s.left.items };
 }
 
 impl Index {
@@ -41,10 +47,19 @@ impl Index {
         let places = first_places(machine, changes.as_slice())?;
         let mut rows = numbered_rows(machine, changes.as_slice(), places.as_slice())?;
         rows.sort_unstable();
+        let left = values_left(
+            machine,
+            changes.as_slice(),
+            places.as_slice(),
+            rows.as_slice(),
+        )?;
+        let guide = Guide::new(machine, rows.as_slice())?;
         Ok(Index {
             changes,
             places,
             rows,
+            left,
+            guide,
         })
     }
 
@@ -75,13 +90,14 @@ impl Index {
         requires { number ≤ length self.now }
         ensures { result ≡ value_at self.now number key }
     {
-        let end = self.rows.partition_point(|row| is_upto(*row, key, number));
-        if end == 0 {
-            return None;
-        }
-        let (last_key, last_number) = self.rows[end - 1];
-        if last_key == key {
-            after(self.changes.as_slice(), self.places.as_slice(), last_number)
+        let last = count_upto(
+            self.rows.as_slice(),
+            self.guide.around(key),
+            key,
+            number,
+        ).checked_sub(1)?;
+        if self.rows[last].0 == key {
+            self.left[last]
         } else {
             None
         }
@@ -118,6 +134,48 @@ fn is_upto(row: (Key, u64), key: Key, number: u64) -> bool
     ensures { result ≡ is_upto key number row }
 {
     row.0 < key || row.0 == key && row.1 <= number
+}
+
+/// Returns how many rows are of a lower key, or of this key and a number of at most this. Takes
+/// O(log n) time for n rows, of which it reads few if the guess is right.
+fn count_upto(rows: &[(Key, u64)], guess: (usize, usize), key: Key, number: u64) -> usize
+    requires { IsSorted pair_cmp rows.now }
+    ensures { IsCountUpto rows.now key number result }
+{
+    let (from, to) = guess;
+    if !is_within(rows, from, to, key, number) {
+        return rows.partition_point(|row| is_upto(*row, key, number));
+    }
+    from + rows[from..to].partition_point(|row| is_upto(*row, key, number))
+}
+
+/// Returns whether all rows before a range are counted, and none behind it, by a look at its two
+/// neighbours.
+#[inline]
+fn is_within(rows: &[(Key, u64)], from: usize, to: usize, key: Key, number: u64) -> bool
+    ensures { result ≡ is_within key number from to rows.now }
+{
+    from <= to
+        && to <= rows.len()
+        && (from == 0 || is_upto(rows[from - 1], key, number))
+        && (to == rows.len() || !is_upto(rows[to], key, number))
+}
+
+/// Returns what each row leaves of its key.
+fn values_left(
+    machine: Global,
+    changes: &[Change],
+    places: &[Option<usize>],
+    rows: &[(Key, u64)],
+) -> Result<Vec<Option<u64>>, AuditFault>
+    requires { Indexes places.now rows.now changes.now }
+    ensures { IfOk result (λ left. AreLeft changes.now rows.now left.items) }
+{
+    let mut left = Vec::with_capacity(machine, rows.len())?;
+    for place in 0..rows.len() {
+        left.push(after(changes, places, rows[place].1))?;
+    }
+    Ok(left)
 }
 
 /// Returns the first place of each number from 0 to the count of changes.

@@ -5,6 +5,7 @@
 mod auditor;
 mod change;
 mod event;
+mod guide;
 mod index;
 mod law;
 mod replayer;

@@ -1,43 +1,34 @@
-use Rattle.std.proofs.Common.{ℕ, ◌∙◌, rules, sym, ap}
-use Rattle.std.proofs.lemmas.List.Sorted.{IsPartitionPoint-from_clause}
-use Rattle.bw_audit.specs.Indexed.{is_upto}
-use Rattle.bw_audit.proofs.Indexing.{rows_part, none_before, other_last, last_row, own_last}
+use Rattle.std.proofs.Common.{ℕ, ◌≡◌, ◌+◌, ◌∙◌, rules, sym, ap}
+use Rattle.bw_audit.specs.Indexed.{IsCountUpto}
+use Rattle.bw_audit.proofs.Indexing.{none_before, by_other, by_own}
 use Rattle.bw_audit.proofs.index.Index.value_after.Goals as goal
 
-pub returns-then-end-eq0 : goal.returns-then-end-eq0
-returns-then-end-eq0 c =
+pub returns-in_err-last : goal.returns-in_err-last
+returns-in_err-last c =
     let s = c.self.inside in
-    let i = c.self.invariant in
-    let parted = rows_part s.rows.items c.args.key c.args.number i.in_order in
-    let point = IsPartitionPoint-from_clause (is_upto c.args.key c.args.number) _ _ (rw c.deref.ensures.value at c.partition_point-end.ensures.partitioned) parted (λ a r q k. search rules) in
+    let i = c.self.invariant.0 in
+    let count : IsCountUpto s.rows.items c.args.key c.args.number c.count_upto.result = rw c.as_slice.ensures.value at c.count_upto.ensures in
+    c.from_residual.ensures ∙
     rw (← c.self.view_is)
-    (sym (none_before s.changes.items s.rows.items i.kept i.in_order c.args.key c.args.number _ (rw (← c.self.view_is) at c.requires) (search rules) point (search rules)))
+    (sym (none_before s.changes.items s.rows.items i.kept i.in_order c.args.key c.args.number c.count_upto.result (rw (← c.self.view_is) at c.requires) count.bound count.point (search rules)))
 
-pub after-requires-clause-number : goal.after-requires-clause-number
-after-requires-clause-number c =
+pub returns-then-index-key : goal.returns-then-index-key
+returns-then-index-key c =
     let s = c.self.inside in
-    let i = c.self.invariant in
-    let parted = rows_part s.rows.items c.args.key c.args.number i.in_order in
-    let point = IsPartitionPoint-from_clause (is_upto c.args.key c.args.number) _ _ (rw c.deref.ensures.value at c.partition_point-end.ensures.partitioned) parted (λ a r q k. search rules) in
-    rw (c.as_slice.ensures.value, c.index.ensures)
-    (last_row s.changes.items s.rows.items i.kept i.in_order c.args.key c.args.number _ (rw (← c.self.view_is) at c.requires) (search rules) point (search rules) _).1
-
-pub returns-then-last_key-key : goal.returns-then-last_key-key
-returns-then-last_key-key c =
-    let s = c.self.inside in
-    let i = c.self.invariant in
-    let parted = rows_part s.rows.items c.args.key c.args.number i.in_order in
-    let point = IsPartitionPoint-from_clause (is_upto c.args.key c.args.number) _ _ (rw c.deref.ensures.value at c.partition_point-end.ensures.partitioned) parted (λ a r q k. search rules) in
-    c.after.ensures ∙
-    rw (← c.self.view_is, c.as_slice.ensures.value, c.index.ensures)
-    (sym (own_last s.changes.items s.rows.items i.kept i.in_order c.args.key c.args.number _ (rw (← c.self.view_is) at c.requires) (search rules) point (search rules) _ (search rules)))
-
-pub returns-else-last_key-key : goal.returns-else-last_key-key
-returns-else-last_key-key c =
-    let s = c.self.inside in
-    let i = c.self.invariant in
-    let parted = rows_part s.rows.items c.args.key c.args.number i.in_order in
-    let point = IsPartitionPoint-from_clause (is_upto c.args.key c.args.number) _ _ (rw c.deref.ensures.value at c.partition_point-end.ensures.partitioned) parted (λ a r q k. search rules) in
+    let i = c.self.invariant.0 in
+    let count : IsCountUpto s.rows.items c.args.key c.args.number c.count_upto.result = rw c.as_slice.ensures.value at c.count_upto.ensures in
+    let next : c.count_upto.result ≡ c.in_ok-last.last + 1 = search rules in
+    c.index-then-index-key.ensures ∙
     rw (← c.self.view_is)
-    (sym (other_last s.changes.items s.rows.items i.kept i.in_order c.args.key c.args.number _ (rw (← c.self.view_is) at c.requires) (search rules) point (search rules) c.index.result.now
-    (λ same. c.if-last_key-key.false (ap (λ (row : ℕ × ℕ). row.0) c.index.ensures ∙ same))))
+    (by_own s.changes.items s.rows.items i.kept i.in_order c.args.key c.args.number c.count_upto.result (rw (← c.self.view_is) at c.requires) count.bound count.point
+    c.in_ok-last.last next c.index.result.now s.left.items c.self.invariant.1 _ (sym (ap (λ (row : ℕ × ℕ). row.0) c.index.ensures) ∙ c.if-index-key.true))
+
+pub returns-else-index-key : goal.returns-else-index-key
+returns-else-index-key c =
+    let s = c.self.inside in
+    let i = c.self.invariant.0 in
+    let count : IsCountUpto s.rows.items c.args.key c.args.number c.count_upto.result = rw c.as_slice.ensures.value at c.count_upto.ensures in
+    let next : c.count_upto.result ≡ c.in_ok-last.last + 1 = search rules in
+    rw (← c.self.view_is)
+    (sym (by_other s.changes.items s.rows.items i.kept i.in_order c.args.key c.args.number c.count_upto.result (rw (← c.self.view_is) at c.requires) count.bound count.point
+    c.in_ok-last.last next c.index.result.now (λ same. c.if-index-key.false (ap (λ (row : ℕ × ℕ). row.0) c.index.ensures ∙ same))))
