@@ -20,17 +20,33 @@ pub(crate) fn run_map(rt: &impl Clock, alloc: Global, task: &Task) -> Result<Tim
         fill(&mut map, order.as_slice())?;
     }
     let keys = task.known_keys(alloc, order)?;
+    time(rt, &mut map, alloc, task, keys.as_slice())
+}
+
+/// Does the timed part of the task, in a function that holds no map: each way out of it would have to
+/// drop that.
+fn time(
+    rt: &impl Clock,
+    map: &mut Map<Global>,
+    alloc: Global,
+    task: &Task,
+    keys: &[u32],
+) -> Result<Timed, Stop> {
     let start = Instant::now(rt)?;
-    let tally = match task.work {
-        Work::Load(_) => load(&mut map, keys.as_slice())?,
-        Work::Delete => delete_each(&mut map, keys.as_slice())?,
-        Work::Mix { gets } | Work::Zipf { gets } => mix(&mut map, task, gets, keys.as_slice())?,
-        Work::Eights => get_by_eights(&map, task),
-        Work::Set => set_often(&mut map, task)?,
-        Work::Fill(_) | Work::Scan | Work::List => scan_often(&map, alloc, task)?,
-    };
+    let tally = work_on(map, alloc, task, keys)?;
     let seconds = start.elapsed(rt)?.as_secs_f64();
     Ok(Timed { tally, seconds })
+}
+
+fn work_on(map: &mut Map<Global>, alloc: Global, task: &Task, keys: &[u32]) -> Result<Tally, Stop> {
+    match task.work {
+        Work::Load(_) => load(map, keys),
+        Work::Delete => delete_each(map, keys),
+        Work::Mix { gets } | Work::Zipf { gets } => mix(map, task, gets, keys),
+        Work::Eights => Ok(get_by_eights(map, task)),
+        Work::Set => set_often(map, task),
+        Work::Fill(_) | Work::Scan | Work::List => scan_often(map, alloc, task),
+    }
 }
 
 /// Puts every second key of those drawn later.

@@ -132,9 +132,19 @@ fn run_alone(rt: &impl Clock, alloc: Global, task: &Task) -> Result<Timed, Stop>
         fill_alone(alloc, &mut table, task, part)?;
     }
     let keys = task.known_keys(alloc, order)?;
-    let mut steps = Alone::new(alloc, alloc, &mut table);
+    time_alone(rt, alloc, &mut table, task, keys.as_slice())
+}
+
+fn time_alone(
+    rt: &impl Clock,
+    alloc: Global,
+    table: &mut Table<Global>,
+    task: &Task,
+    keys: &[u32],
+) -> Result<Timed, Stop> {
+    let mut steps = Alone::new(alloc, alloc, table);
     let start = Instant::now(rt)?;
-    let tally = work(&mut steps, alloc, task, 0, keys.as_slice())?;
+    let tally = work(&mut steps, alloc, task, 0, keys)?;
     let seconds = start.elapsed(rt)?.as_secs_f64();
     Ok(Timed { tally, seconds })
 }
