@@ -14,17 +14,25 @@ use std::time::{Clock, Instant};
 
 /// Does the task on a new map.
 pub(crate) fn run_map(rt: &impl Clock, alloc: Global, task: &Task) -> Result<Timed, Stop> {
-    let order = task.order(alloc)?;
     let mut map = Map::new(alloc, alloc, task.config)?;
-    if !matches!(task.work, Work::Load(_)) {
-        fill(&mut map, order.as_slice())?;
-    }
-    let keys = task.known_keys(alloc, order)?;
-    time(rt, &mut map, alloc, task, keys.as_slice())
+    run_on_map(rt, &mut map, alloc, task)
 }
 
-/// Does the timed part of the task, in a function that holds no map: each way out of it would have to
-/// drop that.
+/// Fills the map and does the task.
+fn run_on_map(
+    rt: &impl Clock,
+    map: &mut Map<Global>,
+    alloc: Global,
+    task: &Task,
+) -> Result<Timed, Stop> {
+    let order = task.order(alloc)?;
+    if !matches!(task.work, Work::Load(_)) {
+        fill(map, order.as_slice())?;
+    }
+    let keys = task.known_keys(alloc, order)?;
+    time(rt, map, alloc, task, keys.as_slice())
+}
+
 fn time(
     rt: &impl Clock,
     map: &mut Map<Global>,

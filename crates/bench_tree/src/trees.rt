@@ -126,13 +126,23 @@ fn fill_alone(
 }
 
 fn run_alone(rt: &impl Clock, alloc: Global, task: &Task) -> Result<Timed, Stop> {
-    let order = task.order(alloc)?;
     let mut table = Table::new(alloc, alloc, task.config)?;
+    run_on_table(rt, alloc, &mut table, task)
+}
+
+/// Fills the table and does the task.
+fn run_on_table(
+    rt: &impl Clock,
+    alloc: Global,
+    table: &mut Table<Global>,
+    task: &Task,
+) -> Result<Timed, Stop> {
+    let order = task.order(alloc)?;
     for part in order.chunks(PART) {
-        fill_alone(alloc, &mut table, task, part)?;
+        fill_alone(alloc, table, task, part)?;
     }
     let keys = task.known_keys(alloc, order)?;
-    time_alone(rt, alloc, &mut table, task, keys.as_slice())
+    time_alone(rt, alloc, table, task, keys.as_slice())
 }
 
 fn time_alone(
@@ -187,19 +197,35 @@ fn shared<
 ) -> Result<Timed, Stop>
     requires ledgers { OpensFor I.Ledger I.config D.Ledger config blanks }
 {
+    let (tree, shares) = Tree::<R, Global, I, D>::new(rt, alloc, alloc, config, blanks)?;
+    run_on_tree(&rt, alloc, &tree, shares, task, gives_up)
+}
+
+/// Fills the tree by one of the shares and does the task by all.
+fn run_on_tree<
+    I: MadeBy + Send + Sync,
+    D: Ledger + Send + Sync,
+    R: Clock + Threads + Wait + Sync + Send + Copy,
+>(
+    rt: &R,
+    alloc: Global,
+    tree: &Tree<R, Global, I, D>,
+    mut shares: Vec<Share<I, D>>,
+    task: &Task,
+    gives_up: bool,
+) -> Result<Timed, Stop> {
     let order = task.order(alloc)?;
-    let (tree, mut shares) = Tree::<R, Global, I, D>::new(rt, alloc, alloc, config, blanks)?;
     let mut first = shares.pop().ok_or(Stop::Wrong)?;
     for part in order.chunks(PART) {
-        first = fill_by_hand(alloc, &tree, first, task, part)?;
+        first = fill_by_hand(alloc, tree, first, task, part)?;
     }
     if shares.push(first).is_err() {
         return Err(Stop::Memory);
     }
     let keys = task.known_keys(alloc, order)?;
-    let start = Instant::now(&rt)?;
-    let tally = work_together(&rt, alloc, &tree, task, keys.as_slice(), shares, gives_up)?;
-    let seconds = start.elapsed(&rt)?.as_secs_f64();
+    let start = Instant::now(rt)?;
+    let tally = work_together(rt, alloc, tree, task, keys.as_slice(), shares, gives_up)?;
+    let seconds = start.elapsed(rt)?.as_secs_f64();
     Ok(Timed { tally, seconds })
 }
 

@@ -4,7 +4,7 @@ ghost use Rattle.std.specs.Prelude.{◌<◌, ◌≤◌};
 
 use nifforan::Map;
 use nifforan_handle::status::{CLOSED, OK, OPEN, TABLE_FULL};
-use nifforan_handle::{Found, Handle, Held, High, Pair, Settings};
+use nifforan_handle::{Found, Handle, Held, High, Pair, Read, Settings};
 use rand_core::{Rng, SeedableRng};
 use rand_pcg::Pcg32;
 use std::alloc::{AllocError, Global};
@@ -138,23 +138,23 @@ impl Beside {
         }
     }
 
-    /// Reads into room of a drawn size, which leaves the places behind it alone.
+    /// Returns the keys of the kit's map in the range.
+    fn keys_between(&self, low: u64, high: High) -> Result<Vec<u64>, AllocError> {
+        let mut keys = Vec::new(self.machine);
+        for (key, _) in self.between(low, high) {
+            keys.push(*key)?;
+        }
+        Ok(keys)
+    }
+
+    /// Reads into room of a drawn size.
     fn read(&mut self, handle: &mut Handle) -> bool {
         let (low, room) = (self.key(), self.below(ROOM as u32) as usize);
         let high = self.high(low);
         let mut places = [UNTOUCHED; ROOM];
         let read = handle.read(self.machine, low, high, &mut places[..room]);
-        let mut left = self.between(low, high).map(owned);
-        let mut is_alike = true;
-        for place in &places[..read.count.min(room)] {
-            is_alike &= left.next() == Some((place.key, place.value));
-        }
-        let next = left.next();
-        let wanted = (OK, next.is_some(), next.unwrap_or((0, 0)).0);
-        is_alike
-            && (read.status, read.has_next, read.next) == wanted
-            && (read.count == room || next.is_none())
-            && places[room].key == UNTOUCHED.key
+        let left = self.between(low, high).map(owned);
+        is_filled(read, &places[..room], &places[room], left)
     }
 
     /// Does the same backwards.
@@ -163,17 +163,8 @@ impl Beside {
         let high = self.high(low);
         let mut places = [UNTOUCHED; ROOM];
         let read = handle.read_back(self.machine, low, high, &mut places[..room]);
-        let mut left = self.between(low, high).rev().map(owned);
-        let mut is_alike = true;
-        for place in &places[..read.count.min(room)] {
-            is_alike &= left.next() == Some((place.key, place.value));
-        }
-        let next = left.next();
-        let wanted = (OK, next.is_some(), next.unwrap_or((0, 0)).0);
-        is_alike
-            && (read.status, read.has_next, read.next) == wanted
-            && (read.count == room || next.is_none())
-            && places[room].key == UNTOUCHED.key
+        let left = self.between(low, high).rev().map(owned);
+        is_filled(read, &places[..room], &places[room], left)
     }
 
     /// Looks for the pairs at both ends, and at or next to a drawn key.
@@ -200,10 +191,7 @@ impl Beside {
         let low = self.key();
         let high = High::below(low.saturating_add(self.below(64).into()).saturating_sub(3));
         let cleared = handle.clear(self.machine, low, high);
-        let mut within = Vec::new(self.machine);
-        for (key, _) in self.between(low, high) {
-            within.push(*key)?;
-        }
+        let within = self.keys_between(low, high)?;
         let removed = self.forget_lost(handle, &within);
         let is_said = match cleared.status {
             OK => removed == within.len() as u64,
@@ -279,6 +267,25 @@ impl Beside {
         let all = self.pairs.iter().rev().map(owned);
         map.range(low..high).rev().eq(within) && map.iter().rev().eq(all)
     }
+}
+
+/// Returns whether a read filled the places with the first of the pairs that are left, names the key of
+/// the next one, and left the place behind them alone.
+fn is_filled<I: Iterator<Item = (u64, u64)>>(
+    read: Read,
+    places: &[Pair],
+    behind: &Pair,
+    mut left: I,
+) -> bool {
+    let mut is_alike = behind.key == UNTOUCHED.key;
+    for place in &places[..read.count.min(places.len())] {
+        is_alike &= left.next() == Some((place.key, place.value));
+    }
+    let next = left.next();
+    let wanted = (OK, next.is_some(), next.unwrap_or((0, 0)).0);
+    is_alike
+        && (read.status, read.has_next, read.next) == wanted
+        && (read.count == places.len() || next.is_none())
 }
 
 /// Returns whether the look was answered with the pair, or with none.

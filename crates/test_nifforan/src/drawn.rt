@@ -234,16 +234,20 @@ impl Both {
         Ok(self.is_read_forwards(bounds, &wanted) && self.is_read_backwards(bounds, &wanted))
     }
 
-    /// Returns whether the map equals a copy, and another one of the same pairs, until that changes.
-    fn is_compared(&mut self) -> Result<bool, Fail> {
-        let machine = self.machine;
-        let key = self.key();
+    /// Returns whether the map equals a copy, which has its configuration.
+    fn is_copied(&self) -> Result<bool, Fail> {
         let copy = self.map.try_clone()?;
+        Ok(self.map == copy && copy.table().config() == self.config)
+    }
+
+    /// Returns whether the map equals another one of the same pairs, until that changes.
+    fn is_compared(&mut self) -> Result<bool, Fail> {
+        let key = self.key();
         let pairs = self.plain.iter().map(owned);
-        let mut other = Map::from_pairs(machine, machine, self.config, pairs)?;
-        let was_same = self.map == copy && self.map == other;
+        let mut other = Map::from_pairs(self.machine, self.machine, self.config, pairs)?;
+        let was_same = self.map == other;
         let _done = other.upsert(key, one_more)?;
-        Ok(was_same && copy.table().config() == self.config && self.map != other)
+        Ok(was_same && self.map != other)
     }
 }
 
@@ -254,7 +258,7 @@ fn calls_of_a_map_answer_as_those_of_the_kits_map(rt: HostRuntime) -> Result<(),
         for round in 0..300 {
             let mut is_alike = both.call()? && both.is_read()? && both.is_ranged()?;
             if round % 8 == 0 {
-                is_alike &= both.is_compared()?;
+                is_alike &= both.is_copied()? && both.is_compared()?;
             }
             assert!(rt; is_alike, "round {round}, fanout {fanout}, chain {chain}");
         }

@@ -1,0 +1,88 @@
+//! A map changes pairs in place and splits leaves at once: it leaves no record on one, however long
+//! a chain may be. A leaf that was found before a change is tended as one that is searched for.
+
+use bw_keys::Pid;
+use nifforan::{Config, Map, Table};
+use std::alloc::Global;
+use std::test::Fail;
+
+/// Fanout and chain: leaves of few pairs, the usual settings, and the longest chain.
+const TABLES: [(u32, u32); 3] = [(4, 8), (64, 8), (8, 32)];
+
+/// The number of pairs before and of those that are set.
+const KEYS: u64 = 500;
+
+/// Returns the first leaf with a record, if there is one.
+fn first_with_record(table: &Table<Global>) -> Option<u32> {
+    (0..table.config().pages).find(|page| {
+        matches!(table.peek(Pid(*page)), Some(view) if view.level == 0 && view.depth > 0)
+    })
+}
+
+/// Sets every other key twice, in a mixed order. Returns the first after which a leaf has a record.
+fn first_wrong(map: &mut Map<Global>) -> Result<Option<u64>, Fail> {
+    for round in 0..2 * KEYS {
+        let key = 2 * (7919 * round % KEYS);
+        let _done = map.set(key, round)?;
+        if first_with_record(map.table()).is_some() {
+            return Ok(Some(key));
+        }
+    }
+    Ok(None)
+}
+
+#[test]
+fn a_map_leaves_no_record_on_a_leaf(rt: HostRuntime) -> Result<(), Fail> {
+    let machine = rt.alloc();
+    for (fanout, chain) in TABLES {
+        let config = Config {
+            fanout,
+            chain,
+            pages: 1024,
+            ..Config::default()
+        };
+        let pairs = (0..KEYS).map(|key| (2 * key + 1, key));
+        let mut map = Map::from_pairs(machine, machine, config, pairs)?;
+        let free = map.free_pages();
+        let wrong = first_wrong(&mut map)?;
+        assert_eq!(rt; wrong, None, "fanout {fanout}, chain {chain}");
+        assert!(rt; map.free_pages() < free, "pages were split");
+    }
+    Ok(())
+}
+
+/// Upserts each key, and then takes each out, by calls that change the leaf which they found, while
+/// another map has them put and deleted. Returns the first key after which not as many pages are free.
+fn first_untended(map: &mut Map<Global>, other: &mut Map<Global>) -> Result<Option<u64>, Fail> {
+    for round in 0..2 * KEYS {
+        let key = round % KEYS;
+        if round < KEYS {
+            let _done = map.upsert(key, |_old| 0)?;
+            let _put = other.put(key, 0)?;
+        } else {
+            let _done = map.compare_and_set(key, Some(0), None)?;
+            let _deleted = other.delete(key)?;
+        }
+        if map.free_pages() != other.free_pages() {
+            return Ok(Some(key));
+        }
+    }
+    Ok(None)
+}
+
+#[test]
+fn a_leaf_that_was_found_is_tended(rt: HostRuntime) -> Result<(), Fail> {
+    let machine = rt.alloc();
+    for (fanout, chain) in TABLES {
+        let config = Config {
+            fanout,
+            chain,
+            ..Config::default()
+        };
+        let mut map = Map::new(machine, machine, config)?;
+        let mut other = Map::new(machine, machine, config)?;
+        let wrong = first_untended(&mut map, &mut other)?;
+        assert_eq!(rt; wrong, None, "fanout {fanout}, chain {chain}");
+    }
+    Ok(())
+}
