@@ -86,8 +86,8 @@ impl Beside {
     fn call(&mut self, handle: &mut Handle) -> Result<bool, AllocError> {
         match self.below(64) {
             0 => self.clear(handle),
-            1..4 => Ok(self.read(handle)),
-            4..7 => Ok(self.read_back(handle)),
+            1..4 => self.read(handle),
+            4..7 => self.read_back(handle),
             7..10 => Ok(self.look(handle)),
             _ => self.call_at_key(handle),
         }
@@ -138,33 +138,34 @@ impl Beside {
         }
     }
 
-    /// Returns the keys of the kit's map in the range.
-    fn keys_between(&self, low: u64, high: High) -> Result<Vec<u64>, AllocError> {
-        let mut keys = Vec::new(self.machine);
-        for (key, _) in self.between(low, high) {
-            keys.push(*key)?;
+    /// Returns the pairs of the kit's map in the range, in a list.
+    fn pairs_between(&self, low: u64, high: High) -> Result<Vec<(u64, u64)>, AllocError> {
+        let mut pairs = Vec::new(self.machine);
+        for (key, value) in self.between(low, high) {
+            pairs.push((*key, *value))?;
         }
-        Ok(keys)
+        Ok(pairs)
     }
 
     /// Reads into room of a drawn size.
-    fn read(&mut self, handle: &mut Handle) -> bool {
+    fn read(&mut self, handle: &mut Handle) -> Result<bool, AllocError> {
         let (low, room) = (self.key(), self.below(ROOM as u32) as usize);
         let high = self.high(low);
+        let wanted = self.pairs_between(low, high)?;
         let mut places = [UNTOUCHED; ROOM];
         let read = handle.read(self.machine, low, high, &mut places[..room]);
-        let left = self.between(low, high).map(owned);
-        is_filled(read, &places[..room], &places[room], left)
+        Ok(is_filled(read, &places[..room], &places[room], &wanted))
     }
 
     /// Does the same backwards.
-    fn read_back(&mut self, handle: &mut Handle) -> bool {
+    fn read_back(&mut self, handle: &mut Handle) -> Result<bool, AllocError> {
         let (low, room) = (self.key(), self.below(ROOM as u32) as usize);
         let high = self.high(low);
+        let mut wanted = self.pairs_between(low, high)?;
+        wanted.reverse();
         let mut places = [UNTOUCHED; ROOM];
         let read = handle.read_back(self.machine, low, high, &mut places[..room]);
-        let left = self.between(low, high).rev().map(owned);
-        is_filled(read, &places[..room], &places[room], left)
+        Ok(is_filled(read, &places[..room], &places[room], &wanted))
     }
 
     /// Looks for the pairs at both ends, and at or next to a drawn key.
@@ -191,7 +192,7 @@ impl Beside {
         let low = self.key();
         let high = High::below(low.saturating_add(self.below(64).into()).saturating_sub(3));
         let cleared = handle.clear(self.machine, low, high);
-        let within = self.keys_between(low, high)?;
+        let within = self.pairs_between(low, high)?;
         let removed = self.forget_lost(handle, &within);
         let is_said = match cleared.status {
             OK => removed == within.len() as u64,
@@ -200,10 +201,10 @@ impl Beside {
         Ok(is_said && cleared.removed == removed)
     }
 
-    /// Removes the keys from the kit's map that the handle hasn't, and returns their number.
-    fn forget_lost(&mut self, handle: &mut Handle, keys: &[u64]) -> u64 {
+    /// Removes the pairs from the kit's map whose keys the handle hasn't, and returns their number.
+    fn forget_lost(&mut self, handle: &mut Handle, pairs: &[(u64, u64)]) -> u64 {
         let mut removed = 0u64;
-        for key in keys {
+        for (key, _) in pairs {
             if !handle.get(self.machine, *key).found {
                 self.pairs.remove(key);
                 removed = removed.wrapping_add(1);
@@ -269,23 +270,16 @@ impl Beside {
     }
 }
 
-/// Returns whether a read filled the places with the first of the pairs that are left, names the key of
-/// the next one, and left the place behind them alone.
-fn is_filled<I: Iterator<Item = (u64, u64)>>(
-    read: Read,
-    places: &[Pair],
-    behind: &Pair,
-    mut left: I,
-) -> bool {
-    let mut is_alike = behind.key == UNTOUCHED.key;
-    for place in &places[..read.count.min(places.len())] {
-        is_alike &= left.next() == Some((place.key, place.value));
+/// Returns whether a read found the first of the wanted pairs, as many as there are places, names the
+/// key of the next one, and left the place behind them alone.
+fn is_filled(read: Read, places: &[Pair], behind: &Pair, wanted: &[(u64, u64)]) -> bool {
+    let mut is_alike = read.count == wanted.len().min(places.len());
+    for (place, pair) in places.iter().zip(wanted) {
+        is_alike &= (place.key, place.value) == *pair;
     }
-    let next = left.next();
-    let wanted = (OK, next.is_some(), next.unwrap_or((0, 0)).0);
-    is_alike
-        && (read.status, read.has_next, read.next) == wanted
-        && (read.count == places.len() || next.is_none())
+    let next = wanted.get(places.len()).copied();
+    let told = (OK, next.is_some(), next.unwrap_or((0, 0)).0);
+    is_alike && (read.status, read.has_next, read.next) == told && behind.key == UNTOUCHED.key
 }
 
 /// Returns whether the look was answered with the pair, or with none.
