@@ -1,7 +1,8 @@
 //! Whether there is a page that another one could be split to.
 
-ghost use Rattle.std.specs.Prelude.{◌≡◌, ◌↔◌, [], None, true, IsTrue, length};
-ghost use Rattle.bw_law.specs.Refusals.{last_id};
+ghost use Rattle.std.specs.Prelude.{◌≡◌, ◌↔◌, [], IsTrue, length};
+ghost use Rattle.bw_law.specs.Tables.{slot_at};
+ghost use Rattle.bw_table.specs.Answers.{LacksPageFor};
 
 use crate::steps::shared::check_open;
 use crate::table::Table;
@@ -29,7 +30,7 @@ impl<A: Allocator + Copy> Table<A> {
     /// page, and for no other reason: the leaf has the version that was seen, no record, and isn't being
     /// removed. This can be asked before the page is copied for the split.
     pub fn has_no_page_for(&self, leaf: Pid, seen: Version) -> bool
-        ensures { result ≡ true → last_id self.now.free ≡ None }
+        ensures { IsTrue result ↔ LacksPageFor self.now (slot_at self.now leaf.0) seen.0 }
     {
         if self.new_slot().is_some() {
             return false;
