@@ -1,3 +1,8 @@
+//! Lengths and places in a drawing.
+
+ghost use Rattle.std.specs.Prelude.{◌≡◌, ◌+◌, ◌-◌, ◌*◌, Some, decimal};
+ghost use Rattle.bw_draw.specs.Figures.{capped};
+
 use std::fmt;
 use std::ops::{Add, Mul, Sub};
 
@@ -28,6 +33,8 @@ impl Length {
 impl Add for Length {
     type Output = Length;
 
+    ghost add_gives = { λ length other sum. sum.0 ≡ capped (length.0 + other.0) };
+
     fn add(self, other: Length) -> Length {
         Length(self.0.saturating_add(other.0))
     }
@@ -35,6 +42,8 @@ impl Add for Length {
 
 impl Sub for Length {
     type Output = Length;
+
+    ghost sub_gives = { λ length other rest. rest.0 ≡ length.0 - other.0 };
 
     fn sub(self, other: Length) -> Length {
         Length(self.0.saturating_sub(other.0))
@@ -44,12 +53,16 @@ impl Sub for Length {
 impl Mul<usize> for Length {
     type Output = Length;
 
+    ghost mul_gives = { λ length times all. all.0 ≡ capped (length.0 * times) };
+
     fn mul(self, times: usize) -> Length {
         Length(self.0.saturating_mul(times))
     }
 }
 
 impl fmt::Display for Length {
+    ghost output = { λ length. Some (decimal length.0) };
+
     fn fmt<W: fmt::Write>(&self, f: &mut fmt::Formatter<W>) -> fmt::Result {
         write!(f, "{}", self.0)
     }
