@@ -1,9 +1,10 @@
 //! Many pairs, set one after the other.
 
-ghost use Rattle.std.specs.Prelude.{◌≡◌, IfOk};
+ghost use Rattle.std.specs.Prelude.{◌≡◌, None, IfOk, IfErr, OnOk};
 ghost use Rattle.std.specs.Iterator.{IsFiniteIterable};
+ghost use Rattle.bw_keys.specs.Limits.{first_bad_field};
 ghost use Rattle.nifforan.specs.Calls.{SetsAll};
-ghost use Rattle.nifforan.specs.Filling.{IsMadeOf};
+ghost use Rattle.nifforan.specs.Filling.{IsFillFault, IsMadeOf};
 
 use crate::map::Map;
 use bw_keys::{Config, Key};
@@ -58,6 +59,8 @@ impl<A: Allocator + Copy> Map<A> {
         ensures pairs { IfOk result (λ map.
             IsMadeOf U.into_iter_gives U.IntoIter.next_gives pairs map.pairs) }
         ensures config { IfOk result (λ map. map.config ≡ config) }
+        ensures fine { OnOk result (first_bad_field config ≡ None) }
+        ensures fault { IfErr result (IsFillFault config) }
     {
         let mut map = match Map::new(machine, alloc, config) {
             Ok(map) => map,
@@ -74,6 +77,7 @@ impl<A: Allocator + Copy> Map<A> {
     pub fn try_clone(&self) -> Result<Map<A>, FillFault>
         ensures pairs { IfOk result (λ map. map.pairs ≡ self.now.pairs) }
         ensures config { IfOk result (λ map. map.config ≡ self.now.config) }
+        ensures fault { IfErr result (IsFillFault self.now.config) }
     {
         self.law();
         let alloc = self.worker.owner.alloc();
