@@ -1,7 +1,8 @@
 //! The lines of a script: a new table, a step, or a question.
 
 ghost use Rattle.std.specs.Prelude.{◌≡◌};
-ghost use Rattle.bw_scripts.specs.Lines.{asks_for_nothing};
+ghost use Rattle.bw_scripts.specs.declared.line.Unread.TheVariants as unread;
+ghost use Rattle.bw_scripts.specs.Lines.{asks_for_nothing, unread_base};
 
 use crate::numbers::{level, number, page, small};
 use crate::steps::step;
@@ -47,24 +48,32 @@ pub(crate) enum Unread {
 }
 
 impl From<NoMemory> for Unread {
+    ghost from_gives = { λ _ result. result ≡ unread.NoMemory };
+
     fn from(_: NoMemory) -> Unread {
         Unread::NoMemory
     }
 }
 
 impl From<AllocError> for Unread {
+    ghost from_gives = { λ _ result. result ≡ unread.NoMemory };
+
     fn from(_: AllocError) -> Unread {
         Unread::NoMemory
     }
 }
 
 impl<T: Drop> From<AllocFailed<T>> for Unread {
+    ghost from_gives = { λ _ result. result ≡ unread.NoMemory };
+
     fn from(_: AllocFailed<T>) -> Unread {
         Unread::NoMemory
     }
 }
 
 impl From<BaseFault> for Unread {
+    ghost from_gives = { λ fault result. result ≡ unread_base fault };
+
     fn from(fault: BaseFault) -> Unread {
         match fault {
             BaseFault::BadEntries => Unread::BadEntries,
