@@ -31,6 +31,18 @@ fn first_wrong(map: &mut Map<Global>) -> Result<Option<u64>, Fail> {
     Ok(None)
 }
 
+/// What was seen of a map: the first key after which a leaf had a record, and whether a page was split.
+type Seen = (Option<u64>, bool);
+
+/// Makes a map of odd keys and sets its even ones.
+fn seen_of(machine: Global, config: Config) -> Result<Seen, Fail> {
+    let pairs = (0..KEYS).map(|key| (2 * key + 1, key));
+    let mut map = Map::from_pairs(machine, machine, config, pairs)?;
+    let free = map.free_pages();
+    let wrong = first_wrong(&mut map)?;
+    Ok((wrong, map.free_pages() < free))
+}
+
 #[test]
 fn a_map_leaves_no_record_on_a_leaf(rt: HostRuntime) -> Result<(), Fail> {
     let machine = rt.alloc();
@@ -41,33 +53,49 @@ fn a_map_leaves_no_record_on_a_leaf(rt: HostRuntime) -> Result<(), Fail> {
             pages: 1024,
             ..Config::default()
         };
-        let pairs = (0..KEYS).map(|key| (2 * key + 1, key));
-        let mut map = Map::from_pairs(machine, machine, config, pairs)?;
-        let free = map.free_pages();
-        let wrong = first_wrong(&mut map)?;
+        let (wrong, has_split) = seen_of(machine, config)?;
         assert_eq!(rt; wrong, None, "fanout {fanout}, chain {chain}");
-        assert!(rt; map.free_pages() < free, "pages were split");
+        assert!(rt; has_split, "pages were split");
     }
     Ok(())
 }
 
-/// Upserts each key, and then takes each out, by calls that change the leaf which they found, while
-/// another map has them put and deleted. Returns the first key after which not as many pages are free.
+/// Upserts the key, which changes the leaf that was found, and puts it in the other map.
+fn add(map: &mut Map<Global>, other: &mut Map<Global>, key: u64) -> Result<(), Fail> {
+    let _done = map.upsert(key, |_old| 0)?;
+    let _put = other.put(key, 0)?;
+    Ok(())
+}
+
+/// Takes the key out of the leaf that was found, and deletes it from the other map.
+fn remove(map: &mut Map<Global>, other: &mut Map<Global>, key: u64) -> Result<(), Fail> {
+    let _done = map.compare_and_set(key, Some(0), None)?;
+    let _deleted = other.delete(key)?;
+    Ok(())
+}
+
+/// Adds each key, and then removes each. Returns the first after which not as many pages are free in
+/// both maps.
 fn first_untended(map: &mut Map<Global>, other: &mut Map<Global>) -> Result<Option<u64>, Fail> {
     for round in 0..2 * KEYS {
         let key = round % KEYS;
         if round < KEYS {
-            let _done = map.upsert(key, |_old| 0)?;
-            let _put = other.put(key, 0)?;
+            add(map, other, key)?;
         } else {
-            let _done = map.compare_and_set(key, Some(0), None)?;
-            let _deleted = other.delete(key)?;
+            remove(map, other, key)?;
         }
         if map.free_pages() != other.free_pages() {
             return Ok(Some(key));
         }
     }
     Ok(None)
+}
+
+/// Makes both maps, empty, and changes them side by side.
+fn first_untended_of(machine: Global, config: Config) -> Result<Option<u64>, Fail> {
+    let mut map = Map::new(machine, machine, config)?;
+    let mut other = Map::new(machine, machine, config)?;
+    first_untended(&mut map, &mut other)
 }
 
 #[test]
@@ -79,9 +107,7 @@ fn a_leaf_that_was_found_is_tended(rt: HostRuntime) -> Result<(), Fail> {
             chain,
             ..Config::default()
         };
-        let mut map = Map::new(machine, machine, config)?;
-        let mut other = Map::new(machine, machine, config)?;
-        let wrong = first_untended(&mut map, &mut other)?;
+        let wrong = first_untended_of(machine, config)?;
         assert_eq!(rt; wrong, None, "fanout {fanout}, chain {chain}");
     }
     Ok(())

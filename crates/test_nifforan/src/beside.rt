@@ -227,6 +227,7 @@ impl Beside {
             return Ok(false);
         };
         let is_alike = (count.status, count.pairs) == (OK, self.pairs.len() as u64)
+            && self.is_looked_at(&map, low)
             && self.is_read(&map, low, high)
             && self.is_read_backwards(&map, low, high);
         let map = Map::from_table(machine, machine, map.into_table());
@@ -235,19 +236,27 @@ impl Beside {
         Ok(is_alike)
     }
 
-    /// Returns whether each read of the map returns what the kit's map has.
+    /// Returns whether each look at the map finds what the kit's map has.
+    fn is_looked_at(&self, map: &Map<Global>, key: u64) -> bool {
+        let plain = &self.pairs;
+        let alike = [
+            map.len() == plain.len() as u64,
+            map.is_empty() == plain.is_empty(),
+            map.get(key) == plain.get(&key).copied(),
+            map.first() == plain.first_key_value().map(owned),
+            map.last() == plain.last_key_value().map(owned),
+            map.next_at(key) == plain.range(key..).next().map(owned),
+            map.previous_at(key) == plain.range(..=key).next_back().map(owned),
+        ];
+        !alike.contains(&false)
+    }
+
+    /// Returns whether each range of the map has the pairs of the kit's map.
     fn is_read(&self, map: &Map<Global>, low: u64, high: u64) -> bool
         requires { low ≤ high }
     {
         let plain = &self.pairs;
         let alike = [
-            map.len() == plain.len() as u64,
-            map.is_empty() == plain.is_empty(),
-            map.get(low) == plain.get(&low).copied(),
-            map.first() == plain.first_key_value().map(owned),
-            map.last() == plain.last_key_value().map(owned),
-            map.next_at(low) == plain.range(low..).next().map(owned),
-            map.previous_at(low) == plain.range(..=low).next_back().map(owned),
             map.range(low..high).eq(plain.range(low..high).map(owned)),
             map.range(low..=high).eq(plain.range(low..=high).map(owned)),
             map.range(low..).eq(plain.range(low..).map(owned)),

@@ -6,7 +6,9 @@ use rand_core::{Rng, SeedableRng};
 use rand_pcg::Pcg32;
 use std::alloc::{AllocError, Global};
 use std::collections::{BTreeMap, btree_map};
+use std::sync::Wait;
 use std::test::Fail;
+use std::thread::Threads;
 
 /// Fanout, chain, and the number of a worker's calls: records on few leaves, leaves of few pairs,
 /// and short chains.
@@ -144,6 +146,19 @@ fn are_read(map: &Map<Global>, plain: &BTreeMap<u64, u64>) -> bool {
     are_alike
 }
 
+/// Returns the map of a table on which a worker made the calls, or none if one of them failed.
+fn made_by<R: Threads + Wait + Sync + Send + Copy>(
+    rt: R,
+    machine: Global,
+    config: Config,
+    calls: &Calls,
+) -> Result<Option<Map<Global>>, Fail> {
+    let shared = share(rt, machine, config, 1, calls)?;
+    let is_done = shared.outputs.iter().all(|is_done| *is_done);
+    let map = Map::from_table(machine, machine, shared.table);
+    Ok(if is_done { Some(map) } else { None })
+}
+
 #[test]
 fn ranges_are_read_from_both_ends(rt: HostRuntime) -> Result<(), Fail> {
     for (fanout, chain, count) in TABLES {
@@ -153,11 +168,12 @@ fn ranges_are_read_from_both_ends(rt: HostRuntime) -> Result<(), Fail> {
             ..Config::default()
         };
         let calls = Calls { seed: 7, count };
-        let shared = share(rt, rt.alloc(), config, 1, &calls)?;
-        assert!(rt; shared.outputs.iter().all(|is_done| *is_done));
-        let map = Map::from_table(rt.alloc(), rt.alloc(), shared.table);
         let plain = calls.plain(rt.alloc())?;
-        assert!(rt; are_read(&map, &plain), "fanout {fanout}, chain {chain}");
+        let are_read = match made_by(rt, rt.alloc(), config, &calls)? {
+            Some(map) => are_read(&map, &plain),
+            None => false,
+        };
+        assert!(rt; are_read, "fanout {fanout}, chain {chain}");
     }
     Ok(())
 }

@@ -251,34 +251,81 @@ impl Both {
     }
 }
 
+/// Makes drawn calls. Returns the first round in which the maps weren't alike, if there is one.
+fn first_wrong(both: &mut Both) -> Result<Option<u32>, Fail> {
+    for round in 0..300 {
+        let mut is_alike = both.call()? && both.is_read()? && both.is_ranged()?;
+        if round % 8 == 0 {
+            is_alike &= both.is_copied()? && both.is_compared()?;
+        }
+        if !is_alike {
+            return Ok(Some(round));
+        }
+    }
+    Ok(None)
+}
+
+/// Makes both maps and the calls. Returns the first wrong round, and whether the map was ever full.
+fn called(
+    machine: Global,
+    fanout: u32,
+    chain: u32,
+    pages: u32,
+) -> Result<(Option<u32>, bool), Fail> {
+    let mut both = Both::new(machine, fanout, chain, pages)?;
+    let wrong = first_wrong(&mut both)?;
+    Ok((wrong, both.was_full))
+}
+
 #[test]
 fn calls_of_a_map_answer_as_those_of_the_kits_map(rt: HostRuntime) -> Result<(), Fail> {
     for (fanout, chain, pages) in TABLES {
-        let mut both = Both::new(rt.alloc(), fanout, chain, pages)?;
-        for round in 0..300 {
-            let mut is_alike = both.call()? && both.is_read()? && both.is_ranged()?;
-            if round % 8 == 0 {
-                is_alike &= both.is_copied()? && both.is_compared()?;
-            }
-            assert!(rt; is_alike, "round {round}, fanout {fanout}, chain {chain}");
-        }
-        assert_eq!(rt; both.was_full, pages == 8);
+        let called = called(rt.alloc(), fanout, chain, pages)?;
+        assert_eq!(rt;
+            called,
+            (None, pages == 8),
+            "fanout {fanout}, chain {chain}"
+        );
     }
     Ok(())
 }
 
-#[test]
-fn a_fault_of_extend_stands_beside_its_reply(rt: HostRuntime) -> Result<(), Fail> {
+/// Sets a hundred keys in a map of eight pages. Returns how many pages were free before, the fault, the
+/// number of pairs then, and whether the map says that it is full.
+fn overfilled(machine: Global) -> Result<(usize, Option<Fault>, u64, bool), Fail> {
     let config = Config {
         fanout: 4,
         pages: 8,
         ..Config::default()
     };
-    let mut map = Map::new(rt.alloc(), rt.alloc(), config)?;
-    assert_eq!(rt; map.free_pages(), 7);
+    let mut map = Map::new(machine, machine, config)?;
+    let free = map.free_pages();
     let done = map.extend((0..100).map(|key| (key, key)))?;
-    assert_eq!(rt; done.fault, Some(Fault::TableFull));
-    assert_eq!(rt; map.len(), 100);
-    assert!(rt; map.is_full(), "a call said that it was full");
+    Ok((free, done.fault, map.len(), map.is_full()))
+}
+
+#[test]
+fn a_fault_of_extend_stands_beside_its_reply(rt: HostRuntime) -> Result<(), Fail> {
+    let wanted = (7, Some(Fault::TableFull), 100, true);
+    assert_eq!(rt; overfilled(rt.alloc())?, wanted);
+    Ok(())
+}
+
+/// Sets a hundred keys in a map whose only leaf has three versions left, of which the first set takes two,
+/// one for the change and one for the page made anew, and the second one. Returns the fault and the number
+/// of pairs.
+fn worn_out(machine: Global) -> Result<(Option<Fault>, u64), Fail> {
+    let config = Config {
+        first_version: u64::MAX - 3,
+        ..Config::default()
+    };
+    let mut map = Map::new(machine, machine, config)?;
+    let fault = map.extend((0..100).map(|key| (key, key))).err();
+    Ok((fault, map.len()))
+}
+
+#[test]
+fn a_fault_of_extend_stands_in_its_replys_place(rt: HostRuntime) -> Result<(), Fail> {
+    assert_eq!(rt; worn_out(rt.alloc())?, (Some(Fault::Worn), 2));
     Ok(())
 }

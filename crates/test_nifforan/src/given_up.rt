@@ -127,6 +127,25 @@ struct Left {
     kept: usize,
 }
 
+/// Returns the replies, unless a worker had none.
+fn all_of(machine: Global, outputs: Vec<Result<Replies, Fault>>) -> Result<Vec<Replies>, Fail> {
+    let mut replies = Vec::new(machine);
+    for output in outputs {
+        replies.push(output?)?;
+    }
+    Ok(replies)
+}
+
+/// Returns how many receipts there were, and how many were kept.
+fn counts_of<L: Trail>(trails: &[L]) -> (usize, usize) {
+    let (mut receipts, mut kept) = (0usize, 0usize);
+    for trail in trails {
+        receipts = receipts.saturating_add(trail.count());
+        kept = kept.saturating_add(trail.receipts().len());
+    }
+    (receipts, kept)
+}
+
 fn left_by<
     L: Trail + Send,
     J: Job<Output = Result<Replies, Fault>, Trail = L> + Sync,
@@ -138,18 +157,9 @@ fn left_by<
         ..Config::default()
     };
     let shared = share(rt, machine, config, workers, job)?;
-    let mut replies = Vec::new(machine);
-    for output in shared.outputs {
-        replies.push(output?)?;
-    }
-    let mut receipts = 0usize;
-    let mut kept = 0usize;
-    for trail in shared.trails.iter() {
-        receipts = receipts.saturating_add(trail.count());
-        kept = kept.saturating_add(trail.receipts().len());
-    }
+    let (receipts, kept) = counts_of(&shared.trails);
     Ok(Left {
-        replies,
+        replies: all_of(machine, shared.outputs)?,
         pairs: shared.table.pairs(machine)?,
         receipts,
         kept,
@@ -172,31 +182,34 @@ fn plain(machine: Global, workers: u32) -> Result<(Vec<Replies>, Vec<(u64, u64)>
     Ok((replies, pairs))
 }
 
+/// Returns whether both jobs leave what the kit's map has, with the right receipts.
+fn are_same<R: Threads + Wait + Sync + Send + Copy>(
+    rt: R,
+    machine: Global,
+    chain: u32,
+    workers: u32,
+) -> Result<[bool; 5], Fail>
+    requires few { workers < 64 }
+{
+    let keeping = left_by(rt, machine, (chain, workers), &Keeping { machine })?;
+    let giving_up = left_by(rt, machine, (chain, workers), &GivingUp { machine })?;
+    let (replies, pairs) = plain(machine, workers)?;
+    Ok([
+        keeping.replies == replies && keeping.pairs == pairs,
+        giving_up.replies == replies && giving_up.pairs == pairs,
+        keeping.kept == keeping.receipts,
+        giving_up.kept == 0,
+        // what several do to the tree's shape hangs on who came first
+        workers > 1 || giving_up.receipts == keeping.receipts,
+    ])
+}
+
 #[test]
 fn a_job_that_gives_its_receipts_up_does_the_same(rt: HostRuntime) -> Result<(), Fail> {
-    let machine = rt.alloc();
     for chain in CHAINS {
         for workers in [1, 3] {
-            let crew = (chain, workers);
-            let keeping = left_by(rt, machine, crew, &Keeping { machine })?;
-            let giving_up = left_by(rt, machine, crew, &GivingUp { machine })?;
-            let plain = plain(machine, workers)?;
-            assert_eq!(rt;
-                (keeping.replies, keeping.pairs),
-                plain,
-                "chain {chain}, of {workers}"
-            );
-            assert_eq!(rt;
-                (giving_up.replies, giving_up.pairs),
-                plain,
-                "chain {chain}, of {workers}"
-            );
-            assert_eq!(rt; keeping.kept, keeping.receipts);
-            assert_eq!(rt; giving_up.kept, 0);
-            // what several do to the tree's shape hangs on who came first
-            if workers == 1 {
-                assert_eq!(rt; giving_up.receipts, keeping.receipts);
-            }
+            let are_same = are_same(rt, rt.alloc(), chain, workers)?;
+            assert_eq!(rt; are_same, [true; 5], "chain {chain}, of {workers}");
         }
     }
     Ok(())

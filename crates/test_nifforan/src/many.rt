@@ -67,25 +67,16 @@ impl Both {
     }
 }
 
-/// Returns the first round in which the keys hadn't the values of the list, if there is one.
-fn first_wrong(machine: Global, fanout: u32, chain: u32) -> Result<Option<u32>, Fail> {
-    let config = Config {
-        fanout,
-        chain,
-        ..Config::default()
-    };
-    let mut rng = Pcg32::seed_from_u64(fanout.into());
-    let mut both = Both {
-        map: Map::new(machine, machine, config)?,
-        pairs: Vec::new(machine),
-    };
+/// Changes drawn keys. Returns the first round in which keys hadn't the values of the list, if there is
+/// one.
+fn first_wrong(both: &mut Both, rng: &mut Pcg32) -> Result<Option<u32>, Fail> {
     for round in 0..ROUNDS {
-        let (key, value) = (drawn_key(&mut rng), rng.next_u64());
+        let (key, value) = (drawn_key(rng), rng.next_u64());
         match rng.next_u32() % 3 {
             0 => both.delete(key)?,
             _ => both.set(key, value)?,
         }
-        let other = drawn_key(&mut rng);
+        let other = drawn_key(rng);
         // the key is asked for twice, and most keys beside drawn ones have no value
         let eight = [
             other,
@@ -104,10 +95,23 @@ fn first_wrong(machine: Global, fanout: u32, chain: u32) -> Result<Option<u32>, 
     Ok(None)
 }
 
+/// Makes a map and a list, and changes both.
+fn first_wrong_of(machine: Global, fanout: u32, chain: u32) -> Result<Option<u32>, Fail> {
+    let config = Config {
+        fanout,
+        chain,
+        ..Config::default()
+    };
+    let map = Map::new(machine, machine, config)?;
+    let pairs = Vec::new(machine);
+    let mut both = Both { map, pairs };
+    first_wrong(&mut both, &mut Pcg32::seed_from_u64(fanout.into()))
+}
+
 #[test]
 fn several_gets_find_what_the_list_has(rt: HostRuntime) -> Result<(), Fail> {
     for (fanout, chain) in TABLES {
-        let wrong = first_wrong(rt.alloc(), fanout, chain)?;
+        let wrong = first_wrong_of(rt.alloc(), fanout, chain)?;
         assert_eq!(rt; wrong, None, "fanout {fanout}, chain {chain}");
     }
     Ok(())

@@ -30,27 +30,27 @@ struct Answers {
     at: Vec<AtBound>,
 }
 
+/// Asks a worker what there is at the bound, before it and past it.
+fn asked_at<W: Worker>(hand: &mut W, bound: u64) -> Result<AtBound, Fault> {
+    let machine = hand.alloc();
+    let mut pairs = Vec::new(machine);
+    for page in Pages::of(hand, machine, bound) {
+        for pair in page?.pairs {
+            put_in(&mut pairs, pair)?;
+        }
+    }
+    Ok(AtBound {
+        next: hand.next_at(bound),
+        previous: hand.previous_at(bound),
+        pairs,
+    })
+}
+
 /// Asks a worker everything.
 fn asked<W: Worker>(hand: &mut W) -> Result<Answers, Fault> {
-    let machine = hand.alloc();
-    let mut at = Vec::new(machine);
+    let mut at = Vec::new(hand.alloc());
     for bound in BOUNDS {
-        let mut pairs = Vec::new(machine);
-        for page in Pages::of(hand, machine, bound) {
-            for pair in page?.pairs {
-                put_in(&mut pairs, pair)?;
-            }
-        }
-        let next = hand.next_at(bound);
-        let previous = hand.previous_at(bound);
-        put_in(
-            &mut at,
-            AtBound {
-                next,
-                previous,
-                pairs,
-            },
-        )?;
+        put_in(&mut at, asked_at(hand, bound)?)?;
     }
     Ok(Answers {
         ends: [hand.first(), hand.last()],
@@ -66,19 +66,28 @@ fn put_in<T: Drop>(list: &mut Vec<T>, it: T) -> Result<(), NoMemory> {
     }
 }
 
+/// What the kit's map has at the bound, before it and past it.
+fn wanted_at(
+    machine: Global,
+    plain: &BTreeMap<u64, u64>,
+    bound: u64,
+) -> Result<AtBound, AllocError> {
+    let mut pairs = Vec::new(machine);
+    for pair in plain.range(bound..) {
+        pairs.push(owned(pair))?;
+    }
+    Ok(AtBound {
+        next: plain.range(bound..).next().map(owned),
+        previous: plain.range(..=bound).next_back().map(owned),
+        pairs,
+    })
+}
+
 /// What the kit's map answers.
-fn wanted(machine: Global, plain: &BTreeMap<u64, u64>) -> Result<Answers, Fail> {
+fn wanted(machine: Global, plain: &BTreeMap<u64, u64>) -> Result<Answers, AllocError> {
     let mut at = Vec::new(machine);
     for bound in BOUNDS {
-        let mut pairs = Vec::new(machine);
-        for pair in plain.range(bound..) {
-            pairs.push(owned(pair))?;
-        }
-        at.push(AtBound {
-            next: plain.range(bound..).next().map(owned),
-            previous: plain.range(..=bound).next_back().map(owned),
-            pairs,
-        })?;
+        at.push(wanted_at(machine, plain, bound)?)?;
     }
     Ok(Answers {
         ends: [
@@ -128,6 +137,21 @@ fn is_answered(output: Option<Result<Answers, Fault>>, wanted: &Answers) -> bool
     matches!(output, Some(Ok(answers)) if answers == *wanted)
 }
 
+/// Returns whether a worker alone, and one beside a reader, is answered as the kit's map says.
+fn are_answered<R: Threads + Wait + Sync + Send + Copy>(
+    rt: R,
+    machine: Global,
+    config: Config,
+    asking: &Asking,
+) -> Result<[bool; 2], Fail> {
+    let wanted = wanted(machine, &asking.calls.plain(machine)?)?;
+    let alone = share(rt, machine, config, 1, asking)?.outputs.pop();
+    let beside = share_with_readers(rt, machine, config, 1, asking)?
+        .outputs
+        .pop();
+    Ok([is_answered(alone, &wanted), is_answered(beside, &wanted)])
+}
+
 #[test]
 fn a_worker_asks_in_the_order_of_the_keys(rt: HostRuntime) -> Result<(), Fail> {
     for (fanout, chain, count) in TABLES {
@@ -139,17 +163,8 @@ fn a_worker_asks_in_the_order_of_the_keys(rt: HostRuntime) -> Result<(), Fail> {
         let asking = Asking {
             calls: Calls { seed: 11, count },
         };
-        let wanted = wanted(rt.alloc(), &asking.calls.plain(rt.alloc())?)?;
-        let mut shared = share(rt, rt.alloc(), config, 1, &asking)?;
-        assert!(rt;
-            is_answered(shared.outputs.pop(), &wanted),
-            "fanout {fanout}, chain {chain}"
-        );
-        let mut shared = share_with_readers(rt, rt.alloc(), config, 1, &asking)?;
-        assert!(rt;
-            is_answered(shared.outputs.pop(), &wanted),
-            "fanout {fanout}, chain {chain}"
-        );
+        let are_answered = are_answered(rt, rt.alloc(), config, &asking)?;
+        assert_eq!(rt; are_answered, [true; 2], "fanout {fanout}, chain {chain}");
     }
     Ok(())
 }
@@ -222,6 +237,20 @@ fn pairs_shared_again<R: Threads + Wait + Sync + Send + Copy>(
     Ok(shared.table.pairs(machine)?)
 }
 
+/// Returns whether a table has what the kit's map has, once it was shared twice.
+fn is_shared_again<R: Threads + Wait + Sync + Send + Copy>(
+    rt: R,
+    machine: Global,
+    config: Config,
+    calls: &Calls,
+) -> Result<bool, Fail> {
+    let mut plain = calls.plain(machine)?;
+    change(&mut plain)?;
+    let table = share(rt, machine, config, 1, calls)?.table;
+    let pairs = pairs_shared_again(rt, machine, table)?;
+    Ok(pairs.iter().copied().eq(plain.iter().map(owned)))
+}
+
 #[test]
 fn a_table_is_shared_again(rt: HostRuntime) -> Result<(), Fail> {
     for (fanout, chain, count) in TABLES {
@@ -230,15 +259,8 @@ fn a_table_is_shared_again(rt: HostRuntime) -> Result<(), Fail> {
             chain,
             ..Config::default()
         };
-        let calls = Calls { seed: 13, count };
-        let shared = share(rt, rt.alloc(), config, 1, &calls)?;
-        let pairs = pairs_shared_again(rt, rt.alloc(), shared.table)?;
-        let mut plain = calls.plain(rt.alloc())?;
-        change(&mut plain)?;
-        assert!(rt;
-            pairs.iter().copied().eq(plain.iter().map(owned)),
-            "fanout {fanout}, chain {chain}"
-        );
+        let is_shared_again = is_shared_again(rt, rt.alloc(), config, &Calls { seed: 13, count })?;
+        assert!(rt; is_shared_again, "fanout {fanout}, chain {chain}");
     }
     Ok(())
 }

@@ -122,30 +122,41 @@ fn share_calls<R: Threads + Wait + Sync + Send + Copy>(
     share(rt, calls.machine, config, workers, calls)
 }
 
-/// Returns the results of workers on small pages: three that make each call, and two with readers
-/// that list.
-fn tell_all<R: Threads + Wait + Sync + Send + Copy>(rt: R, calls: &Calls) -> Result<String, Fail> {
-    let config = Config {
+/// Small pages.
+fn config() -> Config {
+    Config {
         fanout: 4,
         chain: 2,
         ..Config::default()
-    };
-    let mut lines = String::new(calls.machine);
-    let shared = share_calls(rt, calls, config, 3)?;
+    }
+}
+
+/// Writes the results of three workers that make each call.
+fn tell_workers<R: Threads + Wait + Sync + Send + Copy>(
+    rt: R,
+    calls: &Calls,
+    lines: &mut String,
+) -> Result<(), Fail> {
+    let shared = share_calls(rt, calls, config(), 3)?;
     for part in shared.outputs {
         writeln!(lines, "{}: {:?}", part.worker, part.answers)?;
     }
-    writeln!(
-        lines,
-        "{} trails, {:?}",
-        shared.trails.len(),
-        shared.table.book()
-    )?;
-    let shared = share_with_readers(rt, calls.machine, config, 2, calls)?;
+    let (trails, book) = (shared.trails.len(), shared.table.book());
+    writeln!(lines, "{trails} trails, {book:?}")?;
+    Ok(())
+}
+
+/// Writes the results of two workers with readers that list.
+fn tell_readers<R: Threads + Wait + Sync + Send + Copy>(
+    rt: R,
+    calls: &Calls,
+    lines: &mut String,
+) -> Result<(), Fail> {
+    let shared = share_with_readers(rt, calls.machine, config(), 2, calls)?;
     for list in shared.outputs {
         writeln!(lines, "{list:?}")?;
     }
-    Ok(lines)
+    Ok(())
 }
 
 const TOLD: &str =
@@ -159,13 +170,13 @@ Ok(([Some(1), Some(1), None, Some(1), Some(1), Some(1), Some(1), None], [(1003, 
 
 #[test]
 fn each_call_of_a_worker_and_its_reader_is_answered(rt: HostRuntime) -> Result<(), Fail> {
-    let told = tell_all(
-        rt,
-        &Calls {
-            machine: rt.alloc(),
-        },
-    )?;
-    assert_eq!(rt; told.as_str(), TOLD);
+    let calls = Calls {
+        machine: rt.alloc(),
+    };
+    let mut lines = String::new(rt.alloc());
+    tell_workers(rt, &calls, &mut lines)?;
+    tell_readers(rt, &calls, &mut lines)?;
+    assert_eq!(rt; lines.as_str(), TOLD);
     Ok(())
 }
 

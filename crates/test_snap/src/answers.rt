@@ -4,7 +4,7 @@
 ghost use Rattle.std.specs.Prelude.{◌≡◌};
 ghost use Rattle.bw_tree.specs.Trees.{OpensFor};
 
-use crate::one_reader::{Names, watched_tree};
+use crate::one_reader::{Names, publish_all_of, watched_tree};
 use bw_keys::{Config, Fence, Key, Pid, Version};
 use bw_snap::{Announcements, Naming, ReadTree, Reader};
 use bw_step::{AtOnce, Denied, Look, Receipt, Step, View};
@@ -153,19 +153,7 @@ struct Publishes<'t, R: Wait + Copy, N: Naming, D: Ledger> {
 
 impl<'t, R: Wait + Copy, N: Naming, D: Ledger> Behind for Publishes<'t, R, N, D> {
     fn pass(&mut self, map: &BTreeMap<Key, u64>) -> Result<(), Fail> {
-        let stamp = self.tree.publish()?;
-        self.reader.learn(stamp);
-        let mut pairs = Vec::new(self.machine);
-        self.reader.scan(0, KEYS as usize, &mut pairs)?;
-        let mut wanted = Vec::new(self.machine);
-        for (key, value) in map.iter() {
-            wanted.push((*key, *value))?;
-        }
-        if pairs == wanted {
-            Ok(())
-        } else {
-            Err("a reader finds other pairs than a plain map".into())
-        }
+        publish_all_of(self.machine, self.tree, self.reader, map)
     }
 }
 

@@ -5,7 +5,7 @@
 ghost use Rattle.std.specs.Prelude.{◌≡◌};
 ghost use Rattle.bw_tree.specs.Trees.{OpensFor};
 
-use crate::one_reader::{Names, watched_tree};
+use crate::one_reader::{Names, publish_all_of, watched_tree};
 use bw_keys::{Config, Fence, Key};
 use bw_snap::{Announcements, Naming, ReadTree, Reader};
 use bw_step::{Denied, Receipt, Step};
@@ -144,20 +144,43 @@ struct Publishes<'t, R: Wait + Copy, N: Naming, D: Ledger> {
 impl<'t, R: Wait + Copy, N: Naming, D: Ledger> Behind for Publishes<'t, R, N, D> {
     fn pass(&mut self, calls: &[Call], replies: &[Reply]) -> Result<(), Fail> {
         follow(self.map, calls, replies)?;
-        let stamp = self.tree.publish()?;
-        self.reader.learn(stamp);
-        let mut pairs = Vec::new(self.machine);
-        self.reader.scan(0, DRAWN_KEYS as usize, &mut pairs)?;
-        let mut wanted = Vec::new(self.machine);
-        for (key, value) in self.map.iter() {
-            wanted.push((*key, *value))?;
-        }
-        if pairs == wanted {
-            Ok(())
-        } else {
-            Err("a reader finds other pairs than a plain map".into())
+        publish_all_of(self.machine, self.tree, self.reader, self.map)
+    }
+}
+
+/// Puts what was told of further calls behind what was told before.
+fn add(told: &mut Told, more: &Told) -> Result<(), Fail> {
+    for reply in more.replies.iter() {
+        told.replies.push(*reply)?;
+    }
+    for receipt in more.trail.iter() {
+        told.trail.push(*receipt)?;
+    }
+    told.fault = more.fault;
+    Ok(())
+}
+
+/// Makes the calls in parts, until one has no reply.
+fn tell_all<W: Steps<Global, Step<Global>>, B: Behind>(
+    machine: Global,
+    steps: &mut W,
+    parts: (&[Call], usize),
+    behind: &mut B,
+) -> Result<Told, Fail> {
+    let mut told = Told {
+        replies: Vec::new(machine),
+        trail: Vec::new(machine),
+        fault: None,
+    };
+    for calls in parts.0.chunks(parts.1.max(1)) {
+        let more = work(machine, steps, Task::calls(calls));
+        add(&mut told, &more)?;
+        behind.pass(calls, &more.replies)?;
+        if told.fault.is_some() {
+            break;
         }
     }
+    Ok(told)
 }
 
 /// Makes the calls in parts, and returns their outcome without leaves.
@@ -169,30 +192,15 @@ fn outcome_of<S: Shared<Global, Step<Global>>, B: Behind>(
     behind: &mut B,
 ) -> Result<Outcome, Fail> {
     let mut hand = Hand::new(machine, machine, tree, share, 0, &Open);
-    let (mut replies, mut trail) = (Vec::new(machine), Vec::new(machine));
-    let mut ended = None;
-    for calls in parts.0.chunks(parts.1.max(1)) {
-        let Told {
-            replies: more,
-            trail: receipts,
-            fault,
-        } = work(machine, &mut hand, Task::calls(calls));
-        for reply in more.iter() {
-            replies.push(*reply)?;
-        }
-        for receipt in receipts.iter() {
-            trail.push(*receipt)?;
-        }
-        behind.pass(calls, &more)?;
-        ended = fault;
-        if ended.is_some() {
-            break;
-        }
-    }
+    let Told {
+        replies,
+        trail,
+        fault,
+    } = tell_all(machine, &mut hand, parts, behind)?;
     Ok(Outcome {
         replies,
         trail,
-        fault: ended,
+        fault,
         effort: hand.effort(),
         ends: hand.ends(),
         leaves: Vec::new(machine),

@@ -1,12 +1,13 @@
-//! A tree with one worker and one reader.
+//! A tree with one worker and one reader, and what that reader finds.
 
 ghost use Rattle.std.specs.Prelude.{◌≡◌};
 ghost use Rattle.bw_tree.specs.Trees.{OpensFor};
 
-use bw_keys::Config;
+use bw_keys::{Config, Key};
 use bw_snap::{Announcements, Naming, ReadTree, Reader};
 use bw_tree::{Blanks, Share};
 use std::alloc::Global;
+use std::collections::BTreeMap;
 use std::sync::Wait;
 use std::sync::ledger::Ledger;
 use std::test::Fail;
@@ -39,4 +40,22 @@ pub fn watched_tree<R: Wait + Copy, N: Naming, D: Ledger>(
         return Err("there is no share or no reader".into());
     };
     Ok((tree, share, reader))
+}
+
+/// Publishes the tree. Fails where its reader then doesn't find the pairs of the map, and no others.
+pub fn publish_all_of<R: Wait + Copy, N: Naming, D: Ledger>(
+    machine: Global,
+    tree: &ReadTree<R, N, D>,
+    reader: &mut Reader<N>,
+    map: &BTreeMap<Key, u64>,
+) -> Result<(), Fail> {
+    reader.learn(tree.publish()?);
+    let mut pairs = Vec::new(machine);
+    reader.scan(0, usize::MAX, &mut pairs)?;
+    let wanted = map.iter().map(|(key, value)| (*key, *value));
+    if pairs.iter().copied().eq(wanted) {
+        Ok(())
+    } else {
+        Err("a reader finds other pairs than a plain map".into())
+    }
 }

@@ -8,7 +8,7 @@ use crate::one_reader::{Names, watched_tree};
 use bw_keys::{Config, Fence, Key};
 use bw_snap::{Announcements, Closed, Naming, ReadTree, Reader, ScanFault};
 use bw_step::Step;
-use bw_tree::Blanks;
+use bw_tree::{Blanks, Share};
 use bw_work::{Calls, Hand, Open, Steps};
 use rand_core::{Rng, SeedableRng};
 use rand_pcg::Pcg32;
@@ -165,6 +165,24 @@ fn change<S: Steps<Global, Step<Global>>>(
     }
 }
 
+/// Asks the reader at a drawn key and in a drawn range, and returns whether it is answered by what was
+/// published.
+fn is_answered<N: Naming>(
+    shown: &Shown,
+    rng: &mut Pcg32,
+    reader: &mut Reader<N>,
+    list: &mut Vec<(Key, u64)>,
+) -> Result<bool, Fail> {
+    let key = key_numbered(rng.next_u32() % KEYS);
+    let high = match rng.next_u32() % 4 {
+        0 => Fence::Top,
+        _ => Fence::Key(key_numbered(rng.next_u32() % KEYS)),
+    };
+    let limit = LIMITS[(rng.next_u32() % 4) as usize];
+    let is_found = shown.is_found(reader, key)? && shown.has_values(reader, key)?;
+    Ok(is_found && shown.is_listed(reader, (key, high), limit, list)?)
+}
+
 /// Changes drawn keys, publishes now and then, and asks the reader in between. The tree has the pair
 /// of the last key, after three changes. Returns the first round whose answers are wrong, if there is
 /// any.
@@ -187,14 +205,7 @@ fn ask_beside<R: Wait + Copy, N: Naming, D: Ledger, S: Steps<Global, Step<Global
             let _stamp = tree.publish()?;
             shown = Shown::of(machine, &map, changes)?;
         }
-        let key = key_numbered(rng.next_u32() % KEYS);
-        let high = match rng.next_u32() % 4 {
-            0 => Fence::Top,
-            _ => Fence::Key(key_numbered(rng.next_u32() % KEYS)),
-        };
-        let limit = LIMITS[(rng.next_u32() % 4) as usize];
-        let is_found = shown.is_found(reader, key)? && shown.has_values(reader, key)?;
-        if !is_found || !shown.is_listed(reader, (key, high), limit, &mut list)? {
+        if !is_answered(&shown, &mut rng, reader, &mut list)? {
             return Ok(Some(round));
         }
     }
@@ -270,6 +281,19 @@ fn is_closed<N: Naming>(machine: Global, reader: &mut Reader<N>) -> Result<bool,
 /// reader said that the tree was closed.
 type Found = (String, Option<u64>, bool);
 
+/// Asks by lines, and beside drawn changes.
+fn ask_all<R: Wait + Copy, N: Naming, D: Ledger>(
+    machine: Global,
+    tree: &ReadTree<R, N, D>,
+    share: Share<N, D>,
+    reader: &mut Reader<N>,
+) -> Result<(String, Option<u64>), Fail> {
+    let mut hand = Hand::new(machine, machine, tree, share, 0, &Open);
+    let lines = put_both_ends(machine, tree, &mut hand, reader)?;
+    let wrong = ask_beside(machine, tree, &mut hand, reader)?;
+    Ok((lines, wrong))
+}
+
 fn ask_over<R: Wait + Copy, N: Naming, D: Ledger>(
     rt: R,
     machine: Global,
@@ -280,10 +304,7 @@ fn ask_over<R: Wait + Copy, N: Naming, D: Ledger>(
     requires ledgers { OpensFor N.Ledger N.config D.Ledger config names.0 }
 {
     let (tree, share, mut reader) = watched_tree::<R, N, D>(rt, machine, config, names)?;
-    let mut hand = Hand::new(machine, machine, &tree, share, 0, &Open);
-    let lines = put_both_ends(machine, &tree, &mut hand, &mut reader)?;
-    let wrong = ask_beside(machine, &tree, &mut hand, &mut reader)?;
-    let _ended = hand.finish();
+    let (lines, wrong) = ask_all(machine, &tree, share, &mut reader)?;
     let _table = tree.into_table();
     Ok((lines, wrong, is_closed(machine, &mut reader)?))
 }

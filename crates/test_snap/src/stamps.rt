@@ -6,7 +6,7 @@ ghost use Rattle.bw_tree.specs.Trees.{OpensFor};
 use bw_keys::{Config, Key};
 use bw_snap::{Announcements, MAX_READERS, Naming, ReadTree, Reader, Stamp};
 use bw_step::Step;
-use bw_tree::Blanks;
+use bw_tree::{Blanks, Share};
 use bw_work::{Calls, Hand, Open, Steps};
 use std::alloc::Global;
 use std::marker::Brand;
@@ -50,7 +50,8 @@ struct Found {
 fn publish_past<R: Wait + Copy, N: Naming, D: Ledger>(
     tree: &ReadTree<R, N, D>,
     stamps: Vec<Stamp<N>>,
-    (mut one, mut other): (Reader<N>, Reader<N>),
+    one: &mut Reader<N>,
+    other: &mut Reader<N>,
 ) -> Result<Found, Fail> {
     if tree.publish().is_ok() {
         return Err("there is room for one stamp more".into());
@@ -70,6 +71,19 @@ fn publish_past<R: Wait + Copy, N: Naming, D: Ledger>(
         covered: one.get(PAST)?,
         learnt: other.get(PAST)?,
     })
+}
+
+/// Uses all stamps up, puts one more key, and publishes.
+fn publish_all<R: Wait + Copy, N: Naming, D: Ledger>(
+    machine: Global,
+    tree: &ReadTree<R, N, D>,
+    share: Share<N, D>,
+    (mut one, mut other): (Reader<N>, Reader<N>),
+) -> Result<Found, Fail> {
+    let mut hand = Hand::new(machine, machine, tree, share, 0, &Open);
+    let stamps = stamp_all(machine, tree, &mut hand)?;
+    hand.put(PAST, PAST)?;
+    publish_past(tree, stamps, &mut one, &mut other)
 }
 
 fn publish_over<R: Wait + Copy, N: Naming, D: Ledger>(
@@ -93,10 +107,7 @@ fn publish_over<R: Wait + Copy, N: Naming, D: Ledger>(
     let (Some(share), Some(one), Some(other)) = (shares.pop(), readers.pop(), readers.pop()) else {
         return Err("there are too few shares or readers".into());
     };
-    let mut hand = Hand::new(machine, machine, &tree, share, 0, &Open);
-    let stamps = stamp_all(machine, &tree, &mut hand)?;
-    hand.put(PAST, PAST)?;
-    publish_past(&tree, stamps, (one, other))
+    publish_all(machine, &tree, share, (one, other))
 }
 
 fn publish_on_new_tree<R: Wait + Copy>(rt: R, machine: Global) -> Result<Found, Fail> {

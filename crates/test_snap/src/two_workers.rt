@@ -83,9 +83,12 @@ const HELPED: [Receipt; 2] = [receipt!(Grow 2, 1), receipt!(inserted 6, 6)];
 
 const LEAVES: [(Key, Fence, u64); 2] = [(0, Fence::Key(3), 2), (3, Fence::Top, 4)];
 
-#[test]
-fn a_worker_helps_the_split_of_one_that_is_held(rt: HostRuntime) -> Result<(), Fail> {
-    let machine = rt.alloc();
+/// Returns whether worker 0 did all its puts, worker 1 has its replies and its trail, and the tree has its
+/// leaves and its pairs.
+fn are_helped<R: Threads + Wait + Sync + Send + Copy>(
+    rt: R,
+    machine: Global,
+) -> Result<[bool; 5], Fail> {
     let crew = Both {
         machine,
         held: HeldAfter::new(Kind::Split),
@@ -99,11 +102,18 @@ fn a_worker_helps_the_split_of_one_that_is_held(rt: HostRuntime) -> Result<(), F
         one,
         ..
     } = hold(rt, &crew, 6)?;
-    assert!(rt; zero.is_plain(), "{zero:?}");
-    assert_eq!(rt; one.replies.as_slice(), REPLIED.as_slice());
-    assert_eq!(rt; one.trail.as_slice(), HELPED.as_slice());
-    assert_eq!(rt; leaves_of(machine, &table)?.as_slice(), LEAVES.as_slice());
-    assert!(rt; are_own_pairs(&table.pairs(machine)?, 6));
+    Ok([
+        zero.is_plain(),
+        one.replies.as_slice() == REPLIED.as_slice(),
+        one.trail.as_slice() == HELPED.as_slice(),
+        leaves_of(machine, &table)?.as_slice() == LEAVES.as_slice(),
+        are_own_pairs(&table.pairs(machine)?, 6),
+    ])
+}
+
+#[test]
+fn a_worker_helps_the_split_of_one_that_is_held(rt: HostRuntime) -> Result<(), Fail> {
+    assert_eq!(rt; are_helped(rt, rt.alloc())?, [true; 5]);
     Ok(())
 }
 

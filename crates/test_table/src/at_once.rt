@@ -20,15 +20,28 @@ pub(crate) fn are_alike(one: &Table<Global>, other: &Table<Global>) -> bool {
         && one.book() == other.book()
 }
 
-struct Row {
+/// What is done at once for a key, and by steps.
+pub(crate) struct Row {
     /// Steps on the tree of three leaves, of which the first two have the record of their split.
-    before: &'static [Change],
-    key: Key,
-    wished: Wished,
+    pub(crate) before: &'static [Change],
+    pub(crate) key: Key,
+    pub(crate) wished: Wished,
     /// The page, the numbers of its pairs and of its records then, and the receipt.
-    done: Option<(u32, u64, u8, Receipt)>,
+    pub(crate) done: Option<(u32, u64, u8, Receipt)>,
     /// The steps that do the same.
-    steps: &'static [Change],
+    pub(crate) steps: &'static [Change],
+}
+
+impl Row {
+    pub(crate) fn wanted(&self) -> Option<AtOnce> {
+        let (page, count, depth, receipt) = self.done?;
+        Some(AtOnce {
+            page: Pid(page),
+            receipt,
+            count,
+            depth,
+        })
+    }
 }
 
 static ROWS: [Row; 12] = [
@@ -122,31 +135,43 @@ static ROWS: [Row; 12] = [
     },
 ];
 
+/// Returns the tree of three leaves after some steps, and others.
+pub(crate) fn after_both(
+    alloc: Global,
+    before: &[Change],
+    steps: &[Change],
+) -> Result<Table<Global>, Fail> {
+    let mut table = after(alloc, before)?;
+    take_all(alloc, &mut table, steps)?;
+    Ok(table)
+}
+
+/// Returns what is done at once, and whether the steps leave the same table.
+fn changed(alloc: Global, row: &Row) -> Result<(Option<AtOnce>, bool), Fail> {
+    let by_steps = after_both(alloc, row.before, row.steps)?;
+    let mut table = after(alloc, row.before)?;
+    let done = table.change_at_once(row.key, row.wished);
+    Ok((done, are_alike(&table, &by_steps)))
+}
+
 #[test]
 fn a_change_at_once_is_two_steps(rt: HostRuntime) -> Result<(), Fail> {
-    let alloc = rt.alloc();
     for row in ROWS.iter() {
-        let mut table = after(alloc, row.before)?;
-        let done = table.change_at_once(row.key, row.wished);
-        let wanted = row.done.map(|(page, count, depth, receipt)| AtOnce {
-            page: Pid(page),
-            receipt,
-            count,
-            depth,
-        });
-        assert_eq!(rt; done, wanted);
-        let mut by_steps = after(alloc, row.before)?;
-        take_all(alloc, &mut by_steps, row.steps)?;
-        assert!(rt; are_alike(&table, &by_steps), "key {}", row.key);
+        assert_eq!(rt;
+            changed(rt.alloc(), row)?,
+            (row.wanted(), true),
+            "key {}",
+            row.key
+        );
     }
     Ok(())
 }
 
 /// The root takes a term only where it has no record. Where it does: the new page, and whether it is posted.
-static SPLITS: [(&[Change], Option<(u32, bool)>, &[Change]); 3] = [
+static SPLITS: [(&[Change], Option<(Pid, bool)>, &[Change]); 3] = [
     (
         &[Change::Consolidate(2)],
-        Some((4, true)),
+        Some((Pid(4), true)),
         &[
             Change::Split(3),
             Change::Consolidate(3),
@@ -156,37 +181,47 @@ static SPLITS: [(&[Change], Option<(u32, bool)>, &[Change]); 3] = [
     ),
     (
         &[],
-        Some((4, false)),
+        Some((Pid(4), false)),
         &[Change::Split(3), Change::Consolidate(3)],
     ),
     (&[Change::Insert(3, 10, 10)], None, &[]),
 ];
 
+/// Returns the new page and whether it is posted, and whether the steps leave the same table.
+fn split(
+    alloc: Global,
+    before: &[Change],
+    steps: &[Change],
+) -> Result<(Option<(Pid, bool)>, bool), Fail> {
+    let mut by_steps = after_both(alloc, &FULL, before)?;
+    take_all(alloc, &mut by_steps, steps)?;
+    let mut table = after_both(alloc, &FULL, before)?;
+    let done = table.split_under(Pid(2), Pid(3), 2);
+    Ok((done, are_alike(&table, &by_steps)))
+}
+
 #[test]
 fn a_split_at_once_is_four_steps_or_two(rt: HostRuntime) -> Result<(), Fail> {
-    let alloc = rt.alloc();
     for (before, done, steps) in SPLITS.iter() {
-        let mut table = after(alloc, &FULL)?;
-        take_all(alloc, &mut table, before)?;
-        let split = table.split_under(Pid(2), Pid(3), 2);
-        assert_eq!(rt; split.map(|(new, posted)| (new.0, posted)), *done);
-        let mut by_steps = after(alloc, &FULL)?;
-        take_all(alloc, &mut by_steps, before)?;
-        take_all(alloc, &mut by_steps, steps)?;
-        assert!(rt; are_alike(&table, &by_steps));
+        assert_eq!(rt; split(rt.alloc(), before, steps)?, (*done, true));
     }
     Ok(())
+}
+
+/// Splits the full leaf, and returns the number of pairs that the new page has.
+fn moved(alloc: Global, number: usize) -> Result<Option<u64>, Fail> {
+    let mut table = after(alloc, &FULL)?;
+    match table.split_at_once(Pid(3), number) {
+        Some(new) => Ok(table.peek(new).map(|view| view.count)),
+        None => Ok(None),
+    }
 }
 
 /// Of five keys all but the first go to the new page, or the last alone; without the first none is left.
 #[test]
 fn a_split_goes_where_it_is_told(rt: HostRuntime) -> Result<(), Fail> {
-    let alloc = rt.alloc();
     for (number, count) in [(0, None), (1, Some(4)), (4, Some(1)), (5, None)] {
-        let mut table = after(alloc, &FULL)?;
-        let new = table.split_at_once(Pid(3), number);
-        let page = new.and_then(|new| table.peek(new));
-        assert_eq!(rt; page.map(|view| view.count), count);
+        assert_eq!(rt; moved(rt.alloc(), number)?, count);
     }
     Ok(())
 }

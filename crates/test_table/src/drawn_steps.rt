@@ -1,11 +1,13 @@
 //! Ten thousand drawn steps from two threads, forged ones among them.
 
-use bw_step::Step;
+use bw_step::{Book, Step};
 use bw_tree::{Share, Shared};
 use rand_core::SeedableRng;
 use rand_pcg::Pcg32;
 use std::alloc::Global;
+use std::sync::Wait;
 use std::test::Fail;
+use std::thread::Threads;
 use test_kit::{
     Ended, Pages, Play, Played, SMALL, Tally, Turns, drawn_step, partition_the_keys,
     play_on_new_tree,
@@ -40,9 +42,16 @@ impl Play<Tally> for Drawn {
     }
 }
 
-#[test]
-fn drawn_steps_from_two_threads_are_counted(rt: HostRuntime) -> Result<(), Fail> {
-    let machine = rt.alloc();
+/// What both workers counted, and what is left.
+struct Left {
+    zero: Tally,
+    one: Tally,
+    book: Book,
+    pairs: u64,
+    is_partition: bool,
+}
+
+fn left_of<R: Threads + Wait + Sync + Send + Copy>(rt: R, machine: Global) -> Result<Left, Fail> {
     let play = Drawn { machine };
     let Ended { table, zero, one } = play_on_new_tree(
         rt,
@@ -51,22 +60,39 @@ fn drawn_steps_from_two_threads_are_counted(rt: HostRuntime) -> Result<(), Fail>
         Turns::SideBySide,
         &play,
     )?;
+    let survey = table.survey(machine)?;
+    Ok(Left {
+        zero,
+        one,
+        book: survey.book,
+        pairs: table.pairs(machine)?.len() as u64,
+        is_partition: partition_the_keys(&survey.leaves),
+    })
+}
+
+#[test]
+fn drawn_steps_from_two_threads_are_counted(rt: HostRuntime) -> Result<(), Fail> {
+    let Left {
+        zero,
+        one,
+        book,
+        pairs,
+        is_partition,
+    } = left_of(rt, rt.alloc())?;
     assert_eq!(rt; (zero.total(), one.total()), (5000, 5000));
     assert!(rt; zero.has_changes() && one.has_changes(), "{zero:?} {one:?}");
     let inserted = zero.inserted.saturating_add(one.inserted);
-    let deleted = zero.deleted.saturating_add(one.deleted);
+    let removed = zero.deleted.saturating_add(one.deleted);
     let modified = zero.modified.saturating_add(one.modified);
-    let survey = table.survey(machine)?;
     assert_eq!(rt;
-        (
-            survey.book.inserted,
-            survey.book.removed,
-            survey.book.modified
-        ),
-        (inserted, deleted, modified)
+        book,
+        Book {
+            inserted,
+            removed,
+            modified
+        }
     );
-    let many = table.pairs(machine)?.len() as u64;
-    assert_eq!(rt; inserted.checked_sub(deleted), Some(many));
-    assert!(rt; partition_the_keys(&survey.leaves));
+    assert_eq!(rt; inserted.checked_sub(removed), Some(pairs));
+    assert!(rt; is_partition);
     Ok(())
 }

@@ -4,7 +4,9 @@ use bw_keys::{Config, Key};
 use bw_step::{Receipt, Step};
 use bw_tree::{Share, Shared};
 use std::alloc::Global;
+use std::sync::Wait;
 use std::test::Fail;
+use std::thread::Threads;
 use test_kit::{Change, Pages, Play, Played, Turns, are_own_pairs, play_on_new_tree, step_of};
 
 /// Puts the key with itself as value on page 0, and again if the page has changed meanwhile, at
@@ -48,14 +50,21 @@ impl Play<u32> for FourPuts {
     }
 }
 
+/// Plays once. Returns the numbers that the workers put, and whether the tree has all four keys.
+fn played<R: Threads + Wait + Sync + Send + Copy>(
+    rt: R,
+    machine: Global,
+) -> Result<([u32; 2], bool), Fail> {
+    let play = FourPuts { machine };
+    let ended = play_on_new_tree(rt, machine, Config::default(), Turns::SideBySide, &play)?;
+    let has_all = are_own_pairs(&ended.table.pairs(machine)?, 4);
+    Ok(([ended.zero, ended.one], has_all))
+}
+
 #[test]
 fn two_threads_put(rt: HostRuntime) -> Result<(), Fail> {
-    let machine = rt.alloc();
-    let play = FourPuts { machine };
     for run in 0..100 {
-        let ended = play_on_new_tree(rt, machine, Config::default(), Turns::SideBySide, &play)?;
-        assert!(rt; are_own_pairs(&ended.table.pairs(machine)?, 4), "run {run}");
-        assert_eq!(rt; (ended.zero, ended.one), (2, 2), "run {run}");
+        assert_eq!(rt; played(rt, rt.alloc())?, ([2, 2], true), "run {run}");
     }
     Ok(())
 }

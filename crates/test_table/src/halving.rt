@@ -2,7 +2,7 @@
 //! parent and one step.
 
 use crate::at_once::are_alike;
-use crate::rest::{FREED, FULL, MARKED, MERGED, SPLIT, after};
+use crate::rest::{FREED, FULL, MARKED, MERGED, SPLIT, after, three_leaves};
 use bw_delta::{NoMemory, Spare};
 use bw_keys::{Config, Fence, Key, Pid, Version};
 use bw_step::Denied;
@@ -141,16 +141,20 @@ static HALVES: [(&[Change], u32, u64, Half); 20] = [
     (&SPLIT, 4, 0, Ok((8, Pid(5)))),
 ];
 
-/// Splits the page at once, and by steps. Returns the answer where both are alike.
+/// Splits the page of one table at once, and of the other by steps, as one that saw it that much older.
+/// Returns the answer where both are alike.
 fn halved_alike(
     alloc: Global,
-    table: &mut Table<Global>,
-    by_steps: &mut Table<Global>,
-    (page, version): (u32, Version),
+    table: Table<Global>,
+    by_steps: Table<Global>,
+    page: u32,
+    older: u64,
 ) -> Result<Option<Half>, NoMemory> {
+    let (mut table, mut by_steps) = (table, by_steps);
+    let version = Version(seen(&table, page).0.saturating_sub(older));
     let answer = table.halve_at_once(alloc, Pid(page), version);
-    let wanted = halve_by_steps(alloc, by_steps, page, version)?;
-    let are_same = answer == wanted && are_alike(table, by_steps);
+    let wanted = halve_by_steps(alloc, &mut by_steps, page, version)?;
+    let are_same = answer == wanted && are_alike(&table, &by_steps);
     Ok(if are_same { Some(answer) } else { None })
 }
 
@@ -158,10 +162,8 @@ fn halved_alike(
 fn a_split_in_half_at_once_is_one_step(rt: HostRuntime) -> Result<(), Fail> {
     let alloc = rt.alloc();
     for (before, page, older, wanted) in HALVES.iter() {
-        let mut table = after(alloc, before)?;
-        let mut by_steps = after(alloc, before)?;
-        let version = Version(seen(&table, *page).0.saturating_sub(*older));
-        let answer = halved_alike(alloc, &mut table, &mut by_steps, (*page, version))?;
+        let (table, by_steps) = (after(alloc, before)?, after(alloc, before)?);
+        let answer = halved_alike(alloc, table, by_steps, *page, *older)?;
         assert_eq!(rt; answer, Some(*wanted), "page {page}, {before:?}");
     }
     Ok(())
@@ -205,16 +207,18 @@ static TERMS: [(&[Change], u32, Option<u32>); 11] = [
     ),
 ];
 
-/// Names the page in its parent at once, and by steps. Returns the answer where both are alike.
+/// Names the page of one table in its parent at once, and of the other by steps. Returns the answer where
+/// both are alike.
 fn posted_alike(
     alloc: Global,
-    table: &mut Table<Global>,
-    by_steps: &mut Table<Global>,
+    table: Table<Global>,
+    by_steps: Table<Global>,
     child: u32,
 ) -> Result<Option<Option<Pid>>, NoMemory> {
+    let (mut table, mut by_steps) = (table, by_steps);
     let answer = table.add_term_at_once(Pid(child), Spare::new(alloc)?);
-    let wanted = add_term_by_steps(alloc, by_steps, child)?;
-    let are_same = answer == wanted && are_alike(table, by_steps);
+    let wanted = add_term_by_steps(alloc, &mut by_steps, child)?;
+    let are_same = answer == wanted && are_alike(&table, &by_steps);
     Ok(if are_same { Some(answer) } else { None })
 }
 
@@ -222,9 +226,8 @@ fn posted_alike(
 fn a_term_at_once_is_one_step(rt: HostRuntime) -> Result<(), Fail> {
     let alloc = rt.alloc();
     for (before, child, parent) in TERMS.iter() {
-        let mut table = after(alloc, before)?;
-        let mut by_steps = after(alloc, before)?;
-        let answer = posted_alike(alloc, &mut table, &mut by_steps, *child)?;
+        let (table, by_steps) = (after(alloc, before)?, after(alloc, before)?);
+        let answer = posted_alike(alloc, table, by_steps, *child)?;
         assert_eq!(rt; answer, Some(parent.map(Pid)), "page {child}, {before:?}");
     }
     Ok(())
@@ -258,10 +261,8 @@ fn a_full_table_splits_nothing(rt: HostRuntime) -> Result<(), Fail> {
     let alloc = rt.alloc();
     // Of the last but one the keys 7 and 8 are left, of the first one key.
     for (page, reason) in [(6, Refused::TableFull), (3, Refused::NotBare)] {
-        let mut table = without_a_page_left(alloc)?;
-        let mut by_steps = without_a_page_left(alloc)?;
-        let version = seen(&table, page);
-        let answer = halved_alike(alloc, &mut table, &mut by_steps, (page, version))?;
+        let (table, by_steps) = (without_a_page_left(alloc)?, without_a_page_left(alloc)?);
+        let answer = halved_alike(alloc, table, by_steps, page, 0)?;
         assert_eq!(rt; answer, Some(Err(Denied::Refused(reason))), "page {page}");
     }
     Ok(())
@@ -295,10 +296,11 @@ fn with_two_pairs(alloc: Global, first_version: u64) -> Result<Table<Global>, Fa
 fn a_page_is_split_while_it_has_versions(rt: HostRuntime) -> Result<(), Fail> {
     let alloc = rt.alloc();
     for (first, older, wanted) in WORN.iter() {
-        let mut table = with_two_pairs(alloc, *first)?;
-        let mut by_steps = with_two_pairs(alloc, *first)?;
-        let version = Version(seen(&table, 0).0.saturating_sub(*older));
-        let answer = halved_alike(alloc, &mut table, &mut by_steps, (0, version))?;
+        let (table, by_steps) = (
+            with_two_pairs(alloc, *first)?,
+            with_two_pairs(alloc, *first)?,
+        );
+        let answer = halved_alike(alloc, table, by_steps, 0, *older)?;
         assert_eq!(rt; answer, Some(*wanted));
     }
     Ok(())
@@ -322,12 +324,17 @@ static ROUNDS: [(&[Change], u32, Option<u32>); 3] = [
     (&[Change::Consolidate(2)], 32, None),
 ];
 
+fn go_round(alloc: Global, table: &mut Table<Global>, rounds: u32) -> Result<(), Fail> {
+    for _ in 0..rounds {
+        take_all(alloc, table, &ROUND)?;
+    }
+    Ok(())
+}
+
 fn after_rounds(alloc: Global, before: &[Change], rounds: u32) -> Result<Table<Global>, Fail> {
     let mut table = after(alloc, &SPLIT)?;
     take_all(alloc, &mut table, before)?;
-    for _ in 0..rounds {
-        take_all(alloc, &mut table, &ROUND)?;
-    }
+    go_round(alloc, &mut table, rounds)?;
     Ok(table)
 }
 
@@ -335,9 +342,11 @@ fn after_rounds(alloc: Global, before: &[Change], rounds: u32) -> Result<Table<G
 fn a_parent_takes_64_records(rt: HostRuntime) -> Result<(), Fail> {
     let alloc = rt.alloc();
     for (before, rounds, parent) in ROUNDS.iter() {
-        let mut table = after_rounds(alloc, before, *rounds)?;
-        let mut by_steps = after_rounds(alloc, before, *rounds)?;
-        let answer = posted_alike(alloc, &mut table, &mut by_steps, 4)?;
+        let (table, by_steps) = (
+            after_rounds(alloc, before, *rounds)?,
+            after_rounds(alloc, before, *rounds)?,
+        );
+        let answer = posted_alike(alloc, table, by_steps, 4)?;
         assert_eq!(rt; answer, Some(parent.map(Pid)), "{rounds} rounds");
     }
     Ok(())
@@ -346,6 +355,14 @@ fn a_parent_takes_64_records(rt: HostRuntime) -> Result<(), Fail> {
 /// How many records the page has that waits for its term, and whether that is taken: each page begins
 /// with the 20th version before the last one.
 static LAST_VERSIONS: [(u64, Option<u32>); 3] = [(17, Some(2)), (18, Some(2)), (19, None)];
+
+/// Puts records on the fourth leaf.
+fn put_records(alloc: Global, table: &mut Table<Global>, records: u64) -> Result<(), Fail> {
+    for number in 0..records {
+        take_all(alloc, table, &[Change::Modify(4, 7, number)])?;
+    }
+    Ok(())
+}
 
 /// Returns the tree of three leaves and a fourth that has no term yet, with records on that one.
 fn with_records_on_the_new(alloc: Global, records: u64) -> Result<Table<Global>, Fail> {
@@ -356,9 +373,7 @@ fn with_records_on_the_new(alloc: Global, records: u64) -> Result<Table<Global>,
     let mut table = Table::new(alloc, alloc, config)?;
     take_all(alloc, &mut table, &THREE_LEAVES)?;
     take_all(alloc, &mut table, &SPLIT)?;
-    for number in 0..records {
-        take_all(alloc, &mut table, &[Change::Modify(4, 7, number)])?;
-    }
+    put_records(alloc, &mut table, records)?;
     Ok(table)
 }
 
@@ -366,29 +381,38 @@ fn with_records_on_the_new(alloc: Global, records: u64) -> Result<Table<Global>,
 fn a_page_is_named_while_it_has_versions(rt: HostRuntime) -> Result<(), Fail> {
     let alloc = rt.alloc();
     for (records, parent) in LAST_VERSIONS.iter() {
-        let mut table = with_records_on_the_new(alloc, *records)?;
-        let mut by_steps = with_records_on_the_new(alloc, *records)?;
-        let answer = posted_alike(alloc, &mut table, &mut by_steps, 4)?;
+        let (table, by_steps) = (
+            with_records_on_the_new(alloc, *records)?,
+            with_records_on_the_new(alloc, *records)?,
+        );
+        let answer = posted_alike(alloc, table, by_steps, 4)?;
         assert_eq!(rt; answer, Some(parent.map(Pid)), "{records} records");
     }
     Ok(())
 }
 
-/// Splits a leaf into each heap. The first has room for a tree of three leaves. Where memory is short
-/// the leaf stays as it was.
+/// Splits a leaf of three into the heap, and returns whether it was done. Where memory is short the leaf
+/// stays as it was.
+fn is_halved_in<'a>(
+    machine: Global,
+    ample: &'a LocalHeap,
+    heap: &'a LocalHeap,
+) -> Result<bool, Fail> {
+    let mut table = three_leaves(machine, ample)?;
+    let before = table.peek(Pid(3));
+    match table.halve_at_once(heap, Pid(3), seen(&table, 3)) {
+        Ok(_) => Ok(true),
+        Err(Denied::NoMemory) if table.peek(Pid(3)) == before => Ok(false),
+        Err(_) => Err("another answer".into()),
+    }
+}
+
+/// Splits a leaf into each heap. The first has room for a tree of three leaves.
 fn halved_in_each<'a>(machine: Global, heaps: &'a [LocalHeap]) -> Result<Rooms, Fail> {
     let (ample, tight) = heaps.split_first().ok_or("no heap")?;
     let mut rooms = Rooms::NONE;
     for heap in tight {
-        let mut table = Table::new(machine, ample, SMALL)?;
-        take_all(ample, &mut table, &THREE_LEAVES)?;
-        let before = table.peek(Pid(3));
-        let made = match table.halve_at_once(heap, Pid(3), seen(&table, 3)) {
-            Ok(_) => true,
-            Err(Denied::NoMemory) if table.peek(Pid(3)) == before => false,
-            Err(_) => return Err("another answer".into()),
-        };
-        drop(table);
+        let made = is_halved_in(machine, ample, heap)?;
         rooms.count(made, heap);
     }
     Ok(rooms)

@@ -4,13 +4,14 @@ ghost use Rattle.std.specs.Prelude.{◌≡◌};
 ghost use Rattle.bw_tree.specs.Trees.{OpensFor};
 
 use bw_keys::{Config, Key};
-use bw_tree::{Blanks, MadeBy, Shared, Tree};
+use bw_step::Step;
+use bw_tree::{Blanks, MadeBy, Share, Shared, Tree};
 use std::alloc::Global;
 use std::marker::Brand;
 use std::sync::Wait;
 use std::sync::ledger::Ledger;
 use std::test::Fail;
-use test_kit::{Change, SMALL, step_of};
+use test_kit::{Change, Pages, SMALL, step_of};
 
 /// The changes of a worker that loses its share.
 const CHANGES: [Change; 3] = [
@@ -20,6 +21,19 @@ const CHANGES: [Change; 3] = [
 ];
 
 const PAIRS: [(Key, u64); 2] = [(1, 1), (2, 20)];
+
+/// Makes the changes by the share, and loses it.
+fn lose<S: Shared<Global, Step<Global>> + Pages<Global>>(
+    machine: Global,
+    tree: &S,
+    share: Share<S::Insertions, S::Removals>,
+) -> Result<(), Fail> {
+    let mut lost = share;
+    for change in CHANGES {
+        tree.install(&mut lost, step_of(machine, tree, change)?)?;
+    }
+    Ok(())
+}
 
 /// Returns the pairs of the table that a tree returns without a share.
 fn of_tree<I: MadeBy, D: Ledger, R: Wait + Drop>(
@@ -31,11 +45,7 @@ fn of_tree<I: MadeBy, D: Ledger, R: Wait + Drop>(
     requires ledgers { OpensFor I.Ledger I.config D.Ledger config blanks }
 {
     let (tree, mut shares) = Tree::<R, Global, I, D>::new(rt, machine, machine, config, blanks)?;
-    let mut lost = shares.pop().ok_or("there is no share")?;
-    for change in CHANGES {
-        tree.install(&mut lost, step_of(machine, &tree, change)?)?;
-    }
-    drop(lost);
+    lose(machine, &tree, shares.pop().ok_or("there is no share")?)?;
     Ok(tree.into_table().pairs(machine)?)
 }
 

@@ -90,17 +90,26 @@ const TOLD: [&[Receipt]; 2] = [
     &[receipt!(looked 1, 5, Some(50))],
 ];
 
-#[test]
-fn a_replay_leaves_the_receipts_of_its_interleaving(rt: HostRuntime) -> Result<(), Fail> {
-    let alloc = rt.alloc();
+fn replayed(alloc: Global) -> Result<Replayed, Fail> {
     let mut events = Vec::new(alloc);
     events.push(put(0, 5, 50, Spare::new(alloc)?))?;
     events.push(look(1, 5))?;
     events.push(put(1, 6, 60, Spare::new(alloc)?))?;
-    let Replayed { table, trails } = replay(alloc, SMALL, 2, events)?;
-    assert_eq!(rt; trails, trails_of(alloc, &TOLD)?);
-    let pairs = table.pairs(alloc)?;
-    assert_eq!(rt; pairs.as_slice(), [(5, 50)].as_slice());
-    assert_eq!(rt; verdict_on(alloc, &trails, &pairs)?, Some(Verdict::Yes));
+    Ok(replay(alloc, SMALL, 2, events)?)
+}
+
+/// Returns whether the workers have their receipts, whether the first pair alone is left, and the verdict
+/// on both.
+fn judged(alloc: Global, replayed: &Replayed) -> Result<(bool, bool, Option<Verdict>), Fail> {
+    let are_told = replayed.trails == trails_of(alloc, &TOLD)?;
+    let pairs = replayed.table.pairs(alloc)?;
+    let verdict = verdict_on(alloc, &replayed.trails, &pairs)?;
+    Ok((are_told, pairs.as_slice() == [(5, 50)].as_slice(), verdict))
+}
+
+#[test]
+fn a_replay_leaves_the_receipts_of_its_interleaving(rt: HostRuntime) -> Result<(), Fail> {
+    let judged = judged(rt.alloc(), &replayed(rt.alloc())?)?;
+    assert_eq!(rt; judged, (true, true, Some(Verdict::Yes)));
     Ok(())
 }

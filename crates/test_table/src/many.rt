@@ -1,11 +1,11 @@
 //! Several gets at once on trees whose changes are half done.
 
-use crate::rest::{FREED, MARKED, MERGED, SPLIT, after};
+use crate::rest::{FREED, MARKED, MERGED, SPLIT, after, begun};
 use bw_keys::Key;
 use bw_table::Table;
 use std::alloc::Global;
 use std::test::Fail;
-use test_kit::{Change, SMALL, THREE_LEAVES, take_all};
+use test_kit::{Change, THREE_LEAVES};
 
 /// Keys that may be there or not, one of them twice, and not in their order.
 const ASKED: [Key; 12] = [7, 0, 5, 3, 9, 3, 1, 8, 4, 10, Key::MAX, 2];
@@ -38,11 +38,7 @@ const BEGUN: [(usize, Key); 8] = [
 #[test]
 fn several_gets_pass_a_tree_that_grows(rt: HostRuntime) -> Result<(), Fail> {
     for (steps, last) in BEGUN.iter() {
-        let mut table = Table::new(rt.alloc(), rt.alloc(), SMALL)?;
-        let Some(begun) = THREE_LEAVES.get(..*steps) else {
-            return Err("there are fewer steps".into());
-        };
-        take_all(rt.alloc(), &mut table, begun)?;
+        let table = begun(rt.alloc(), THREE_LEAVES.get(..*steps).ok_or("fewer steps")?)?;
         assert!(rt; are_found(&table, *last), "after {steps} steps");
     }
     Ok(())

@@ -1,6 +1,8 @@
 //! Chains in a heap of their own: all memory is freed, and refusals are reported.
 
+use crate::rest::{MERGED, three_leaves};
 use bw_keys::{Config, Key};
+use bw_step::Step;
 use bw_table::{CopyFault, Refused, Table};
 use linked_list_allocator::LocalHeap;
 use std::alloc::Global;
@@ -100,8 +102,12 @@ fn puts<'a>(heap: &'a LocalHeap, table: &mut Table<&'a LocalHeap>, keys: Key) ->
     Ok(())
 }
 
-/// Does the row in a heap, and drops the table before the copy.
-fn left_of(machine: Global, heap: &LocalHeap, row: &Row) -> Result<Left, Fail> {
+/// Makes the row's table in a heap.
+fn made_in<'a>(
+    machine: Global,
+    heap: &'a LocalHeap,
+    row: &Row,
+) -> Result<Table<&'a LocalHeap>, Fail> {
     let config = Config {
         pages: row.slots,
         ..SMALL
@@ -110,6 +116,12 @@ fn left_of(machine: Global, heap: &LocalHeap, row: &Row) -> Result<Left, Fail> {
     take_all(heap, &mut table, row.changes[0])?;
     take_all(heap, &mut table, row.changes[1])?;
     puts(heap, &mut table, row.puts)?;
+    Ok(table)
+}
+
+/// Does the row in a heap, and drops the table before the copy.
+fn left_of(machine: Global, heap: &LocalHeap, row: &Row) -> Result<Left, Fail> {
+    let mut table = made_in(machine, heap, row)?;
     let copy = table.chain(heap, row.page, seen(&table, row.page))?;
     let used = heap.used();
     let step = step_of(heap, &table, row.next)?;
@@ -148,6 +160,16 @@ static ONE_OF_EACH: [Change; 10] = [
     Change::TermDelete(2, 1),
 ];
 
+/// Makes a twin of the step in each heap.
+fn twins<'a>(step: &Step<&'a LocalHeap>, tight: &'a [LocalHeap]) -> Rooms {
+    let mut rooms = Rooms::NONE;
+    for heap in tight {
+        let made = step.twin(heap).is_ok();
+        rooms.count(made, heap);
+    }
+    rooms
+}
+
 /// Makes twins of a step in the heaps. The first has room for the step and a tree of three leaves.
 fn twin_in_each<'a>(
     machine: Global,
@@ -155,36 +177,29 @@ fn twin_in_each<'a>(
     change: Change,
 ) -> Result<Rooms, Fail> {
     let (ample, tight) = heaps.split_first().ok_or("no heap")?;
-    let mut table = Table::new(machine, ample, SMALL)?;
-    take_all(ample, &mut table, &THREE_LEAVES)?;
-    let step = step_of(ample, &table, change)?;
-    let mut rooms = Rooms::NONE;
-    for heap in tight {
-        let made = step.twin(heap).is_ok();
-        rooms.count(made, heap);
-    }
-    Ok(rooms)
+    let table = three_leaves(machine, ample)?;
+    Ok(twins(&step_of(ample, &table, change)?, tight))
 }
 
-/// Copies a merged page into each heap.
-fn copy_in_each<'a>(machine: Global, heaps: &'a [LocalHeap]) -> Result<Rooms, Fail> {
-    let (ample, tight) = heaps.split_first().ok_or("no heap")?;
-    let mut table = Table::new(machine, ample, SMALL)?;
-    take_all(ample, &mut table, &THREE_LEAVES)?;
-    take_all(
-        ample,
-        &mut table,
-        &[Change::Mark(1, 2), Change::Merge(0, 1)],
-    )?;
+/// Copies the first page into each heap.
+fn copies<'a>(table: &Table<&'a LocalHeap>, tight: &'a [LocalHeap]) -> Rooms {
     let mut rooms = Rooms::NONE;
     for heap in tight {
-        let made = match table.chain(heap, 0, seen(&table, 0)) {
+        let made = match table.chain(heap, 0, seen(table, 0)) {
             Ok(copy) => copy.depth() == 3,
             Err(fault) => fault != CopyFault::NoMemory,
         };
         rooms.count(made, heap);
     }
-    Ok(rooms)
+    rooms
+}
+
+/// Copies a merged page into each heap.
+fn copy_in_each<'a>(machine: Global, heaps: &'a [LocalHeap]) -> Result<Rooms, Fail> {
+    let (ample, tight) = heaps.split_first().ok_or("no heap")?;
+    let mut table = three_leaves(machine, ample)?;
+    take_all(ample, &mut table, &MERGED)?;
+    Ok(copies(&table, tight))
 }
 
 fn is_nothing_left(heaps: &[LocalHeap]) -> bool {

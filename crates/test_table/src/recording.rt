@@ -1,9 +1,9 @@
 //! A record at once is a look and one step, and a consolidation at once is a copy, the page made of
 //! it and one step. Drawn acts of these, and splits and terms at once between them, are those of steps.
 
-use crate::at_once::are_alike;
+use crate::at_once::{Row, after_both, are_alike};
 use crate::halving::{add_term_by_steps, halve_by_steps};
-use crate::rest::{FREED, MARKED, MERGED, SPLIT, after};
+use crate::rest::{FREED, MARKED, MERGED, SPLIT, after, three_leaves};
 use bw_delta::{NoMemory, Spare};
 use bw_keys::{Config, Key, Pid, Version};
 use bw_step::Denied;
@@ -15,8 +15,7 @@ use std::alloc::Global;
 use std::collections::BTreeMap;
 use std::test::Fail;
 use test_kit::{
-    Change, Rooms, SMALL, THREE_LEAVES, drawn_step, growing_heaps, receipt, seen, step_of,
-    step_with, take_all,
+    Change, Rooms, SMALL, drawn_step, growing_heaps, receipt, seen, step_of, step_with, take_all,
 };
 
 /// The most places of a walk in a small table.
@@ -96,17 +95,6 @@ fn consolidate_by_steps(
         Ok(receipt) => Ok(Ok(receipt)),
         Err(reason) => Ok(Err(Denied::Refused(reason))),
     }
-}
-
-struct Row {
-    /// Steps on the tree of three leaves, of which the first two have the record of their split.
-    before: &'static [Change],
-    key: Key,
-    wished: Wished,
-    /// The page, the numbers of its pairs and of its records then, and the receipt.
-    done: Option<(u32, u64, u8, Receipt)>,
-    /// The step that does the same.
-    steps: &'static [Change],
 }
 
 static ROWS: [Row; 14] = [
@@ -214,22 +202,23 @@ static ROWS: [Row; 14] = [
     },
 ];
 
+/// Returns what is done at once, and whether the step leaves the same table.
+fn recorded(alloc: Global, row: &Row) -> Result<(Option<AtOnce>, bool), Fail> {
+    let by_steps = after_both(alloc, row.before, row.steps)?;
+    let mut table = after(alloc, row.before)?;
+    let done = table.record_at_once(row.key, row.wished, Spare::new(alloc)?);
+    Ok((done, are_alike(&table, &by_steps)))
+}
+
 #[test]
 fn a_record_at_once_is_one_step(rt: HostRuntime) -> Result<(), Fail> {
-    let alloc = rt.alloc();
     for row in ROWS.iter() {
-        let mut table = after(alloc, row.before)?;
-        let done = table.record_at_once(row.key, row.wished, Spare::new(alloc)?);
-        let wanted = row.done.map(|(page, count, depth, receipt)| AtOnce {
-            page: Pid(page),
-            receipt,
-            count,
-            depth,
-        });
-        assert_eq!(rt; done, wanted, "key {}", row.key);
-        let mut by_steps = after(alloc, row.before)?;
-        take_all(alloc, &mut by_steps, row.steps)?;
-        assert!(rt; are_alike(&table, &by_steps), "key {}", row.key);
+        assert_eq!(rt;
+            recorded(rt.alloc(), row)?,
+            (row.wanted(), true),
+            "key {}",
+            row.key
+        );
     }
     Ok(())
 }
@@ -249,6 +238,18 @@ static EDGES: [(u64, u64, Wished, bool); 9] = [
     (u64::MAX, 0, Wished::Delete, true),
 ];
 
+/// Puts this number of records on the first page.
+fn put_records(alloc: Global, table: &mut Table<Global>, records: u64) -> Result<(), Fail> {
+    for number in 0..records {
+        let change = match number {
+            0 => Change::Insert(0, 6, 6),
+            _ => Change::Modify(0, 6, number),
+        };
+        take_all(alloc, table, &[change])?;
+    }
+    Ok(())
+}
+
 /// Returns a table of one leaf with this number of records.
 fn with_records(
     alloc: Global,
@@ -260,27 +261,37 @@ fn with_records(
         ..SMALL
     };
     let mut table = Table::new(alloc, alloc, config)?;
-    for number in 0..records {
-        let change = match number {
-            0 => Change::Insert(0, 6, 6),
-            _ => Change::Modify(0, 6, number),
-        };
-        take_all(alloc, &mut table, &[change])?;
-    }
+    put_records(alloc, &mut table, records)?;
     Ok(table)
+}
+
+/// Carries the wish for key 6 out in one table at once, and in the other by steps. Returns what was done
+/// where both are alike.
+fn recorded_alike(
+    alloc: Global,
+    table: Table<Global>,
+    by_steps: Table<Global>,
+    wished: Wished,
+) -> Result<Option<Option<AtOnce>>, NoMemory> {
+    let (mut table, mut by_steps) = (table, by_steps);
+    let done = table.record_at_once(6, wished, Spare::new(alloc)?);
+    let wanted = record_by_steps(alloc, &mut by_steps, 6, wished)?;
+    let are_same = done == wanted && are_alike(&table, &by_steps);
+    Ok(if are_same { Some(done) } else { None })
 }
 
 #[test]
 fn a_leaf_takes_64_records_and_as_many_as_it_has_versions(rt: HostRuntime) -> Result<(), Fail> {
     let alloc = rt.alloc();
     for (version, records, wished, is_done) in EDGES.iter() {
-        let mut table = with_records(alloc, Version(*version), *records)?;
-        let mut by_steps = with_records(alloc, Version(*version), *records)?;
-        let done = table.record_at_once(6, *wished, Spare::new(alloc)?);
-        let wanted = record_by_steps(alloc, &mut by_steps, 6, *wished)?;
-        assert_eq!(rt; done, wanted);
-        assert_eq!(rt; done.is_some(), *is_done, "{records} records");
-        assert!(rt; are_alike(&table, &by_steps));
+        let table = with_records(alloc, Version(*version), *records)?;
+        let by_steps = with_records(alloc, Version(*version), *records)?;
+        let done = recorded_alike(alloc, table, by_steps, *wished)?;
+        assert_eq!(rt;
+            done.map(|done| done.is_some()),
+            Some(*is_done),
+            "{records} records"
+        );
     }
     Ok(())
 }
@@ -319,20 +330,30 @@ fn answer_for(page: u32, refused: Option<Refused>) -> Result<Receipt, Denied> {
     }
 }
 
+/// Consolidates the page of one table at once, and of the other by steps, as one that saw it that much
+/// older. Returns the answer where both are alike.
+fn consolidated_alike(
+    alloc: Global,
+    table: Table<Global>,
+    by_steps: Table<Global>,
+    page: u32,
+    older: u64,
+) -> Result<Option<Result<Receipt, Denied>>, NoMemory> {
+    let (mut table, mut by_steps) = (table, by_steps);
+    let version = Version(seen(&table, page).0.saturating_sub(older));
+    let answer = table.consolidate_at_once(alloc, Pid(page), version);
+    let wanted = consolidate_by_steps(alloc, &mut by_steps, page, version)?;
+    let are_same = answer == wanted && are_alike(&table, &by_steps);
+    Ok(if are_same { Some(answer) } else { None })
+}
+
 #[test]
 fn a_consolidation_at_once_is_one_step(rt: HostRuntime) -> Result<(), Fail> {
     let alloc = rt.alloc();
     for (before, page, older, refused) in ANEW.iter() {
-        let mut table = after(alloc, before)?;
-        let mut by_steps = after(alloc, before)?;
-        let version = Version(seen(&table, *page).0.saturating_sub(*older));
-        let answer = table.consolidate_at_once(alloc, Pid(*page), version);
-        assert_eq!(rt; answer, answer_for(*page, *refused), "page {page}");
-        assert_eq!(rt;
-            answer,
-            consolidate_by_steps(alloc, &mut by_steps, *page, version)?
-        );
-        assert!(rt; are_alike(&table, &by_steps), "page {page}");
+        let (table, by_steps) = (after(alloc, before)?, after(alloc, before)?);
+        let answer = consolidated_alike(alloc, table, by_steps, *page, *older)?;
+        assert_eq!(rt; answer, Some(answer_for(*page, *refused)), "page {page}");
     }
     Ok(())
 }
@@ -349,35 +370,36 @@ static WORN: [(u64, u64, Option<Refused>); 3] = [
 fn a_page_is_made_anew_while_it_has_versions(rt: HostRuntime) -> Result<(), Fail> {
     let alloc = rt.alloc();
     for (first, older, refused) in WORN.iter() {
-        let mut table = with_records(alloc, Version(*first), 0)?;
-        let mut by_steps = with_records(alloc, Version(*first), 0)?;
-        let version = Version(first.saturating_sub(*older));
-        let answer = table.consolidate_at_once(alloc, Pid(0), version);
-        assert_eq!(rt; answer, answer_for(0, *refused));
-        assert_eq!(rt;
-            answer,
-            consolidate_by_steps(alloc, &mut by_steps, 0, version)?
-        );
-        assert!(rt; are_alike(&table, &by_steps));
+        let table = with_records(alloc, Version(*first), 0)?;
+        let by_steps = with_records(alloc, Version(*first), 0)?;
+        let answer = consolidated_alike(alloc, table, by_steps, 0, *older)?;
+        assert_eq!(rt; answer, Some(answer_for(0, *refused)));
     }
     Ok(())
 }
 
-/// Consolidates a leaf into each heap. The first has room for a tree of three leaves. Where memory is
-/// short the leaf stays as it was.
+/// Consolidates a leaf of three into the heap, and returns whether it was done. Where memory is short
+/// the leaf stays as it was.
+fn is_consolidated_in<'a>(
+    machine: Global,
+    ample: &'a LocalHeap,
+    heap: &'a LocalHeap,
+) -> Result<bool, Fail> {
+    let mut table = three_leaves(machine, ample)?;
+    let before = table.peek(Pid(0));
+    match table.consolidate_at_once(heap, Pid(0), seen(&table, 0)) {
+        Ok(_) => Ok(true),
+        Err(Denied::NoMemory) if table.peek(Pid(0)) == before => Ok(false),
+        Err(_) => Err("another answer".into()),
+    }
+}
+
+/// Consolidates a leaf into each heap. The first has room for a tree of three leaves.
 fn consolidated_in_each<'a>(machine: Global, heaps: &'a [LocalHeap]) -> Result<Rooms, Fail> {
     let (ample, tight) = heaps.split_first().ok_or("no heap")?;
     let mut rooms = Rooms::NONE;
     for heap in tight {
-        let mut table = Table::new(machine, ample, SMALL)?;
-        take_all(ample, &mut table, &THREE_LEAVES)?;
-        let before = table.peek(Pid(0));
-        let made = match table.consolidate_at_once(heap, Pid(0), seen(&table, 0)) {
-            Ok(_) => true,
-            Err(Denied::NoMemory) if table.peek(Pid(0)) == before => false,
-            Err(_) => return Err("another answer".into()),
-        };
-        drop(table);
+        let made = is_consolidated_in(machine, ample, heap)?;
         rooms.count(made, heap);
     }
     Ok(rooms)
@@ -537,32 +559,45 @@ impl Twins {
     }
 }
 
+/// Makes drawn acts. Returns the first after which the tables weren't alike, if there is one; all pages
+/// are looked at after one act in sixteen, the last one too.
+fn first_wrong(
+    alloc: Global,
+    chain: u8,
+    rng: &mut Pcg32,
+    twins: &mut Twins,
+) -> Result<Option<u32>, Fail> {
+    for act in 0..ACTS {
+        if !twins.act(alloc, chain, rng)? || (act % 16 == 15 && !twins.are_alike(alloc)?) {
+            return Ok(Some(act));
+        }
+    }
+    Ok(None)
+}
+
+/// Makes two tables and acts on them. Returns the first wrong act, and how many pages were split and
+/// named.
+fn acted(alloc: Global, chain: u8) -> Result<(Option<u32>, [u32; 2]), Fail> {
+    let mut rng = Pcg32::seed_from_u64(chain.into());
+    let mut twins = Twins {
+        at_once: Table::new(alloc, alloc, SMALL)?,
+        by_steps: Table::new(alloc, alloc, SMALL)?,
+        map: BTreeMap::new(alloc),
+        halved: 0,
+        posted: 0,
+    };
+    let wrong = first_wrong(alloc, chain, &mut rng, &mut twins)?;
+    Ok((wrong, [twins.halved, twins.posted]))
+}
+
 #[test]
 fn drawn_acts_at_once_are_those_of_the_steps(rt: HostRuntime) -> Result<(), Fail> {
-    let alloc = rt.alloc();
-    let (mut halved, mut posted) = (0u32, 0u32);
+    let mut were_shaped = [false; 2];
     for chain in [1, 2, 8, 64] {
-        let mut rng = Pcg32::seed_from_u64(u64::from(chain));
-        let mut twins = Twins {
-            at_once: Table::new(alloc, alloc, SMALL)?,
-            by_steps: Table::new(alloc, alloc, SMALL)?,
-            map: BTreeMap::new(alloc),
-            halved: 0,
-            posted: 0,
-        };
-        for act in 0..ACTS {
-            assert!(rt;
-                twins.act(alloc, chain, &mut rng)?,
-                "chain {chain}, act {act}"
-            );
-            if act % 16 == 0 {
-                assert!(rt; twins.are_alike(alloc)?, "chain {chain}, act {act}");
-            }
-        }
-        assert!(rt; twins.are_alike(alloc)?, "chain {chain}");
-        halved = halved.saturating_add(twins.halved);
-        posted = posted.saturating_add(twins.posted);
+        let (wrong, [halved, posted]) = acted(rt.alloc(), chain)?;
+        assert_eq!(rt; wrong, None, "chain {chain}");
+        were_shaped = [were_shaped[0] || halved > 0, were_shaped[1] || posted > 0];
     }
-    assert!(rt; halved > 0 && posted > 0, "{halved} split, {posted} named");
+    assert_eq!(rt; were_shaped, [true; 2], "pages were split and named");
     Ok(())
 }

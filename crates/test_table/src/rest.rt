@@ -2,7 +2,7 @@
 
 use bw_keys::{Fence, Key, Pid};
 use bw_table::{Summary, Table};
-use std::alloc::Global;
+use std::alloc::{Allocator, Global};
 use std::test::Fail;
 use test_kit::{Change, SMALL, THREE_LEAVES, take_all};
 
@@ -40,10 +40,26 @@ const EMPTIED: [Change; 5] = [
     Change::TermDelete(2, 1),
 ];
 
+/// Returns a new table after some steps.
+pub(crate) fn begun(alloc: Global, steps: &[Change]) -> Result<Table<Global>, Fail> {
+    let mut table = Table::new(alloc, alloc, SMALL)?;
+    take_all(alloc, &mut table, steps)?;
+    Ok(table)
+}
+
+/// Returns the tree of three leaves, whose pages lie in the heap.
+pub(crate) fn three_leaves<A: Allocator + Copy>(
+    machine: Global,
+    heap: A,
+) -> Result<Table<A>, Fail> {
+    let mut table = Table::new(machine, heap, SMALL)?;
+    take_all(heap, &mut table, &THREE_LEAVES)?;
+    Ok(table)
+}
+
 /// Returns the tree of three leaves after some more steps.
 pub(crate) fn after(alloc: Global, changes: &[Change]) -> Result<Table<Global>, Fail> {
-    let mut table = Table::new(alloc, alloc, SMALL)?;
-    take_all(alloc, &mut table, &THREE_LEAVES)?;
+    let mut table = three_leaves(alloc, alloc)?;
     take_all(alloc, &mut table, changes)?;
     Ok(table)
 }

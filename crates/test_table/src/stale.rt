@@ -1,10 +1,11 @@
 //! A page that was copied and consolidated before it changed.
 
+use crate::rest::begun;
 use bw_keys::Pid;
 use bw_table::{Refused, Table};
 use std::alloc::Global;
 use std::test::Fail;
-use test_kit::{Change, SMALL, are_own_pairs, step_of, take, take_all};
+use test_kit::{Change, are_own_pairs, step_of, take};
 
 const THREE: [Change; 3] = [
     Change::Insert(0, 1, 1),
@@ -20,16 +21,21 @@ fn leaf(alloc: Global, table: &Table<Global>, last: u64) -> Result<Option<(u64, 
     Ok(table.peek(Pid(0)).map(|view| (view.version.0, view.depth)))
 }
 
-#[test]
-fn a_consolidation_of_an_older_page_is_refused(rt: HostRuntime) -> Result<(), Fail> {
-    let alloc = rt.alloc();
-    let mut table = Table::new(alloc, alloc, SMALL)?;
-    take_all(alloc, &mut table, &THREE)?;
+/// Returns why a consolidation is refused that comes behind another record, and the leaf then and once
+/// it is consolidated anew.
+fn late(alloc: Global) -> Result<(Option<Refused>, [Option<(u64, u8)>; 2]), Fail> {
+    let mut table = begun(alloc, &THREE)?;
     let late = step_of(alloc, &table, Change::Consolidate(0))?;
     take(alloc, &mut table, Change::Insert(0, 4, 4))?;
-    assert_eq!(rt; table.install(late), Err(Refused::Stale));
-    assert_eq!(rt; leaf(alloc, &table, 4)?, Some((4, 4)));
+    let refused = table.install(late).err();
+    let before = leaf(alloc, &table, 4)?;
     take(alloc, &mut table, Change::Consolidate(0))?;
-    assert_eq!(rt; leaf(alloc, &table, 4)?, Some((5, 0)));
+    Ok((refused, [before, leaf(alloc, &table, 4)?]))
+}
+
+#[test]
+fn a_consolidation_of_an_older_page_is_refused(rt: HostRuntime) -> Result<(), Fail> {
+    let leaves = [Some((4, 4)), Some((5, 0))];
+    assert_eq!(rt; late(rt.alloc())?, (Some(Refused::Stale), leaves));
     Ok(())
 }

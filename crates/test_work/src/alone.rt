@@ -121,20 +121,29 @@ type Case = (Config, &'static [Row], &'static [Receipt], u64);
 
 static CASES: [Case; 2] = [(SMALL, &EFFORTS, &TRAIL, 0), (LAST, &WORN, &[], 1)];
 
+/// What was answered wrongly first, what ended calls, and the trail.
+type Left = (Option<(usize, Answer, u64)>, Ends, Vec<Receipt>);
+
+fn left_by(machine: Global, config: Config, rows: &[Row]) -> Result<Left, Fail> {
+    let mut table = Table::new(machine, machine, config)?;
+    let mut alone = Alone::new(machine, machine, &mut table);
+    let other = first_other(machine, &mut alone, rows)?;
+    let ends = alone.ends();
+    Ok((other, ends, alone.finish()))
+}
+
 #[test]
 fn a_lone_worker_is_answered_and_spends_effort(rt: HostRuntime) -> Result<(), Fail> {
-    let machine = rt.alloc();
     for (config, rows, trail, worn) in CASES.iter() {
-        let mut table = Table::new(machine, machine, *config)?;
-        let mut alone = Alone::new(machine, machine, &mut table);
-        assert_eq!(rt; first_other(machine, &mut alone, rows)?, None);
-        let ends = Ends {
+        let (other, ends, left) = left_by(rt.alloc(), *config, rows)?;
+        assert_eq!(rt; other, None);
+        let wanted = Ends {
             full: 0,
             tall: 0,
             worn: *worn,
         };
-        assert_eq!(rt; alone.ends(), ends);
-        assert_eq!(rt; alone.finish().as_slice(), *trail);
+        assert_eq!(rt; ends, wanted);
+        assert_eq!(rt; left.as_slice(), *trail);
     }
     Ok(())
 }

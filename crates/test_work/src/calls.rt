@@ -19,16 +19,22 @@ struct ByHand {
 /// tended, and after help.
 type Efforts = Result<(u64, u64, u64), Fault>;
 
-fn efforts<S: Shared<Global, Step<Global>>>(hand: &mut Hand<'_, Global, S, Open>) -> Efforts {
-    let _inserted = hand.put(1, 10)?;
-    let _present = hand.put(1, 11)?;
-    let _replaced = hand.set(1, 12)?;
-    let _removed = hand.delete(1)?;
-    let changed = hand.effort();
-    hand.tend(Pid(0))?;
-    let tended = hand.effort();
-    hand.help(Todo::Post(Pid(1)))?;
-    Ok((changed, tended, hand.effort()))
+/// Makes a change of each kind, and a put that changes nothing.
+fn change<W: Steps<Global, Step<Global>>>(worker: &mut W) -> Result<(), Fault> {
+    let _inserted = worker.put(1, 10)?;
+    let _present = worker.put(1, 11)?;
+    let _replaced = worker.set(1, 12)?;
+    let _removed = worker.delete(1)?;
+    Ok(())
+}
+
+fn efforts<W: Steps<Global, Step<Global>>>(worker: &mut W) -> Efforts {
+    change(worker)?;
+    let changed = worker.effort();
+    worker.tend(Pid(0))?;
+    let tended = worker.effort();
+    worker.help(Todo::Post(Pid(1)))?;
+    Ok((changed, tended, worker.effort()))
 }
 
 impl Play<Efforts> for ByHand {
@@ -48,16 +54,7 @@ impl Play<Efforts> for ByHand {
 /// Returns the same of a worker alone.
 fn lone_efforts(machine: Global) -> Result<(u64, u64, u64), Fail> {
     let mut table = Table::new(machine, machine, SMALL)?;
-    let mut alone = Alone::new(machine, machine, &mut table);
-    let _inserted = alone.put(1, 10)?;
-    let _present = alone.put(1, 11)?;
-    let _replaced = alone.set(1, 12)?;
-    let _removed = alone.delete(1)?;
-    let changed = alone.effort();
-    alone.tend(Pid(0))?;
-    let tended = alone.effort();
-    alone.help(Todo::Post(Pid(1)))?;
-    Ok((changed, tended, alone.effort()))
+    Ok(efforts(&mut Alone::new(machine, machine, &mut table))?)
 }
 
 #[test]

@@ -7,7 +7,9 @@ use bw_table::Table;
 use bw_tree::{Share, Shared};
 use bw_work::{Del, Put};
 use std::alloc::Global;
+use std::sync::Wait;
 use std::test::Fail;
+use std::thread::Threads;
 use test_kit::{
     BESIDE_CALLS, Call, Ended, HELD_CALLS, HOLDS, HeldAfter, Pages, Play, Played, Reply, SMALL,
     Task, Told, Turns, are_both_done, leaves_of, play_on_new_tree, receipt,
@@ -87,28 +89,47 @@ fn has_told(told: &Told, (_, replies, trail): Calls) -> bool {
     told.fault.is_none() && told.replies.as_slice() == replies && told.trail.as_slice() == trail
 }
 
+/// Plays a case. Returns whether worker 0 was held, both had their replies and their receipts, and the tree
+/// has its leaves.
+fn are_as_told<R: Threads + Wait + Sync + Send + Copy>(
+    rt: R,
+    machine: Global,
+    case: &Case,
+) -> Result<[bool; 4], Fail> {
+    let play = Both {
+        machine,
+        held: HeldAfter::new(case.kind),
+        zero: Task {
+            first: 1,
+            last: case.puts,
+            calls: case.zero.0,
+        },
+        one: Task::calls(case.one.0),
+    };
+    let Ended { table, zero, one } = play_on_new_tree(
+        rt,
+        machine,
+        SMALL,
+        Turns::SideBySide,
+        &play,
+    )?;
+    Ok([
+        play.held.came_about(),
+        has_told(&zero, case.zero),
+        has_told(&one, case.one),
+        leaves_of(machine, &table)?.as_slice() == case.leaves,
+    ])
+}
+
 #[test]
 fn a_worker_goes_on_where_one_is_held(rt: HostRuntime) -> Result<(), Fail> {
-    let machine = rt.alloc();
     for case in CASES.iter() {
-        let play = Both {
-            machine,
-            held: HeldAfter::new(case.kind),
-            zero: Task {
-                first: 1,
-                last: case.puts,
-                calls: case.zero.0,
-            },
-            one: Task::calls(case.one.0),
-        };
-        let ended = play_on_new_tree(rt, machine, SMALL, Turns::SideBySide, &play)?;
-        let Ended { table, zero, one } = &ended;
-        assert!(rt; play.held.came_about(), "{:?}", case.kind);
-        assert!(rt;
-            has_told(zero, case.zero) && has_told(one, case.one),
-            "{zero:?} {one:?}"
+        assert_eq!(rt;
+            are_as_told(rt, rt.alloc(), case)?,
+            [true; 4],
+            "{:?}",
+            case.kind
         );
-        assert_eq!(rt; leaves_of(machine, table)?.as_slice(), case.leaves);
     }
     Ok(())
 }
@@ -126,30 +147,37 @@ fn verdict_on(
     Ok(Some(audit(machine, trails, &pairs)?))
 }
 
+/// Holds worker 0 after a step of the kind. Returns whether that came about and both did their calls, and
+/// the verdict on all.
+fn done_beside<R: Threads + Wait + Sync + Send + Copy>(
+    rt: R,
+    machine: Global,
+    kind: Kind,
+    before: u64,
+) -> Result<(bool, Option<Verdict>), Fail> {
+    let play = Both {
+        machine,
+        held: HeldAfter::new(kind),
+        zero: Task::calls(&HELD_CALLS),
+        one: Task::calls(&BESIDE_CALLS),
+    };
+    let Ended { table, zero, one } = play_on_new_tree(
+        rt,
+        machine,
+        SMALL,
+        Turns::SideBySide,
+        &play,
+    )?;
+    let are_done = are_both_done(machine, &table, before, (&zero, &one))?;
+    let verdict = verdict_on(machine, &table, &[zero.trail, one.trail])?;
+    Ok((are_done && play.held.came_about(), verdict))
+}
+
 #[test]
 fn a_worker_does_all_while_another_is_held_after_any_step(rt: HostRuntime) -> Result<(), Fail> {
-    let machine = rt.alloc();
     for (kind, before) in HOLDS {
-        let play = Both {
-            machine,
-            held: HeldAfter::new(kind),
-            zero: Task::calls(&HELD_CALLS),
-            one: Task::calls(&BESIDE_CALLS),
-        };
-        let Ended { table, zero, one } = play_on_new_tree(
-            rt,
-            machine,
-            SMALL,
-            Turns::SideBySide,
-            &play,
-        )?;
-        assert!(rt; play.held.came_about(), "{kind:?}");
-        assert!(rt;
-            are_both_done(machine, &table, before, (&zero, &one))?,
-            "{kind:?}: {zero:?} {one:?}"
-        );
-        let verdict = verdict_on(machine, &table, &[zero.trail, one.trail])?;
-        assert_eq!(rt; verdict, Some(Verdict::Yes), "{kind:?}");
+        let done = done_beside(rt, rt.alloc(), kind, before)?;
+        assert_eq!(rt; done, (true, Some(Verdict::Yes)), "{kind:?}");
     }
     Ok(())
 }
