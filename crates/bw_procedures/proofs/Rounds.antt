@@ -28,7 +28,7 @@ reshapes_then a b c p q =
     }
 
 -- a fault that is earned by a part of a call is earned by the whole
-earned_then : (limit : ℕ) (fault : Fault) (a b c : Seen) → Grows a b → IsEarned limit b c fault → IsEarned limit a c fault
+pub earned_then : (limit : ℕ) (fault : Fault) (a b c : Seen) → Grows a b → IsEarned limit b c fault → IsEarned limit a c fault
 earned_then limit faults.Contended a b c grows is = is
 earned_then limit faults.NoMemory a b c grows is = tt
 earned_then limit faults.TableFull a b c grows is = omega (arith, grows.full, is)

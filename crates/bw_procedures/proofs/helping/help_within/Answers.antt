@@ -1,0 +1,15 @@
+use Rattle.std.proofs.Common.{refl}
+use Rattle.bw_procedures.proofs.Joining.{reshapes_and_costs}
+use Rattle.bw_procedures.proofs.Rounds.{reshapes_then, idles}
+use Rattle.bw_procedures.proofs.helping.help_within.Goals as goal
+
+pub returns-in-Over-clause-reshapes : goal.returns-in-Over-clause-reshapes
+returns-in-Over-clause-reshapes g c =
+    let round = rw c.in-Over.is at c.in_ok-round.ensures.round in
+    reshapes_and_costs _ _ _ c.rounds.invariant.reshapes (round.0, round.1)
+
+pub returns-in-Idle-clause-reshapes : goal.returns-in-Idle-clause-reshapes
+returns-in-Idle-clause-reshapes g c = idles _ _ _ _ c.rounds.invariant.reshapes c.in_ok-round.ensures.round.0 c.idle.ensures.seen
+
+pub returns-then-is_spent-clause-reshapes : goal.returns-then-is_spent-clause-reshapes
+returns-then-is_spent-clause-reshapes g c = (reshapes_then _ _ _ c.rounds.invariant.reshapes c.in_ok-round.ensures.round.0, c.if-is_spent.ensures.0 refl)

@@ -1,0 +1,14 @@
+use Rattle.std.proofs.Common.{Ok}
+use Rattle.bw_procedures.proofs.Joining.{nears, tends_then}
+use Rattle.bw_procedures.proofs.Rounds.{reshapes_then}
+use Rattle.bw_procedures.proofs.tending.mark_page.Goals as goal
+
+pub returns-in_ok-after_mark-in-Accepted-clause-tended : goal.returns-in_ok-after_mark-in-Accepted-clause-tended
+returns-in_ok-after_mark-in-Accepted-clause-tended g c =
+    let parent = c.in_ok-parent.ensures.reshapes.0 in
+    let marked = c.in_ok-reshape.ensures.reshapes in
+    let nearer = nears c.args.limit _ _ (g.S.Steps.seen c.reshape.new.steps) c.ranges.limit.fits parent c.in_ok-reshape.ensures.within marked.1 in
+    tends_then c.args.limit (Ok c.in_ok-after_mark-in-Accepted.field-0) _ _ _ (reshapes_then _ _ _ parent marked.0) nearer c.in_ok-after_mark-in-Accepted.ensures.reshapes
+
+pub returns-in-Refused-clause-tended : goal.returns-in-Refused-clause-tended
+returns-in-Refused-clause-tended g c = (reshapes_then _ _ _ c.in_ok-parent.ensures.reshapes.0 c.in_ok-reshape.ensures.reshapes.0, tt)

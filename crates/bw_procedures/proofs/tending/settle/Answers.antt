@@ -1,0 +1,11 @@
+use Rattle.std.proofs.Common.{sym, subst, refl}
+use Rattle.bw_procedures.specs.Seen.{Seen}
+use Rattle.bw_procedures.specs.Calls.{OnlyReshapes}
+use Rattle.bw_procedures.proofs.Rounds.{reshapes_then}
+use Rattle.bw_procedures.proofs.tending.settle.Goals as goal
+
+pub returns-then-is_spent-clause-reshapes : goal.returns-then-is_spent-clause-reshapes
+returns-then-is_spent-clause-reshapes g c =
+    let Before : Seen → Type 0 = λ it. OnlyReshapes (g.S.Steps.seen c.args.steps.now) it in
+    let before = subst Before (sym c.in-Some.ensures.seen) c.rounds.invariant.reshapes in
+    (reshapes_then _ _ _ before c.in_ok-help_within.ensures.reshapes.0, c.if-is_spent.ensures.0 refl)

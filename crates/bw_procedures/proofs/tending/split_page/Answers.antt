@@ -1,0 +1,20 @@
+use Rattle.std.proofs.Common.{Ok, arith}
+use Rattle.bw_procedures.proofs.Joining.{tends_then}
+use Rattle.bw_procedures.proofs.Rounds.{reshapes_then}
+use Rattle.bw_procedures.proofs.tending.split_page.Goals as goal
+
+pub returns-in-Some-clause-tended : goal.returns-in-Some-clause-tended
+returns-in-Some-clause-tended g c =
+    let split = rw c.in-Some.is at c.in_ok-new.ensures.tended in
+    let settled = c.in_ok-settle.ensures.reshapes.0 in
+    tends_then c.args.limit c.page_above.result _ _ _ (reshapes_then _ _ _ split.0 settled) (omega (arith, split.1, settled.grows.effort)) c.page_above.ensures.reshapes
+
+pub returns-in-None-clause-tended : goal.returns-in-None-clause-tended
+returns-in-None-clause-tended g c = (reshapes_then _ _ _ c.in_ok-new.ensures.tended.0 c.in_ok-term.ensures.tended.0, tt)
+
+pub returns-in_ok-after_split-in-Some-2-clause-tended : goal.returns-in_ok-after_split-in-Some-2-clause-tended
+returns-in_ok-after_split-in-Some-2-clause-tended g c =
+    let before = c.in_ok-new.ensures.tended.0 in
+    let split = rw c.in-Some-2.is at c.in_ok-term.ensures.tended in
+    let so_far = reshapes_then _ _ _ before split.0 in
+    tends_then c.args.limit (Ok c.in_ok-after_split-in-Some-2.field-0) _ _ _ so_far (omega (arith, before.grows.effort, split.1)) c.in_ok-after_split-in-Some-2.ensures.reshapes
