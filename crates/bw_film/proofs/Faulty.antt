@@ -7,7 +7,7 @@ use Rattle.bw_texts.specs.declared.trace.row.Row.{Row}
 use Rattle.bw_film.specs.declared.fault.FilmFault.{FilmFault}
 use Rattle.bw_film.specs.declared.fault.FilmFault.TheVariants.{Config as BadConfig, Stopped, Script, Memory}
 use Rattle.bw_scripts.specs.Played.{one_more}
-use Rattle.bw_scripts.specs.declared.script.TheConstants.{MOST_LINES}
+use Rattle.bw_scripts.specs.declared.player.TheConstants.{MOST_LINES}
 use Rattle.bw_scripts.specs.declared.fault.ScriptFault.TheVariants as scripts
 use Rattle.bw_film.specs.Faults.{IsFaultAtRow, IsLineFault, IsRowFault, IsRowOf, IsRowsFault, IsScriptFault}
 

@@ -2,7 +2,9 @@
 use Rattle.std.specs.Prelude.{◌≡◌, ℕ, ◌+◌, ◌-◌, ◌≤◌, List, length, None, Some, slice_index_or}
 use Rattle.bw_keys.specs.declared.config.Config.{Config}
 use Rattle.bw_keys.specs.Limits.{first_bad_field}
-use Rattle.bw_scripts.specs.Faults.{NamesALine}
+use Rattle.bw_scripts.specs.declared.fault.ScriptFault.{ScriptFault}
+use Rattle.bw_scripts.specs.declared.fault.ScriptFault.TheVariants.{Line}
+use Rattle.bw_scripts.specs.declared.player.TheConstants.{MOST_LINES}
 use Rattle.bw_scripts.specs.Faults.{IsLineFault as IsFaultAtLine}
 use Rattle.bw_texts.specs.declared.trace.row.Row.{Row}
 use Rattle.bw_film.specs.declared.fault.FilmFault.{FilmFault}
@@ -41,6 +43,11 @@ IsLineFault number (BadConfig bad) = ⊥
 IsLineFault number (Stopped worker at fault) = ⊥
 IsLineFault number (Script fault) = IsFaultAtLine number fault
 IsLineFault number Memory = Unit
+
+-- a line that is named is counted from 1, and is at most the first one too many
+abbrev pub NamesALine : ScriptFault → Type 0
+NamesALine (Line number) = (1 ≤ number) × (number ≤ MOST_LINES + 1)
+NamesALine fault = Unit
 
 -- of a script: what its lines say, or want of memory
 abbrev pub IsScriptFault : FilmFault → Type 0

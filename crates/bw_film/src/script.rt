@@ -3,7 +3,7 @@
 ghost use Rattle.std.specs.Prelude.{◌≡◌, ◌≤◌, Some, IfOk, IfErr, OnOk};
 ghost use Rattle.bw_law.specs.Tables.{TableValue};
 ghost use Rattle.bw_scripts.specs.Played.{one_more};
-ghost use Rattle.bw_scripts.specs.declared.script.TheConstants.{MOST_LINES};
+ghost use Rattle.bw_scripts.specs.declared.player.TheConstants.{MOST_LINES};
 ghost use Rattle.bw_film.specs.Faults.{IsLineFault, IsScriptFault};
 ghost use Rattle.bw_film.specs.Filming.{moments_with};
 
@@ -21,7 +21,8 @@ use std::io::{BufRead, BufReader, Read};
 ///
 /// # Errors
 ///
-/// Fails as [`play`](bw_scripts::play) does.
+/// Fails with the first line that can't be read, with more than [`MOST_LINES`] lines, if no line
+/// made a table, or if the reader or memory fails.
 #[tactic(auto, using(crate::proofs::Faulty::line_gives_up))]
 pub fn film_script<R: Read + Drop>(
     alloc: Global,

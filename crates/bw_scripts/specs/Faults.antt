@@ -1,6 +1,5 @@
 -- Which line a script is blamed for.
-use Rattle.std.specs.Prelude.{◌≡◌, ℕ, ◌+◌, ◌≤◌, ◌⊎◌}
-use Rattle.bw_scripts.specs.declared.script.TheConstants.{MOST_LINES}
+use Rattle.std.specs.Prelude.{◌≡◌, ℕ, ◌⊎◌}
 use Rattle.bw_scripts.specs.declared.fault.ScriptFault.{ScriptFault}
 use Rattle.bw_scripts.specs.declared.fault.ScriptFault.TheVariants as faults
 
@@ -13,8 +12,3 @@ abbrev pub IsLineFault : ℕ → ScriptFault → Type 0
 IsLineFault number (faults.Line line) = line ≡ number
 IsLineFault number faults.NoTable = ⊥
 IsLineFault number fault = Unit
-
--- a line that is named is counted from 1, and is at most the first one too many
-abbrev pub NamesALine : ScriptFault → Type 0
-NamesALine (faults.Line number) = (1 ≤ number) × (number ≤ MOST_LINES + 1)
-NamesALine fault = Unit

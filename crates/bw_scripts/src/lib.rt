@@ -7,10 +7,8 @@ mod fault;
 mod line;
 mod numbers;
 mod player;
-mod script;
 mod steps;
 
 pub use answer::Answer;
 pub use fault::ScriptFault;
-pub use player::Player;
-pub use script::{MOST_LINES, play, play_first};
+pub use player::{MOST_LINES, Player};

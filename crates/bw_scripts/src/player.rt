@@ -17,6 +17,9 @@ use bw_step::{Refused, Step, Survey, View};
 use bw_table::{NewFault, Table};
 use std::alloc::Global;
 
+/// The most lines of a script that is read from a reader.
+pub const MOST_LINES: u64 = 1_000_000;
+
 /// All that the public calls of a table show.
 #[derive(Drop)]
 struct Picture {

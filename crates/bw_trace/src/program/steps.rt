@@ -1,7 +1,7 @@
 //! Scripts of steps, and what is said of their lines.
 
 ghost use Rattle.std.specs.Prelude.{◌≤◌, IfOk, IfErr, OnOk};
-ghost use Rattle.bw_scripts.specs.declared.script.TheConstants.{MOST_LINES};
+ghost use Rattle.bw_scripts.specs.declared.player.TheConstants.{MOST_LINES};
 ghost use Rattle.bw_scripts.specs.Answers.{IsAnswered};
 ghost use Rattle.bw_scripts.specs.Faults.{IsLineFault};
 ghost use Rattle.bw_scripts.specs.Played.{IsPlayed, one_more};

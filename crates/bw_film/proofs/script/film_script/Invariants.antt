@@ -1,5 +1,5 @@
 use Rattle.std.proofs.Common.{◌≡◌, ◌≤◌}
-use Rattle.bw_scripts.specs.declared.script.TheConstants.{MOST_LINES}
+use Rattle.bw_scripts.specs.declared.player.TheConstants.{MOST_LINES}
 use Rattle.bw_film.proofs.script.film_script.Given as goal
 
 abbrev pub invariant-loop-line : goal.invariant-loop-line
