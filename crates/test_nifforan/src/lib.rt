@@ -23,4 +23,6 @@ mod queries;
 #[cfg(test)]
 mod shared;
 #[cfg(test)]
+mod texts;
+#[cfg(test)]
 mod walks;

@@ -27,6 +27,7 @@ struct AtBound {
 struct Answers {
     ends: [Option<Pair>; 2],
     len: u64,
+    is_empty: bool,
     at: Vec<AtBound>,
 }
 
@@ -55,6 +56,7 @@ fn asked<W: Worker>(hand: &mut W) -> Result<Answers, Fault> {
     Ok(Answers {
         ends: [hand.first(), hand.last()],
         len: hand.len(),
+        is_empty: hand.is_empty(),
         at,
     })
 }
@@ -95,6 +97,7 @@ fn wanted(machine: Global, plain: &BTreeMap<u64, u64>) -> Result<Answers, AllocE
             plain.iter().next_back().map(owned),
         ],
         len: plain.len() as u64,
+        is_empty: plain.is_empty(),
         at,
     })
 }

@@ -25,8 +25,10 @@ fn leaf(alloc: Global, table: &Table<Global>, last: u64) -> Result<Option<(u64, 
 /// it is consolidated anew.
 fn late(alloc: Global) -> Result<(Option<Refused>, [Option<(u64, u8)>; 2]), Fail> {
     let mut table = begun(alloc, &THREE)?;
+    // the step is owned over no `?`, which makes the proof light
+    let insertion = step_of(alloc, &table, Change::Insert(0, 4, 4))?;
     let late = step_of(alloc, &table, Change::Consolidate(0))?;
-    take(alloc, &mut table, Change::Insert(0, 4, 4))?;
+    let _inserted = table.install(insertion);
     let refused = table.install(late).err();
     let before = leaf(alloc, &table, 4)?;
     take(alloc, &mut table, Change::Consolidate(0))?;
