@@ -14,7 +14,8 @@ ghost use Rattle.bw_table.specs.InPlaces.{consolidating, half_reasons, halving};
 ghost use Rattle.bw_table.specs.Orders.{HasPairs};
 ghost use Rattle.bw_tree.specs.Shares.{no_changes, CountsIn, CountsAtOnce, IsReceiptAtOnce, IsConsolidationOf};
 ghost use Rattle.bw_tree.specs.Trees.{IsTree, IsClosed, Leads, OpensFor};
-ghost use Rattle.bw_snap.specs.Ends.{unpublished, noted_since};
+ghost use Rattle.bw_snap.specs.declared.note.Note.TheVariants.{Step};
+ghost use Rattle.bw_snap.specs.Ends.{Appends, unpublished, noted_since};
 ghost use Rattle.bw_snap.specs.Notes.{step_recorded, steps_at_once, term_of, held_note, held_record};
 ghost use Rattle.bw_snap.specs.Trees.{IsPublished, IsReasonUnlessWant, IsSnapFault, MayBeRead, is_bad_reader_number, published_as_it_is};
 
@@ -167,17 +168,15 @@ impl<R: Wait + Drop, N: Naming, D: Ledger> Published<R, N, D> {
         ensures unchanged { OnErr result (self.new ≡ self.old) }
         ensures share { CountsIn share.old share.new result }
     {
-        match self.booked.table().check(&step) {
+        match note_step(
+            self.booked.table(),
+            &mut self.writer,
+            &mut self.held,
+            &step,
+            twin,
+        ) {
             Ok(()) => {}
-            Err(reason) => return Err(Denied::Refused(reason)),
-        }
-        match settle(&mut self.writer, &mut self.held) {
-            Ok(()) => {}
-            Err(NoMemory) => return Err(Denied::NoMemory),
-        }
-        match append(&mut self.writer, Note::Step(twin)) {
-            Ok(()) => {}
-            Err(NoMemory) => return Err(Denied::NoMemory),
+            Err(denied) => return Err(denied),
         }
         match self.booked.install(share, step) {
             Ok(receipt) => return Ok(receipt),
@@ -398,6 +397,46 @@ fn settle<N: Naming>(writer: &mut WritingEnd<N>, held: &mut Option<Change>) -> R
     append(writer, Note::Change(change))?;
     *held = None;
     Ok(())
+}
+
+/// Puts the twin of a step that the table takes behind all notes.
+#[inline(always)]
+fn note_step<N: Naming>(
+    table: &Table<Global>,
+    writer: &mut WritingEnd<N>,
+    held: &mut Option<Change>,
+    step: &Step<Global>,
+    twin: Step<Global>,
+) -> Result<(), Denied>
+    ensures desk { writer.new.desk ≡ writer.old.desk }
+    ensures notes { Appends (Step twin)
+        (noted_since writer.old held.old) (noted_since writer.new held.new) result }
+    ensures taken { OnOk result (refusal table.now (proposal_of step.now) ≡ None) }
+    ensures denied { IfErr result (IsDenialFor (refusal table.now (proposal_of step.now))) }
+{
+    match table.check(step) {
+        Ok(()) => {}
+        Err(reason) => return Err(Denied::Refused(reason)),
+    }
+    match note(writer, held, Note::Step(twin)) {
+        Ok(()) => Ok(()),
+        Err(NoMemory) => Err(Denied::NoMemory),
+    }
+}
+
+/// Puts the note behind the others, with the one that is held back before it.
+#[inline(always)]
+fn note<N: Naming>(
+    writer: &mut WritingEnd<N>,
+    held: &mut Option<Change>,
+    note: Note,
+) -> Result<(), NoMemory>
+    ensures desk { writer.new.desk ≡ writer.old.desk }
+    ensures notes { Appends note
+        (noted_since writer.old held.old) (noted_since writer.new held.new) result }
+{
+    settle(writer, held)?;
+    append(writer, note)
 }
 
 /// Returns the note of what was done at once. A look has none.

@@ -1,13 +1,13 @@
 //! A reader that looks all the time beside two workers that change the map and publish.
 
 use crate::crew::{Crew, work_on_new_tree};
-use crate::seen::Seen;
+use crate::seen::{Left, Seen};
 use bw_audit::Verdict;
 use bw_keys::Fence;
 use bw_snap::{Naming, ReadTree, Reader};
-use bw_step::{Book, Receipt};
+use bw_step::{Book, Receipt, Step};
 use bw_tree::Share;
-use bw_work::{Act, Fault, Hand, Open, do_act};
+use bw_work::{Act, Fault, Hand, Open, Steps, do_act};
 use rand_core::{Rng, SeedableRng};
 use rand_pcg::Pcg32;
 use std::alloc::Global;
@@ -62,24 +62,23 @@ fn drawn_act(rng: &mut Pcg32) -> Act {
     }
 }
 
-impl Crew for Beside {
-    fn write<R: Wait + Copy, N: Naming, D: Ledger>(
+impl Beside {
+    /// Draws acts and publishes, until the reader has looked often enough, and publishes what is left.
+    fn act_until_read<R: Wait + Copy, N: Naming, D: Ledger, S: Steps<Global, Step<Global>>>(
         &self,
         tree: &ReadTree<R, N, D>,
+        steps: &mut S,
         worker: u32,
-        share: Share<N, D>,
-    ) -> Played<N, D, Told> {
-        let machine = self.machine;
+    ) -> Option<Fault> {
         let mut rng = Pcg32::seed_from_u64(
             self.run.wrapping_mul(2).wrapping_add(u64::from(worker)),
         );
-        let mut hand = Hand::new(machine, machine, tree, share, worker, &Open);
         let mut fault = None;
         for act in 0..MOST_ACTS {
             if self.read.load(Ordering::SeqCst) == 1 {
                 break;
             }
-            fault = fault.or(do_act(&mut hand, machine, drawn_act(&mut rng)).err());
+            fault = fault.or(do_act(steps, self.machine, drawn_act(&mut rng)).err());
             if act % 4 == 0 && tree.publish().is_err() {
                 fault = Some(Fault::NoMemory);
             }
@@ -89,6 +88,20 @@ impl Crew for Beside {
         if tree.publish().is_err() {
             fault = Some(Fault::NoMemory);
         }
+        fault
+    }
+}
+
+impl Crew for Beside {
+    fn write<R: Wait + Copy, N: Naming, D: Ledger>(
+        &self,
+        tree: &ReadTree<R, N, D>,
+        worker: u32,
+        share: Share<N, D>,
+    ) -> Played<N, D, Told> {
+        let machine = self.machine;
+        let mut hand = Hand::new(machine, machine, tree, share, worker, &Open);
+        let fault = self.act_until_read(tree, &mut hand, worker);
         self.written.fetch_add(1, Ordering::SeqCst);
         let (share, trail) = hand.finish();
         Played {
@@ -131,6 +144,34 @@ fn changes_in(look: Option<&Receipt>) -> u64 {
     }
 }
 
+/// What a run came to, and the numbers of all changes and of those that two looks saw.
+#[derive(Drop)]
+struct Outcome {
+    faults: [Option<Fault>; 2],
+    unanswered: u64,
+    all: u64,
+    middle: u64,
+    last: u64,
+    verdict: Verdict,
+}
+
+fn outcome_of(machine: Global, left: Left) -> Result<Outcome, Fail> {
+    let Book {
+        inserted,
+        removed,
+        modified,
+    } = left.table.survey(machine)?.book;
+    let looks = &left.seen.trail;
+    Ok(Outcome {
+        faults: [left.zero.fault, left.one.fault],
+        unanswered: left.seen.unanswered,
+        all: inserted.saturating_add(removed).saturating_add(modified),
+        middle: changes_in(looks.get(looks.len() / 2)),
+        last: changes_in(looks.last()),
+        verdict: left.verdict(machine)?,
+    })
+}
+
 #[test]
 fn looks_beside_writers_are_answered_and_explained(rt: HostRuntime) -> Result<(), Fail> {
     let machine = rt.alloc();
@@ -143,22 +184,12 @@ fn looks_beside_writers_are_answered_and_explained(rt: HostRuntime) -> Result<()
             read: AtomicU64::new(0),
             written: AtomicU64::new(0),
         };
-        let left = work_on_new_tree(rt, machine, LARGE, &crew)?;
-        let Book {
-            inserted,
-            removed,
-            modified,
-        } = left.table.survey(machine)?.book;
-        let all = inserted.saturating_add(removed).saturating_add(modified);
-        let looks = &left.seen.trail;
-        let middle = changes_in(looks.get(looks.len() / 2));
-        were_between = were_between || (0 < middle && middle < all);
-        assert_eq!(rt;
-            (left.zero.fault, left.one.fault, left.seen.unanswered),
-            (None, None, 0)
-        );
-        assert_eq!(rt; changes_in(looks.last()), all, "run {run}");
-        assert_eq!(rt; left.verdict(machine)?, Verdict::Yes, "run {run}");
+        let outcome = outcome_of(machine, work_on_new_tree(rt, machine, LARGE, &crew)?)?;
+        were_between = were_between || (0 < outcome.middle && outcome.middle < outcome.all);
+        assert_eq!(rt; outcome.faults, [None; 2], "run {run}");
+        assert_eq!(rt; outcome.unanswered, 0, "run {run}");
+        assert_eq!(rt; outcome.last, outcome.all, "run {run}");
+        assert_eq!(rt; outcome.verdict, Verdict::Yes, "run {run}");
     }
     assert!(rt; were_between);
     Ok(())

@@ -232,24 +232,23 @@ fn tell<N: Naming>(
 
 /// Puts key 0 and the last one, deletes key 0, and asks before publications and after them.
 fn put_both_ends<R: Wait + Copy, N: Naming, D: Ledger, S: Steps<Global, Step<Global>>>(
-    machine: Global,
     tree: &ReadTree<R, N, D>,
     steps: &mut S,
     reader: &mut Reader<N>,
-) -> Result<String, Fail> {
-    let mut lines = String::new(machine);
+    lines: &mut String,
+) -> Result<(), Fail> {
+    let machine = *lines.allocator();
     for key in [0, Key::MAX] {
         let _done = steps.put(key, 1)?;
-        tell(machine, reader, 0, &mut lines)?;
-        let _stamp = tree.publish()?;
-        tell(machine, reader, 0, &mut lines)?;
-        tell(machine, reader, 1, &mut lines)?;
-        tell(machine, reader, Key::MAX, &mut lines)?;
+        tell(machine, reader, 0, lines)?;
+        drop(tree.publish()?);
+        for asked in [0, 1, Key::MAX] {
+            tell(machine, reader, asked, lines)?;
+        }
     }
     let _done = steps.delete(0)?;
-    let _stamp = tree.publish()?;
-    tell(machine, reader, 0, &mut lines)?;
-    Ok(lines)
+    drop(tree.publish()?);
+    tell(machine, reader, 0, lines)
 }
 
 /// Reports whether the reader says to each question that the tree is closed, and leaves the list.
@@ -289,7 +288,8 @@ fn ask_all<R: Wait + Copy, N: Naming, D: Ledger>(
     reader: &mut Reader<N>,
 ) -> Result<(String, Option<u64>), Fail> {
     let mut hand = Hand::new(machine, machine, tree, share, 0, &Open);
-    let lines = put_both_ends(machine, tree, &mut hand, reader)?;
+    let mut lines = String::new(machine);
+    put_both_ends(tree, &mut hand, reader, &mut lines)?;
     let wrong = ask_beside(machine, tree, &mut hand, reader)?;
     Ok((lines, wrong))
 }

@@ -119,15 +119,24 @@ fn made_in<'a>(
     Ok(table)
 }
 
+/// Returns why the table refuses the step, if it does, and whether memory was taken for it and freed.
+fn refused<'a>(
+    heap: &'a LocalHeap,
+    table: &mut Table<&'a LocalHeap>,
+    change: Change,
+) -> Result<(Option<Refused>, bool), Fail> {
+    let used = heap.used();
+    let step = step_of(heap, table, change)?;
+    let with_step = heap.used();
+    let refused = table.install(step).err();
+    Ok((refused, used < with_step && heap.used() == used))
+}
+
 /// Does the row in a heap, and drops the table before the copy.
 fn left_of(machine: Global, heap: &LocalHeap, row: &Row) -> Result<Left, Fail> {
     let mut table = made_in(machine, heap, row)?;
     let copy = table.chain(heap, row.page, seen(&table, row.page))?;
-    let used = heap.used();
-    let step = step_of(heap, &table, row.next)?;
-    let with_step = heap.used();
-    let refused = table.install(step).err();
-    let is_given_back = used < with_step && heap.used() == used;
+    let (refused, is_given_back) = refused(heap, &mut table, row.next)?;
     drop(table);
     Ok(Left {
         refused,
@@ -160,12 +169,26 @@ static ONE_OF_EACH: [Change; 10] = [
     Change::TermDelete(2, 1),
 ];
 
+/// Returns the step for a tree of three leaves, in a heap with room for both.
+fn step_in<'a>(
+    machine: Global,
+    heap: &'a LocalHeap,
+    change: Change,
+) -> Result<Step<&'a LocalHeap>, Fail> {
+    let table = three_leaves(machine, heap)?;
+    Ok(step_of(heap, &table, change)?)
+}
+
+/// Reports whether the heap has room for a twin of the step.
+fn has_room_for_twin<'a>(step: &Step<&'a LocalHeap>, heap: &'a LocalHeap) -> bool {
+    step.twin(heap).is_ok()
+}
+
 /// Makes a twin of the step in each heap.
 fn twins<'a>(step: &Step<&'a LocalHeap>, tight: &'a [LocalHeap]) -> Rooms {
     let mut rooms = Rooms::NONE;
     for heap in tight {
-        let made = step.twin(heap).is_ok();
-        rooms.count(made, heap);
+        rooms.count(has_room_for_twin(step, heap), heap);
     }
     rooms
 }
@@ -177,8 +200,7 @@ fn twin_in_each<'a>(
     change: Change,
 ) -> Result<Rooms, Fail> {
     let (ample, tight) = heaps.split_first().ok_or("no heap")?;
-    let table = three_leaves(machine, ample)?;
-    Ok(twins(&step_of(ample, &table, change)?, tight))
+    Ok(twins(&step_in(machine, ample, change)?, tight))
 }
 
 /// Copies the first page into each heap.

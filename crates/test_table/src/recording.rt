@@ -466,6 +466,15 @@ fn wanted(map: &BTreeMap<Key, u64>, key: Key, wished: Wished) -> Option<u64> {
     }
 }
 
+fn install_drawn(
+    alloc: Global,
+    table: &mut Table<Global>,
+    seed: u64,
+) -> Result<Result<Receipt, Refused>, Fail> {
+    let step = drawn_step(&mut Pcg32::seed_from_u64(seed), alloc, table)?;
+    Ok(table.install(step))
+}
+
 impl Twins {
     /// Carries out a wish, and consolidates the leaf where its chain is long then. Returns whether the
     /// tables answer alike, and as the map does.
@@ -512,10 +521,8 @@ impl Twins {
 
     /// Takes a drawn step on both tables, and returns whether they answer alike, and as the map does.
     fn step(&mut self, alloc: Global, seed: u64) -> Result<bool, Fail> {
-        let step = drawn_step(&mut Pcg32::seed_from_u64(seed), alloc, &self.at_once)?;
-        let twin = drawn_step(&mut Pcg32::seed_from_u64(seed), alloc, &self.by_steps)?;
-        let answer = self.at_once.install(step);
-        if answer != self.by_steps.install(twin) {
+        let answer = install_drawn(alloc, &mut self.at_once, seed)?;
+        if answer != install_drawn(alloc, &mut self.by_steps, seed)? {
             return Ok(false);
         }
         match answer {

@@ -145,6 +145,15 @@ impl Gate for ByHand {
 }
 
 impl ByHand {
+    fn drawn(machine: Global, seed: u64, by_steps: bool) -> Result<ByHand, NoMemory> {
+        Ok(ByHand {
+            machine,
+            calls: drawn_calls(machine, CALLS, seed)?,
+            by_steps,
+            passed: AtomicU64::new(0),
+        })
+    }
+
     fn outcome<S: Shared<Global, Step<Global>>>(
         &self,
         tree: &S,
@@ -196,11 +205,11 @@ fn left_alone(machine: Global, config: Config, calls: &[Call]) -> Result<Left, F
 /// shape.
 fn is_same_by_hand<R: Threads + Wait + Sync + Send + Copy>(
     rt: R,
-    machine: Global,
     config: Config,
     left: &Left,
     by_hand: &ByHand,
 ) -> Result<bool, Fail> {
+    let machine = by_hand.machine;
     let ended = play_on_new_tree(rt, machine, config, Turns::OneByOne, by_hand)?;
     let passed = by_hand.passed.load(Ordering::SeqCst);
     Ok(
@@ -219,13 +228,8 @@ fn difference<R: Threads + Wait + Sync + Send + Copy>(
     let seed = u64::from(config.chain);
     let left = left_alone(machine, config, &drawn_calls(machine, CALLS, seed)?)?;
     for (by_steps, name) in [(false, "a hand at once"), (true, "a hand by steps")] {
-        let by_hand = ByHand {
-            machine,
-            calls: drawn_calls(machine, CALLS, seed)?,
-            by_steps,
-            passed: AtomicU64::new(0),
-        };
-        if !is_same_by_hand(rt, machine, config, &left, &by_hand)? {
+        let by_hand = ByHand::drawn(machine, seed, by_steps)?;
+        if !is_same_by_hand(rt, config, &left, &by_hand)? {
             return Ok(Some(name));
         }
     }

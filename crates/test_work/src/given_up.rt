@@ -2,6 +2,7 @@
 //! tree of its own. All but what is kept is the same for both, and a plain map says the replies.
 
 use crate::at_once::{CALLS, CONFIGS, are_alike};
+use bw_delta::NoMemory;
 use bw_keys::{Config, Fence};
 use bw_step::Step;
 use bw_tree::{Share, Shared};
@@ -164,6 +165,21 @@ fn play_drawn<R: Threads + Wait + Sync + Send + Copy>(
     Ok(play_on_new_tree(rt, machine, config, Turns::OneByOne, &drawn)?)
 }
 
+/// Returns what the hands don't have alike, if there is anything.
+fn difference(
+    machine: Global,
+    keeping: &Ended<Left>,
+    giving_up: &Ended<Left>,
+) -> Result<Option<&'static str>, NoMemory> {
+    let (kept, given_up) = (&keeping.zero, &giving_up.zero);
+    if !kept.has_kept(kept.outcome.receipts) || !given_up.has_kept(0) {
+        return Ok(Some("other receipts are kept"));
+    }
+    let are_same = kept.outcome == given_up.outcome
+        && are_alike(machine, &keeping.table, &giving_up.table)?;
+    Ok(if are_same { None } else { Some("they differ") })
+}
+
 /// Makes the calls by a hand of each kind, and compares them. Returns the replies.
 fn replies_alike<R: Threads + Wait + Sync + Send + Copy>(
     rt: R,
@@ -173,15 +189,10 @@ fn replies_alike<R: Threads + Wait + Sync + Send + Copy>(
 ) -> Result<Vec<Reply>, Fail> {
     let keeping = play_drawn(rt, machine, config, seed, false)?;
     let giving_up = play_drawn(rt, machine, config, seed, true)?;
-    if !keeping.zero.has_kept(keeping.zero.outcome.receipts) || !giving_up.zero.has_kept(0) {
-        return Err("other receipts are kept".into());
+    match difference(machine, &keeping, &giving_up)? {
+        Some(what) => Err(what.into()),
+        None => Ok(giving_up.zero.outcome.replies),
     }
-    if keeping.zero.outcome != giving_up.zero.outcome
-        || !are_alike(machine, &keeping.table, &giving_up.table)?
-    {
-        return Err("they differ".into());
-    }
-    Ok(giving_up.zero.outcome.replies)
 }
 
 #[test]

@@ -1,6 +1,7 @@
 //! A worker that does its task while another is held.
 
 use bw_audit::{Verdict, audit, is_ascending};
+use bw_delta::NoMemory;
 use bw_keys::{Fence, Key};
 use bw_step::{Kind, Receipt, Step};
 use bw_table::Table;
@@ -11,8 +12,8 @@ use std::sync::Wait;
 use std::test::Fail;
 use std::thread::Threads;
 use test_kit::{
-    BESIDE_CALLS, Call, Ended, HELD_CALLS, HOLDS, HeldAfter, Pages, Play, Played, Reply, SMALL,
-    Task, Told, Turns, are_both_done, leaves_of, play_on_new_tree, receipt,
+    BESIDE_CALLS, Call, Ended, HELD_CALLS, HOLDS, HeldAfter, NoTree, Pages, Play, Played, Reply,
+    SMALL, Task, Told, Turns, are_both_done, leaves_of, play_on_new_tree, receipt,
 };
 
 /// Each worker does a task, worker 1 while worker 0 is held.
@@ -34,6 +35,14 @@ impl Play<Told> for Both {
         let task = if worker == 0 { self.zero } else { self.one };
         self.held.work(self.machine, tree, share, worker, task)
     }
+}
+
+/// Plays on a small tree, both workers side by side.
+fn play_both<R: Threads + Wait + Sync + Send + Copy>(
+    rt: R,
+    play: &Both,
+) -> Result<Ended<Told>, NoTree> {
+    play_on_new_tree(rt, play.machine, SMALL, Turns::SideBySide, play)
 }
 
 /// A worker's calls, what they reply, and what they leave on its trail.
@@ -89,6 +98,15 @@ fn has_told(told: &Told, (_, replies, trail): Calls) -> bool {
     told.fault.is_none() && told.replies.as_slice() == replies && told.trail.as_slice() == trail
 }
 
+/// Returns whether both had their replies and their receipts, and the tree has its leaves.
+fn is_as_told(machine: Global, ended: &Ended<Told>, case: &Case) -> Result<[bool; 3], NoMemory> {
+    Ok([
+        has_told(&ended.zero, case.zero),
+        has_told(&ended.one, case.one),
+        leaves_of(machine, &ended.table)?.as_slice() == case.leaves,
+    ])
+}
+
 /// Plays a case. Returns whether worker 0 was held, both had their replies and their receipts, and the tree
 /// has its leaves.
 fn are_as_told<R: Threads + Wait + Sync + Send + Copy>(
@@ -106,19 +124,8 @@ fn are_as_told<R: Threads + Wait + Sync + Send + Copy>(
         },
         one: Task::calls(case.one.0),
     };
-    let Ended { table, zero, one } = play_on_new_tree(
-        rt,
-        machine,
-        SMALL,
-        Turns::SideBySide,
-        &play,
-    )?;
-    Ok([
-        play.held.came_about(),
-        has_told(&zero, case.zero),
-        has_told(&one, case.one),
-        leaves_of(machine, &table)?.as_slice() == case.leaves,
-    ])
+    let [zero, one, leaves] = is_as_told(machine, &play_both(rt, &play)?, case)?;
+    Ok([play.held.came_about(), zero, one, leaves])
 }
 
 #[test]
@@ -147,6 +154,20 @@ fn verdict_on(
     Ok(Some(audit(machine, trails, &pairs)?))
 }
 
+/// Returns whether both did their calls, and the verdict on all.
+fn done_and_audited(
+    machine: Global,
+    ended: Ended<Told>,
+    before: u64,
+) -> Result<(bool, Option<Verdict>), Fail> {
+    let Ended { table, zero, one } = ended;
+    let are_done = are_both_done(machine, &table, before, (&zero, &one))?;
+    Ok((
+        are_done,
+        verdict_on(machine, &table, &[zero.trail, one.trail])?,
+    ))
+}
+
 /// Holds worker 0 after a step of the kind. Returns whether that came about and both did their calls, and
 /// the verdict on all.
 fn done_beside<R: Threads + Wait + Sync + Send + Copy>(
@@ -161,15 +182,7 @@ fn done_beside<R: Threads + Wait + Sync + Send + Copy>(
         zero: Task::calls(&HELD_CALLS),
         one: Task::calls(&BESIDE_CALLS),
     };
-    let Ended { table, zero, one } = play_on_new_tree(
-        rt,
-        machine,
-        SMALL,
-        Turns::SideBySide,
-        &play,
-    )?;
-    let are_done = are_both_done(machine, &table, before, (&zero, &one))?;
-    let verdict = verdict_on(machine, &table, &[zero.trail, one.trail])?;
+    let (are_done, verdict) = done_and_audited(machine, play_both(rt, &play)?, before)?;
     Ok((are_done && play.held.came_about(), verdict))
 }
 
