@@ -1,5 +1,5 @@
 -- Steps one after the other, and what the published copies absorb.
-use Rattle.std.proofs.Common.{◌≡◌, List, [], ◌∷◌, ◌++◌, refl, ap, sym, ◌∙◌, subst, append_assoc, append-nil, None, Some, fold, Option, Ok}
+use Rattle.std.proofs.Common.{◌≡◌, List, [], ◌∷◌, ◌++◌, refl, ap, sym, ◌∙◌, subst, append_assoc, append-nil, None, Some, fold, Option}
 use Rattle.std.specs.Prelude.{is_none, if◌then◌else◌}
 use Rattle.logbook.specs.Pages.{Book}
 use Rattle.bw_keys.specs.declared.config.Config.{Config}
@@ -10,7 +10,6 @@ use Rattle.bw_law.specs.Refusals.{refusal}
 use Rattle.bw_law.specs.Effects.{after}
 use Rattle.bw_law.specs.Runs.{next_table, run}
 use Rattle.bw_law.specs.Tables.{TableValue, new_table}
-use Rattle.bw_table.specs.Answers.{fine_unless}
 use Rattle.bw_snap.specs.declared.note.Change.{Change as Held}
 use Rattle.bw_snap.specs.declared.note.Note.{Note}
 use Rattle.bw_snap.specs.declared.note.Note.TheVariants.{Step, Change, Mark}
@@ -26,10 +25,6 @@ leads_on a b c (x ∷ xs) ys r s = (r.0, leads_on (after a x) b c xs ys r.1 s)
 
 pub leads_one_more : (a b c : TableValue) (xs : List Proposal) (step : Proposal) → LeadTo a xs b → refusal b step ≡ None → c ≡ after b step → LeadTo a (xs ++ step ∷ []) c
 leads_one_more a b c xs step r accepted is = leads_on a b c xs (step ∷ []) r (accepted, is)
-
-pub not_refused : (o : Option Refused) → Ok tt ≡ fine_unless o → o ≡ None
-not_refused None is = refl
-not_refused (Some reason) is = absurd (cc (is))
 
 -- an accepted step is taken
 is_taken : (table : TableValue) (step : Proposal) → refusal table step ≡ None → next_table table step ≡ after table step

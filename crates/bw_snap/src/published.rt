@@ -14,7 +14,7 @@ ghost use Rattle.bw_table.specs.InPlaces.{consolidating, half_reasons, halving};
 ghost use Rattle.bw_table.specs.Orders.{HasPairs};
 ghost use Rattle.bw_tree.specs.Shares.{no_changes, CountsIn, CountsAtOnce, IsReceiptAtOnce, IsConsolidationOf};
 ghost use Rattle.bw_tree.specs.Trees.{IsTree, IsClosed, Leads, OpensFor};
-ghost use Rattle.bw_snap.specs.declared.note.Note.TheVariants.{Step};
+ghost use Rattle.bw_snap.specs.declared.note.Note.TheVariants as notes;
 ghost use Rattle.bw_snap.specs.Ends.{Appends, unpublished, noted_since};
 ghost use Rattle.bw_snap.specs.Notes.{step_recorded, steps_at_once, term_of, held_note, held_record};
 ghost use Rattle.bw_snap.specs.Trees.{IsPublished, IsReasonUnlessWant, IsSnapFault, MayBeRead, is_bad_reader_number, published_as_it_is};
@@ -409,7 +409,7 @@ fn note_step<N: Naming>(
     twin: Step<Global>,
 ) -> Result<(), Denied>
     ensures desk { writer.new.desk ≡ writer.old.desk }
-    ensures notes { Appends (Step twin)
+    ensures notes { Appends (notes.Step twin)
         (noted_since writer.old held.old) (noted_since writer.new held.new) result }
     ensures taken { OnOk result (refusal table.now (proposal_of step.now) ≡ None) }
     ensures denied { IfErr result (IsDenialFor (refusal table.now (proposal_of step.now))) }

@@ -1,4 +1,4 @@
-use Rattle.std.proofs.Common.{◌≡◌, ap, ◌∙◌, drop, ◌++◌, ◌∷◌, []}
+use Rattle.std.proofs.Common.{ap, ◌∙◌, ◌++◌, ◌∷◌, []}
 use Rattle.bw_step.specs.Proposals.{Proposal}
 use Rattle.bw_step.specs.ProposalView.{proposal_of}
 use Rattle.bw_snap.specs.declared.note.Note.TheVariants.{Step}
