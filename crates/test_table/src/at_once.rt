@@ -187,14 +187,24 @@ static SPLITS: [(&[Change], Option<(Pid, bool)>, &[Change]); 3] = [
     (&[Change::Insert(3, 10, 10)], None, &[]),
 ];
 
+/// Returns the tree with the full leaf after some steps, and others.
+fn full_after_both(
+    alloc: Global,
+    before: &[Change],
+    steps: &[Change],
+) -> Result<Table<Global>, Fail> {
+    let mut table = after_both(alloc, &FULL, before)?;
+    take_all(alloc, &mut table, steps)?;
+    Ok(table)
+}
+
 /// Returns the new page and whether it is posted, and whether the steps leave the same table.
 fn split(
     alloc: Global,
     before: &[Change],
     steps: &[Change],
 ) -> Result<(Option<(Pid, bool)>, bool), Fail> {
-    let mut by_steps = after_both(alloc, &FULL, before)?;
-    take_all(alloc, &mut by_steps, steps)?;
+    let by_steps = full_after_both(alloc, before, steps)?;
     let mut table = after_both(alloc, &FULL, before)?;
     let done = table.split_under(Pid(2), Pid(3), 2);
     Ok((done, are_alike(&table, &by_steps)))
@@ -218,10 +228,12 @@ fn moved(alloc: Global, number: usize) -> Result<Option<u64>, Fail> {
 }
 
 /// Of five keys all but the first go to the new page, or the last alone; without the first none is left.
+static MOVED: [(usize, Option<u64>); 4] = [(0, None), (1, Some(4)), (4, Some(1)), (5, None)];
+
 #[test]
 fn a_split_goes_where_it_is_told(rt: HostRuntime) -> Result<(), Fail> {
-    for (number, count) in [(0, None), (1, Some(4)), (4, Some(1)), (5, None)] {
-        assert_eq!(rt; moved(rt.alloc(), number)?, count);
+    for (number, count) in MOVED.iter() {
+        assert_eq!(rt; moved(rt.alloc(), *number)?, *count);
     }
     Ok(())
 }

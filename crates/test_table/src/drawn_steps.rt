@@ -43,6 +43,7 @@ impl Play<Tally> for Drawn {
 }
 
 /// What both workers counted, and what is left.
+#[derive(Clone, Copy, Debug)]
 struct Left {
     zero: Tally,
     one: Tally,
@@ -70,29 +71,32 @@ fn left_of<R: Threads + Wait + Sync + Send + Copy>(rt: R, machine: Global) -> Re
     })
 }
 
+/// A worker's 5,000 steps are refused some 3,100 times, and 4,000 times where their pages aren't
+/// looked for.
+const MOST_REFUSED: u64 = 3500;
+
+/// Reports whether a worker proposed all its steps, and changes of each sort and not too few fitted.
+fn is_full(tally: &Tally) -> bool {
+    tally.total() == u64::from(STEPS) && tally.has_changes() && tally.refused < MOST_REFUSED
+}
+
+impl Left {
+    /// Reports whether the table has what both counted.
+    fn is_counted(&self) -> bool {
+        let (zero, one) = (&self.zero, &self.one);
+        let book = Book {
+            inserted: zero.inserted.saturating_add(one.inserted),
+            removed: zero.deleted.saturating_add(one.deleted),
+            modified: zero.modified.saturating_add(one.modified),
+        };
+        self.book == book && book.inserted.checked_sub(book.removed) == Some(self.pairs)
+    }
+}
+
 #[test]
 fn drawn_steps_from_two_threads_are_counted(rt: HostRuntime) -> Result<(), Fail> {
-    let Left {
-        zero,
-        one,
-        book,
-        pairs,
-        is_partition,
-    } = left_of(rt, rt.alloc())?;
-    assert_eq!(rt; (zero.total(), one.total()), (5000, 5000));
-    assert!(rt; zero.has_changes() && one.has_changes(), "{zero:?} {one:?}");
-    let inserted = zero.inserted.saturating_add(one.inserted);
-    let removed = zero.deleted.saturating_add(one.deleted);
-    let modified = zero.modified.saturating_add(one.modified);
-    assert_eq!(rt;
-        book,
-        Book {
-            inserted,
-            removed,
-            modified
-        }
-    );
-    assert_eq!(rt; inserted.checked_sub(removed), Some(pairs));
-    assert!(rt; is_partition);
+    let left = left_of(rt, rt.alloc())?;
+    assert!(rt; is_full(&left.zero) && is_full(&left.one), "{left:?}");
+    assert!(rt; left.is_counted() && left.is_partition, "{left:?}");
     Ok(())
 }
