@@ -1,6 +1,6 @@
 //! Runs of long traces, and of several workers, whose replies depend on who comes first.
 
-use bw_trace::command;
+use bw_trace::{Progress, command, command_counted};
 use std::alloc::Global;
 use std::process::Abort;
 use std::sync::Wait;
@@ -71,6 +71,32 @@ fn long_traces_end_as_worked_out(rt: HostRuntime) -> Result<(), Fail> {
         assert!(rt; output.contains(reply) && output.ends_with(end), "{more}");
         assert!(rt; !output.contains("full)\ninserted"), "{more}");
     }
+    Ok(())
+}
+
+/// Runs the program on the input. Returns its status, and how many rows it counted, and how many faults.
+fn counted<R: Abort + AllocGlobal + Threads + Wait + Sync + Send + Copy>(
+    rt: &R,
+    words: &[&str],
+    input: &str,
+) -> (u8, u64, u64) {
+    let alloc = rt.alloc();
+    let progress = Progress::new();
+    let mut written = Vec::new(alloc);
+    let mut told = Vec::new(alloc);
+    let input = input.as_bytes();
+    let status = command_counted(*rt, alloc, words, input, &mut written, &mut told, &progress);
+    (status, progress.rows(), progress.faults())
+}
+
+/// The last few rows aren't counted, and the last one of all finds the table full.
+#[test]
+fn a_run_counts_its_rows_and_their_faults(rt: HostRuntime) -> Result<(), Fail> {
+    let (keys, more, word, _, _) = LONG[1];
+    let trace = rising(rt.alloc(), keys, more)?;
+    let (status, rows, faults) = counted(&rt, &["run", "--quiet", word], trace.as_str());
+    assert_eq!(rt; (status, faults), (0, 1));
+    assert!(rt; 4000 < rows && rows <= 4111, "{rows}");
     Ok(())
 }
 
