@@ -8,6 +8,8 @@ use Rattle.bw_texts.specs.declared.fault.OutFault.{OutFault}
 use Rattle.bw_texts.specs.declared.fault.OutFault.TheVariants as outs
 use Rattle.bw_texts.specs.declared.fault.TextFault.{TextFault}
 use Rattle.bw_texts.specs.declared.fault.TextFault.TheVariants as texts
+use Rattle.bw_film.specs.declared.fault.FilmFault.{FilmFault}
+use Rattle.bw_film.specs.declared.fault.FilmFault.TheVariants as films
 use Rattle.bw_scripts.specs.declared.fault.ScriptFault.{ScriptFault}
 use Rattle.bw_scripts.specs.declared.fault.ScriptFault.TheVariants as scripts
 use Rattle.bw_trace.specs.declared.program.fault.Fault.{Fault}
@@ -52,6 +54,13 @@ status_of faults.Memory = 3
 abbrev pub fault_of : OutFault → Fault
 fault_of outs.Write = faults.Write
 fault_of outs.Memory = faults.Memory
+
+-- a film that stops is as a run of its rows, or a script of its lines, that stops there
+abbrev pub film_fault_of : FilmFault → Fault
+film_fault_of (films.Config bad) = faults.Run (runs.Config bad)
+film_fault_of (films.Stopped worker number fault) = faults.Run (runs.Stopped worker number fault)
+film_fault_of (films.Script fault) = faults.Script fault
+film_fault_of films.Memory = faults.Memory
 
 -- 0 for a legal history alone
 abbrev pub verdict_status : Verdict → ℕ

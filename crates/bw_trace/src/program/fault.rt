@@ -2,7 +2,7 @@
 
 ghost use Rattle.std.specs.Prelude.{◌≡◌, ◌⊎◌};
 ghost use Rattle.bw_trace.specs.declared.program.fault.Fault.TheVariants as program_fault;
-ghost use Rattle.bw_trace.specs.Statuses.{fault_of, status_of};
+ghost use Rattle.bw_trace.specs.Statuses.{fault_of, film_fault_of, status_of};
 
 use crate::program::options::Field;
 use bw_audit::AuditFault;
@@ -122,6 +122,8 @@ impl From<ScriptFault> for Fault {
 }
 
 impl From<FilmFault> for Fault {
+    ghost from_gives = { λ film fault. fault ≡ film_fault_of film };
+
     fn from(fault: FilmFault) -> Fault {
         match fault {
             FilmFault::Config(bad) => Fault::Run(RunFault::Config(bad)),
