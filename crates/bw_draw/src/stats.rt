@@ -103,17 +103,36 @@ fn is_free(table: &Table<Global>, pid: Pid) -> bool
 /// feed.
 impl fmt::Display for Stats {
     fn fmt<W: fmt::Write>(&self, f: &mut fmt::Formatter<W>) -> fmt::Result {
+        self.write_levels(f)?;
+        self.write_counts(f)?;
+        self.write_spreads(f)?;
+        self.write_bytes(f)
+    }
+}
+
+impl Stats {
+    fn write_levels<W: fmt::Write>(&self, f: &mut fmt::Formatter<W>) -> fmt::Result {
         writeln!(f, "levels {}", self.levels.len())?;
         for (level, pages) in self.levels.iter().enumerate().rev() {
             writeln!(f, "level {level} pages {pages}")?;
         }
+        Ok(())
+    }
+
+    fn write_counts<W: fmt::Write>(&self, f: &mut fmt::Formatter<W>) -> fmt::Result {
         writeln!(f, "pairs {}", self.pairs)?;
         write!(f, "unposted {} marked {}", self.unposted, self.marked)?;
         writeln!(f, " merged {}", self.merged)?;
-        writeln!(f, "slots {} free {}", self.slots, self.free)?;
+        writeln!(f, "slots {} free {}", self.slots, self.free)
+    }
+
+    fn write_spreads<W: fmt::Write>(&self, f: &mut fmt::Formatter<W>) -> fmt::Result {
         writeln!(f, "leaf entries {}", self.leaves)?;
         writeln!(f, "inner entries {}", self.inner)?;
-        writeln!(f, "chain records {}", self.records)?;
+        writeln!(f, "chain records {}", self.records)
+    }
+
+    fn write_bytes<W: fmt::Write>(&self, f: &mut fmt::Formatter<W>) -> fmt::Result {
         let slots = u64::from(self.slots).saturating_mul(slot_bytes());
         let pages = self.stored.saturating_mul(entry_bytes());
         let records = self.links.saturating_mul(link_bytes());

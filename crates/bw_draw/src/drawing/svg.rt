@@ -19,6 +19,21 @@ const FEET: Length = Length(12);
 /// Writes an SVG image. Its last line has no line feed.
 impl fmt::Display for Drawing {
     fn fmt<W: fmt::Write>(&self, f: &mut fmt::Formatter<W>) -> fmt::Result {
+        self.write_head(f)?;
+        f.write_str(STYLE)?;
+        f.write_str(HEADS)?;
+        self.write_ground(f)?;
+        self.write_parts(f)?;
+        f.write_str("</svg>")
+    }
+}
+
+/// The heads of the arrows.
+const HEADS: &str =
+    "<defs>\n<marker id=\"side\" viewBox=\"0 0 10 10\" refX=\"9\" refY=\"5\" markerWidth=\"6\" markerHeight=\"6\" orient=\"auto\"><path class=\"side-head\" d=\"M0 0L10 5L0 10z\"/></marker>\n<marker id=\"term\" viewBox=\"0 0 10 10\" refX=\"9\" refY=\"5\" markerWidth=\"6\" markerHeight=\"6\" orient=\"auto\"><path class=\"term-head\" d=\"M0 0L10 5L0 10z\"/></marker>\n</defs>\n";
+
+impl Drawing {
+    fn write_head<W: fmt::Write>(&self, f: &mut fmt::Formatter<W>) -> fmt::Result {
         let (width, height) = (self.width, self.height);
         writeln!(
             f,
@@ -30,23 +45,26 @@ impl fmt::Display for Drawing {
             "<title>A Bw-tree of {pages} page{} on {levels} level{}</title>",
             plural(pages),
             plural(levels)
-        )?;
-        f.write_str(STYLE)?;
-        f.write_str(
-            "<defs>\n<marker id=\"side\" viewBox=\"0 0 10 10\" refX=\"9\" refY=\"5\" markerWidth=\"6\" markerHeight=\"6\" orient=\"auto\"><path class=\"side-head\" d=\"M0 0L10 5L0 10z\"/></marker>\n<marker id=\"term\" viewBox=\"0 0 10 10\" refX=\"9\" refY=\"5\" markerWidth=\"6\" markerHeight=\"6\" orient=\"auto\"><path class=\"term-head\" d=\"M0 0L10 5L0 10z\"/></marker>\n</defs>\n",
-        )?;
+        )
+    }
+
+    fn write_ground<W: fmt::Write>(&self, f: &mut fmt::Formatter<W>) -> fmt::Result {
         writeln!(
             f,
-            "<rect class=\"ground\" width=\"{width}\" height=\"{height}\" rx=\"8\"/>"
-        )?;
+            "<rect class=\"ground\" width=\"{}\" height=\"{}\" rx=\"8\"/>",
+            self.width, self.height
+        )
+    }
+
+    /// Writes the strip, the links, the rows from the root's down, and the legend.
+    fn write_parts<W: fmt::Write>(&self, f: &mut fmt::Formatter<W>) -> fmt::Result {
         write_strip(f, &self.strip)?;
         write_links(f, &self.rows)?;
         for row in self.rows.iter().rev() {
             write_row(f, row)?;
         }
         let height = self.legend.height() + MARGIN.half();
-        write_legend(f, &self.legend, self.height - height)?;
-        f.write_str("</svg>")
+        write_legend(f, &self.legend, self.height - height)
     }
 }
 
