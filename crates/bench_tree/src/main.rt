@@ -23,12 +23,12 @@ use std::{env, io};
 use thiserror::Error;
 
 /// Why no time is reported.
-#[derive(Debug, Drop, Error)]
+#[derive(Clone, Copy, Debug, Error)]
 pub(crate) enum Stop {
     #[error("memory")]
     Memory,
-    #[error("{0}")]
-    System(io::Error),
+    #[error("the system refused the clock, a thread or the arguments")]
+    System,
     #[error("an answer was wrong")]
     Wrong,
 }
@@ -46,8 +46,8 @@ impl From<bw_delta::NoMemory> for Stop {
 }
 
 impl From<io::Error> for Stop {
-    fn from(error: io::Error) -> Stop {
-        Stop::System(error)
+    fn from(_: io::Error) -> Stop {
+        Stop::System
     }
 }
 

@@ -1,8 +1,8 @@
 //! Films of the scripts that are drawn, too, compared with pages byte for byte.
 
-use crate::program::{Input, answer_to};
+use crate::program::output_of;
 use crate::texts::{compare, read_part};
-use anyhow::{Result, ensure};
+use anyhow::Result;
 use std::rt::Files;
 use std::sync::Wait;
 use std::thread::Threads;
@@ -16,15 +16,7 @@ pub(crate) fn agree<R: Threads + Wait + Sync + Send + Copy + Files + AllocGlobal
     let alloc = rt.alloc();
     let drawn = format!(in alloc; "drawings/{name}")?;
     let script = read_part(&rt, &drawn, "steps")?;
-    let input = Input {
-        text: script.as_bytes(),
-        has_failure: false,
-    };
-    let answer = answer_to(rt, alloc, "film --steps", "", input)?;
-    ensure!(
-        answer.status == 0 && answer.faults.is_empty(),
-        "the program refused the script"
-    );
-    compare(&answer.output, &read_part(&rt, path, "html")?)?;
+    let film = output_of(rt, alloc, "film --steps", "", &script)?;
+    compare(&film, &read_part(&rt, path, "html")?)?;
     Ok(format!(in alloc; "{name}: as filmed\n")?)
 }

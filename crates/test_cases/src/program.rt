@@ -1,6 +1,6 @@
 //! The program's command, over memory.
 
-use anyhow::Result;
+use anyhow::{Result, ensure};
 use bw_trace::command;
 use std::alloc::Global;
 use std::io;
@@ -77,4 +77,24 @@ pub(crate) fn answer_to<R: Threads + Wait + Sync + Send + Copy>(
         output: String::from_utf8(output)?,
         faults: String::from_utf8(faults)?,
     })
+}
+
+/// Returns what the program prints on the text, which it has to take without a fault.
+pub(crate) fn output_of<R: Threads + Wait + Sync + Send + Copy>(
+    rt: R,
+    alloc: Global,
+    words: &str,
+    more: &str,
+    text: &str,
+) -> Result<String> {
+    let input = Input {
+        text: text.as_bytes(),
+        has_failure: false,
+    };
+    let answer = answer_to(rt, alloc, words, more, input)?;
+    ensure!(
+        answer.status == 0 && answer.faults.is_empty(),
+        "the program refused the text"
+    );
+    Ok(answer.output)
 }

@@ -1,8 +1,8 @@
 //! Scripts of steps that are built by hand: played, with an answer to each, and drawn.
 
-use crate::program::{Input, answer_to};
+use crate::program::output_of;
 use crate::texts::{compare, read_part};
-use anyhow::{Result, bail, ensure};
+use anyhow::{Result, bail};
 use bw_draw::{Drawing, Picture};
 use bw_scripts::{Answer, Player};
 use std::alloc::Global;
@@ -18,16 +18,8 @@ pub(crate) fn agree<R: Threads + Wait + Sync + Send + Copy + Files + AllocGlobal
 ) -> Result<String> {
     let alloc = rt.alloc();
     let script = read_part(&rt, path, "steps")?;
-    let input = Input {
-        text: script.as_bytes(),
-        has_failure: false,
-    };
-    let answer = answer_to(rt, alloc, "steps", "", input)?;
-    ensure!(
-        answer.status == 0 && answer.faults.is_empty(),
-        "the program refused the script"
-    );
-    compare(&answer.output, &read_part(&rt, path, "answers")?)?;
+    let answers = output_of(rt, alloc, "steps", "", &script)?;
+    compare(&answers, &read_part(&rt, path, "answers")?)?;
     Ok(format!(in alloc; "{name}: as foretold\n")?)
 }
 

@@ -1,9 +1,9 @@
 //! Traces, with what an independent model of the map foretold of them, byte for byte.
 
-use crate::program::{Input, answer_to};
+use crate::program::output_of;
 use crate::texts::{compare, read_part};
 use crate::ways::{run_alone, run_by_hand};
-use anyhow::{Context, Result, bail, ensure};
+use anyhow::{Context, Result, bail};
 use bw_keys::Config;
 use bw_tree::Blanks;
 use std::alloc::Global;
@@ -128,15 +128,6 @@ impl Vector {
         wanted: &str,
     ) -> Result<String> {
         let words = format!(in alloc; "{} --readers={readers} --quiet {wanted}", self.options)?;
-        let input = Input {
-            text: self.trace.as_bytes(),
-            has_failure: false,
-        };
-        let answer = answer_to(rt, alloc, "run", &words, input)?;
-        ensure!(
-            answer.status == 0 && answer.faults.is_empty(),
-            "the program refused the trace"
-        );
-        Ok(answer.output)
+        output_of(rt, alloc, "run", &words, &self.trace)
     }
 }
