@@ -42,8 +42,7 @@ fn time(
 ) -> Result<Timed, Stop> {
     let start = Instant::now(rt)?;
     let tally = work_on(map, alloc, task, keys)?;
-    let seconds = start.elapsed(rt)?.as_secs_f64();
-    Ok(Timed { tally, seconds })
+    Timed::since(rt, start, tally)
 }
 
 fn work_on(map: &mut Map<Global>, alloc: Global, task: &Task, keys: &[u32]) -> Result<Tally, Stop> {

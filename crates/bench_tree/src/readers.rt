@@ -125,11 +125,7 @@ fn read_timed<
     let start = Instant::now(rt);
     let tally = read_together(rt, alloc, readers, crew);
     crew.end();
-    let seconds = start?.elapsed(rt)?.as_secs_f64();
-    Ok(Timed {
-        tally: tally?,
-        seconds,
-    })
+    Timed::since(rt, start?, tally?)
 }
 
 /// Runs the writer and the readers side by side.
@@ -310,8 +306,7 @@ fn put_all<R: Clock + Wait + Copy, N: Naming, D: Ledger>(
         tally = tally.plus(work(&mut hand, crew.alloc, &crew.task, 0, part)?);
         let _stamp = tree.publish()?;
     }
-    let seconds = start.elapsed(rt)?.as_secs_f64();
-    Ok(Timed { tally, seconds })
+    Timed::since(rt, start, tally)
 }
 
 /// Makes a tree, and does the trial on it.

@@ -100,6 +100,14 @@ pub(crate) struct Timed {
     pub seconds: f64,
 }
 
+impl Timed {
+    /// Returns the answers with the time that they took since the start.
+    pub(crate) fn since(rt: &impl Clock, start: Instant, tally: Tally) -> Result<Timed, Stop> {
+        let seconds = start.elapsed(rt)?.as_secs_f64();
+        Ok(Timed { tally, seconds })
+    }
+}
+
 /// The usual configuration, with room for the most keys. Short chains suit it, as each record is a
 /// piece of memory of its own, which gets have to pass.
 pub(crate) const CONFIG: Config = Config {
@@ -155,8 +163,7 @@ fn time_alone(
     let mut steps = Alone::new(alloc, alloc, table);
     let start = Instant::now(rt)?;
     let tally = work(&mut steps, alloc, task, 0, keys)?;
-    let seconds = start.elapsed(rt)?.as_secs_f64();
-    Ok(Timed { tally, seconds })
+    Timed::since(rt, start, tally)
 }
 
 /// Fills the tree with a part of the keys, and returns the share.
@@ -225,8 +232,7 @@ fn run_on_tree<
     let keys = task.known_keys(alloc, order)?;
     let start = Instant::now(rt)?;
     let tally = work_together(rt, alloc, tree, task, keys.as_slice(), shares, gives_up)?;
-    let seconds = start.elapsed(rt)?.as_secs_f64();
-    Ok(Timed { tally, seconds })
+    Timed::since(rt, start, tally)
 }
 
 /// Runs each worker in a thread of its own.
