@@ -1,14 +1,18 @@
 -- What two parts of a call leave, one after the other.
-use Rattle.std.proofs.Common.{ℕ, ◌-◌, ◌<◌, ◌≤◌, ◌^◌, Option, Some, None, Result, Ok, Err, ap, arith}
+use Rattle.std.proofs.Common.{◌≡◌, ℕ, Bool, ◌-◌, ◌<◌, ◌≤◌, ◌^◌, Option, Some, None, Result, Ok, Err, ap, sym, subst, arith}
+use Rattle.std.specs.Prelude.{IsErrAnd}
 use Rattle.bw_step.specs.Tellings.{without_shapes}
 use Rattle.bw_procedures.specs.declared.fault.Fault.{Fault}
 use Rattle.bw_procedures.specs.declared.round.Rung.{Rung}
 use Rattle.bw_procedures.specs.declared.round.Turn.{Turn}
 use Rattle.bw_procedures.specs.declared.round.Turn.TheVariants.{Over, Idle, Next}
 use Rattle.bw_procedures.specs.Seen.{Seen, SameButEffort}
-use Rattle.bw_procedures.specs.Calls.{OnlySpends, OnlyReshapes, ReshapesWithin, RoseBy}
+use Rattle.bw_step.specs.declared.receipt.Receipt.{Receipt}
+use Rattle.bw_procedures.specs.declared.writing.Tried.{Tried}
+use Rattle.bw_procedures.specs.Calls.{OnlySpends, OnlyReshapes, ReshapesWithin, RoseBy, IsEarned}
 use Rattle.bw_procedures.specs.Rounds.{IsRound}
 use Rattle.bw_procedures.specs.Tending.{IsTended}
+use Rattle.bw_procedures.specs.Writing.{Attempts}
 use Rattle.bw_procedures.proofs.Removals.{spent_grows}
 use Rattle.bw_procedures.proofs.Rounds.{reshapes_then, earned_then}
 
@@ -40,3 +44,17 @@ pub tends_then : {T : Type 0} → (limit : ℕ) (result : Result (Option T) Faul
 tends_then limit (Ok None) a b c before nearer after = (reshapes_then a b c before after.0, tt)
 tends_then limit (Ok (Some next)) a b c before nearer after = (reshapes_then a b c before after.0, omega (arith, nearer, after.0.grows.effort))
 tends_then limit (Err fault) a b c before nearer after = (reshapes_then a b c before after.0, earned_then limit fault a b c before.grows after.1)
+
+-- what ends with its second part's fault only reshapes, and that fault is earned
+fails_then : (limit : ℕ) (it fault : Fault) (a b c : Seen) → it ≡ fault → OnlyReshapes a b → OnlyReshapes b c × IsEarned limit b c fault → OnlyReshapes a c × IsEarned limit a c it
+fails_then limit it fault a b c is before after =
+    let earned = earned_then limit fault a b c before.grows after.1 in
+    (reshapes_then a b c before after.0, subst (λ (fault : Fault). IsEarned limit a c fault) (sym is) earned)
+
+pub tends_fails : {T : Type 0} → (limit : ℕ) (result : Result (Option T) Fault) (fault : Fault) (a b c : Seen) → IsErrAnd result (λ it. it ≡ fault) → OnlyReshapes a b → OnlyReshapes b c × IsEarned limit b c fault → IsTended limit result a c
+tends_fails limit (Ok next) fault a b c is before after = absurd is
+tends_fails limit (Err it) fault a b c is before after = fails_then limit it fault a b c is before after
+
+pub attempt_fails : {T : Type 0} → (is_of : T → Receipt → Type 0) (passes_posts : Bool) (limit : ℕ) (result : Result (Tried T) Fault) (fault : Fault) (a b c : Seen) → IsErrAnd result (λ it. it ≡ fault) → OnlyReshapes a b → OnlyReshapes b c × IsEarned limit b c fault → Attempts is_of passes_posts limit result a c
+attempt_fails is_of passes_posts limit (Ok tried) fault a b c is before after = absurd is
+attempt_fails is_of passes_posts limit (Err it) fault a b c is before after = fails_then limit it fault a b c is before after

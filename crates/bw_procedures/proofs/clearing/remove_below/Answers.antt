@@ -27,3 +27,6 @@ loop-pair-preserved g c =
       removes = (inv.removes.0 ++ pair ∷ [], removes_next _ _ _ _ pair _ _ _ _ _ _ (rw split at inv.removes.1) below one.removes (sym c.is_some.ensures ∙ c.if-is_some.false));
       few = omega (arith, inv.few, key_upto _ _ _ _ _ one.removes);
     }
+
+pub returns-then-is_some-clause-follows : goal.returns-then-is_some-clause-follows
+returns-then-is_some-clause-follows g c = g.met.S.Steps.joins _ _ _ c.loop-pair.invariant.follows c.remove-one.ensures.follows

@@ -13,3 +13,12 @@ returns-in-Accepted-clause-reshapes g c =
 pub returns-in-Refused-clause-reshapes : goal.returns-in-Refused-clause-reshapes
 returns-in-Refused-clause-reshapes g c =
     spends_then _ _ _ c.in_ok-step.ensures.reads.0 (c.in_ok-offer.ensures.shape (rw c.in-Some.is at c.in_ok-step.ensures.shape))
+
+pub returns-in_err-offer-clause-follows : goal.returns-in_err-offer-clause-follows
+returns-in_err-offer-clause-follows g c = g.met.S.Steps.joins _ _ _ c.in_ok-step.ensures.follows c.in_err-offer.ensures.follows
+
+pub returns-in-Accepted-clause-follows : goal.returns-in-Accepted-clause-follows
+returns-in-Accepted-clause-follows g c = g.met.S.Steps.joins _ _ _ c.in_ok-step.ensures.follows c.in_ok-offer.ensures.follows
+
+pub returns-in-Refused-clause-follows : goal.returns-in-Refused-clause-follows
+returns-in-Refused-clause-follows g c = g.met.S.Steps.joins _ _ _ c.in_ok-step.ensures.follows c.in_ok-offer.ensures.follows

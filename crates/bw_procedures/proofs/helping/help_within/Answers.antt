@@ -13,3 +13,15 @@ returns-in-Idle-clause-reshapes g c = idles _ _ _ _ c.rounds.invariant.reshapes 
 
 pub returns-then-is_spent-clause-reshapes : goal.returns-then-is_spent-clause-reshapes
 returns-then-is_spent-clause-reshapes g c = (reshapes_then _ _ _ c.rounds.invariant.reshapes c.in_ok-round.ensures.round.0, c.if-is_spent.ensures.0 refl)
+
+pub returns-in_err-round-clause-follows : goal.returns-in_err-round-clause-follows
+returns-in_err-round-clause-follows g c = g.met.S.Steps.joins _ _ _ c.rounds.invariant.follows c.in_err-round.ensures.follows
+
+pub returns-in-Over-clause-follows : goal.returns-in-Over-clause-follows
+returns-in-Over-clause-follows g c = g.met.S.Steps.joins _ _ _ c.rounds.invariant.follows c.in_ok-round.ensures.follows
+
+pub returns-in-Idle-clause-follows : goal.returns-in-Idle-clause-follows
+returns-in-Idle-clause-follows g c = g.met.S.Steps.joins _ _ _ c.rounds.invariant.follows (g.met.S.Steps.joins _ _ _ c.in_ok-round.ensures.follows c.idle.ensures.follows)
+
+pub returns-then-is_spent-clause-follows : goal.returns-then-is_spent-clause-follows
+returns-then-is_spent-clause-follows g c = g.met.S.Steps.joins _ _ _ c.rounds.invariant.follows c.in_ok-round.ensures.follows

@@ -1,5 +1,5 @@
 use Rattle.std.proofs.Common.{Ok}
-use Rattle.bw_procedures.proofs.Joining.{nears, tends_then}
+use Rattle.bw_procedures.proofs.Joining.{nears, tends_then, tends_fails}
 use Rattle.bw_procedures.proofs.Rounds.{reshapes_then}
 use Rattle.bw_procedures.proofs.tending.mark_page.Goals as goal
 
@@ -12,3 +12,24 @@ returns-in_ok-after_mark-in-Accepted-clause-tended g c =
 
 pub returns-in-Refused-clause-tended : goal.returns-in-Refused-clause-tended
 returns-in-Refused-clause-tended g c = (reshapes_then _ _ _ c.in_ok-parent.ensures.reshapes.0 c.in_ok-reshape.ensures.reshapes.0, tt)
+
+pub returns-in_err-reshape-clause-follows : goal.returns-in_err-reshape-clause-follows
+returns-in_err-reshape-clause-follows g c = g.met.S.Steps.joins _ _ _ c.in_ok-parent.ensures.follows c.in_err-reshape.ensures.follows
+
+pub returns-in_err-after_mark-in-Accepted-clause-follows : goal.returns-in_err-after_mark-in-Accepted-clause-follows
+returns-in_err-after_mark-in-Accepted-clause-follows g c = g.met.S.Steps.joins _ _ _ c.in_ok-parent.ensures.follows (g.met.S.Steps.joins _ _ _ c.in_ok-reshape.ensures.follows c.in_err-after_mark-in-Accepted.ensures.follows)
+
+pub returns-in_ok-after_mark-in-Accepted-clause-follows : goal.returns-in_ok-after_mark-in-Accepted-clause-follows
+returns-in_ok-after_mark-in-Accepted-clause-follows g c = g.met.S.Steps.joins _ _ _ c.in_ok-parent.ensures.follows (g.met.S.Steps.joins _ _ _ c.in_ok-reshape.ensures.follows c.in_ok-after_mark-in-Accepted.ensures.follows)
+
+pub returns-in-Refused-clause-follows : goal.returns-in-Refused-clause-follows
+returns-in-Refused-clause-follows g c = g.met.S.Steps.joins _ _ _ c.in_ok-parent.ensures.follows c.in_ok-reshape.ensures.follows
+
+pub returns-in_err-reshape-clause-tended : goal.returns-in_err-reshape-clause-tended
+returns-in_err-reshape-clause-tended g c =
+    tends_fails _ _ _ _ _ _ c.from_residual-in_err-reshape.ensures.1 c.in_ok-parent.ensures.reshapes.0 c.in_err-reshape.ensures.reshapes
+
+pub returns-in_err-after_mark-in-Accepted-clause-tended : goal.returns-in_err-after_mark-in-Accepted-clause-tended
+returns-in_err-after_mark-in-Accepted-clause-tended g c =
+    let marked = reshapes_then _ _ _ c.in_ok-parent.ensures.reshapes.0 c.in_ok-reshape.ensures.reshapes.0 in
+    tends_fails _ _ _ _ _ _ c.from_residual-in_err-after_mark-in-Accepted.ensures.1 marked c.in_err-after_mark-in-Accepted.ensures.reshapes

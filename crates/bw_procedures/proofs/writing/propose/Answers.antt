@@ -1,5 +1,6 @@
 use Rattle.std.proofs.Common.{arith}
 use Rattle.bw_procedures.proofs.Rounds.{reshapes_then}
+use Rattle.bw_procedures.proofs.Joining.{attempt_fails}
 use Rattle.bw_procedures.proofs.writing.propose.Goals as goal
 
 pub returns-in-Accepted-clause-attempts : goal.returns-in-Accepted-clause-attempts
@@ -17,3 +18,14 @@ pub returns-in-Refused : goal.returns-in-Refused
 returns-in-Refused g c =
     let offered = rw c.in-Refused.is at (c.in_ok-receipt.ensures.change c.step.ensures.change) in
     record { follows = c.in_ok-receipt.ensures.follows; attempts = (offered.0, offered.1) }
+
+pub returns-in_err-consolidate-in-Refused-Deep-clause-follows : goal.returns-in_err-consolidate-in-Refused-Deep-clause-follows
+returns-in_err-consolidate-in-Refused-Deep-clause-follows g c = g.met.S.Steps.joins _ _ _ c.in_ok-receipt.ensures.follows c.in_err-consolidate-in-Refused-Deep.ensures.follows
+
+pub returns-in_ok-consolidate-in-Refused-Deep-clause-follows : goal.returns-in_ok-consolidate-in-Refused-Deep-clause-follows
+returns-in_ok-consolidate-in-Refused-Deep-clause-follows g c = g.met.S.Steps.joins _ _ _ c.in_ok-receipt.ensures.follows c.in_ok-consolidate-in-Refused-Deep.ensures.follows
+
+pub returns-in_err-consolidate-in-Refused-Deep-clause-attempts : goal.returns-in_err-consolidate-in-Refused-Deep-clause-attempts
+returns-in_err-consolidate-in-Refused-Deep-clause-attempts g c =
+    let offered = rw c.in-Refused-Deep.is at (c.in_ok-receipt.ensures.change c.step.ensures.change) in
+    attempt_fails _ _ _ _ _ _ _ _ c.from_residual-in_err-consolidate-in-Refused-Deep.ensures.1 offered.0 c.in_err-consolidate-in-Refused-Deep.ensures.reshapes

@@ -51,3 +51,12 @@ leaves-preserved g c =
           swept_read _ _ _ _ g.met.Self.Steps.joins _ _ _ _ key _ _ _ _ _ _ _ inv.follows page.follows leaf.follows page.seen c.in-Ok.ensures.shows slice.rises
           (rw same at leaf.removes) (no_fault _ (sym c.is_some.ensures ∙ c.if-is_some.false)) inv.swept above (rw c.in-Some.is below) less;
     }
+
+pub returns-in-Err-clause-follows : goal.returns-in-Err-clause-follows
+returns-in-Err-clause-follows g c = g.met.Self.Steps.joins _ _ _ c.leaves.invariant.follows c.in-Err.ensures.follows
+
+pub returns-then-is_some-clause-follows : goal.returns-then-is_some-clause-follows
+returns-then-is_some-clause-follows g c = g.met.Self.Steps.joins _ _ _ c.leaves.invariant.follows (g.met.Self.Steps.joins _ _ _ c.in-Ok.ensures.follows c.remove_below-leaf.ensures.follows)
+
+pub returns-in_default-clause-follows : goal.returns-in_default-clause-follows
+returns-in_default-clause-follows g c = g.met.Self.Steps.joins _ _ _ c.leaves.invariant.follows (g.met.Self.Steps.joins _ _ _ c.in-Ok.ensures.follows c.remove_below-leaf.ensures.follows)
