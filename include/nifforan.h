@@ -84,9 +84,9 @@ typedef struct nifforan_settings {
     size_t size;            /* sizeof(nifforan_settings), by which a later library knows which fields there are */
     uint32_t fanout;        /* the pairs that a page may have before it is split, 4 to 64 */
     uint32_t chain;         /* the changes that a page may carry before it is written anew, 1 to 32 */
-    uint32_t pages;         /* the pages that the map has room for, 8 to 65536, at 156 bytes each, taken by
-                               nifforan_create. The usual 16384 hold some 770,000 rising, 715,000 random or 520,000
-                               falling keys; past that each put takes longer, and `care` says so */
+    uint32_t pages;         /* the most pages that the map may have, 8 to 65536, at 156 bytes each: it begins with 8 and
+                               doubles them as it grows. The usual 16384 hold some 770,000 rising, 715,000 random or
+                               520,000 falling keys; past that each put takes longer, and `care` says so */
     uint32_t tries;         /* the attempts that one call may make, 1 to 1000 */
     uint64_t first_version; /* the version that each page begins with, 0 as a rule: each change of a page takes one, and
                                one past 2^64 - 1 is NIFFORAN_WORN */

@@ -13,7 +13,7 @@ pub struct Settings {
     pub fanout: u32,
     /// How many changes a page may carry before it is written anew, 1 to 32.
     pub chain: u32,
-    /// How many pages the map has room for, 8 to 65,536, at 156 bytes each, which `Map::new` takes. The usual 16,384
+    /// The most pages that the map may have, 8 to 65,536, at 156 bytes each, taken as it grows. The usual 16,384
     /// hold some 770,000 rising, 715,000 random or 520,000 falling keys; past that each insertion takes longer, and
     /// [`Map::care`](crate::Map::care) says so.
     pub pages: u32,

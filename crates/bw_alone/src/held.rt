@@ -2,16 +2,15 @@
 
 ghost use Rattle.std.specs.Prelude.{◌≡◌, Some, IfSome, IfNone, IfOk, IfErr, OnErr, IsOk, ◌↔◌, None};
 ghost use Rattle.bw_step.specs.ProposalView.{proposal_of};
-ghost use Rattle.bw_step.specs.Tellings.{telling_of};
 ghost use Rattle.bw_law.specs.Effects.{TakesStep};
 ghost use Rattle.bw_law.specs.Refusals.{refusal};
-ghost use Rattle.bw_law.specs.Tables.{Lawful, Booked, TellsMap};
-ghost use Rattle.bw_table.specs.InPlaces.{IsDoneAtOnce, IsSplitUnder};
+ghost use Rattle.bw_law.specs.Tables.{Lawful, Booked};
+ghost use Rattle.bw_table.specs.Actions.{IsPerformed, IsWhyNot};
+ghost use Rattle.bw_table.specs.InPlaces.{IsMergedUnder, IsSplitUnder};
 
 use crate::holding::{Does, Holds};
-use bw_chain::Wished;
-use bw_keys::{Key, Pid};
-use bw_step::{AtOnce, Receipt, Refused, Step};
+use bw_keys::Pid;
+use bw_step::{Action, Performed, Receipt, Refused, Step, Unperformed};
 use bw_table::Table;
 use std::alloc::Allocator;
 
@@ -41,21 +40,19 @@ pub(crate) fn install<A: Allocator + Copy, H: Holds<Table<A>>>(
     held.with(Installing { step })
 }
 
-/// Carries out a wish for the key: see [`Table::change_at_once`].
+/// Performs an action, without spare memory: see [`Table::perform`].
 #[inline(always)]
-pub(crate) fn change_at_once<A: Allocator + Copy, H: Holds<Table<A>>>(
+pub(crate) fn perform<A: Allocator + Copy, H: Holds<Table<A>>>(
     held: &mut H,
-    key: Key,
-    wished: Wished,
-) -> Option<AtOnce>
-    ensures done { IfSome result (λ it.
-        IsDoneAtOnce (H.value held.old) it.page.0 key wished it.receipt (H.value held.new)) }
-    ensures map { IfSome result (λ it.
-        TellsMap (telling_of it.receipt) (H.value held.old).slots (H.value held.new).slots) }
-    ensures unchanged { IfNone result (H.value held.new ≡ H.value held.old) }
+    alloc: A,
+    action: Action,
+) -> Result<Performed, Unperformed>
+    ensures done { IfOk result (IsPerformed (H.value held.old) action (H.value held.new)) }
+    ensures why { IfErr result (IsWhyNot (H.value held.old) action) }
+    ensures unchanged { OnErr result (H.value held.new ≡ H.value held.old) }
     ensures same { H.same held.old held.new }
 {
-    held.with(Changing { key, wished })
+    held.with(Performing { alloc, action })
 }
 
 /// Splits the page and names the new one in the parent: see [`Table::split_under`].
@@ -78,6 +75,20 @@ pub(crate) fn split_under<A: Allocator + Copy, H: Holds<Table<A>>>(
     })
 }
 
+/// Merges the page into its left neighbour under the parent: see [`Table::merge_under`].
+pub(crate) fn merge_under<A: Allocator + Copy, H: Holds<Table<A>>>(
+    held: &mut H,
+    parent: Pid,
+    page: Pid,
+) -> Option<Pid>
+    ensures done { IfSome result (λ left.
+        IsMergedUnder (H.value held.old) parent.0 page.0 left (H.value held.new)) }
+    ensures unchanged { IfNone result (H.value held.new ≡ H.value held.old) }
+    ensures same { H.same held.old held.new }
+{
+    held.with(Merging { parent, page })
+}
+
 /// That the table takes a step.
 #[derive(Drop)]
 struct Installing<A: Allocator + Copy> {
@@ -98,23 +109,23 @@ impl<A: Allocator + Copy> Does<Table<A>> for Installing<A> {
     }
 }
 
-/// That a wish for a key is carried out at once.
+/// That an action is performed.
 #[derive(Clone, Copy)]
-struct Changing {
-    key: Key,
-    wished: Wished,
+struct Performing<A: Allocator + Copy> {
+    alloc: A,
+    action: Action,
 }
 
-impl<A: Allocator + Copy> Does<Table<A>> for Changing {
-    ghost use Rattle.bw_alone.specs.Doing.{Changes};
+impl<A: Allocator + Copy> Does<Table<A>> for Performing<A> {
+    ghost use Rattle.bw_alone.specs.Doing.{Performs};
 
-    type Answer = Option<AtOnce>;
+    type Answer = Result<Performed, Unperformed>;
 
-    ghost does = { λ it old answer new. Changes it.key it.wished old answer new };
+    ghost does = { λ it old answer new. Performs it.action old answer new };
 
     #[inline(always)]
-    fn run(self, table: &mut Table<A>) -> Option<AtOnce> {
-        table.change_at_once(self.key, self.wished)
+    fn run(self, table: &mut Table<A>) -> Result<Performed, Unperformed> {
+        table.perform(self.alloc, self.action, None)
     }
 }
 
@@ -136,5 +147,24 @@ impl<A: Allocator + Copy> Does<Table<A>> for Splitting {
     #[inline(always)]
     fn run(self, table: &mut Table<A>) -> Option<(Pid, bool)> {
         table.split_under(self.parent, self.page, self.number)
+    }
+}
+
+/// That a page is merged into its left neighbour under the parent.
+#[derive(Clone, Copy)]
+struct Merging {
+    parent: Pid,
+    page: Pid,
+}
+
+impl<A: Allocator + Copy> Does<Table<A>> for Merging {
+    ghost use Rattle.bw_alone.specs.Doing.{Merges};
+
+    type Answer = Option<Pid>;
+
+    ghost does = { λ it old answer new. Merges it.parent.0 it.page.0 old answer new };
+
+    fn run(self, table: &mut Table<A>) -> Option<Pid> {
+        table.merge_under(self.parent, self.page)
     }
 }

@@ -1,6 +1,6 @@
 //! A worker that nobody disturbs, over what holds its table.
 
-ghost use Rattle.std.specs.Prelude.{◌≡◌, [], None, IfSome};
+ghost use Rattle.std.specs.Prelude.{◌≡◌, [], None, IfSome, length};
 ghost use Rattle.bw_keys.specs.Ranges.{end_of};
 ghost use Rattle.bw_law.specs.Tables.{Lawful, Booked};
 ghost use Rattle.bw_procedures.specs.Calls.{Earned};
@@ -9,36 +9,38 @@ ghost use Rattle.bw_procedures.specs.Seen.{Grows, ends_of};
 ghost use Rattle.bw_alone.specs.Clearing.{IsMapWithout};
 ghost use Rattle.bw_alone.specs.Leading.{Continues};
 
-use crate::held::{change_at_once, install, law, split_under};
+use crate::held::{install, law, merge_under, perform, split_under};
 use crate::holding::{Holds, Own};
-use bw_chain::Wished;
 use bw_delta::{Base, Chain, NoMemory};
 use bw_keys::{Config, Fence, Key, Pid, Version};
-use bw_procedures::{Account, Calls, Cleared, Ends, Keep, Steps};
-use bw_step::{AtOnce, CopyFault, Denied, Look, Next, Place, Receipt, Refused, Step, View};
+use bw_procedures::{Account, Calls, Cleared, Ends, GivenUp, Keep, Steps, Trail};
+use bw_step::{
+    Action, CopyFault, Denied, Look, Next, Performed, Place, Receipt, Step, Unperformed, View,
+};
 use bw_table::Table;
 use std::alloc::{Allocator, Global};
 
 /// A worker that has a table for itself: its steps take no lock, and nobody else takes any.
 ///
-/// Its trail keeps a receipt, of some 40 bytes, for each accepted step and each look. So a worker
-/// that lives long calls [`take_trail`](Sole::take_trail) from time to time. The trails that it
-/// gets, one behind the other and with that of [`finish`](Sole::finish) as the last, are the trail
-/// that `finish` alone would have returned. An auditor wants all of them.
+/// `T` says what becomes of its receipts. A list keeps one, of some 40 bytes, for each accepted step
+/// and each look. So a worker that lives long calls [`take_trail`](Sole::take_trail) from time to
+/// time. The trails that it gets, one behind the other and with that of [`finish`](Sole::finish) as
+/// the last, are the trail that `finish` alone would have returned. An auditor wants all of them.
 #[derive(Drop)]
-pub struct Sole<A: Allocator + Copy, H: Holds<Table<A>>> {
+pub struct Sole<A: Allocator + Copy, H: Holds<Table<A>>, T: Trail = Vec<Receipt>> {
     /// What holds the table.
     pub table: H,
     alloc: A,
-    pub(crate) account: Account,
+    pub(crate) account: Account<T>,
 }
 
 /// A worker to which a table is lent. It changes a key at once, in one step, only where chains may
 /// have no more than one record, and splits pages step by step.
 pub type Alone<'t, A> = Sole<A, &'t mut Table<A>>;
 
-/// A worker that owns its table. It changes keys and splits pages at once wherever it can.
-pub type Owner<A> = Sole<A, Own<Table<A>>>;
+/// A worker that owns its table, and gives its receipts up. It changes keys, and splits and merges
+/// pages, at once wherever it can.
+pub type Owner<A> = Sole<A, Own<Table<A>>, GivenUp>;
 
 impl<A: Allocator + Copy, H: Holds<Table<A>>> Sole<A, H> {
     /// A worker without receipts. Its trail will lie in the machine's memory, all else that it makes
@@ -50,7 +52,21 @@ impl<A: Allocator + Copy, H: Holds<Table<A>>> Sole<A, H> {
         ensures effort { result.account.seen.effort ≡ 0 }
         ensures ends { ends_of result.account.seen ≡ record { full = 0; tall = 0; worn = 0 } }
     {
-        let account = Account::new(machine, table.get().config());
+        Sole::with_trail(Vec::new(machine), alloc, table)
+    }
+}
+
+impl<A: Allocator + Copy, H: Holds<Table<A>>, T: Trail> Sole<A, H, T> {
+    /// A worker that has spent no effort, and whose receipts are those of the trail. All else that it
+    /// makes will lie in `alloc`.
+    pub fn with_trail(trail: T, alloc: A, table: H) -> Sole<A, H, T>
+        ensures table { result.table ≡ table }
+        ensures config { result.account.seen.config ≡ (H.value table).config }
+        ensures trail { result.account.seen.trail ≡ T.added trail }
+        ensures effort { result.account.seen.effort ≡ 0 }
+        ensures ends { ends_of result.account.seen ≡ record { full = 0; tall = 0; worn = 0 } }
+    {
+        let account = Account::with_trail(trail, table.get().config());
         Sole {
             table,
             alloc,
@@ -58,10 +74,30 @@ impl<A: Allocator + Copy, H: Holds<Table<A>>> Sole<A, H> {
         }
     }
 
+    /// Returns the number of receipts on the trail, whether or not they are kept.
+    #[inline(always)]
+    pub fn trail_len(&self) -> usize
+        ensures { result ≡ length self.now.account.seen.trail }
+    {
+        self.account.trail_len()
+    }
+
+    /// Whether it performs such an action: a change in its place where chains may have no more than
+    /// one record, since a tending would leave longer ones as they are, and of a table of its own
+    /// always; and what is done to a page that the action names.
+    #[inline(always)]
+    fn performs(&self, action: Action) -> bool {
+        match action {
+            Action::Change { .. } => self.table.is_owner() || self.account.config().chain == 1,
+            Action::Consolidate { .. } | Action::Halve { .. } => true,
+            Action::Record { .. } | Action::AddTerm { .. } => false,
+        }
+    }
+
     /// Returns the receipts since the last call of it, in their order, and goes on with an empty
     /// trail. See [`Sole`] for when to call it.
-    pub fn take_trail(&mut self) -> Vec<Receipt>
-        ensures trail { result.items ≡ self.old.account.seen.trail }
+    pub fn take_trail(&mut self) -> T
+        ensures trail { T.added result ≡ self.old.account.seen.trail }
         ensures rest { self.new.account.seen ≡ record self.old.account.seen { trail = [] } }
         ensures table { self.new.table ≡ self.old.table }
     {
@@ -70,8 +106,8 @@ impl<A: Allocator + Copy, H: Holds<Table<A>>> Sole<A, H> {
 
     /// Returns the receipts, in their order: all of them, or those since the last
     /// [`take_trail`](Sole::take_trail).
-    pub fn finish(self) -> Vec<Receipt>
-        ensures trail { result.items ≡ self.account.seen.trail }
+    pub fn finish(self) -> T
+        ensures trail { T.added result ≡ self.account.seen.trail }
     {
         let Sole { account, .. } = self;
         account.into_trail()
@@ -105,7 +141,7 @@ impl<A: Allocator + Copy, H: Holds<Table<A>>> Sole<A, H> {
         ensures booked { Booked (H.value self.new.table) }
     {
         law(&self.table);
-        self.account = Account::new(machine, self.table.get().config());
+        self.account = Account::with_trail(T::empty(machine), self.table.get().config());
     }
 
     /// Deletes the keys from the low on and below the high, as [`Calls::clear`] does. Without a fault
@@ -125,12 +161,14 @@ impl<A: Allocator + Copy, H: Holds<Table<A>>> Sole<A, H> {
     }
 }
 
-impl<A: Allocator + Copy, H: Holds<Table<A>>> Steps<A, Step<A>> for Sole<A, H> {
+impl<A: Allocator + Copy, H: Holds<Table<A>>, T: Trail> Steps<A, Step<A>> for Sole<A, H, T> {
     ghost use Rattle.bw_alone.specs.Calm.{IsTrueOf};
     ghost use Rattle.bw_alone.specs.Leading.{Continues, continues_stay, continues_join};
     ghost use Rattle.bw_alone.specs.Showing.{Shows, shows_narrow};
 
     ghost seen = { λ s. s.account.seen };
+
+    ghost kept = { T.kept };
 
     // the table is in its place, by the same configuration, and the receipts lead from its map to
     // the later one
@@ -170,18 +208,24 @@ impl<A: Allocator + Copy, H: Holds<Table<A>>> Steps<A, Step<A>> for Sole<A, H> {
     }
 
     #[inline(always)]
-    fn change_at_once(&mut self, key: Key, wished: Wished) -> Option<AtOnce> {
-        // Of a lent table longer chains stay as they are, as a tending would leave them.
-        if !self.table.is_owner() && self.account.config().chain != 1 {
-            return None;
+    fn perform(&mut self, action: Action) -> Result<Performed, Unperformed> {
+        if !self.performs(action) {
+            return Err(Unperformed::StepByStep);
         }
-        if self.account.reserve_two().is_err() {
-            return None;
+        if self.account.reserve_for(action).is_err() {
+            return Err(Unperformed::Denied(Denied::NoMemory));
         }
         law(&self.table);
-        let done = change_at_once(&mut self.table, key, wished)?;
-        self.account.done_at_once(done);
-        Some(done)
+        match perform(&mut self.table, self.alloc, action) {
+            Ok(done) => {
+                self.account.performed(action, done);
+                Ok(done)
+            }
+            Err(why) => {
+                self.account.unperformed(action, why);
+                Err(why)
+            }
+        }
     }
 
     #[inline(always)]
@@ -200,6 +244,16 @@ impl<A: Allocator + Copy, H: Holds<Table<A>>> Steps<A, Step<A>> for Sole<A, H> {
         Some(new)
     }
 
+    fn merge_at_once(&mut self, parent: Pid, page: View) -> Option<Pid> {
+        if !self.table.is_owner() || self.account.reserve_five().is_err() {
+            return None;
+        }
+        law(&self.table);
+        let left = merge_under(&mut self.table, parent, page.pid)?;
+        self.account.merged_at_once(page.pid, parent, left);
+        Some(left)
+    }
+
     #[tactic(auto, using(crate::proofs::Calming::next_is_calm))]
     #[inline(always)]
     fn visit(&mut self, place: Place, key: Key, goal: u8) -> Next {
@@ -211,16 +265,6 @@ impl<A: Allocator + Copy, H: Holds<Table<A>>> Steps<A, Step<A>> for Sole<A, H> {
     #[inline(always)]
     fn peek(&mut self, pid: Pid) -> Option<View> {
         self.table.get().peek(pid)
-    }
-
-    #[inline(always)]
-    fn refuses_split(&mut self, leaf: Pid, version: Version) -> bool {
-        if !self.table.get().has_no_page_for(leaf, version) {
-            return false;
-        }
-        law(&self.table);
-        self.account.refused(Refused::TableFull);
-        true
     }
 
     #[inline(always)]
@@ -284,11 +328,6 @@ impl<A: Allocator + Copy, H: Holds<Table<A>>> Steps<A, Step<A>> for Sole<A, H> {
     #[inline(always)]
     fn trail(&self) -> &[Receipt] {
         self.account.trail()
-    }
-
-    #[inline(always)]
-    fn trail_len(&self) -> usize {
-        self.account.trail_len()
     }
 }
 

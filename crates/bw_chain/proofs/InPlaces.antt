@@ -1,25 +1,26 @@
 -- What a change in place makes of a base page: the page of the chain with the record on top.
-use Rattle.std.proofs.Common.{◌≡◌, ℕ, ◌<◌, Bool, true, false, List, Option, refl, ap, sym, subst, ◌∙◌, arith, cond}
+use Rattle.std.proofs.Common.{◌≡◌, ℕ, ◌<◌, ◌≤◌, Bool, true, false, List, [], ◌∷◌, ◌++◌, Option, refl, ap, sym, subst, ◌∙◌, arith, cond}
 use Rattle.std.proofs.lemmas.Bool.Decides.{nat_tests}
-use Rattle.std.specs.Prelude.{Some, None, IfSome, IfNone, is_some}
+use Rattle.std.specs.Prelude.{Some, None, IfSome, IfNone, is_some, Result, Ok, Err, OnOk, is_err}
 use Rattle.bw_keys.specs.declared.page.Pid.{Pid}
 use Rattle.bw_keys.specs.declared.range.Fence.TheVariants.{Key}
 use Rattle.bw_keys.specs.Ranges.{end_of}
 use Rattle.bw_delta.specs.declared.chain.Delta.{Delta}
-use Rattle.bw_delta.specs.declared.chain.Delta.TheVariants.{Insert, Modify, Delete, Split, TermAdd}
+use Rattle.bw_delta.specs.declared.chain.Delta.TheVariants.{Insert, Modify, Delete, Split, TermAdd, TermDelete}
 use Rattle.bw_delta.specs.declared.fences.Fences.{Fences}
-use Rattle.bw_delta.specs.Entries.{at, put, below}
+use Rattle.bw_delta.specs.Entries.{at, put, without, below, from, rises}
 use Rattle.bw_delta.specs.Fence.{page_fences, fences, fences_after}
 use Rattle.bw_delta.specs.Pages.{Page, Listed, IsPage, pairs_of, routes_of, lists_pairs, listed_rises}
 use Rattle.bw_delta.specs.Pairs.{pairs, pairs_listed, routes_listed, pairs_after, routes_after}
 use Rattle.bw_delta.specs.Records.{Records, bare, above}
 use Rattle.bw_delta.specs.Sound.{IsSound, LiesIn, MayStandOver, page_for, page_with}
 use Rattle.bw_delta.proofs.At.{at-below_in}
+use Rattle.bw_delta.proofs.Rises.{below_all, from_all, rises-append, rises-without}
 use Rattle.bw_delta.proofs.Stands.{page_for_is_page}
 use Rattle.bw_chain.specs.declared.in_place.InPlace.{InPlace}
-use Rattle.bw_chain.specs.declared.in_place.Wished.{Wished}
-use Rattle.bw_chain.specs.declared.in_place.Wished.TheVariants as wishes
-use Rattle.bw_chain.specs.InPlaces.{delta_for, pairs_with, chain_with, page_behind_split, IsBehindSplit, uncovered}
+use Rattle.bw_keys.specs.declared.wished.Wished.{Wished}
+use Rattle.bw_keys.specs.declared.wished.Wished.TheVariants as wishes
+use Rattle.bw_chain.specs.InPlaces.{delta_for, pairs_with, chain_with, page_behind_split, IsBehindSplit, joined_chain, uncovered}
 use Rattle.bw_chain.proofs.Places.{below-put, below-without}
 
 abbrev pub with_pairs : Page → List (ℕ × ℕ) → Page
@@ -195,3 +196,97 @@ uncovered_is delta old between h = ap uncovered h.changed ∙ ap (λ (c : Record
 
 pub still_covered : (old between : Records) → IsBehindSplit None old between → between ≡ old
 still_covered old between h = h.changed ∙ sym h.before
+
+-- an inner page without a route
+without_missing : {X : Type 0} → (key : ℕ) (es : List (ℕ × X)) → at key es ≡ None → without key es ≡ es
+without_missing key [] absent = refl
+without_missing key (e ∷ es) absent = grind (arith, nat_tests, without_missing key es)
+
+pub without_or_same : {X : Type 0} → (key : ℕ) (old new : List (ℕ × X)) → at key old ≡ None → new ≡ old → new ≡ without key old
+without_or_same key old new absent same = same ∙ sym (without_missing key old absent)
+
+pub unrouted_leaf : (separator : ℕ) (page : Page) (es : List (ℕ × ℕ)) → page.listed ≡ pairs_of es → page ≡ page_for (above (TermDelete separator) (bare page))
+unrouted_leaf separator page es lists = let WithListed : Listed → Page = λ l. record page { listed = l } in ap WithListed (sym (by_kind page.listed lists))
+  where
+    by_kind : (l : Listed) → l ≡ pairs_of es → cond (lists_pairs l) (pairs_of (pairs_listed l)) (routes_of (without separator (routes_listed l))) ≡ l
+    by_kind (pairs_of fs) is = refl
+    by_kind (routes_of fs) is = cc
+
+module _ (page : Page) (old : List (ℕ × Pid)) (lists : page.listed ≡ routes_of old) (separator : ℕ) where
+  pub unrouted_page : (new : List (ℕ × Pid)) → new ≡ without separator old → record page { listed = routes_of new } ≡ page_for (above (TermDelete separator) (bare page))
+  unrouted_page new is =
+      let Lists : Listed → Listed = λ l. cond (lists_pairs l) (pairs_of (pairs_listed l)) (routes_of (without separator (routes_listed l))) in
+      ap (λ (es : List (ℕ × Pid)). page_with (page_fences page) (routes_of es)) is ∙ sym (ap (λ (l : Listed). page_with (page_fences page) (Lists l)) lists)
+
+  pub unrouted_is_page : (new : List (ℕ × Pid)) → IsPage page → new ≡ without separator old → IsPage (record page { listed = routes_of new })
+  unrouted_is_page new whole is =
+      let Whole : Listed → Type 0 = λ l. IsPage (record page { listed = l }) in
+      let own : Whole (routes_of old) = subst Whole lists whole in
+      subst Whole (ap routes_of (sym is)) (grind (arith, nat_tests, own, rises-without (end_of page.high) page.low separator old))
+
+-- what a call that didn't fail did
+pub done_unless_err : {T E : Type 0} {P : Type 0} (r : Result T E) → OnOk r P → is_err r ≡ false → P
+done_unless_err (Ok x) done is = done
+done_unless_err (Err e) done is = cc
+
+-- two pages side by side, of which the left one takes in the other
+abbrev pub page_joined : Page → Page → Listed → Page
+page_joined left right listed = record { low = left.low; high = right.high; right = right.right; listed = listed }
+
+lists_join : {X : Type 0} → (low middle end : ℕ) (es fs : List (ℕ × X)) → rises low middle es ≡ true → rises middle end fs ≡ true → below middle es ++ from middle fs ≡ es ++ fs
+lists_join low middle end es fs h g = rw (below_all low middle es h, from_all end middle middle fs (omega arith) g) refl
+
+module _ (left right : Page) (meets : left.high ≡ Key right.low) (whole : IsPage left) (right_whole : IsPage right) where
+  left_ends : end_of left.high ≡ right.low
+  left_ends = ap end_of meets
+
+  abbrev Joined : Listed → Listed → Page
+  Joined l m = page_for (joined_chain (bare (record left { listed = l })) (bare (record right { listed = m })))
+
+  abbrev WholeLeft : Listed → Type 0
+  WholeLeft l = IsPage (record left { listed = l })
+
+  abbrev WholeRight : Listed → Type 0
+  WholeRight l = IsPage (record right { listed = l })
+
+  pub joined_leaf : (es fs new : List (ℕ × ℕ)) → left.listed ≡ pairs_of es → right.listed ≡ pairs_of fs → new ≡ es ++ fs → page_joined left right (pairs_of new) ≡ page_for (joined_chain (bare left) (bare right))
+  joined_leaf es fs new lists right_lists is =
+      let own : WholeLeft (pairs_of es) = subst WholeLeft lists whole in
+      let others : WholeRight (pairs_of fs) = subst WholeRight right_lists right_whole in
+      let first : rises left.low right.low es ≡ true = grind (arith, nat_tests, own, left_ends) in
+      let second : rises right.low (end_of right.high) fs ≡ true = grind (arith, nat_tests, others) in
+      ap (λ (gs : List (ℕ × ℕ)). page_joined left right (pairs_of gs)) (is ∙ sym (lists_join left.low right.low (end_of right.high) es fs first second))
+      ∙ sym (ap (λ (l : Listed). Joined l right.listed) lists ∙ ap (λ (m : Listed). Joined (pairs_of es) m) right_lists)
+
+  pub joined_leaf_is_page : (es fs new : List (ℕ × ℕ)) → left.listed ≡ pairs_of es → right.listed ≡ pairs_of fs → new ≡ es ++ fs → IsPage (page_joined left right (pairs_of new))
+  joined_leaf_is_page es fs new lists right_lists is =
+      let own : WholeLeft (pairs_of es) = subst WholeLeft lists whole in
+      let others : WholeRight (pairs_of fs) = subst WholeRight right_lists right_whole in
+      let first : rises left.low right.low es ≡ true = grind (arith, nat_tests, own, left_ends) in
+      let second : rises right.low (end_of right.high) fs ≡ true = grind (arith, nat_tests, others) in
+      let Whole : List (ℕ × ℕ) → Type 0 = λ gs. IsPage (page_joined left right (pairs_of gs)) in
+      let later : left.low ≤ right.low = grind (arith, nat_tests, own, left_ends) in
+      let some : right.low < end_of right.high = grind (arith, nat_tests, others) in
+      let all = rises-append (end_of right.high) left.low right.low es fs later some first second in
+      subst Whole (sym is) (grind (arith, nat_tests, own, others, all, later))
+
+  pub joined_inner : (es fs new : List (ℕ × Pid)) → left.listed ≡ routes_of es → right.listed ≡ routes_of fs → new ≡ es ++ fs → page_joined left right (routes_of new) ≡ page_for (joined_chain (bare left) (bare right))
+  joined_inner es fs new lists right_lists is =
+      let own : WholeLeft (routes_of es) = subst WholeLeft lists whole in
+      let others : WholeRight (routes_of fs) = subst WholeRight right_lists right_whole in
+      let first : rises left.low right.low es ≡ true = grind (arith, nat_tests, own, left_ends) in
+      let second : rises right.low (end_of right.high) fs ≡ true = grind (arith, nat_tests, others) in
+      ap (λ (gs : List (ℕ × Pid)). page_joined left right (routes_of gs)) (is ∙ sym (lists_join left.low right.low (end_of right.high) es fs first second))
+      ∙ sym (ap (λ (l : Listed). Joined l right.listed) lists ∙ ap (λ (m : Listed). Joined (routes_of es) m) right_lists)
+
+  pub joined_inner_is_page : (es fs new : List (ℕ × Pid)) → left.listed ≡ routes_of es → right.listed ≡ routes_of fs → new ≡ es ++ fs → IsPage (page_joined left right (routes_of new))
+  joined_inner_is_page es fs new lists right_lists is =
+      let own : WholeLeft (routes_of es) = subst WholeLeft lists whole in
+      let others : WholeRight (routes_of fs) = subst WholeRight right_lists right_whole in
+      let first : rises left.low right.low es ≡ true = grind (arith, nat_tests, own, left_ends) in
+      let second : rises right.low (end_of right.high) fs ≡ true = grind (arith, nat_tests, others) in
+      let Whole : List (ℕ × Pid) → Type 0 = λ gs. IsPage (page_joined left right (routes_of gs)) in
+      let later : left.low ≤ right.low = grind (arith, nat_tests, own, left_ends) in
+      let some : right.low < end_of right.high = grind (arith, nat_tests, others) in
+      let all = rises-append (end_of right.high) left.low right.low es fs later some first second in
+      subst Whole (sym is) (grind (arith, nat_tests, own, others, all, later))

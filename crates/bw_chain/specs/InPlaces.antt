@@ -4,13 +4,13 @@ use Rattle.bw_keys.specs.declared.page.Pid.{Pid}
 use Rattle.bw_delta.specs.declared.chain.Delta.{Delta}
 use Rattle.bw_delta.specs.declared.chain.Delta.TheVariants as deltas
 use Rattle.bw_delta.specs.Entries.{at}
-use Rattle.bw_delta.specs.Fence.{is_leaf}
+use Rattle.bw_delta.specs.Fence.{fences, is_leaf}
 use Rattle.bw_delta.specs.Pages.{Page}
 use Rattle.bw_delta.specs.Pairs.{pairs_after, routes}
-use Rattle.bw_delta.specs.Records.{Records, bare, above}
+use Rattle.bw_delta.specs.Records.{Records, bare, above, merged}
 use Rattle.bw_delta.specs.Sound.{page_for}
-use Rattle.bw_chain.specs.declared.in_place.Wished.{Wished}
-use Rattle.bw_chain.specs.declared.in_place.Wished.TheVariants as wishes
+use Rattle.bw_keys.specs.declared.wished.Wished.{Wished}
+use Rattle.bw_keys.specs.declared.wished.Wished.TheVariants as wishes
 
 -- the record that makes the change of a key with this value, or with none: no record where nothing has to change
 abbrev pub delta_for : Wished → ℕ → Option ℕ → Option Delta
@@ -58,3 +58,9 @@ pub record IsRouted (separator : ℕ) (child : Pid) (old new : Records) : Type 0
   pub inner : is_leaf old ≡ false
   pub absent : at separator (routes old) ≡ None
   pub routed : new ≡ bare (page_for (above (deltas.TermAdd separator child) old))
+
+-- the chain with its right neighbour's taken in, over which the record of its removal stands
+abbrev pub joined_chain : Records → Records → Records
+joined_chain left right =
+    let fence = fences right in
+    merged (record { separator = fence.low; high = fence.high; right = fence.right }) left (above deltas.Remove right)

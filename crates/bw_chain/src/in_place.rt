@@ -1,8 +1,9 @@
 //! Changes of one key that are made in the list of a base page, in place of a record over it.
 
-ghost use Rattle.std.specs.Prelude.{◌≡◌, ◌↔◌, ◌<◌, None, Some, true, false, length, IfSome, IfNone, IsTrue};
+ghost use Rattle.std.specs.Prelude.{◌≡◌, ◌↔◌, ◌<◌, ◌≤◌, None, Some, true, false, length, IfSome, IfNone, IsTrue};
 ghost use Rattle.bw_delta.specs.declared.chain.Delta.TheVariants as deltas;
-ghost use Rattle.bw_delta.specs.Entries.{at, put, below};
+ghost use Rattle.bw_keys.specs.declared.range.Fence.TheVariants as fence;
+ghost use Rattle.bw_delta.specs.Entries.{at, put, without, below};
 ghost use Rattle.bw_delta.specs.Fence.{fences};
 ghost use Rattle.bw_delta.specs.Pairs.{pairs, pairs_listed};
 ghost use Rattle.bw_delta.specs.Pages.{upper_part};
@@ -11,26 +12,15 @@ ghost use Rattle.bw_delta.specs.Slices.{list_of};
 ghost use Rattle.bw_delta.specs.Sound.{LiesIn, page_for};
 ghost use Rattle.bw_chain.specs.Ascends.{IsAscending};
 ghost use Rattle.bw_chain.specs.Pages.Halves.{listed_key_at};
-ghost use Rattle.bw_chain.specs.InPlaces.{IsRouted, IsBehindSplit, delta_for, pairs_with, chain_with, split_page, page_behind_split, uncovered};
+ghost use Rattle.bw_chain.specs.InPlaces.{IsRouted, IsBehindSplit, delta_for, joined_chain, pairs_with, chain_with, split_page, page_behind_split, uncovered};
 
 use crate::entries::sorted::count_below_key;
 use crate::page::part_from;
 use crate::page::shape::allocator;
 use bw_delta::{Base, Chain, Delta, Entries, EntryList, EntrySlice, Node};
-use bw_keys::{Fence, Key, Pid};
+use bw_keys::{Fence, Key, Pid, Wished};
 use std::alloc::Allocator;
 use std::mem;
-
-/// A change of one key's value.
-#[derive(Clone, Copy, Debug, PartialEq, Eq, Hash)]
-pub enum Wished {
-    /// Adds the value, unless the key has one.
-    Put(u64),
-    /// Adds the value, or overwrites the one there.
-    Set(u64),
-    /// Deletes the value, if there is one.
-    Delete,
-}
 
 /// What a change in place found and did.
 #[derive(Clone, Copy, Debug, PartialEq, Eq)]
@@ -54,6 +44,7 @@ pub fn change_in_place<A: Allocator + Copy>(
     ensures had { IfSome result (λ done. done.had ≡ at key (pairs chain.old)) }
     ensures delta { IfSome result (λ done. done.delta ≡ delta_for wished key done.had) }
     ensures changed { IfSome result (λ done. chain.new ≡ chain_with done.delta chain.old) }
+    ensures shallow { IfSome result (λ done. depth chain.old ≤ 1) }
     ensures unchanged { IfNone result (chain.new ≡ chain.old) }
 {
     match &mut chain.node {
@@ -73,6 +64,7 @@ fn change_behind_split<A: Allocator + Copy>(
     ensures had { IfSome result (λ done. done.had ≡ at key (pairs chain.old)) }
     ensures delta { IfSome result (λ done. done.delta ≡ delta_for wished key done.had) }
     ensures changed { IfSome result (λ done. chain.new ≡ chain_with done.delta chain.old) }
+    ensures shallow { IfSome result (λ done. depth chain.old ≤ 1) }
     ensures unchanged { IfNone result (chain.new ≡ chain.old) }
 {
     let done = change_below_split(chain, key, wished)?;
@@ -349,4 +341,76 @@ fn cut_listed<A: Allocator + Copy, X: Copy>(entries: &mut EntryList<X, A>, separ
 {
     let count = count_below_key(entries.as_slice(), separator);
     entries.truncate(count);
+}
+
+/// Takes the route at the separator, if there is one, out of the list of an inner page's base page.
+pub fn unroute_in_place<A: Allocator + Copy>(chain: &mut Chain<A>, separator: Key)
+    requires bare { depth chain.old ≡ 0 }
+    ensures { chain.new ≡ bare (page_for (above (deltas.TermDelete separator) chain.old)) }
+{
+    match &mut chain.node {
+        Node::Bare(base) => unroute_on_base(base, separator),
+        Node::Above(_, _) | Node::Merged(_, _, _) => unreachable!(),
+    }
+}
+
+fn unroute_on_base<A: Allocator + Copy>(base: &mut Base<A>, separator: Key)
+    ensures { base.new ≡ page_for (above (deltas.TermDelete separator) (bare base.old)) }
+{
+    match &mut base.entries {
+        Entries::Pairs(_) => {}
+        Entries::Routes(routes) => unroute_listed(routes, separator),
+    }
+}
+
+fn unroute_listed<A: Allocator + Copy>(routes: &mut EntryList<Pid, A>, separator: Key)
+    requires ascending { IsAscending routes.old }
+    ensures { routes.new ≡ without separator routes.old }
+{
+    let place = count_below_key(routes.as_slice(), separator);
+    match entry_at(routes.as_slice(), separator, place) {
+        Some(_) => routes.remove(place),
+        None => {}
+    }
+}
+
+/// Appends the entries of a page to those of the page on its left, which then ends where that one
+/// does. Returns false, and changes nothing, if a record stands over one of the pages, if they are
+/// of two kinds, or if memory is short.
+pub fn join_in_place<A: Allocator + Copy>(left: &mut Chain<A>, right: &Chain<A>) -> bool
+    requires meets { (fences left.old).high ≡ fence.Key (fences right.now).low }
+    ensures joined { result ≡ true → left.new ≡ bare (page_for (joined_chain left.old right.now)) }
+    ensures unchanged { result ≡ false → left.new ≡ left.old }
+{
+    let Node::Bare(base) = &right.node else {
+        return false;
+    };
+    match &mut left.node {
+        Node::Bare(into) => join_bases(into, base),
+        Node::Above(_, _) | Node::Merged(_, _, _) => false,
+    }
+}
+
+fn join_bases<A: Allocator + Copy>(into: &mut Base<A>, base: &Base<A>) -> bool
+    requires meets { into.old.high ≡ fence.Key base.now.low }
+    ensures joined { result ≡ true →
+        into.new ≡ page_for (joined_chain (bare into.old) (bare base.now)) }
+    ensures unchanged { result ≡ false → into.new ≡ into.old }
+{
+    match (&mut into.entries, &base.entries) {
+        (Entries::Pairs(pairs), Entries::Pairs(more)) => {
+            if pairs.append(more.as_slice()).is_err() {
+                return false;
+            }
+        }
+        (Entries::Routes(routes), Entries::Routes(more)) => {
+            if routes.append(more.as_slice()).is_err() {
+                return false;
+            }
+        }
+        _ => return false,
+    }
+    into.high = base.high;
+    into.right = base.right;
+    true
 }

@@ -11,13 +11,13 @@ mod reach;
 mod separator;
 mod stretch;
 
-ghost use Rattle.std.specs.Prelude.{◌≡◌};
+ghost use Rattle.std.specs.Prelude.{◌≡◌, option_map};
 ghost use Rattle.bw_delta.specs.Entries.{at, first_from, last_below, last_upto};
 ghost use Rattle.bw_delta.specs.Pairs.{pairs, routes};
 ghost use Rattle.bw_delta.specs.Sound.{IsSound};
 
 use crate::search::entry::find_entry;
-use crate::search::greatest::last_upto;
+use crate::search::greatest::{last_upto, last_value_upto};
 use crate::search::least::first_from;
 use bw_delta::Chain;
 use bw_keys::{Fence, Key, Pid};
@@ -73,6 +73,16 @@ pub fn child<A: Allocator + Copy>(chain: &Chain<A>, key: Key) -> Option<(Key, Pi
     ensures { result ≡ last_upto key (routes chain.now) }
 {
     last_upto(chain, key)
+}
+
+/// Returns the page of that route alone.
+#[tactic(auto, using(crate::proofs::Bridges::both_kinds))]
+#[inline(always)]
+pub fn child_page<A: Allocator + Copy>(chain: &Chain<A>, key: Key) -> Option<Pid>
+    requires sound { IsSound chain.now }
+    ensures { result ≡ option_map (λ route. route.1) (last_upto key (routes chain.now)) }
+{
+    last_value_upto(chain, key)
 }
 
 /// Returns the route with the greatest separator strictly below the key.

@@ -1,3 +1,4 @@
+pub mod Moves
 pub mod Entries
 pub mod Pages
 pub mod Slices

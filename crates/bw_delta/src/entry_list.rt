@@ -1,10 +1,11 @@
 #![tactic(auto, using(crate::proofs::Zips::zips))]
 
-ghost use Rattle.std.specs.Prelude.{◌≡◌, ◌≤◌, ◌<◌, ℕ, [], length, take, slice_set, slice_index_or, ◌↔◌, IsTrue, IfOk, OnOk, OnErr};
+ghost use Rattle.std.specs.Prelude.{◌≡◌, ◌≤◌, ◌<◌, ◌++◌, ℕ, [], length, take, slice_set, slice_index_or, ◌↔◌, IsTrue, IfOk, OnOk, OnErr};
 ghost use Rattle.std.specs.List.{zip, insert, remove};
 
 use crate::entry_slice::EntrySlice;
 use crate::fault::NoMemory;
+use crate::moves::{move_down, move_up};
 use bw_keys::Key;
 use std::alloc::Allocator;
 use std::marker::Model;
@@ -136,11 +137,17 @@ impl<X: Copy, A: Allocator> EntryList<X, A> {
         ensures unchanged { OnErr result (self.new ≡ self.old) }
     {
         self.keys.reserve(1)?;
-        self.values.insert(place, value)?;
-        match self.keys.insert(place, key) {
-            Ok(()) => Ok(()),
+        self.values.push(value)?;
+        match self.keys.push(key) {
+            Ok(()) => {}
             Err(_) => unreachable!(),
         }
+        let keys = self.keys.as_mut_slice();
+        let values = self.values.as_mut_slice();
+        move_up(keys, values, place);
+        keys[place] = key;
+        values[place] = value;
+        Ok(())
     }
 
     /// Puts another value in the entry at the place, counted from 0.
@@ -159,8 +166,23 @@ impl<X: Copy, A: Allocator> EntryList<X, A> {
         requires { place < length self.old }
         ensures { self.new ≡ remove self.old place }
     {
-        let _key = self.keys.remove(place);
-        let _value = self.values.remove(place);
+        move_down(self.keys.as_mut_slice(), self.values.as_mut_slice(), place);
+        let _key = self.keys.take_last();
+        let _value = self.values.take_last();
+    }
+
+    /// Appends the entries. Fails for want of memory, with the list as it was.
+    #[tactic(auto, using(crate::proofs::Zips::zips), unfolding(crate::specs::Slices::list_of))]
+    pub fn append(&mut self, entries: EntrySlice<'_, X>) -> Result<(), NoMemory>
+        ensures appended { OnOk result (self.new ≡ self.old ++ list_of entries.entry) }
+        ensures unchanged { OnErr result (self.new ≡ self.old) }
+    {
+        self.keys.reserve(entries.keys.len())?;
+        self.values.extend_from_slice(entries.values)?;
+        match self.keys.extend_from_slice(entries.keys) {
+            Ok(()) => Ok(()),
+            Err(_) => unreachable!(),
+        }
     }
 
     /// Takes out the entries behind the first `count`.

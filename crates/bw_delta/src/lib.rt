@@ -10,6 +10,7 @@ mod entry_list;
 mod entry_slice;
 mod fault;
 mod fences;
+mod moves;
 
 ghost use Rattle.bw_delta.specs.Modified.{ModifyLaw};
 

@@ -140,8 +140,4 @@ impl<S: Steps<Global, Step<Global>> + Shows + Drop> Steps<Global, Step<Global>> 
     fn trail(&self) -> &[Receipt] {
         self.steps.trail()
     }
-
-    fn trail_len(&self) -> usize {
-        self.steps.trail_len()
-    }
 }

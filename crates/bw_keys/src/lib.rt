@@ -4,7 +4,9 @@
 mod config;
 mod page;
 mod range;
+mod wished;
 
 pub use config::{BadConfig, Config, Field};
 pub use page::{MAX_DEPTH, MAX_LEVEL, MAX_WORKERS, Pid, Version};
 pub use range::{Fence, Key, Range};
+pub use wished::Wished;

@@ -24,6 +24,7 @@ pub mod MergeStep
 pub mod AllSteps
 pub mod TakenSteps
 pub mod NewTable
+pub mod MorePages
 pub mod Pigeonhole
 pub mod Facts
 pub mod Room

@@ -6,6 +6,7 @@ pub mod Tables
 pub mod Refusals
 pub mod Effects
 pub mod Runs
+pub mod MorePages
 pub mod Laws
 pub mod Numbers
 pub mod Examples

@@ -5,9 +5,11 @@
 pub mod examples;
 
 ghost use Rattle.bw_law.specs.Laws.{StepLaw, RunLaw, NewLaw, RowLaw, WalkLaw, MapLaw, CountLaw, TermLaw, LookLaw, FitLaw, SameLaw};
+ghost use Rattle.bw_law.specs.MorePages.{MorePagesLaw, SameAsNewLaw};
 ghost use Rattle.bw_law.specs.Numbers.{RefusalLaw};
 
-/// A lawful and booked table stays so with each accepted step, and its map changes as the step says.
+/// A lawful and booked table stays so with each accepted step, and its map changes as the step
+/// says.
 pub fn each_step_keeps_the_law()
     ensures { StepLaw }
 {}
@@ -17,8 +19,19 @@ pub fn the_new_table_is_lawful()
     ensures { NewLaw }
 {}
 
-/// Whatever steps are proposed to a new table, one after the other, it is lawful and booked after each:
-/// a refused one changes nothing.
+/// A lawful and booked table stays so with more pages. It has the slots, the map and the rows that
+/// it had, and each search goes the way that it went.
+pub fn more_pages_keep_the_law()
+    ensures { MorePagesLaw }
+{}
+
+/// A new table that gets more pages is the one that is made with them all.
+pub fn a_new_table_may_get_its_pages_later()
+    ensures { SameAsNewLaw }
+{}
+
+/// Whatever steps are proposed to a new table, one after the other, it is lawful and booked after
+/// each: a refused one changes nothing.
 pub fn each_run_keeps_the_law()
     ensures { RunLaw }
 {}
@@ -30,8 +43,8 @@ pub fn rows_partition()
     ensures { RowLaw }
 {}
 
-/// For each key there is just one walk from the root, and it ends at the leaf in the row whose range
-/// holds the key.
+/// For each key there is just one walk from the root, and it ends at the leaf in the row whose
+/// range holds the key.
 pub fn each_search_ends_at_its_leaf()
     ensures { WalkLaw }
 {}
@@ -58,13 +71,14 @@ pub fn the_first_refusal_is_the_least()
     ensures { RefusalLaw }
 {}
 
-/// The leaf whose range holds a key has the value that the map has there, or none where it has none.
+/// The leaf whose range holds a key has the value that the map has there, or none where it has
+/// none.
 pub fn the_leaf_decides()
     ensures { LookLaw }
 {}
 
-/// The depth, the level and the number of entries of each page fit what they are stored in, every id
-/// that a page names is that of a slot, and the free list isn't longer than the slots.
+/// The depth, the level and the number of entries of each page fit what they are stored in, every
+/// id that a page names is that of a slot, and the free list isn't longer than the slots.
 pub fn numbers_fit()
     ensures { FitLaw }
 {}

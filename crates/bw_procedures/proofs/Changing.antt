@@ -1,9 +1,14 @@
 -- What a step that changes the map leaves.
-use Rattle.std.proofs.Common.{◌≡◌, ℕ, ◌≤◌, Bool, true, false, if◌then◌else◌, List, [], ◌∷◌, ◌++◌, Option, Some, Result, Ok, Err, refl, sym, ap, subst, ◌∙◌, arith, None}
-use Rattle.bw_keys.specs.declared.page.Pid.{Pid}
-use Rattle.bw_chain.specs.declared.in_place.Wished.{Wished}
-use Rattle.bw_chain.specs.declared.in_place.Wished.TheVariants.{Put, Set, Delete as TakeOut}
-use Rattle.bw_step.specs.declared.at_once.AtOnce.{AtOnce}
+use Rattle.std.proofs.Common.{◌≡◌, ◌⊎◌, inl, inr, IfSome, IfNone, ℕ, ◌≤◌, Bool, true, false, if◌then◌else◌, List, [], ◌∷◌, ◌++◌, Option, Some, Result, Ok, Err, refl, sym, ap, subst, ◌∙◌, arith}
+use Rattle.std.specs.Result.{result_ok}
+use Rattle.bw_keys.specs.declared.wished.Wished.{Wished}
+use Rattle.bw_keys.specs.declared.wished.Wished.TheVariants.{Put, Set, Delete as TakeOut}
+use Rattle.bw_step.specs.declared.action.Action.{Action}
+use Rattle.bw_step.specs.declared.action.Action.TheVariants as actions
+use Rattle.bw_step.specs.declared.action.Performed.{Performed}
+use Rattle.bw_step.specs.declared.action.Unperformed.{Unperformed}
+use Rattle.bw_step.specs.declared.action.Unperformed.TheVariants.{Denied, StepByStep}
+use Rattle.bw_step.specs.declared.fault.Denied.TheVariants.{Refused, NoMemory}
 use Rattle.bw_step.specs.Proposals.{Proposal, insert, delete, modify}
 use Rattle.bw_step.specs.Steps.{ChangesShape, IsReceiptOf}
 use Rattle.bw_step.specs.declared.receipt.Receipt.{Receipt}
@@ -19,10 +24,12 @@ use Rattle.bw_procedures.specs.declared.writing.Tried.{Tried}
 use Rattle.bw_procedures.specs.declared.writing.Tried.TheVariants.{Reply, Tend, Again, Kept}
 use Rattle.bw_procedures.specs.Seen.{Seen, SameCounts, Grows, IsAccepted, is_kept}
 use Rattle.bw_procedures.specs.Seen.{Looked as LookTaken}
-use Rattle.bw_procedures.specs.Writing.{Attempts, AddsReceipt, IsReceiptFor, IsChangeFor, ChangedAtOnce, RecordedAtOnce, IsMadeAtOnce, MadeAtOnce, shapes_behind, effort_at_once, LookAdds, FoundBy, IsReceiptOfPut, IsDeletionOf, IsSettingOf}
+use Rattle.bw_procedures.specs.Actions.{consolidates_behind, receipts_behind, receipts_of, Performs, PerformedBy}
+use Rattle.bw_procedures.specs.Writing.{Attempts, AddsReceipt, IsReceiptFor, IsChangeFor, LookAdds, FoundBy, IsReceiptOfPut, IsDeletionOf, IsSettingOf}
 use Rattle.bw_procedures.specs.Calls.{Offered, OnlyReshapes}
 use Rattle.bw_procedures.proofs.Trails.{adds_by, adds_nothing}
 use Rattle.bw_procedures.proofs.Reshaping.{counts_grow}
+use Rattle.bw_procedures.proofs.Performing.{performed_grows, shapes_behind}
 
 pub adds_without_shapes : (a b : Seen) (r : Receipt) → without_shapes (r ∷ []) ≡ r ∷ [] → b.trail ≡ a.trail ++ r ∷ [] → without_shapes b.trail ≡ without_shapes a.trail ++ r ∷ []
 adds_without_shapes a b r is e = ap without_shapes e ∙ (without_shapes-append a.trail (r ∷ []) ∙ ap (λ (l : List Receipt). without_shapes a.trail ++ l) is)
@@ -101,40 +108,59 @@ alone_at_once key wished (Modified n k old v) behind shapes told = ap (λ l. Mod
 alone_at_once key wished (Looked at k found) behind shapes told = ap (λ l. Looked at k found ∷ l) shapes
 alone_at_once key wished (Shaped kind p other) behind shapes told = absurd (shape_is_no_change key wished (Shaped kind p other) refl told)
 
-only_shapes : (key : ℕ) (wished : Wished) (page : Pid) (receipt : Receipt) → IsReceiptFor key wished receipt → without_shapes (shapes_behind page receipt) ≡ []
-only_shapes key wished page (Inserted n k v) told = refl
-only_shapes key wished page (Deleted n k v) told = refl
-only_shapes key wished page (Modified n k old v) told = refl
-only_shapes key wished page (Looked at k found) told = refl
-only_shapes key wished page (Shaped kind p other) told = absurd (shape_is_no_change key wished (Shaped kind p other) refl told)
-
-spends_at_once : (receipt : Receipt) (n : ℕ) → n ≤ effort_at_once receipt n
-spends_at_once (Looked at k found) n = omega arith
-spends_at_once (Inserted m k v) n = omega arith
-spends_at_once (Deleted m k v) n = omega arith
-spends_at_once (Modified m k old v) n = omega arith
-spends_at_once (Shaped kind p other) n = omega arith
-
--- what was done with a consolidation behind it, or by one step, was made at once
-pub made_at_once : (key : ℕ) (wished : Wished) (done : Option AtOnce) (a b : Seen) → ChangedAtOnce key wished done a b → MadeAtOnce key wished done a b
-made_at_once key wished None a b same = same
-made_at_once key wished (Some done) a b h =
-    record { told = h.told; counts = h.counts; behind = shapes_behind done.page done.receipt; shapes = only_shapes key wished done.page done.receipt h.told; trail = h.trail; effort = let up = spends_at_once done.receipt a.effort in omega (arith, h.effort, up) }
-
-pub made_by_one : (key : ℕ) (wished : Wished) (done : Option AtOnce) (a b : Seen) → RecordedAtOnce key wished done a b → MadeAtOnce key wished done a b
-made_by_one key wished None a b same = same
-made_by_one key wished (Some done) a b h = record { told = h.told; counts = h.counts; behind = []; shapes = refl; trail = h.trail; effort = omega (arith, h.effort) }
+-- what makes a wish come true at once, one way or the other
+abbrev pub MadeBy : ℕ → Wished → Performed → Seen → Seen → Type 0
+MadeBy key wished done a b = Performs (actions.Record key wished) done a b ⊎ Performs (actions.Change key wished) done a b
 
 -- a wish that came true at once adds the receipt of its reply
-pub adds_at_once : {T : Type 0} → (is_of : T → Receipt → Type 0) (reply : T) (key : ℕ) (wished : Wished) (done : AtOnce) (a b : Seen) → IsMadeAtOnce key wished done a b → is_of reply done.receipt → AddsReceipt is_of reply a b × Grows a b
-adds_at_once is_of reply key wished done a b h goes = (
-  (done.receipt, ap without_shapes h.trail ∙ (without_shapes-append a.trail (done.receipt ∷ h.behind) ∙ ap (λ (l : List Receipt). without_shapes a.trail ++ l) (alone_at_once key wished done.receipt h.behind h.shapes h.told)), goes),
-  counts_grow a b h.counts (adds_by a.trail b.trail (done.receipt ∷ h.behind) h.trail) h.effort,
+adds_for : {T : Type 0} → (is_of : T → Receipt → Type 0) (reply : T) (key : ℕ) (wished : Wished) (action : Action) (done : Performed) (a b : Seen) → Performs action done a b
+    → IsReceiptFor key wished done.receipt → is_of reply done.receipt → AddsReceipt is_of reply a b × Grows a b
+adds_for is_of reply key wished action done a b h told goes = (
+  (
+    done.receipt,
+    ap without_shapes h.trail ∙ (without_shapes-append a.trail (receipts_of action done)
+        ∙ ap (λ (l : List Receipt). without_shapes a.trail ++ l) (alone_at_once key wished done.receipt (receipts_behind action done) (shapes_behind (consolidates_behind action done.receipt) done.page) told)),
+    goes,
+  ),
+  performed_grows action done a b h,
 )
 
+pub adds_at_once : {T : Type 0} → (is_of : T → Receipt → Type 0) (reply : T) (key : ℕ) (wished : Wished) (done : Performed) (a b : Seen) → MadeBy key wished done a b → is_of reply done.receipt
+    → AddsReceipt is_of reply a b × Grows a b
+adds_at_once is_of reply key wished done a b (inl h) goes = adds_for is_of reply key wished (actions.Record key wished) done a b h h.told goes
+adds_at_once is_of reply key wished done a b (inr h) goes = adds_for is_of reply key wished (actions.Change key wished) done a b h h.told goes
+
+told_at_once : (key : ℕ) (wished : Wished) (done : Performed) (a b : Seen) → MadeBy key wished done a b → IsReceiptFor key wished done.receipt
+told_at_once key wished done a b (inl h) = h.told
+told_at_once key wished done a b (inr h) = h.told
+
 -- so does a look that finds the wish true
-pub looked_at_once : {T : Type 0} → (is_of : T → Receipt → Type 0) (reply : T) (key : ℕ) (wished : Wished) (done : AtOnce) (a b : Seen) → IsMadeAtOnce key wished done a b
+pub looked_at_once : {T : Type 0} → (is_of : T → Receipt → Type 0) (reply : T) (key : ℕ) (wished : Wished) (done : Performed) (a b : Seen) → MadeBy key wished done a b
     → (at k : ℕ) (found : Option ℕ) → done.receipt ≡ Looked at k found → ((n : ℕ) → is_of reply (Looked n key found)) → AddsReceipt is_of reply a b × Grows a b
 looked_at_once is_of reply key wished done a b h at k found is goes =
-    let told : IsReceiptFor key wished (Looked at k found) = subst (IsReceiptFor key wished) is h.told in
+    let told : IsReceiptFor key wished (Looked at k found) = subst (IsReceiptFor key wished) is (told_at_once key wished done a b h) in
     adds_at_once is_of reply key wished done a b h (subst (is_of reply) (sym (is ∙ ap (λ (x : ℕ). Looked at x found) told.0)) (goes at))
+
+-- what was performed, if it was, makes the wish come true one way or the other, and otherwise nothing was done
+module _ (key : ℕ) (wished : Wished) (a b : Seen) where
+  pub recorded : (result : Result Performed Unperformed) → PerformedBy (actions.Record key wished) result a b → IfSome (result_ok result) (λ done. MadeBy key wished done a b)
+  recorded (Ok done) h = inl h
+  recorded (Err why) h = tt
+
+  pub changed : (result : Result Performed Unperformed) → PerformedBy (actions.Change key wished) result a b → IfSome (result_ok result) (λ done. MadeBy key wished done a b)
+  changed (Ok done) h = inr h
+  changed (Err why) h = tt
+
+  pub unrecorded : (result : Result Performed Unperformed) → PerformedBy (actions.Record key wished) result a b → IfNone (result_ok result) (b ≡ a)
+  unrecorded (Ok done) h = tt
+  unrecorded (Err (Denied (Refused reason))) h = h
+  unrecorded (Err (Denied NoMemory)) h = h
+  unrecorded (Err StepByStep) h = h
+
+  pub unchanged : (result : Result Performed Unperformed) → PerformedBy (actions.Change key wished) result a b → IfNone (result_ok result) (b ≡ a)
+  unchanged (Ok done) h = tt
+  unchanged (Err (Denied (Refused reason))) h = h
+  unchanged (Err (Denied NoMemory)) h = h
+  unchanged (Err StepByStep) h = h
+
+pub ruleset made_at_once = (recorded, changed, unrecorded, unchanged)

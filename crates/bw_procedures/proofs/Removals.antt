@@ -1,10 +1,9 @@
 -- The removal of a range, part by part.
-use Rattle.std.proofs.Common.{◌≡◌, ◌⊎◌, inl, inr, ℕ, ◌+◌, ◌<◌, ◌≤◌, ◌==◌, min, Bool, true, false, List, [], ◌∷◌, ◌++◌, length, Option, Some, None, refl, ap, sym, subst, ◌∙◌, append_assoc, append-nil, length-append, arith}
+use Rattle.std.proofs.Common.{◌≡◌, ◌⊎◌, inl, inr, ℕ, ◌+◌, ◌<◌, ◌≤◌, ◌==◌, min, Bool, true, false, List, [], ◌∷◌, ◌++◌, Option, Some, None, refl, ap, sym, subst, ◌∙◌, append_assoc, append-nil, arith}
 use Rattle.std.specs.Prelude.{nat_lt, is_some}
 use Rattle.std.proofs.lemmas.Bool.Decides.{nat_tests}
 use Rattle.bw_delta.specs.Entries.{at, rises}
-use Rattle.bw_step.specs.declared.receipt.Receipt.{Receipt}
-use Rattle.bw_step.specs.Tellings.{Telling, change, look, shape, telling_of, Told, changed, told_by, told_in, without_shapes}
+use Rattle.bw_step.specs.Tellings.{Told, changed, told_in, without_shapes}
 use Rattle.bw_procedures.specs.declared.reply.Del.{Del}
 use Rattle.bw_procedures.specs.declared.reply.Del.TheVariants.{Removed, NoKey}
 use Rattle.bw_procedures.specs.declared.fault.Fault.{Fault}
@@ -78,27 +77,10 @@ adds_spent low at high n a b c more spends = record {
   count = more.count;
 }
 
--- the trail has no fewer receipts than keys were taken out
+-- a delete takes out no more than one key
 one_upto : (x : Told) → removal_in x ≤ 1
 one_upto (changed key (Some value) None) = omega arith
 one_upto x = omega arith
-
-removals_upto : (xs : List Told) → removals_in xs ≤ length xs
-removals_upto [] = omega arith
-removals_upto (x ∷ xs) = omega (arith, one_upto x, removals_upto xs)
-
-told_upto : (telling : Telling) → length (told_by telling) ≤ 1
-told_upto (change number key before after) = omega arith
-told_upto (look at key found) = omega arith
-told_upto shape = omega arith
-
-told_in_upto : (xs : List Receipt) → length (told_in xs) ≤ length xs
-told_in_upto [] = omega arith
-told_in_upto (x ∷ xs) = omega (arith, told_upto (telling_of x), length-append (told_by (telling_of x)) (told_in xs), told_in_upto xs)
-
-pub adds_upto : (low high n : ℕ) (a b : Seen) → AddsRemovals low high n a b → n ≤ length b.trail
-adds_upto low high n a b more =
-    omega (arith, more.count, removals_upto more.added, ap (λ (l : List Told). length l) more.trail, length-append (told_in a.trail) more.added, told_in_upto b.trail)
 
 -- a delete's reply says whether the key was taken out
 abbrev taken_in : Del → ℕ

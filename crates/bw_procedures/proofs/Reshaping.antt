@@ -1,10 +1,8 @@
 -- What steps that change only the tree's shape leave.
-use Rattle.std.proofs.Common.{◌≡◌, ◌≢◌, ℕ, true, zero, suc, ◌+◌, ◌<◌, ◌≤◌, ◌^◌, List, [], ◌∷◌, ◌++◌, length, Option, Some, None, Result, Ok, Err, IfErr, OnOk, refl, sym, ap, subst, ◌∙◌, append-nil, arith}
-use Rattle.std.specs.Prelude.{is_some}
+use Rattle.std.proofs.Common.{◌≢◌, ℕ, zero, suc, ◌+◌, ◌<◌, ◌≤◌, ◌^◌, List, [], ◌∷◌, ◌++◌, length, Option, Some, None, Result, Ok, Err, IfErr, OnOk, refl, sym, ap, subst, ◌∙◌, append-nil, arith}
 use Rattle.bw_keys.specs.declared.page.Pid.{Pid}
 use Rattle.bw_step.specs.Proposals.{Proposal, insert, delete, modify}
 use Rattle.bw_step.specs.Steps.{ChangesShape}
-use Rattle.bw_step.specs.declared.receipt.Kind.TheVariants as kinds
 use Rattle.bw_step.specs.declared.receipt.Receipt.{Receipt}
 use Rattle.bw_step.specs.declared.receipt.Receipt.TheVariants.{Shaped}
 use Rattle.bw_step.specs.Tellings.{without_shapes}
@@ -12,7 +10,7 @@ use Rattle.bw_step.proofs.Tellings.{without_shapes-append}
 use Rattle.bw_procedures.specs.Seen.{Seen, SameCounts, OnlyAdds, Grows, IsAccepted}
 use Rattle.bw_procedures.proofs.Trails.{adds_by, adds_then}
 use Rattle.bw_procedures.specs.declared.fault.Fault.{Fault}
-use Rattle.bw_procedures.specs.Calls.{OnlyReshapes, ReshapesWithin, IsEarned, RoseBy, raised, TakesShapes, SplitAtOnce, PostedAtOnce}
+use Rattle.bw_procedures.specs.Calls.{OnlyReshapes, ReshapesWithin, IsEarned, RoseBy, raised, TakesShapes, SplitAtOnce}
 use Rattle.bw_procedures.specs.Tending.{IsTended}
 
 pub counts_grow : (a b : Seen) → SameCounts a b → OnlyAdds a.trail b.trail → a.effort ≤ b.effort → Grows a b
@@ -80,12 +78,3 @@ split_tends limit (Some page) a b c fits before covered split =
       },
       omega (arith, x.effort, taken.1),
     )
-
--- one step that changes only the shape, taken at once, brings the effort nearer to the limit
-pub shape_tends : {T : Type 0} → (limit : ℕ) (receipt : Receipt) (made : T) (a b : Seen) → limit < 2 ^ 64 → a.effort < limit → TakesShapes (receipt ∷ []) a b → IsTended {T = T} limit (Ok (Some made)) a b
-shape_tends limit receipt made a b fits before taken = let done = shapes_taken (receipt ∷ []) a b (λ is. cc is) taken in (done.0, omega (arith, done.1))
-
--- a page that was named in its parent at once costs one effort
-pub posted_costs : (child : Pid) (parent : Option Pid) (a b : Seen) → PostedAtOnce child parent a b → is_some parent ≡ true → OnlyReshapes a b × RoseBy 1 a.effort b.effort
-posted_costs child None a b same some = absurd (cc some)
-posted_costs child (Some parent) a b taken some = shapes_taken (Shaped kinds.TermAdd parent (Some child) ∷ []) a b (λ is. cc is) taken

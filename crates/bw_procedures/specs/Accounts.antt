@@ -1,6 +1,7 @@
 -- What contracts see of a worker's account, and what each of its methods makes of that.
 use Rattle.std.specs.Prelude.{ℕ, List, [], ◌∷◌, ◌++◌, length, Option, Result}
-use Rattle.bw_step.specs.declared.at_once.AtOnce.{AtOnce}
+use Rattle.bw_step.specs.declared.action.Action.{Action}
+use Rattle.bw_step.specs.declared.action.Performed.{Performed}
 use Rattle.bw_step.specs.declared.fault.CopyFault.{CopyFault}
 use Rattle.bw_step.specs.declared.place.Go.{Go}
 use Rattle.bw_step.specs.declared.receipt.Receipt.{Receipt}
@@ -9,20 +10,16 @@ use Rattle.bw_step.specs.declared.view.Look.{Look}
 use Rattle.bw_procedures.specs.declared.steps.Keep.{Keep}
 use Rattle.bw_procedures.specs.Seen.{Seen, one_more, visit_effort, look_effort, trail_after_look, copy_effort, receipt_effort, full_after, tall_after, worn_after}
 use Rattle.bw_procedures.specs.Calls.{raised}
-use Rattle.bw_procedures.specs.Writing.{receipts_at_once, effort_at_once}
+use Rattle.bw_procedures.specs.Actions.{receipts_of, effort_with}
 
 -- the worker, and for how many receipts its trail has room
 pub record AccountValue : Type 0 where
   pub seen : Seen
   pub room : ℕ
 
--- after a look, or a change and the consolidation behind it
-abbrev pub after_at_once : AtOnce → Seen → Seen
-after_at_once done seen = record seen { trail = seen.trail ++ receipts_at_once done; effort = effort_at_once done.receipt seen.effort }
-
--- after one receipt at no cost
-abbrev pub after_one : Receipt → Seen → Seen
-after_one receipt seen = record seen { trail = seen.trail ++ receipt ∷ [] }
+-- after an action that was performed
+abbrev pub after_performed : Action → Performed → Seen → Seen
+after_performed action done seen = record seen { trail = seen.trail ++ receipts_of action done; effort = effort_with (receipts_of action done) seen.effort }
 
 -- after steps that change only the tree's shape, each at the cost of one effort
 abbrev pub after_shapes : List Receipt → Seen → Seen

@@ -9,8 +9,6 @@ use Rattle.bw_step.specs.declared.receipt.Receipt.{Receipt}
 use Rattle.bw_step.specs.declared.receipt.Receipt.TheVariants as receipts
 use Rattle.bw_step.specs.declared.refused.Refused.{Refused}
 use Rattle.bw_step.specs.declared.refused.Refused.TheVariants as reasons
-use Rattle.bw_step.specs.declared.fault.Denied.{Denied}
-use Rattle.bw_step.specs.declared.fault.Denied.TheVariants as denied
 use Rattle.bw_step.specs.declared.view.Look.{Look}
 use Rattle.bw_step.specs.declared.view.View.{View}
 use Rattle.bw_step.specs.Steps.{IsReceiptOf}
@@ -19,7 +17,7 @@ use Rattle.bw_procedures.specs.declared.fault.Fault.{Fault}
 use Rattle.bw_procedures.specs.declared.fault.Fault.TheVariants.{Contended, NoMemory as NoRoom, TableFull, TooTall, Worn}
 use Rattle.bw_procedures.specs.declared.offer.Answer.{Answer}
 use Rattle.bw_procedures.specs.declared.offer.Answer.TheVariants as answers
-use Rattle.bw_procedures.specs.Seen.{Seen, one_more, IsRefused, SameButEffort, SameCounts, Grows}
+use Rattle.bw_procedures.specs.Seen.{Seen, one_more, SameButEffort, SameCounts, Grows}
 use Rattle.bw_procedures.specs.Facts.{Fact, holds, fresh}
 
 -- a count rose by n, or is at its end
@@ -56,6 +54,11 @@ abbrev pub receipts_of_split : Pid → Pid → Pid → Bool → List Receipt
 receipts_of_split page parent new_page true = receipts_of_shape kinds.Split page new_page ++ receipts_of_shape kinds.TermAdd parent new_page
 receipts_of_split page parent new_page false = receipts_of_shape kinds.Split page new_page
 
+-- a page was merged into the left one, and its term taken out of the parent
+abbrev pub receipts_of_merge : Pid → Pid → Pid → List Receipt
+receipts_of_merge page parent left =
+    receipts.Shaped kinds.Mark page None ∷ receipts_of_shape kinds.Merge left page ++ receipts_of_shape kinds.TermDelete parent page
+
 -- the receipts of steps that change only the tree's shape were added, each at the cost of one effort
 pub record TakesShapes (receipts : List Receipt) (old new : Seen) : Type 0 where
   pub shapes : without_shapes receipts ≡ []
@@ -63,22 +66,10 @@ pub record TakesShapes (receipts : List Receipt) (old new : Seen) : Type 0 where
   pub trail : new.trail ≡ old.trail ++ receipts
   pub effort : new.effort ≡ raised (length receipts) old.effort
 
--- a page was split at once, by these steps, or nothing was done
+-- a page was split, or merged, at once, by these steps, or nothing was done
 abbrev pub SplitAtOnce : Option Pid → Seen → Seen → Type 0
 SplitAtOnce None old new = new ≡ old
 SplitAtOnce (Some page) old new = (receipts : List Receipt) × (receipts ≢ []) × TakesShapes receipts old new
-
--- a step that changes only the tree's shape was taken at once, and its receipt added at the cost of one effort; or it was denied, or nothing was done
-abbrev pub ShapedAtOnce : {T : Type 0} → (T → Receipt) → Option (Result T Denied) → Seen → Seen → Type 0
-ShapedAtOnce receipt_of None old new = new ≡ old
-ShapedAtOnce receipt_of (Some (Ok it)) old new = TakesShapes (receipt_of it ∷ []) old new
-ShapedAtOnce receipt_of (Some (Err (denied.Refused reason))) old new = IsRefused reason old new
-ShapedAtOnce receipt_of (Some (Err denied.NoMemory)) old new = new ≡ old
-
--- a page was named in its parent at once, at the cost of one effort, or nothing was done
-abbrev pub PostedAtOnce : Pid → Option Pid → Seen → Seen → Type 0
-PostedAtOnce child None old new = new ≡ old
-PostedAtOnce child (Some parent) old new = TakesShapes (receipts.Shaped kinds.TermAdd parent (Some child) ∷ []) old new
 
 -- no receipt and no count: only the effort may have risen
 pub record OnlySpends (old new : Seen) : Type 0 where

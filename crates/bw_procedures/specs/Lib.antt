@@ -6,6 +6,7 @@ pub mod Rounds
 pub mod Tending
 pub mod Writing
 pub mod Writes
+pub mod Actions
 pub mod Accounts
 pub mod Clearing
 pub mod Told

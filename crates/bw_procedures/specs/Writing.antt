@@ -1,13 +1,7 @@
 -- What put, set and delete leave of the worker: one receipt for each reply.
-use Rattle.std.specs.Prelude.{◌≡◌, ◌≤◌, ◌⊎◌, ℕ, Bool, true, false, List, [], ◌∷◌, ◌++◌, Option, Some, None, Result, Ok, Err}
-use Rattle.bw_keys.specs.declared.page.Pid.{Pid}
-use Rattle.bw_chain.specs.declared.in_place.Wished.{Wished}
-use Rattle.bw_chain.specs.declared.in_place.Wished.TheVariants as wishes
-use Rattle.bw_delta.specs.Pages.{Page}
-use Rattle.bw_step.specs.declared.at_once.AtOnce.{AtOnce}
-use Rattle.bw_step.specs.declared.fault.Denied.{Denied}
-use Rattle.bw_step.specs.Proposals.{consolidate}
-use Rattle.bw_step.specs.declared.receipt.Kind.TheVariants as kinds
+use Rattle.std.specs.Prelude.{◌≡◌, ◌⊎◌, ℕ, Bool, true, false, [], ◌∷◌, ◌++◌, Option, Some, None, Result, Ok, Err}
+use Rattle.bw_keys.specs.declared.wished.Wished.{Wished}
+use Rattle.bw_keys.specs.declared.wished.Wished.TheVariants as wishes
 use Rattle.bw_step.specs.declared.receipt.Receipt.{Receipt}
 use Rattle.bw_step.specs.declared.receipt.Receipt.TheVariants as receipts
 use Rattle.bw_step.specs.declared.view.Look.{Look}
@@ -26,7 +20,7 @@ use Rattle.bw_procedures.specs.declared.writing.Arrival.{Arrival}
 use Rattle.bw_procedures.specs.declared.writing.Arrival.TheVariants.{Gone, Here, Help}
 use Rattle.bw_procedures.specs.declared.writing.Tried.{Tried}
 use Rattle.bw_procedures.specs.declared.writing.Tried.TheVariants.{Reply, Tend, Again, Kept}
-use Rattle.bw_procedures.specs.Seen.{Seen, SameCounts, Grows, Installed, is_kept, one_more}
+use Rattle.bw_procedures.specs.Seen.{Seen, Grows, is_kept}
 use Rattle.bw_procedures.specs.Calls.{OnlyReshapes, IsEarned, RoseBy}
 
 -- the receipt that goes with a put's reply: the insertion of the pair, or the look that found the key's value
@@ -79,62 +73,6 @@ IsReceiptFor key wished receipt = IsChangeFor key wished receipt
 abbrev pub AnswersBy : {T : Type 0} → Keep → ℕ → (T → Receipt → Type 0) → Option ℕ → Option T → Type 0
 AnswersBy keep key is_of found None = is_kept keep found ≡ false
 AnswersBy keep key is_of found (Some reply) = (is_kept keep found ≡ true) × ((at : ℕ) → is_of reply (receipts.Looked at key found))
-
--- what is added behind the receipt of what was done at once: nothing to a look, and the consolidation of the page to a change
-abbrev pub shapes_behind : Pid → Receipt → List Receipt
-shapes_behind page (receipts.Looked at key found) = []
-shapes_behind page receipt = receipts.Shaped kinds.Consolidate page None ∷ []
-
-abbrev pub receipts_at_once : AtOnce → List Receipt
-receipts_at_once done = done.receipt ∷ shapes_behind done.page done.receipt
-
--- a consolidation costs effort, and a look doesn't
-abbrev pub effort_at_once : Receipt → ℕ → ℕ
-effort_at_once (receipts.Looked at key found) n = n
-effort_at_once receipt n = one_more n
-
--- what a wish that came true at once leaves
-pub record IsTrueAtOnce (key : ℕ) (wished : Wished) (done : AtOnce) (old new : Seen) : Type 0 where
-  pub told : IsReceiptFor key wished done.receipt
-  pub counts : SameCounts old new
-  pub trail : new.trail ≡ old.trail ++ receipts_at_once done
-  pub effort : new.effort ≡ effort_at_once done.receipt old.effort
-
--- a wish came true at once, or nothing was done
-abbrev pub ChangedAtOnce : ℕ → Wished → Option AtOnce → Seen → Seen → Type 0
-ChangedAtOnce key wished None old new = new ≡ old
-ChangedAtOnce key wished (Some done) old new = IsTrueAtOnce key wished done old new
-
--- what a wish leaves that came true by a look or by one record
-pub record IsTrueByOne (key : ℕ) (wished : Wished) (done : AtOnce) (old new : Seen) : Type 0 where
-  pub told : IsReceiptFor key wished done.receipt
-  pub counts : SameCounts old new
-  pub trail : new.trail ≡ old.trail ++ done.receipt ∷ []
-  pub effort : new.effort ≡ old.effort
-
--- a wish came true by one step, or nothing was done
-abbrev pub RecordedAtOnce : ℕ → Wished → Option AtOnce → Seen → Seen → Type 0
-RecordedAtOnce key wished None old new = new ≡ old
-RecordedAtOnce key wished (Some done) old new = IsTrueByOne key wished done old new
-
--- the page was consolidated by one step, or the step was denied, or nothing was done
-abbrev pub ConsolidatedAtOnce : ℕ → ℕ → Option (Result Receipt Denied) → Seen → Seen → Type 0
-ConsolidatedAtOnce page version None old new = new ≡ old
-ConsolidatedAtOnce page version (Some answer) old new = (base : Page) × Installed (consolidate page version base) answer old new
-
--- a wish came true at once: its receipt was added, and behind it at most receipts of shape
-pub record IsMadeAtOnce (key : ℕ) (wished : Wished) (done : AtOnce) (old new : Seen) : Type 0 where
-  pub told : IsReceiptFor key wished done.receipt
-  pub counts : SameCounts old new
-  pub behind : List Receipt
-  pub shapes : without_shapes behind ≡ []
-  pub trail : new.trail ≡ old.trail ++ done.receipt ∷ behind
-  pub effort : old.effort ≤ new.effort
-
--- or nothing was done
-abbrev pub MadeAtOnce : ℕ → Wished → Option AtOnce → Seen → Seen → Type 0
-MadeAtOnce key wished None old new = new ≡ old
-MadeAtOnce key wished (Some done) old new = IsMadeAtOnce key wished done old new
 
 -- one receipt that isn't Shaped was added, and it is this reply's
 abbrev pub AddsReceipt : {T : Type 0} → (T → Receipt → Type 0) → T → Seen → Seen → Type 0

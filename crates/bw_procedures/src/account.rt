@@ -1,9 +1,10 @@
 //! What a worker keeps of the atomic steps that it took.
 
-ghost use Rattle.std.specs.Prelude.{◌≡◌, ◌+◌, ◌<◌, [], OnOk, length};
-ghost use Rattle.bw_procedures.specs.Calls.{receipts_of_shape, receipts_of_split};
+ghost use Rattle.std.specs.Prelude.{◌≡◌, ◌+◌, ◌<◌, ◌≤◌, [], Err, OnOk, length};
+ghost use Rattle.bw_procedures.specs.Actions.{consolidates_behind, most_receipts, PerformedBy};
+ghost use Rattle.bw_procedures.specs.Calls.{receipts_of_merge, receipts_of_shape, receipts_of_split};
 ghost use Rattle.bw_procedures.specs.Seen.{ends_of, one_more};
-ghost use Rattle.bw_procedures.specs.Accounts.{after_at_once, after_one, after_shapes, after_visit};
+ghost use Rattle.bw_procedures.specs.Accounts.{after_performed, after_shapes, after_visit};
 ghost use Rattle.bw_procedures.specs.Accounts.{after_look, after_copy};
 ghost use Rattle.bw_procedures.specs.Accounts.{after_receipt, after_refusal};
 
@@ -11,7 +12,9 @@ use crate::steps::{Ends, Keep};
 use crate::trail::Trail;
 use bw_delta::NoMemory;
 use bw_keys::{Config, Key, Pid};
-use bw_step::{AtOnce, CopyFault, Go, Kind, Look, Receipt, Refused};
+use bw_step::{
+    Action, CopyFault, Denied, Go, Kind, Look, Performed, Receipt, Refused, Unperformed,
+};
 use std::alloc::Global;
 use std::marker::Model;
 
@@ -169,15 +172,6 @@ impl<T: Trail> Account<T> {
         self.trail.make_room(1)
     }
 
-    /// Makes room for two more receipts, as [`reserve`](Account::reserve) for one.
-    #[inline(always)]
-    pub fn reserve_two(&mut self) -> Result<(), NoMemory>
-        ensures seen { self.new.seen ≡ self.old.seen }
-        ensures room { OnOk result (length self.new.seen.trail + 1 < self.new.room) }
-    {
-        self.trail.make_room(2)
-    }
-
     /// Makes room for four more receipts, as [`reserve`](Account::reserve) for one.
     pub fn reserve_four(&mut self) -> Result<(), NoMemory>
         ensures seen { self.new.seen ≡ self.old.seen }
@@ -186,31 +180,62 @@ impl<T: Trail> Account<T> {
         self.trail.make_room(4)
     }
 
-    /// Reports that a key was looked at, or changed and its page consolidated, which costs effort.
-    #[inline(always)]
-    pub fn done_at_once(&mut self, done: AtOnce)
-        requires { length self.old.seen.trail + 1 < self.old.room }
-        ensures { self.new.seen ≡ after_at_once done self.old.seen }
+    /// Makes room for five more receipts, as [`reserve`](Account::reserve) for one.
+    pub fn reserve_five(&mut self) -> Result<(), NoMemory>
+        ensures seen { self.new.seen ≡ self.old.seen }
+        ensures room { OnOk result (length self.new.seen.trail + 4 < self.new.room) }
     {
-        self.trail.add(done.receipt);
-        if let Receipt::Looked { .. } = done.receipt {
-            return;
-        }
-        self.trail.add(Receipt::Shaped {
-            kind: Kind::Consolidate,
-            page: done.page,
-            other: None,
-        });
-        self.effort = self.effort.saturating_add(1);
+        self.trail.make_room(5)
     }
 
-    /// Reports that a key was looked at, or the record of its change was put on its leaf.
+    /// Makes room for the receipts of the action, as [`reserve`](Account::reserve) for one.
     #[inline(always)]
-    pub fn recorded_at_once(&mut self, done: AtOnce)
-        requires { length self.old.seen.trail < self.old.room }
-        ensures { self.new.seen ≡ after_one done.receipt self.old.seen }
+    pub fn reserve_for(&mut self, action: Action) -> Result<(), NoMemory>
+        ensures seen { self.new.seen ≡ self.old.seen }
+        ensures room { OnOk result
+            (length self.new.seen.trail + most_receipts action ≤ self.new.room) }
     {
-        self.trail.add(done.receipt);
+        match action {
+            Action::Change { .. } => self.trail.make_room(2),
+            Action::Record { .. }
+            | Action::Consolidate { .. }
+            | Action::Halve { .. }
+            | Action::AddTerm { .. } => self.trail.make_room(1),
+        }
+    }
+
+    /// Reports an action that was performed: adds the receipt of its look or step, and behind a
+    /// change in its place that of the page's consolidation. A step that changes the tree's shape
+    /// costs effort.
+    #[inline(always)]
+    pub fn performed(&mut self, action: Action, done: Performed)
+        requires { length self.old.seen.trail + most_receipts action ≤ self.old.room }
+        ensures { self.new.seen ≡ after_performed action done self.old.seen }
+    {
+        self.accepted(done.receipt);
+        if is_consolidated_behind(action, done.receipt) {
+            self.accepted(Receipt::Shaped {
+                kind: Kind::Consolidate,
+                page: done.page,
+                other: None,
+            });
+        }
+    }
+
+    /// Reports an action that wasn't performed. Where the step on a page that it names was refused,
+    /// that costs effort, as [`refused`](Account::refused). What the other actions would find for
+    /// themselves is proposed step by step instead.
+    #[inline(always)]
+    pub fn unperformed(&mut self, action: Action, why: Unperformed)
+        ensures { PerformedBy action (Err why) self.old.seen self.new.seen }
+    {
+        match (action, why) {
+            (
+                Action::Consolidate { .. } | Action::Halve { .. },
+                Unperformed::Denied(Denied::Refused(reason)),
+            ) => self.refused(reason),
+            _ => {}
+        }
     }
 
     /// Reports that a page was split and consolidated, and then the new page named in the parent
@@ -224,6 +249,23 @@ impl<T: Trail> Account<T> {
         if posted {
             self.reshaped(Kind::TermAdd, parent, new);
         }
+    }
+
+    /// Reports that a page was marked, that the left one took it in and was consolidated, and that
+    /// the parent lost its term and was consolidated.
+    pub fn merged_at_once(&mut self, page: Pid, parent: Pid, left: Pid)
+        requires { length self.old.seen.trail + 4 < self.old.room }
+        ensures { self.new.seen
+            ≡ after_shapes (receipts_of_merge page parent left) self.old.seen }
+    {
+        self.trail.add(Receipt::Shaped {
+            kind: Kind::Mark,
+            page,
+            other: None,
+        });
+        self.effort = self.effort.saturating_add(1);
+        self.reshaped(Kind::Merge, left, page);
+        self.reshaped(Kind::TermDelete, parent, page);
     }
 
     /// Reports a step that changed a page's shape, and the consolidation of the page.
@@ -303,7 +345,8 @@ impl<T: Trail> Account<T> {
     #[inline(always)]
     pub fn accepted(&mut self, receipt: Receipt)
         requires { length self.old.seen.trail < self.old.room }
-        ensures { self.new.seen ≡ after_receipt receipt self.old.seen }
+        ensures seen { self.new.seen ≡ after_receipt receipt self.old.seen }
+        ensures room { self.new.room ≡ self.old.room }
     {
         self.trail.add(receipt);
         if let Receipt::Shaped { .. } = receipt {
@@ -323,5 +366,18 @@ impl<T: Trail> Account<T> {
             Refused::Worn => self.ends.worn = self.ends.worn.saturating_add(1),
             _ => {}
         }
+    }
+}
+
+/// Whether the page is consolidated behind what this is the receipt of, as it is behind a change in
+/// its place.
+#[inline(always)]
+pub fn is_consolidated_behind(action: Action, receipt: Receipt) -> bool
+    ensures { result ≡ consolidates_behind action receipt }
+{
+    match (action, receipt) {
+        (Action::Change { .. }, Receipt::Looked { .. }) => false,
+        (Action::Change { .. }, _) => true,
+        _ => false,
     }
 }

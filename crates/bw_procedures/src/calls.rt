@@ -1,6 +1,6 @@
 //! The calls of any worker, each with its contract.
 
-use crate::clearing::{add, end_among_keys, remove_below};
+use crate::clearing::{end_among_keys, has_room, remove_below};
 use crate::cursor::read_page;
 use crate::deletion::Deletion;
 use crate::effort::{is_spent, limit};
@@ -98,7 +98,8 @@ pub trait Calls<A: Allocator + Copy>: Steps<A, Step<A>> {
     /// Adds, beside those of the tree's shape, the receipts of single deletes, of strictly rising
     /// keys of the range. Without a fault, each key of the range was missing in a copy of its leaf,
     /// or was deleted since. The first fault, of a read, of a delete or beside a delete's reply,
-    /// ends the call; what was deleted by then stays so.
+    /// ends the call; what was deleted by then stays so. A leaf for whose pairs the count has no room
+    /// ends it with [`Fault::NoMemory`].
     fn clear(&mut self, machine: Global, low: Key, high: Fence) -> Cleared
         ensures follows { Self.follows self.old self.new }
         ensures grows { Grows (Self.seen self.old) (Self.seen self.new) }
@@ -120,8 +121,15 @@ pub trait Calls<A: Allocator + Copy>: Steps<A, Step<A>> {
                     };
                 }
             };
-            let leaf = remove_below(self, slice.pairs.as_slice(), high);
-            removed = add(self, removed, leaf.removed);
+            let pairs = slice.pairs.as_slice();
+            if !has_room(removed, pairs) {
+                return Cleared {
+                    removed,
+                    fault: Some(Fault::NoMemory),
+                };
+            }
+            let leaf = remove_below(self, pairs, high);
+            removed += leaf.removed;
             if leaf.fault.is_some() {
                 return Cleared {
                     removed,

@@ -1,6 +1,6 @@
 //! The parts of the removal of a range: one leaf's keys, and one key.
 
-ghost use Rattle.std.specs.Prelude.{◌≡◌, ◌+◌, ◌≤◌, length, IfSome};
+ghost use Rattle.std.specs.Prelude.{◌+◌, ◌<◌, ◌≤◌, ◌^◌, length, IfSome, IsTrue};
 ghost use Rattle.bw_keys.specs.Ranges.{end_of, key_count};
 ghost use Rattle.bw_procedures.specs.Seen.{Grows};
 ghost use Rattle.bw_procedures.specs.Calls.{Earned};
@@ -24,18 +24,11 @@ pub(crate) fn end_among_keys(high: Fence)
     }
 }
 
-/// The sum of two counts of receipts, of which the trail has no fewer.
-#[tactic(auto, using(crate::proofs::Removals::adds_upto))]
-pub(crate) fn add<A: Allocator + Copy, S: Steps<A, Step<A>>>(
-    steps: &S,
-    removed: u64,
-    more: u64,
-) -> u64
-    requires { removed + more ≤ length (S.seen steps.now).trail }
-    ensures { result ≡ removed + more }
+/// Whether the count has room for the removal of each of the pairs.
+pub(crate) fn has_room(removed: u64, pairs: &[(Key, u64)]) -> bool
+    ensures { IsTrue result → removed + length pairs.now < 2 ^ 64 }
 {
-    let _ = steps.trail_len();
-    removed + more
+    removed.checked_add(pairs.len() as u64).is_some()
 }
 
 /// Deletes the keys of the pairs, in their order, as long as they lie below the high.
@@ -49,6 +42,7 @@ pub(crate) fn remove_below<A: Allocator + Copy, S: Steps<A, Step<A>>>(
     ensures grows { Grows (S.seen steps.old) (S.seen steps.new) }
     ensures removes { RemovesBelow (end_of high) pairs.now result.removed result.fault
         (S.seen steps.old) (S.seen steps.new) }
+    ensures few { result.removed ≤ length pairs.now }
     ensures fault { IfSome result.fault (Earned (S.seen steps.old) (S.seen steps.new)) }
 {
     let mut removed = 0;

@@ -3,9 +3,8 @@
 use crate::reply::Put;
 use crate::steps::Keep;
 use crate::wish::Wish;
-use bw_chain::Wished;
 use bw_delta::Spare;
-use bw_keys::Key;
+use bw_keys::{Key, Wished};
 use bw_step::{Insert, Receipt, Step, View};
 use std::alloc::Allocator;
 

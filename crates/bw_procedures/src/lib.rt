@@ -27,7 +27,7 @@ mod walk;
 mod wish;
 mod writing;
 
-pub use account::Account;
+pub use account::{Account, is_consolidated_behind};
 pub use act::{Act, do_act};
 pub use calls::Calls;
 pub use fault::Fault;

@@ -1,5 +1,5 @@
-ghost use Rattle.std.specs.Prelude.{◌≡◌, None, Some, IfOk, IfErr};
-ghost use Rattle.bw_procedures.specs.Texts.{reply_text};
+ghost use Rattle.std.specs.Prelude.{◌≡◌, [], None, Some, IfOk, IfErr};
+ghost use Rattle.bw_procedures.specs.Texts.{delete_text, put_text, reply_text, set_text, text_without};
 
 use crate::fault::Fault;
 use bw_keys::Key;
@@ -89,36 +89,61 @@ impl fmt::Display for Reply {
     ghost output = { λ reply. reply_text reply };
 
     fn fmt<W: fmt::Write>(&self, f: &mut fmt::Formatter<W>) -> fmt::Result {
-        let fault = match *self {
-            Reply::Put(done) => {
-                match done.reply {
-                    Put::Inserted => write!(f, "inserted")?,
-                    Put::Present(value) => write!(f, "present {value}")?,
-                }
-                done.fault
+        match *self {
+            Reply::Put(done) => write!(f, "{}{}", done.reply, Beside(done.fault)),
+            Reply::Set(done) => write!(f, "{}{}", done.reply, Beside(done.fault)),
+            Reply::Delete(done) => write!(f, "{}{}", done.reply, Beside(done.fault)),
+            Reply::Clear(Cleared { removed, fault }) => {
+                write!(f, "cleared {removed}{}", Beside(fault))
             }
-            Reply::Set(done) => {
-                match done.reply {
-                    Set::Inserted => write!(f, "inserted")?,
-                    Set::Replaced(old) => write!(f, "replaced {old}")?,
-                }
-                done.fault
-            }
-            Reply::Delete(done) => {
-                match done.reply {
-                    Del::Removed(value) => write!(f, "removed {value}")?,
-                    Del::NoKey => write!(f, "nokey")?,
-                }
-                done.fault
-            }
-            Reply::Clear(cleared) => {
-                write!(f, "cleared {}", cleared.removed)?;
-                cleared.fault
-            }
-            Reply::Get(Some(value)) => return write!(f, "found {value}"),
-            Reply::Get(None) => return write!(f, "none"),
-        };
-        match fault {
+            Reply::Get(Some(value)) => write!(f, "found {value}"),
+            Reply::Get(None) => write!(f, "none"),
+        }
+    }
+}
+
+impl fmt::Display for Put {
+    ghost output = { λ put. Some (put_text put) };
+
+    fn fmt<W: fmt::Write>(&self, f: &mut fmt::Formatter<W>) -> fmt::Result {
+        match *self {
+            Put::Inserted => write!(f, "inserted"),
+            Put::Present(value) => write!(f, "present {value}"),
+        }
+    }
+}
+
+impl fmt::Display for Set {
+    ghost output = { λ set. Some (set_text set) };
+
+    fn fmt<W: fmt::Write>(&self, f: &mut fmt::Formatter<W>) -> fmt::Result {
+        match *self {
+            Set::Inserted => write!(f, "inserted"),
+            Set::Replaced(old) => write!(f, "replaced {old}"),
+        }
+    }
+}
+
+impl fmt::Display for Del {
+    ghost output = { λ delete. Some (delete_text delete) };
+
+    fn fmt<W: fmt::Write>(&self, f: &mut fmt::Formatter<W>) -> fmt::Result {
+        match *self {
+            Del::Removed(value) => write!(f, "removed {value}"),
+            Del::NoKey => write!(f, "nokey"),
+        }
+    }
+}
+
+/// What stands beside a reply, if a fault does.
+#[derive(Clone, Copy)]
+struct Beside(Option<Fault>);
+
+impl fmt::Display for Beside {
+    ghost output = { λ beside. text_without beside.0 [] };
+
+    fn fmt<W: fmt::Write>(&self, f: &mut fmt::Formatter<W>) -> fmt::Result {
+        match self.0 {
             Some(fault) => write!(f, " ({fault})"),
             None => Ok(()),
         }

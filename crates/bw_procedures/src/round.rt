@@ -13,7 +13,7 @@ use crate::steps::Steps;
 use crate::walk::walk;
 use bw_delta::{Base, BaseFault, Spare};
 use bw_keys::{Fence, Key, Pid};
-use bw_step::{Grow, Merge, Place, Refused, Stage, Step, TermAdd, TermDelete, Todo, View};
+use bw_step::{Action, Grow, Merge, Place, Refused, Stage, Step, TermAdd, TermDelete, Todo, View};
 use std::alloc::Allocator;
 
 /// The page that the last change of rounds led to. The next one leads up from it, or to a smaller
@@ -130,7 +130,7 @@ fn post_in_place<A: Allocator + Copy, S: Steps<A, Step<A>>>(
     if is_spent(steps, limit) {
         return false;
     }
-    steps.add_term_at_once(page).is_some()
+    steps.perform(Action::AddTerm { child: page }).is_ok()
 }
 
 /// The round that names an unposted page in its parent, or puts a new root over it.

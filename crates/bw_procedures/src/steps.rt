@@ -3,10 +3,12 @@
 ghost use Rattle.std.specs.Prelude.{◌≡◌};
 ghost use Rattle.bw_procedures.specs.Seen.{is_kept};
 
-use bw_chain::{Wished, consolidate};
+use bw_chain::consolidate;
 use bw_delta::{Base, Chain, NoMemory};
 use bw_keys::{Config, Key, Pid, Version};
-use bw_step::{AtOnce, CopyFault, Denied, Look, Next, Place, Proposes, Receipt, View};
+use bw_step::{
+    Action, CopyFault, Denied, Look, Next, Performed, Place, Proposes, Receipt, Unperformed, View,
+};
 use std::alloc::Allocator;
 
 /// When a look is added to the trail.
@@ -55,19 +57,16 @@ pub struct Ends {
 ///
 /// `P` is the step over `A`.
 pub trait Steps<A: Allocator + Copy, P: Proposes> {
-    ghost use Rattle.std.specs.Prelude.{◌≡◌, ◌≤◌, ℕ, List, true, false, None, Some, Ok, IfOk, IfSome, length};
-    ghost use Rattle.bw_step.specs.declared.receipt.Kind.TheVariants as kinds;
+    ghost use Rattle.std.specs.Prelude.{◌≡◌, ◌≤◌, ℕ, List, None, Ok, IfOk, IfSome};
     ghost use Rattle.bw_step.specs.declared.receipt.Receipt.{Receipt as Told};
-    ghost use Rattle.bw_step.specs.declared.receipt.Receipt.TheVariants.{Shaped};
-    ghost use Rattle.bw_step.specs.declared.refused.Refused.TheVariants as reasons;
     ghost use Rattle.bw_delta.specs.Records.{bare};
     ghost use Rattle.bw_delta.specs.Entries.{from};
     ghost use Rattle.bw_delta.specs.Sound.{IsSound};
     ghost use Rattle.bw_step.specs.Steps.{IsNext};
     ghost use Rattle.bw_procedures.specs.Seen.{Seen, ends_of, Visited, Looked, LookedAtOnce, Copied};
-    ghost use Rattle.bw_procedures.specs.Seen.{Installed, Idled, IsRefused};
-    ghost use Rattle.bw_procedures.specs.Calls.{IsAtLevel, SplitAtOnce, ShapedAtOnce, PostedAtOnce};
-    ghost use Rattle.bw_procedures.specs.Writing.{ChangedAtOnce, RecordedAtOnce, ConsolidatedAtOnce};
+    ghost use Rattle.bw_procedures.specs.Seen.{Installed, Idled};
+    ghost use Rattle.bw_procedures.specs.Calls.{IsAtLevel, SplitAtOnce};
+    ghost use Rattle.bw_procedures.specs.Actions.{PerformedBy};
     ghost use Rattle.bw_procedures.specs.Facts.{Fact, quiet, on_the_way, holds, fresh};
     ghost use Rattle.bw_procedures.specs.Facts.{CalmNext, CalmPeek, CalmLook, CalmCopy, CalmAnew};
     ghost use Rattle.bw_procedures.specs.Facts.{ShowsCopy};
@@ -117,20 +116,10 @@ pub trait Steps<A: Allocator + Copy, P: Proposes> {
     fn look_at_once(&mut self, _key: Key, _keep: Keep) -> Result<Option<Look>, NoMemory>
         ensures follows { follows self.old self.new }
         ensures seen { LookedAtOnce _keep _key result (seen self.old) (seen self.new) }
-        ensures unanswered { result ≡ Ok None → self.new ≡ self.old }
+        ensures unanswered { result ≡ Ok None
+            → (fact : Fact) → calm self.old fact → calm self.new fact }
     {
         Ok(None)
-    }
-
-    /// Makes a wish come true for a key, where the worker can do that in one step: by a look that
-    /// finds it true, which is added to the trail, or by the change and the consolidation of its
-    /// leaf behind that, whose receipts are added and whose effort is spent. Otherwise does
-    /// nothing, and returns none.
-    fn change_at_once(&mut self, _key: Key, _wished: Wished) -> Option<AtOnce>
-        ensures follows { follows self.old self.new }
-        ensures seen { ChangedAtOnce _key _wished result (seen self.old) (seen self.new) }
-    {
-        None
     }
 
     /// Whether the worker looks a key up and puts the record of its change in one step, where it may
@@ -139,50 +128,18 @@ pub trait Steps<A: Allocator + Copy, P: Proposes> {
         false
     }
 
-    /// Makes a wish come true for a key in one step, by a look that finds it true, which is added to
-    /// the trail, or by the change's record on the leaf, whose receipt is added. Otherwise does
-    /// nothing, and returns none.
-    fn record_at_once(&mut self, _key: Key, _wished: Wished) -> Option<AtOnce>
+    /// Performs the action, where the worker can do that in one step: the receipt of its look or of
+    /// its step is added to the trail, and behind a change in its place that of the page's
+    /// consolidation. Each step that changes the tree's shape costs effort. So does the refusal of a
+    /// page that the action names; where it isn't performed otherwise, nothing was done.
+    fn perform(&mut self, _action: Action) -> Result<Performed, Unperformed>
         ensures follows { follows self.old self.new }
-        ensures seen { RecordedAtOnce _key _wished result (seen self.old) (seen self.new) }
+        ensures seen { PerformedBy _action result (seen self.old) (seen self.new) }
     {
-        None
+        Err(Unperformed::StepByStep)
     }
 
-    /// Consolidates the page where it lies, if the worker can, and it still has the version that was
-    /// seen. None, and nothing done, where the worker can't.
-    fn consolidate_at_once(
-        &mut self,
-        _page: Pid,
-        _version: Version,
-    ) -> Option<Result<Receipt, Denied>>
-        ensures follows { follows self.old self.new }
-        ensures seen { ConsolidatedAtOnce _page.0 _version.0 result
-            (seen self.old) (seen self.new) }
-    {
-        None
-    }
-
-    /// Splits the page in half where it lies, if the worker can, and it still has the version that was
-    /// seen. Returns the separator and the new page. None, and nothing done, where the worker can't.
-    fn halve_at_once(&mut self, _page: Pid, _version: Version) -> Option<Result<(Key, Pid), Denied>>
-        ensures follows { follows self.old self.new }
-        ensures seen { ShapedAtOnce (λ term. Shaped kinds.Split _page (Some term.1)) result
-            (seen self.old) (seen self.new) }
-    {
-        None
-    }
-
-    /// Names an unposted page in its parent, if the worker can find the parent in the same step and
-    /// the step isn't refused, and returns the parent. Otherwise does nothing, and returns none.
-    fn add_term_at_once(&mut self, _child: Pid) -> Option<Pid>
-        ensures follows { follows self.old self.new }
-        ensures seen { PostedAtOnce _child result (seen self.old) (seen self.new) }
-    {
-        None
-    }
-
-    /// Whether the worker splits pages in one step, where it may choose.
+    /// Whether the worker splits and merges pages in one step, where it may choose.
     fn splits_at_once(&self) -> bool {
         false
     }
@@ -192,6 +149,17 @@ pub trait Steps<A: Allocator + Copy, P: Proposes> {
     /// returns the new page. Their receipts are added to the trail, and each costs effort. None,
     /// and no step taken, where the worker can't.
     fn split_at_once(&mut self, _parent: Pid, _page: View) -> Option<Pid>
+        ensures follows { follows self.old self.new }
+        ensures seen { SplitAtOnce result (seen self.old) (seen self.new) }
+    {
+        None
+    }
+
+    /// Marks a page, merges it into its left neighbour, consolidates that, takes the page's term out of
+    /// the parent and consolidates that too, by all five steps, and returns the left neighbour. Their
+    /// receipts are added to the trail, and each costs effort. None, and no step taken, where the
+    /// worker can't.
+    fn merge_at_once(&mut self, _parent: Pid, _page: View) -> Option<Pid>
         ensures follows { follows self.old self.new }
         ensures seen { SplitAtOnce result (seen self.old) (seen self.new) }
     {
@@ -213,19 +181,6 @@ pub trait Steps<A: Allocator + Copy, P: Proposes> {
         ensures seen { seen self.new ≡ seen self.old }
         ensures page { IfSome result (λ view. view.pid ≡ pid) }
         ensures calm { CalmPeek (calm self.new) pid result };
-
-    /// Refuses to split a leaf where no slot is free for a new page, as the step would be refused,
-    /// and returns whether it did. So no page is copied for such a step: the refusal costs its
-    /// effort, and is counted. A worker that can't know before doesn't refuse, and proposes the
-    /// step.
-    fn refuses_split(&mut self, _leaf: Pid, _version: Version) -> bool
-        ensures follows { follows self.old self.new }
-        ensures refused { result ≡ true
-            → IsRefused reasons.TableFull (seen self.old) (seen self.new) }
-        ensures unchanged { result ≡ false → seen self.new ≡ seen self.old }
-    {
-        false
-    }
 
     /// Looks the key up at a page, if that is a leaf in its row whose range holds the key; if it
     /// isn't, returns none, at the cost of effort. `keep` says when the look is added to the trail.
@@ -285,10 +240,6 @@ pub trait Steps<A: Allocator + Copy, P: Proposes> {
     /// gives them up.
     fn trail(&self) -> &[Receipt]
         ensures { result.now ≡ kept (seen self.now).trail };
-
-    /// Returns the number of receipts on the trail, whether or not they are kept.
-    fn trail_len(&self) -> usize
-        ensures { result ≡ length (seen self.now).trail };
 
     // laws
     ghost stays: { (s : Self) → follows s s };

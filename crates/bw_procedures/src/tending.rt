@@ -16,11 +16,16 @@ use crate::walk::walk;
 use bw_chain::{HalveFault, halve};
 use bw_delta::{Base, Chain, Node, Spare};
 use bw_keys::{Key, Pid};
-use bw_step::{CopyFault, Denied, Mark, Receipt, Split, Stage, Step, Todo, View};
+use bw_step::{
+    Action, CopyFault, Denied, Mark, Receipt, Split, Stage, Step, Todo, Unperformed, View,
+};
 use std::alloc::Allocator;
 
 /// What a split, the term of its page and the two consolidations behind them cost.
 const SPLIT_COST: u64 = 4;
+
+/// What all steps of a merge and the two consolidations among them cost.
+const MERGE_COST: u64 = 5;
 
 /// Tends a page within the effort of a call.
 pub(crate) fn tend_within<A: Allocator + Copy, S: Steps<A, Step<A>>>(
@@ -54,11 +59,11 @@ fn tend_once<A: Allocator + Copy, S: Steps<A, Step<A>>>(
     };
     let fanout = steps.config().fanout;
     if is_many(fanout, view.count) && view.depth == 0 {
-        return split_to_free_page(steps, limit, view);
+        return split_page(steps, limit, view);
     }
     let is_small = is_few(fanout, view.count) && view.stage == Stage::Posted;
     if is_small && view.level < steps.root().level {
-        return mark_page(steps, limit, view);
+        return merge_page(steps, limit, view);
     }
     Ok(None)
 }
@@ -79,21 +84,6 @@ fn is_few(fanout: u32, count: u64) -> bool {
 #[inline(always)]
 pub(crate) fn is_fair(fanout: u32, count: u64) -> bool {
     !is_many(fanout, count) && !is_few(fanout, count)
-}
-
-/// Splits a page that has too many entries, if there is a page that it can be split to.
-fn split_to_free_page<A: Allocator + Copy, S: Steps<A, Step<A>>>(
-    steps: &mut S,
-    limit: u64,
-    view: View,
-) -> Result<Option<Pid>, Fault>
-    ensures follows { S.follows steps.old steps.new }
-    ensures tended { IsTended limit result (S.seen steps.old) (S.seen steps.new) }
-{
-    if !is_spent(steps, limit) && steps.refuses_split(view.pid, view.version) {
-        return Err(Fault::TableFull);
-    }
-    split_page(steps, limit, view)
 }
 
 /// The page, unless it is leaving or gone.
@@ -166,14 +156,21 @@ fn split_off<A: Allocator + Copy, S: Steps<A, Step<A>>>(
     if is_spent(steps, limit) {
         return split_by_copy(steps, limit, view);
     }
-    match steps.halve_at_once(view.pid, view.version) {
-        Some(Ok(term)) => Ok(Some(term)),
-        Some(Err(Denied::NoMemory)) => Err(Fault::NoMemory),
-        Some(Err(Denied::Refused(reason))) => match fault_of(reason) {
+    let (page, seen) = (view.pid, view.version);
+    match steps.perform(Action::Halve { page, seen }) {
+        Ok(done) => match done.receipt {
+            Receipt::Shaped {
+                other: Some(new),
+                ..
+            } => Ok(Some((done.key, new))),
+            _ => Ok(None),
+        },
+        Err(Unperformed::Denied(Denied::NoMemory)) => Err(Fault::NoMemory),
+        Err(Unperformed::Denied(Denied::Refused(reason))) => match fault_of(reason) {
             Some(fault) => Err(fault),
             None => Ok(None),
         },
-        None => split_by_copy(steps, limit, view),
+        Err(Unperformed::StepByStep) => split_by_copy(steps, limit, view),
     }
 }
 
@@ -276,6 +273,41 @@ fn page_above<A: Allocator + Copy, S: Steps<A, Step<A>>>(
     match walk(steps, limit, key, goal)? {
         Some(parent) => Ok(Some(parent.pid)),
         None => Ok(None),
+    }
+}
+
+/// Merges a page that has too few entries into its left neighbour, unless it is its parent's leftmost
+/// child.
+fn merge_page<A: Allocator + Copy, S: Steps<A, Step<A>>>(
+    steps: &mut S,
+    limit: u64,
+    view: View,
+) -> Result<Option<Pid>, Fault>
+    ensures follows { S.follows steps.old steps.new }
+    ensures tended { IsTended limit result (S.seen steps.old) (S.seen steps.new) }
+{
+    match merge_in_place(steps, limit, view)? {
+        Some(_) => page_above(steps, limit, view.level, view.low),
+        None => mark_page(steps, limit, view),
+    }
+}
+
+/// Merges the page at once, where the worker does that and the effort that is left covers the
+/// steps, and returns the left neighbour.
+fn merge_in_place<A: Allocator + Copy, S: Steps<A, Step<A>>>(
+    steps: &mut S,
+    limit: u64,
+    view: View,
+) -> Result<Option<Pid>, Fault>
+    ensures follows { S.follows steps.old steps.new }
+    ensures tended { IsTended limit result (S.seen steps.old) (S.seen steps.new) }
+{
+    if !steps.splits_at_once() {
+        return Ok(None);
+    }
+    match page_above(steps, limit, view.level, view.low)? {
+        Some(parent) if covers(steps, limit, MERGE_COST) => Ok(steps.merge_at_once(parent, view)),
+        _ => Ok(None),
     }
 }
 

@@ -1,9 +1,8 @@
 //! What a call wishes of one key.
 
 use crate::steps::Keep;
-use bw_chain::Wished;
 use bw_delta::Spare;
-use bw_keys::Key;
+use bw_keys::{Key, Wished};
 use bw_step::{Receipt, Step, View};
 use std::alloc::Allocator;
 

@@ -1,10 +1,11 @@
 //! Writing a key, whatever is wished of it: the writer's walk, which helps what it meets
 //! unfinished, the look at the leaf, the step, and the end of a call.
 
-ghost use Rattle.std.specs.Prelude.{◌≡◌, true};
+ghost use Rattle.std.specs.Prelude.{◌≡◌, ◌⊎◌, true, IfNone, IfSome};
+ghost use Rattle.bw_procedures.specs.Actions.{Performs};
 ghost use Rattle.bw_procedures.specs.Calls.{OnlySpends, OnlyReshapes};
 ghost use Rattle.bw_procedures.specs.Writes.{Writes};
-ghost use Rattle.bw_procedures.specs.Writing.{ArrivalCosts, Attempts, AttemptsAtOnce, MadeAtOnce};
+ghost use Rattle.bw_procedures.specs.Writing.{ArrivalCosts, Attempts, AttemptsAtOnce};
 ghost use Rattle.bw_procedures.specs.Writing.{Helped, EndsEarned, FoundBy};
 
 use crate::consolidation::consolidate;
@@ -16,10 +17,9 @@ use crate::reply::Done;
 use crate::steps::{Keep, Steps};
 use crate::tending::{is_fair, tend_within};
 use crate::wish::Wish;
-use bw_chain::Wished;
 use bw_delta::Spare;
-use bw_keys::{Key, Pid};
-use bw_step::{AtOnce, Go, Look, Place, Receipt, Refused, Step, Todo, View};
+use bw_keys::{Key, Pid, Wished};
+use bw_step::{Action, Go, Look, Performed, Place, Receipt, Refused, Step, Todo, View};
 use std::alloc::Allocator;
 
 /// Where a writer's walk came to.
@@ -111,20 +111,23 @@ fn write_at_once<A: Allocator + Copy, S: Steps<A, Step<A>>, W: Wish>(
 
 /// Carries out a wish in one step of a worker that can: by a record on the leaf, or with the
 /// consolidation of the leaf behind the change.
-#[tactic(auto, using(crate::proofs::Changing::made_at_once, crate::proofs::Changing::made_by_one))]
+#[tactic(auto, using(crate::proofs::Changing::made_at_once))]
 #[inline(always)]
 fn make_at_once<A: Allocator + Copy, S: Steps<A, Step<A>>>(
     steps: &mut S,
     key: Key,
     wished: Wished,
-) -> Option<AtOnce>
+) -> Option<Performed>
     ensures follows { S.follows steps.old steps.new }
-    ensures made { MadeAtOnce key wished result (S.seen steps.old) (S.seen steps.new) }
+    ensures made { IfSome result (λ done.
+        Performs (Action.Record key wished) done (S.seen steps.old) (S.seen steps.new)
+        ⊎ Performs (Action.Change key wished) done (S.seen steps.old) (S.seen steps.new)) }
+    ensures unmade { IfNone result (S.seen steps.new ≡ S.seen steps.old) }
 {
     if steps.records_at_once() {
-        steps.record_at_once(key, wished)
+        steps.perform(Action::Record { key, wished }).ok()
     } else {
-        steps.change_at_once(key, wished)
+        steps.perform(Action::Change { key, wished }).ok()
     }
 }
 

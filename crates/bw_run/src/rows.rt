@@ -16,7 +16,7 @@ use crate::progress::Progress;
 use crate::stopping::check_stops;
 use bw_step::{Receipt, Step};
 use bw_texts::Row;
-use bw_tree::{Share, Shared};
+use bw_tree::{Ordered, Share};
 use bw_work::Gate;
 use nifforan_shared::{Gathered, Notes, Task, work_all};
 use std::alloc::Global;
@@ -64,7 +64,7 @@ pub(crate) fn do_rows<
     I: Ledger + Send + Sync,
     D: Ledger + Send + Sync,
     L: Looks + Drop + Send,
-    T: Shared<Global, Step<Global>, Insertions = I, Removals = D> + Sync,
+    T: Ordered<Global, Step<Global>, Insertions = I, Removals = D> + Sync,
     R: Threads + Wait + Sync,
     G: Gate + Sync,
 >(

@@ -2,12 +2,14 @@
 use Rattle.std.specs.Prelude.{◌≡◌, ℕ, Bool, true, false, List, [], Option, Some, None}
 use Rattle.bw_keys.specs.declared.config.Config.{Config}
 use Rattle.bw_keys.specs.Limits.{first_bad_field, is_out_of}
-use Rattle.bw_step.specs.declared.refused.Refused.{Refused}
 use Rattle.bw_step.specs.Proposals.{Proposal}
 use Rattle.bw_law.specs.Tables.{TableValue}
 use Rattle.bw_tree.specs.Trees.{MayBeMade, is_bad_number}
-use Rattle.bw_step.specs.declared.fault.Denied.{Denied}
 use Rattle.bw_step.specs.declared.fault.Denied.TheVariants as denials
+use Rattle.bw_table.specs.Actions.{IsWhyNot}
+use Rattle.bw_step.specs.declared.action.Action.{Action}
+use Rattle.bw_step.specs.declared.action.Unperformed.{Unperformed}
+use Rattle.bw_step.specs.declared.action.Unperformed.TheVariants as undone
 use Rattle.bw_snap.specs.Snapshots.{LeadTo, IsSnapshot}
 use Rattle.bw_snap.specs.declared.fault.SnapFault.{SnapFault}
 use Rattle.bw_snap.specs.declared.fault.SnapFault.TheVariants.{BadConfig, BadWorkers, BadReaders, NoMemory, NoReader}
@@ -28,10 +30,11 @@ pub record IsPublished (config : Config) (value : PublishedValue) : Type 0 where
   pub pending : LeadTo value.published value.pending value.table
   pub snapshot : IsSnapshot config value.list value.published
 
--- the reason to refuse a step, unless memory is wanting before it is looked at
-abbrev pub IsReasonUnlessWant : Option Refused → Denied → Type 0
-IsReasonUnlessWant reason (denials.Refused refused) = reason ≡ Some refused
-IsReasonUnlessWant reason denials.NoMemory = Unit {0}
+-- why an action isn't performed, unless memory is wanting before it is looked at
+abbrev pub IsWhyNotUnlessWant : TableValue → Action → Unperformed → Type 0
+IsWhyNotUnlessWant table action (undone.Denied denials.NoMemory) = Unit {0}
+IsWhyNotUnlessWant table action (undone.Denied (denials.Refused reason)) = IsWhyNot table action (undone.Denied (denials.Refused reason))
+IsWhyNotUnlessWant table action undone.StepByStep = IsWhyNot table action undone.StepByStep
 
 -- there are no readers, or too many
 abbrev pub is_bad_reader_number : ℕ → Bool

@@ -6,9 +6,8 @@ ghost use Rattle.bw_law.specs.Tables.{slot_at};
 ghost use Rattle.bw_snap.specs.Notes.{step_of};
 
 use crate::front::Front;
-use bw_chain::Wished;
 use bw_delta::Spare;
-use bw_keys::{Key, Pid, Version};
+use bw_keys::{Key, Pid, Version, Wished};
 use bw_step::{Delete, Insert, Modify, Step, TermAdd};
 use bw_table::Table;
 use std::alloc::Global;

@@ -1,23 +1,21 @@
 //! The locked table, with the writing end of the published pair.
 
-ghost use Rattle.std.specs.Prelude.{◌≡◌, ◌<◌, ◌++◌, ◌∷◌, ◌↔◌, [], None, length, All, IsOk, IfOk, IfErr, OnOk, OnErr, IfSome, IfNone};
+ghost use Rattle.std.specs.Prelude.{◌≡◌, ◌<◌, ◌++◌, ◌∷◌, ◌↔◌, [], None, length, All, IsOk, IfOk, IfErr, OnOk, OnErr};
 ghost use Rattle.bw_keys.specs.Limits.{first_bad_field};
-ghost use Rattle.bw_keys.specs.Reasons.{first_reason};
 ghost use Rattle.bw_step.specs.ProposalView.{proposal_of};
 ghost use Rattle.bw_step.specs.Steps.{IsReceiptOf};
 ghost use Rattle.bw_law.specs.Laws.{MapAfter};
 ghost use Rattle.bw_law.specs.Refusals.{refusal};
 ghost use Rattle.bw_law.specs.Tables.{new_table};
 ghost use Rattle.bw_table.specs.Answers.{IsDenialFor};
-ghost use Rattle.bw_table.specs.InPlaces.{IsDoneAtOnce, IsRecordedAtOnce, IsConsolidatedAtOnce, IsHalvedAtOnce, IsPostedByOne};
-ghost use Rattle.bw_table.specs.InPlaces.{consolidating, half_reasons, halving};
+ghost use Rattle.bw_table.specs.Actions.{IsPerformed, steps_for};
 ghost use Rattle.bw_table.specs.Orders.{HasPairs};
-ghost use Rattle.bw_tree.specs.Shares.{no_changes, CountsIn, CountsAtOnce, IsReceiptAtOnce, IsConsolidationOf};
+ghost use Rattle.bw_tree.specs.Shares.{no_changes, CountsIn, CountsPerformed, Reports};
 ghost use Rattle.bw_tree.specs.Trees.{IsTree, IsClosed, Leads, OpensFor};
 ghost use Rattle.bw_snap.specs.declared.note.Note.TheVariants as notes;
 ghost use Rattle.bw_snap.specs.Ends.{Appends, unpublished, noted_since};
-ghost use Rattle.bw_snap.specs.Notes.{step_recorded, steps_at_once, term_of, held_note, held_record};
-ghost use Rattle.bw_snap.specs.Trees.{IsPublished, IsReasonUnlessWant, IsSnapFault, MayBeRead, is_bad_reader_number, published_as_it_is};
+ghost use Rattle.bw_snap.specs.Notes.{held_note, held_record};
+ghost use Rattle.bw_snap.specs.Trees.{IsPublished, IsWhyNotUnlessWant, IsSnapFault, MayBeRead, is_bad_reader_number, published_as_it_is};
 
 use crate::ends::{WritingEnd, advance, append, begin, newcomer, surely_told};
 use crate::fault::SnapFault;
@@ -25,10 +23,9 @@ use crate::front::{Announcements, Front, Head, Naming};
 use crate::note::{Change, Note, Record};
 use crate::reader::Reader;
 use crate::stamp::Stamp;
-use bw_chain::Wished;
 use bw_delta::{NoMemory, Spare};
-use bw_keys::{Config, Key, Pid, Version};
-use bw_step::{AtOnce, Denied, Receipt, Step};
+use bw_keys::{Config, Pid};
+use bw_step::{Action, Denied, Performed, Receipt, Step, Unperformed};
 use bw_table::Table;
 use bw_tree::{Blanks, Booked, MadeBy, MissingShare, NewFault, Share};
 use std::alloc::Global;
@@ -184,141 +181,33 @@ impl<R: Wait + Drop, N: Naming, D: Ledger> Published<R, N, D> {
         }
     }
 
-    /// Makes the wish come true for the key and consolidates its leaf, as `Booked::change_at_once`
-    /// does, and leaves the change pending for the published copies. Room for the note of the change
-    /// before it is made first: where there is none, it returns `None` and changes nothing.
+    /// Performs the action as `Booked::perform` does, and leaves it pending for the published copies, which
+    /// take memory for it. Want of memory is reported also where there is no room for the note before.
     #[inline(always)]
-    pub fn change_at_once(
-        &mut self,
-        share: &mut Share<N, D>,
-        key: Key,
-        wished: Wished,
-    ) -> Option<AtOnce>
-        ensures done { IfSome result (λ it.
-            IsDoneAtOnce self.old.table it.page.0 key wished it.receipt self.new.table) }
-        ensures receipt { IfSome result (λ it. IsReceiptAtOnce key wished it.receipt) }
-        ensures steps { IfSome result (λ it. self.new.pending
-            ≡ self.old.pending ++ steps_at_once self.old.table it.page.0 key wished) }
-        ensures published { IfSome result (λ it. self.new.published ≡ self.old.published) }
-        ensures list { IfSome result (λ it. self.new.list ≡ self.old.list) }
-        ensures unchanged { IfNone result (self.new ≡ self.old) }
-        ensures share { CountsAtOnce share.old share.new result }
-    {
-        match settle(&mut self.writer, &mut self.held) {
-            Ok(()) => {}
-            Err(NoMemory) => return None,
-        }
-        let done = self.booked.change_at_once(share, key, wished)?;
-        self.held = note_of(key, wished, done);
-        Some(done)
-    }
-
-    /// Puts the record of the change that is wished on the key's leaf, as `Booked::record_at_once`
-    /// does, and leaves it pending for the published copies, each of which takes memory for it. Returns
-    /// `None` and changes nothing also where there is no room for the note before.
-    #[inline(always)]
-    pub fn record_at_once(
-        &mut self,
-        share: &mut Share<N, D>,
-        key: Key,
-        wished: Wished,
-        spare: Spare<Global>,
-    ) -> Option<AtOnce>
-        ensures done { IfSome result (λ it.
-            IsRecordedAtOnce self.old.table it.page.0 key wished it.receipt self.new.table) }
-        ensures receipt { IfSome result (λ it. IsReceiptAtOnce key wished it.receipt) }
-        ensures steps { IfSome result (λ it. self.new.pending
-            ≡ self.old.pending ++ step_recorded self.old.table it.page.0 key wished) }
-        ensures published { IfSome result (λ it. self.new.published ≡ self.old.published) }
-        ensures list { IfSome result (λ it. self.new.list ≡ self.old.list) }
-        ensures unchanged { IfNone result (self.new ≡ self.old) }
-        ensures share { CountsAtOnce share.old share.new result }
-    {
-        match settle(&mut self.writer, &mut self.held) {
-            Ok(()) => {}
-            Err(NoMemory) => return None,
-        }
-        let done = self.booked.record_at_once(share, key, wished, spare)?;
-        self.held = record_of(done.page, done.receipt);
-        Some(done)
-    }
-
-    /// Consolidates the page where it lies, as `Booked::consolidate_at_once` does, and leaves that
-    /// pending for the published copies, each of which takes memory for the page. Want of memory is
-    /// reported also where there is no room for the note before.
-    pub fn consolidate_at_once(
+    pub fn perform(
         &mut self,
         machine: Global,
-        page: Pid,
-        seen: Version,
-    ) -> Result<Receipt, Denied>
-        ensures done { IfOk result
-            (IsConsolidatedAtOnce self.old.table page.0 seen.0 self.new.table) }
-        ensures receipt { IfOk result (IsConsolidationOf page) }
-        ensures steps { OnOk result (self.new.pending
-            ≡ self.old.pending ++ consolidating self.old.table page.0 seen.0 ∷ []) }
+        share: &mut Share<N, D>,
+        action: Action,
+        spare: Option<Spare<Global>>,
+    ) -> Result<Performed, Unperformed>
+        ensures done { IfOk result (IsPerformed self.old.table action self.new.table) }
+        ensures reports { IfOk result (Reports action) }
+        ensures steps { IfOk result (λ it. self.new.pending
+            ≡ self.old.pending ++ steps_for self.old.table it.page.0 action) }
         ensures published { OnOk result (self.new.published ≡ self.old.published) }
         ensures list { OnOk result (self.new.list ≡ self.old.list) }
-        ensures denied { IfErr result (IsReasonUnlessWant
-            (refusal self.old.table (consolidating self.old.table page.0 seen.0))) }
+        ensures why { IfErr result (IsWhyNotUnlessWant self.old.table action) }
         ensures unchanged { OnErr result (self.new ≡ self.old) }
+        ensures share { CountsPerformed share.old share.new result }
     {
         match settle(&mut self.writer, &mut self.held) {
             Ok(()) => {}
-            Err(NoMemory) => return Err(Denied::NoMemory),
+            Err(NoMemory) => return Err(Unperformed::Denied(Denied::NoMemory)),
         }
-        let receipt = self.booked.consolidate_at_once(machine, page, seen)?;
-        self.held = Some(Change::Consolidation { page, seen });
-        Ok(receipt)
-    }
-
-    /// Splits the page in half where it lies, as `Booked::halve_at_once` does, and leaves that pending
-    /// for the published copies, each of which takes memory for the half. Want of memory is reported
-    /// also where there is no room for the note before.
-    pub fn halve_at_once(
-        &mut self,
-        machine: Global,
-        page: Pid,
-        seen: Version,
-    ) -> Result<(Key, Pid), Denied>
-        ensures done { IfOk result (λ term.
-            IsHalvedAtOnce self.old.table page.0 seen.0 term self.new.table) }
-        ensures steps { IfOk result (λ term. self.new.pending
-            ≡ self.old.pending ++ halving self.old.table page.0 seen.0 term.0 ∷ []) }
-        ensures published { OnOk result (self.new.published ≡ self.old.published) }
-        ensures list { OnOk result (self.new.list ≡ self.old.list) }
-        ensures denied { IfErr result (IsReasonUnlessWant
-            (first_reason (half_reasons self.old.table page.0 seen.0))) }
-        ensures unchanged { OnErr result (self.new ≡ self.old) }
-    {
-        match settle(&mut self.writer, &mut self.held) {
-            Ok(()) => {}
-            Err(NoMemory) => return Err(Denied::NoMemory),
-        }
-        let term = self.booked.halve_at_once(machine, page, seen)?;
-        self.held = Some(Change::Half { page, seen });
-        Ok(term)
-    }
-
-    /// Names an unposted page in its parent, as `Booked::add_term_at_once` does, and leaves the term
-    /// pending for the published copies, each of which takes memory for it. Returns `None` and changes
-    /// nothing also where there is no room for the note before.
-    pub fn add_term_at_once(&mut self, child: Pid, spare: Spare<Global>) -> Option<Pid>
-        ensures done { IfSome result (λ parent.
-            IsPostedByOne self.old.table parent child self.new.table) }
-        ensures steps { IfSome result (λ parent. self.new.pending
-            ≡ self.old.pending ++ term_of self.old.table parent.0 child.0 ∷ []) }
-        ensures published { IfSome result (λ it. self.new.published ≡ self.old.published) }
-        ensures list { IfSome result (λ it. self.new.list ≡ self.old.list) }
-        ensures unchanged { IfNone result (self.new ≡ self.old) }
-    {
-        match settle(&mut self.writer, &mut self.held) {
-            Ok(()) => {}
-            Err(NoMemory) => return None,
-        }
-        let parent = self.booked.add_term_at_once(child, spare)?;
-        self.held = Some(Change::Record(Record::TermAdd { parent, child }));
-        Some(parent)
+        let done = self.booked.perform(machine, share, action, spare)?;
+        self.held = note_of(action, done);
+        Ok(done)
     }
 
     /// Publishes what is pending, and returns a stamp of the list that was published. Fails where
@@ -439,21 +328,30 @@ fn note<N: Naming>(
     append(writer, note)
 }
 
-/// Returns the note of what was done at once. A look has none.
+/// Returns the note of what was performed. A look has none.
 #[inline(always)]
-fn note_of(key: Key, wished: Wished, done: AtOnce) -> Option<Change>
-    ensures { result ≡ held_note key wished done }
+fn note_of(action: Action, done: Performed) -> Option<Change>
+    ensures { result ≡ held_note action done }
 {
-    match done.receipt {
-        Receipt::Looked { .. } => None,
-        Receipt::Inserted { .. }
-        | Receipt::Deleted { .. }
-        | Receipt::Modified { .. }
-        | Receipt::Shaped { .. } => Some(Change::Write {
-            page: done.page,
-            key,
-            wished,
-        }),
+    match action {
+        Action::Change { key, wished } => match done.receipt {
+            Receipt::Looked { .. } => None,
+            Receipt::Inserted { .. }
+            | Receipt::Deleted { .. }
+            | Receipt::Modified { .. }
+            | Receipt::Shaped { .. } => Some(Change::Write {
+                page: done.page,
+                key,
+                wished,
+            }),
+        },
+        Action::Record { .. } => record_of(done.page, done.receipt),
+        Action::Consolidate { page, seen } => Some(Change::Consolidation { page, seen }),
+        Action::Halve { page, seen } => Some(Change::Half { page, seen }),
+        Action::AddTerm { child } => Some(Change::Record(Record::TermAdd {
+            parent: done.page,
+            child,
+        })),
     }
 }
 

@@ -12,12 +12,13 @@ use crate::front::{Announcements, Naming};
 use crate::published::Published;
 use crate::reader::Reader;
 use crate::stamp::Stamp;
-use bw_chain::Wished;
-use bw_delta::{Chain, NoMemory, Spare};
+use bw_delta::{Chain, NoMemory};
 use bw_keys::{Config, Key, Pid, Version};
-use bw_step::{AtOnce, CopyFault, Denied, Look, Next, Place, Receipt, Step, View};
+use bw_step::{
+    Action, CopyFault, Denied, Look, Next, Performed, Place, Receipt, Step, Unperformed, View,
+};
 use bw_table::Table;
-use bw_tree::{Blanks, MissingShare, Share, Shared};
+use bw_tree::{Blanks, MissingShare, Ordered, Share, Shared};
 use std::alloc::Global;
 use std::sync::ledger::Ledger;
 use std::sync::{Mutex, Wait};
@@ -175,68 +176,17 @@ impl<R: Wait + Copy, N: Naming, D: Ledger> Shared<Global, Step<Global>> for Read
         Some(self.published.lock(&self.rt).table().look_up(key))
     }
 
-    fn next_at(&self, key: Key) -> Option<(Key, u64)> {
-        self.published.lock(&self.rt).table().next_at(key)
-    }
-
-    fn previous_at(&self, key: Key) -> Option<(Key, u64)> {
-        self.published.lock(&self.rt).table().previous_at(key)
-    }
-
-    fn len(&self) -> u64 {
-        self.published.lock(&self.rt).len()
-    }
-
     #[inline(always)]
-    fn change_at_once(&self, share: &mut Share<N, D>, key: Key, wished: Wished) -> Option<AtOnce> {
-        self.published
-            .lock(&self.rt)
-            .change_at_once(share, key, wished)
-    }
-
-    #[inline(always)]
-    fn record_at_once(
+    fn perform(
         &self,
         alloc: Global,
         share: &mut Share<N, D>,
-        key: Key,
-        wished: Wished,
-    ) -> Option<AtOnce> {
-        let spare = Spare::new(alloc).ok()?;
+        action: Action,
+    ) -> Result<Performed, Unperformed> {
+        let spare = action.spare(alloc);
         self.published
             .lock(&self.rt)
-            .record_at_once(share, key, wished, spare)
-    }
-
-    fn consolidate_at_once(
-        &self,
-        alloc: Global,
-        page: Pid,
-        seen: Version,
-    ) -> Option<Result<Receipt, Denied>> {
-        Some(
-            self.published
-                .lock(&self.rt)
-                .consolidate_at_once(alloc, page, seen),
-        )
-    }
-
-    fn halve_at_once(
-        &self,
-        alloc: Global,
-        page: Pid,
-        seen: Version,
-    ) -> Option<Result<(Key, Pid), Denied>> {
-        Some(
-            self.published
-                .lock(&self.rt)
-                .halve_at_once(alloc, page, seen),
-        )
-    }
-
-    fn add_term_at_once(&self, alloc: Global, child: Pid) -> Option<Pid> {
-        let spare = Spare::new(alloc).ok()?;
-        self.published.lock(&self.rt).add_term_at_once(child, spare)
+            .perform(alloc, share, action, spare)
     }
 
     #[inline(always)]
@@ -262,5 +212,19 @@ impl<R: Wait + Copy, N: Naming, D: Ledger> Shared<Global, Step<Global>> for Read
             Ok(twin) => self.published.lock(&self.rt).install(share, step, twin),
             Err(NoMemory) => Err(Denied::NoMemory),
         }
+    }
+}
+
+impl<R: Wait + Copy, N: Naming, D: Ledger> Ordered<Global, Step<Global>> for ReadTree<R, N, D> {
+    fn next_at(&self, key: Key) -> Option<(Key, u64)> {
+        self.published.lock(&self.rt).table().next_at(key)
+    }
+
+    fn previous_at(&self, key: Key) -> Option<(Key, u64)> {
+        self.published.lock(&self.rt).table().previous_at(key)
+    }
+
+    fn len(&self) -> u64 {
+        self.published.lock(&self.rt).len()
     }
 }

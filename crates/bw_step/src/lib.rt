@@ -2,6 +2,7 @@
 //! of accepted ones, and the reasons to refuse a step.
 #![tactic(auto)]
 
+mod action;
 mod at_once;
 mod fault;
 mod place;
@@ -13,6 +14,7 @@ mod steps;
 mod survey;
 mod view;
 
+pub use action::{Action, Performed, Unperformed};
 pub use at_once::AtOnce;
 pub use fault::{CopyFault, Denied};
 pub use place::{Go, Next, Place, Todo};

@@ -1,7 +1,8 @@
 -- The ids of a new table's free slots.
-use Rattle.std.proofs.Common.{◌≡◌, ℕ, ◌-◌, ◌<◌, ◌≤◌, ◌++◌, List, [], ◌∷◌, length, zero, suc, Option, Some, None, IsSome, refl, ap, sym, ◌∙◌, arith, append_assoc}
+use Rattle.std.proofs.Common.{◌≡◌, ℕ, ◌+◌, ◌-◌, ◌<◌, ◌≤◌, ◌++◌, List, [], ◌∷◌, length, zero, suc, Option, Some, None, IsSome, refl, ap, sym, ◌∙◌, arith, append_assoc}
 use Rattle.std.specs.Prelude.{slice_get, unwrap_or, option_to_list}
 use Rattle.bw_law.specs.Tables.{ids_down}
+use Rattle.bw_law.specs.MorePages.{ids_from}
 use Rattle.bw_law.specs.Refusals.{last_id, all_but_last}
 
 -- the first id, and those after it
@@ -47,3 +48,19 @@ popped old new (Some id) there parts some = (ap last_id parts ∙ last_id-append
 pub ruleset last_ids = (last_id_at_end)
 
 pub ruleset taken_ids = (popped)
+
+-- the ids from the first on: the greatest, and those below it
+pub next_from : (first id : ℕ) → first < id → ids_from first (id - first) ≡ (id - 1) ∷ ids_from first ((id - 1) - first)
+next_from first id more =
+    let n : ℕ = (id - 1) - first in
+    let count : id - first ≡ suc n = omega arith in
+    let greatest : first + n ≡ id - 1 = omega arith in
+    rw count (ap (λ x. x ∷ ids_from first n) greatest)
+
+pub pushed_from : (ids all : List ℕ) (first id : ℕ) → first < id → ids ++ ids_from first (id - first) ≡ all → (ids ++ (id - 1) ∷ []) ++ ids_from first ((id - 1) - first) ≡ all
+pushed_from ids all first id more h = append_assoc ids _ _ ∙ ap (λ rest. ids ++ rest) (sym (next_from first id more)) ∙ h
+
+pub none_from : (first id : ℕ) → id ≤ first → ids_from first (id - first) ≡ []
+none_from first id few = let none : id - first ≡ 0 = omega arith in rw none refl
+
+pub ruleset more_ids = (next_from, pushed_from)

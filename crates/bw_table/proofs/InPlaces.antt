@@ -13,10 +13,10 @@ use Rattle.bw_delta.specs.declared.fences.Fences.{Fences}
 use Rattle.bw_delta.specs.Entries.{at}
 use Rattle.bw_delta.specs.Fence.{fences, is_leaf}
 use Rattle.bw_delta.specs.Pages.{Page, Listed, pairs_of, routes_of, listed_from, listed_length, lists_pairs, upper_part}
-use Rattle.bw_delta.specs.Records.{Records, bare, above}
+use Rattle.bw_delta.specs.Records.{Records, bare, above, depth}
 use Rattle.bw_delta.specs.Sound.{LiesIn, page_for, listed_for}
-use Rattle.bw_chain.specs.declared.in_place.Wished.{Wished}
-use Rattle.bw_chain.specs.declared.in_place.Wished.TheVariants as wishes
+use Rattle.bw_keys.specs.declared.wished.Wished.{Wished}
+use Rattle.bw_keys.specs.declared.wished.Wished.TheVariants as wishes
 use Rattle.bw_chain.specs.InPlaces.{delta_for}
 use Rattle.bw_step.specs.declared.receipt.Receipt.{Receipt}
 use Rattle.bw_step.specs.declared.receipt.Receipt.TheVariants.{Deleted, Modified, Looked, Shaped}
@@ -33,7 +33,7 @@ use Rattle.bw_law.specs.Tables.{TableValue, TellsMap, SameMap, slot_at, slot_fen
 use Rattle.bw_law.proofs.Facts.{last_id_is_free, here_is_inside, leaf_count_fits, inner_count_fits, slots_are_few}
 use Rattle.bw_law.proofs.SameTests.{same_page_tells}
 use Rattle.bw_law.proofs.Slots.{slot_written, slot_kept}
-use Rattle.bw_table.specs.InPlaces.{IsShallowLeaf, MayChangeAtOnce, MayPostAtOnce, MayCut, MaySplitAtOnce, TakesCut, slot_cut, TakesInPlace, TakesBoth, both_steps, LooksOrTakes, IsDoneAtOnce, IsPosted, count_after, slot_with, receipt_for, step_for}
+use Rattle.bw_table.specs.InPlaces.{IsPostedLeaf, MayChangeAtOnce, MayPostAtOnce, MayCut, MaySplitAtOnce, TakesCut, slot_cut, TakesInPlace, TakesBoth, both_steps, LooksOrTakes, IsDoneAtOnce, IsPosted, count_after, slot_with, receipt_for, step_for}
 use Rattle.bw_table.specs.Whole.{IsWhole}
 use Rattle.bw_law.proofs.AllSteps.{step_law}
 use Rattle.bw_table.proofs.Writes.{set-swap}
@@ -81,23 +81,28 @@ opened old step receipt page new both =
 not_full : (depth : ℕ) → depth ≤ 1 → nat_le MAX_DEPTH depth ≡ false
 not_full depth shallow = grind (arith, nat_tests)
 
-not_last : (n : ℕ) → n + 1 < 2 ^ 64 → eqb n last_number ≡ false
+pub not_last : (n : ℕ) → n + 1 < 2 ^ 64 → eqb n last_number ≡ false
 not_last n fits = grind (arith, nat_tests)
 
--- nothing speaks against the insertion of a key that a shallow leaf hasn't
-insert_is_accepted : (slot : SlotValue) (number key : ℕ) → IsShallowLeaf slot key → number + 1 < 2 ^ 64 → at key (pairs_in slot) ≡ None → first_reason (insert_reasons slot number slot.version key) ≡ None
-insert_is_accepted slot number key page fits none =
-    rw (page.posted, eq-eqb slot.version slot.version refl, page.leaf, page.within, none, not_full slot.depth page.shallow, not_last slot.version (omega (arith, page.version)), not_last number fits) refl
+-- nothing speaks against the insertion of a key that a leaf with one record at most hasn't
+insert_is_accepted : (slot : SlotValue) (number key : ℕ) → IsPostedLeaf slot key → slot.version + 2 < 2 ^ 64 → slot.depth ≤ 1 → number + 1 < 2 ^ 64 → at key (pairs_in slot) ≡ None
+    → first_reason (insert_reasons slot number slot.version key) ≡ None
+insert_is_accepted slot number key page version shallow fits none =
+    rw (page.posted, eq-eqb slot.version slot.version refl, page.leaf, page.within, none, not_full slot.depth shallow, not_last slot.version (omega (arith, version)), not_last number fits) refl
 
 -- nor against the change of one that it has
-found_is_accepted : (slot : SlotValue) (number key had : ℕ) → IsShallowLeaf slot key → number + 1 < 2 ^ 64 → at key (pairs_in slot) ≡ Some had → first_reason (found_reasons slot number slot.version key) ≡ None
-found_is_accepted slot number key had page fits found =
-    rw (page.posted, eq-eqb slot.version slot.version refl, page.leaf, page.within, found, not_full slot.depth page.shallow, not_last slot.version (omega (arith, page.version)), not_last number fits) refl
+found_is_accepted : (slot : SlotValue) (number key had : ℕ) → IsPostedLeaf slot key → slot.version + 2 < 2 ^ 64 → slot.depth ≤ 1 → number + 1 < 2 ^ 64 → at key (pairs_in slot) ≡ Some had
+    → first_reason (found_reasons slot number slot.version key) ≡ None
+found_is_accepted slot number key had page version shallow fits found =
+    rw (page.posted, eq-eqb slot.version slot.version refl, page.leaf, page.within, found, not_full slot.depth shallow, not_last slot.version (omega (arith, version)), not_last number fits) refl
 
 -- nor against the consolidation of a posted page
-consolidate_is_accepted : (slot : SlotValue) (base : Page) → slot.stage ≡ Posted → is_other_kind base slot ≡ false → slot.version + 1 < 2 ^ 64 → base ≡ page_for (chain_in slot) → first_reason (consolidate_reasons slot slot.version base) ≡ None
+pub consolidate_is_accepted : (slot : SlotValue) (base : Page) → slot.stage ≡ Posted → is_other_kind base slot ≡ false → slot.version + 1 < 2 ^ 64 → base ≡ page_for (chain_in slot) → first_reason (consolidate_reasons slot slot.version base) ≡ None
 consolidate_is_accepted slot base posted kind fits same =
     rw (posted, eq-eqb slot.version slot.version refl, kind, same_page_tells base (page_for (chain_in slot)) same, not_last slot.version fits) refl
+
+pub may_change : (table : TableValue) (page key : ℕ) → IsPostedLeaf (slot_at table page) key → (slot_at table page).version + 2 < 2 ^ 64 → number_of table.book + 1 < 2 ^ 64 → MayChangeAtOnce table page key
+may_change table page key leaf version number = record { leaf = leaf; version = version; number = number }
 
 module _ {table : TableValue} {room : ℕ} (whole : IsWhole table room) {page key : ℕ} (may : MayChangeAtOnce table page key) where
   here : is_in_row (slot_at table page).stage ≡ true
@@ -118,10 +123,14 @@ module _ {table : TableValue} {room : ℕ} (whole : IsWhole table room) {page ke
   pub leaf_takes : TakesInPlace (slot_at table page) key
   leaf_takes =
       let Lies : Fences → Type 0 = λ f. LiesIn key f in record {
-        version = may.leaf.version;
+        version = may.version;
         count = omega (arith, leaf_count_fits table whole.lawful page whole.booked here may.leaf.leaf, may.number);
         within = subst Lies (chain_of.1.fence ∙ ap fences (sym chain_is)) own_range_holds;
       }
+
+  -- the slot counts the records of its chain
+  own_depth : depth (chain_in (slot_at table page)) ≤ 1 → (slot_at table page).depth ≤ 1
+  own_depth shallow = let same = chain_of.1.depth ∙ ap depth (sym chain_is) in omega (arith, same, shallow)
 
   -- the slot with the record on top
   abbrev raised : Delta → SlotValue
@@ -150,7 +159,7 @@ module _ {table : TableValue} {room : ℕ} (whole : IsWhole table room) {page ke
       let written : slot_in (set table.slots page (raised delta)) page ≡ raised delta = slot_written table.slots page (raised delta) leaf_is_inside in
       let base : Page = base_with delta in
       let seen : ℕ = suc (slot_at table page).version in
-      let rises : seen + 1 < 2 ^ 64 = omega (arith, may.leaf.version) in
+      let rises : seen + 1 < 2 ^ 64 = omega (arith, may.version) in
       let Accepts : SlotValue → Type 0 = λ s. first_reason (consolidate_reasons s seen base) ≡ None in
       let Fine : TableValue → Type 0 = λ t. refusal t (consolidate page seen base) ≡ None in
       let accepts : Accepts (raised delta) =
@@ -185,32 +194,32 @@ module _ {table : TableValue} {room : ℕ} (whole : IsWhole table room) {page ke
       LooksOrTakes table page (Looked (number_of table.book) key had) (told had delta) (noted (set table.slots page (slot_with delta (slot_at table page))) (told had delta))
       (step_for page (slot_at table page).version key wished had)
 
-  inserts : (value : ℕ) → None ≡ at key (pairs_in (slot_at table page)) → TakesBoth table (insert page (slot_at table page).version key value) (told None (Some (deltas.Insert key value))) page (noted (set table.slots page (slot_with (Some (deltas.Insert key value)) (slot_at table page))) (told None (Some (deltas.Insert key value))))
-  inserts value none =
+  inserts : (value : ℕ) → (slot_at table page).depth ≤ 1 → None ≡ at key (pairs_in (slot_at table page)) → TakesBoth table (insert page (slot_at table page).version key value) (told None (Some (deltas.Insert key value))) page (noted (set table.slots page (slot_with (Some (deltas.Insert key value)) (slot_at table page))) (told None (Some (deltas.Insert key value))))
+  inserts value shallow none =
       both (insert page (slot_at table page).version key value) (deltas.Insert key value) (told None (Some (deltas.Insert key value)))
-      (insert_is_accepted (slot_at table page) (number_of table.book) key may.leaf may.number (sym none)) refl refl
+      (insert_is_accepted (slot_at table page) (number_of table.book) key may.leaf may.version shallow may.number (sym none)) refl refl
 
-  comes_true : (wished : Wished) (had : Option ℕ) → had ≡ at key (pairs_in (slot_at table page)) → ComesTrue wished had (delta_for wished key had)
-  comes_true (wishes.Put value) None found = inserts value found
-  comes_true (wishes.Put value) (Some had) found = (refl, nothing_noted (number_of table.book) (Some had))
-  comes_true (wishes.Set value) None found = inserts value found
-  comes_true (wishes.Set value) (Some had) found =
+  comes_true : (wished : Wished) (had : Option ℕ) → (slot_at table page).depth ≤ 1 → had ≡ at key (pairs_in (slot_at table page)) → ComesTrue wished had (delta_for wished key had)
+  comes_true (wishes.Put value) None shallow found = inserts value shallow found
+  comes_true (wishes.Put value) (Some had) shallow found = (refl, nothing_noted (number_of table.book) (Some had))
+  comes_true (wishes.Set value) None shallow found = inserts value shallow found
+  comes_true (wishes.Set value) (Some had) shallow found =
       both (modify page (slot_at table page).version key value) (deltas.Modify key value) (told (Some had) (Some (deltas.Modify key value)))
-      (found_is_accepted (slot_at table page) (number_of table.book) key had may.leaf may.number (sym found))
+      (found_is_accepted (slot_at table page) (number_of table.book) key had may.leaf may.version shallow may.number (sym found))
       (ap (λ (o : Option ℕ). Modified (suc (number_of table.book)) key (unwrap_or o 0) value) found) refl
-  comes_true wishes.Delete None found = (refl, nothing_noted (number_of table.book) None)
-  comes_true wishes.Delete (Some had) found =
+  comes_true wishes.Delete None shallow found = (refl, nothing_noted (number_of table.book) None)
+  comes_true wishes.Delete (Some had) shallow found =
       both (delete page (slot_at table page).version key) (deltas.Delete key) (told (Some had) (Some (deltas.Delete key)))
-      (found_is_accepted (slot_at table page) (number_of table.book) key had may.leaf may.number (sym found))
+      (found_is_accepted (slot_at table page) (number_of table.book) key had may.leaf may.version shallow may.number (sym found))
       (ap (λ (o : Option ℕ). Deleted (suc (number_of table.book)) key (unwrap_or o 0)) found) refl
 
   -- what the code did is what was wished
   pub done_at_once : (wished : Wished) {had : Option ℕ} {delta : Option Delta} {slots : List SlotValue} {receipt : Receipt}
-      → had ≡ at key (pairs_in (slot_at table page)) → delta ≡ delta_for wished key had → slots ≡ set table.slots page (slot_with delta (slot_at table page)) → receipt ≡ told had delta
+      → depth (chain_in (slot_at table page)) ≤ 1 → had ≡ at key (pairs_in (slot_at table page)) → delta ≡ delta_for wished key had → slots ≡ set table.slots page (slot_with delta (slot_at table page)) → receipt ≡ told had delta
       → IsDoneAtOnce table page key wished receipt (noted slots receipt)
-  done_at_once wished {had} {delta} {slots} {receipt} found is slots_are receipt_is =
+  done_at_once wished {had} {delta} {slots} {receipt} shallow found is slots_are receipt_is =
       let ByDelta : Option Delta → Type 0 = λ d. ComesTrue wished had d in
-      let start : ComesTrue wished had delta = subst ByDelta (sym is) (comes_true wished had found) in
+      let start : ComesTrue wished had delta = subst ByDelta (sym is) (comes_true wished had (own_depth shallow) found) in
       let ByReceipt : Receipt → Type 0 = λ r. LooksOrTakes table page (Looked (number_of table.book) key had) r (noted (set table.slots page (slot_with delta (slot_at table page))) r) (step_for page (slot_at table page).version key wished had) in
       let next : ByReceipt receipt = subst ByReceipt (sym receipt_is) start in
       let BySlots : List SlotValue → Type 0 = λ s. LooksOrTakes table page (Looked (number_of table.book) key had) receipt (noted s receipt) (step_for page (slot_at table page).version key wished had) in
@@ -219,7 +228,7 @@ module _ {table : TableValue} {room : ℕ} (whole : IsWhole table room) {page ke
       subst ByHad found third
 
 -- the table is whole after steps that it took in turn
-whole_in_turn : (table : TableValue) (room : ℕ) (steps : List (Proposal × Receipt)) (new : TableValue) → IsWhole table room → TakesInTurn table steps new → IsWhole new room
+pub whole_in_turn : (table : TableValue) (room : ℕ) (steps : List (Proposal × Receipt)) (new : TableValue) → IsWhole table room → TakesInTurn table steps new → IsWhole new room
 whole_in_turn table room [] new whole turn = let Whole : TableValue → Type 0 = λ t. IsWhole t room in subst Whole (sym turn) whole
 whole_in_turn table room (taken ∷ rest) new whole turn =
     let Whole : TableValue → Type 0 = λ t. IsWhole t room in
@@ -244,7 +253,7 @@ tells_then_same (look number key found) old between new tells same =
 tells_then_same shape old between new tells same = λ k value. (λ maps. (tells k value).0 ((same k value).0 maps), λ maps. (same k value).1 ((tells k value).1 maps))
 
 -- what is reported of it is what it makes of the map
-pub tells_at_once : (table : TableValue) (room page key number : ℕ) (receipt : Receipt) (new : TableValue) (step : Option Proposal) → IsWhole table room → IsShallowLeaf (slot_at table page) key
+pub tells_at_once : (table : TableValue) (room page key number : ℕ) (receipt : Receipt) (new : TableValue) (step : Option Proposal) → IsWhole table room → IsPostedLeaf (slot_at table page) key
     → LooksOrTakes table page (Looked number key (at key (pairs_in (slot_at table page)))) receipt new step → TellsMap (telling_of receipt) table.slots new.slots
 tells_at_once table room page key number receipt new None whole leaf looks =
     let Tells : Receipt → TableValue → Type 0 = λ r t. TellsMap (telling_of r) table.slots t.slots in

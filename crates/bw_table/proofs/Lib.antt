@@ -1,6 +1,8 @@
 mod Consolidating
 mod Halving
+pub mod Actions
 pub mod InPlaces
+pub mod Mergings
 pub mod Doing
 pub mod FreeIds
 pub mod LiveRoutes

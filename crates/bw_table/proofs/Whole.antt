@@ -1,5 +1,5 @@
 -- What the code asks for holds of each table.
-use Rattle.std.proofs.Common.{◌≡◌, ℕ, ◌<◌, ◌≤◌, ◌^◌, Bool, true, Option, Some, None, unwrap_or, refl, ◌∙◌, ap, arith}
+use Rattle.std.proofs.Common.{◌≡◌, ℕ, ◌+◌, ◌<◌, ◌≤◌, ◌^◌, Bool, true, Option, Some, None, unwrap_or, refl, ◌∙◌, ap, arith}
 use Rattle.std.specs.Prelude.{option_map, is_none}
 use Rattle.std.proofs.lemmas.Bool.Decides.{nat_tests}
 use Rattle.bw_keys.specs.declared.config.Config.{Config}
@@ -11,9 +11,11 @@ use Rattle.bw_law.specs.Tables.{TableValue, slot_at, is_leaf_in_row, Lawful, IsV
 use Rattle.bw_law.specs.Slots.{SlotValue, pairs_in}
 use Rattle.bw_law.specs.Refusals.{refusal, new_id, last_id}
 use Rattle.bw_law.specs.Effects.{after}
+use Rattle.bw_law.specs.MorePages.{with_more_pages}
 use Rattle.bw_law.proofs.AllSteps.{step_law}
 use Rattle.bw_law.proofs.Facts.{leaf_decides}
 use Rattle.bw_law.proofs.NewTable.{new_law}
+use Rattle.bw_law.proofs.MorePages.{more_pages_law}
 use Rattle.bw_table.specs.SlotFacts.{HasSoundChain}
 use Rattle.bw_table.specs.Whole.{IsWhole}
 
@@ -55,3 +57,9 @@ whole_after table step room whole none =
 pub whole_new : (config : Config) (room : ℕ) → first_bad_field config ≡ None → config.first_version < 2 ^ 64 → config.pages ≤ room → IsWhole (new_table config) room
 whole_new config room fine fits enough =
     let empty = new_law config fine fits in record { lawful = empty.lawful; booked = empty.booked; free_room = omega (arith, empty.lawful.bounds.slots) }
+
+-- the table with more pages
+pub whole_with_more : (table : TableValue) (more room wider : ℕ) → IsWhole table room → table.config.pages + more ≤ 65536 → table.config.first_version < 2 ^ 64 → table.config.pages + more ≤ wider → IsWhole (with_more_pages more table) wider
+whole_with_more table more room wider whole few fits enough =
+    let kept = more_pages_law table more whole.lawful whole.booked few fits in
+    record { lawful = kept.lawful; booked = kept.booked; free_room = omega (arith, kept.lawful.bounds.slots, enough) }

@@ -1,6 +1,7 @@
 -- A change of a key and the consolidation of its page, one behind the other, as one call does them.
-use Rattle.std.specs.Prelude.{◌≡◌, ℕ, suc, ◌+◌, ◌-◌, ◌<◌, ◌≤◌, ◌^◌, nat_lt, Bool, true, false, List, [], ◌∷◌, ◌++◌, slice_set, Option, Some, None, is_none, unwrap_or}
+use Rattle.std.specs.Prelude.{◌≡◌, ℕ, suc, ◌+◌, ◌-◌, ◌<◌, ◌^◌, nat_lt, Bool, true, false, List, [], ◌∷◌, ◌++◌, slice_set, length, ◌≢◌, Option, Some, None, is_none, is_some, unwrap_or}
 use Rattle.bw_keys.specs.declared.page.Pid.{Pid}
+use Rattle.bw_keys.specs.declared.range.Fence.TheVariants.{Key}
 use Rattle.bw_keys.specs.Ranges.{is_within}
 use Rattle.bw_keys.specs.Reasons.{when}
 use Rattle.bw_delta.specs.declared.chain.Delta.{Delta}
@@ -8,35 +9,35 @@ use Rattle.bw_delta.specs.declared.chain.Delta.TheVariants as deltas
 use Rattle.bw_delta.specs.Entries.{at}
 use Rattle.bw_delta.specs.Fence.{fences}
 use Rattle.bw_delta.specs.Pages.{Page, listed_length, upper_part}
-use Rattle.bw_delta.specs.Records.{above}
+use Rattle.bw_delta.specs.Records.{bare, above, depth}
 use Rattle.bw_delta.specs.Sound.{LiesIn, page_for}
 use Rattle.bw_chain.specs.Pages.Halves.{listed_key_at, listed_middle_key}
-use Rattle.bw_chain.specs.declared.in_place.Wished.{Wished}
-use Rattle.bw_chain.specs.declared.in_place.Wished.TheVariants as wishes
+use Rattle.bw_chain.specs.InPlaces.{joined_chain}
+use Rattle.bw_keys.specs.declared.wished.Wished.{Wished}
+use Rattle.bw_keys.specs.declared.wished.Wished.TheVariants as wishes
 use Rattle.bw_step.specs.declared.receipt.Kind.TheVariants as kinds
 use Rattle.bw_step.specs.declared.receipt.Receipt.{Receipt}
 use Rattle.bw_step.specs.declared.receipt.Receipt.TheVariants.{Inserted, Deleted, Modified, Looked, Shaped}
 use Rattle.bw_step.specs.declared.refused.Refused.{Refused}
 use Rattle.bw_step.specs.declared.refused.Refused.TheVariants.{OutOfRange, NotBare, BadSeparator}
 use Rattle.bw_step.specs.declared.view.Stage.TheVariants.{Posted, Unposted}
-use Rattle.bw_step.specs.Proposals.{Proposal, insert, delete, modify, consolidate, split, term_add}
+use Rattle.bw_step.specs.Proposals.{Proposal, insert, delete, modify, consolidate, split, term_add, mark, merge, term_delete}
 use Rattle.bw_law.specs.Effects.{with_record, with_stage, cut_before, upper_half, consolidated, pid}
 use Rattle.bw_law.specs.Refusals.{is_bad_key, is_leaving_at, is_outside, last_id, new_id, open_reasons, room_reasons}
 use Rattle.bw_law.specs.Runs.{TakesInTurn}
-use Rattle.bw_law.specs.Slots.{SlotValue, slot_in, chain_in, pairs_in, routes_in}
+use Rattle.bw_law.specs.Slots.{SlotValue, slot_in, free_slot, chain_in, pairs_in, routes_in}
 use Rattle.bw_law.specs.Tables.{TableValue, slot_at, number_of}
 
--- a leaf with one record at most, posted, whose range holds the key and whose version can rise twice
-pub record IsShallowLeaf (slot : SlotValue) (key : ℕ) : Type 0 where
+-- a posted leaf whose range holds the key
+pub record IsPostedLeaf (slot : SlotValue) (key : ℕ) : Type 0 where
   pub posted : slot.stage ≡ Posted
   pub leaf : slot.level ≡ 0
-  pub shallow : slot.depth ≤ 1
   pub within : is_within slot.low slot.high key ≡ true
-  pub version : slot.version + 2 < 2 ^ 64
 
--- the page is such a leaf, and the book's number can rise
+-- the page is such a leaf; its version can rise twice, and the book's number once
 pub record MayChangeAtOnce (table : TableValue) (page key : ℕ) : Type 0 where
-  pub leaf : IsShallowLeaf (slot_at table page) key
+  pub leaf : IsPostedLeaf (slot_at table page) key
+  pub version : (slot_at table page).version + 2 < 2 ^ 64
   pub number : number_of table.book + 1 < 2 ^ 64
 
 -- the numbers of a slot can rise, and its chain takes the key
@@ -231,3 +232,95 @@ pub record IsSplitUnder (old : TableValue) (parent page number : ℕ) (new_page 
   pub between : TableValue
   pub split : IsSplitAtOnce old page number (Shaped kinds.Split (pid page) (Some new_page)) between
   pub post : IsPosted between parent new_page posted new
+
+-- a posted page without records
+pub record IsBare (slot : SlotValue) : Type 0 where
+  pub posted : slot.stage ≡ Posted
+  pub no_records : slot.depth ≡ 0
+
+-- the page is one level above the other, and begins before that one does, which begins in its range
+pub record IsOver (over slot : SlotValue) : Type 0 where
+  pub above : over.level ≡ slot.level + 1
+  pub within : is_within over.low over.high slot.low ≡ true
+  pub after_low : over.low < slot.low
+
+-- the page links to the other, and the entries of both can be counted
+pub record IsLeftOf (into slot : SlotValue) (page : ℕ) : Type 0 where
+  pub link : into.right ≡ Some (pid page)
+  pub count : into.count + slot.count < 2 ^ 64
+
+-- a bare page under another one and the one on its left, which are bare too; the versions can rise
+pub record MayMerge (over into slot : SlotValue) (page : ℕ) : Type 0 where
+  pub over_bare : IsBare over
+  pub left_bare : IsBare into
+  pub bare : IsBare slot
+  pub under : IsOver over slot
+  pub left : IsLeftOf into slot page
+  pub over_version : over.version + 2 < 2 ^ 64
+  pub left_version : into.version + 2 < 2 ^ 64
+  pub version : slot.version + 3 < 2 ^ 64
+
+abbrev pub MayMergeUnder : TableValue → ℕ → ℕ → ℕ → Type 0
+MayMergeUnder table parent left page = MayMerge (slot_at table parent) (slot_at table left) (slot_at table page) page
+
+-- the numbers of the slot can rise, and its chain ends where the right one begins
+pub record Meets (into right : SlotValue) : Type 0 where
+  pub version : into.version + 2 < 2 ^ 64
+  pub count : into.count + right.count < 2 ^ 64
+  pub meets : (fences (chain_in into)).high ≡ Key (fences (chain_in right)).low
+
+-- the version of the slot can rise twice, and it has a chain without records
+pub record LosesTerm (slot : SlotValue) : Type 0 where
+  pub version : slot.version + 2 < 2 ^ 64
+  pub chain : is_some slot.chain ≡ true
+  pub no_records : depth (chain_in slot) ≡ 0
+
+-- three slots of such pages, and the version of the one that goes can rise
+pub record MergesIn (slots : List SlotValue) (parent left page : ℕ) : Type 0 where
+  pub parent_exists : parent < length slots
+  pub left_exists : left < length slots
+  pub exists : page < length slots
+  pub parent_apart : parent ≢ page
+  pub left_apart : left ≢ page
+  pub parent_other : parent ≢ left
+  pub version : (slot_in slots page).version + 3 < 2 ^ 64
+  pub meets : Meets (slot_in slots left) (slot_in slots page)
+  pub loses : LosesTerm (slot_in slots parent)
+
+-- the left page with the other taken in, consolidated
+abbrev pub slot_joined : SlotValue → SlotValue → SlotValue
+slot_joined into slot = record into {
+  version = suc (suc into.version);
+  high = slot.high;
+  right = slot.right;
+  count = into.count + slot.count;
+  depth = 0;
+  chain = Some (bare (page_for (joined_chain (chain_in into) (chain_in slot))));
+}
+
+-- the page is in its left neighbour, and its slot is free; the parent has no term of it
+abbrev pub slots_merged_at_once : ℕ → ℕ → ℕ → List SlotValue → List SlotValue
+slots_merged_at_once parent left page slots =
+    let slot = slot_in slots page in
+    slice_set (slice_set (slice_set slots page (free_slot (slot.version + 3))) left (slot_joined (slot_in slots left) slot)) parent
+    (slot_with (Some (deltas.TermDelete slot.low)) (slot_in slots parent))
+
+-- the steps that take a page out, with their receipts: it is marked, and its left neighbour takes it in and is consolidated; then
+-- the parent loses its term and is consolidated
+abbrev pub merging_steps : TableValue → ℕ → ℕ → ℕ → Page → Page → List (Proposal × Receipt)
+merging_steps table parent left page base over =
+    let seen = (slot_at table page).version in
+    let left_seen = (slot_at table left).version in
+    let parent_seen = (slot_at table parent).version in
+    (mark page seen parent, Shaped kinds.Mark (pid page) None)
+    ∷ (merge left left_seen page (suc seen), Shaped kinds.Merge (pid left) (Some (pid page)))
+    ∷ (consolidate left (suc left_seen) base, Shaped kinds.Consolidate (pid left) None)
+    ∷ (term_delete parent parent_seen page (suc (suc seen)), Shaped kinds.TermDelete (pid parent) (Some (pid page)))
+    ∷ (consolidate parent (suc parent_seen) over, Shaped kinds.Consolidate (pid parent) None)
+    ∷ []
+
+-- The page was taken in to the left page under the parent, by all five steps; none was refused.
+pub record IsMergedUnder (old : TableValue) (parent page : ℕ) (left : Pid) (new : TableValue) : Type 0 where
+  pub base : Page
+  pub over : Page
+  pub takes : TakesInTurn old (merging_steps old parent left.0 page base over) new

@@ -1,3 +1,4 @@
+pub mod Actions
 pub mod Answers
 pub mod InPlaces
 pub mod Codes

@@ -1,7 +1,8 @@
 //! The ids of free slots. The last of them is taken next, and no memory is ever asked for one.
 
-ghost use Rattle.std.specs.Prelude.{◌≡◌, ◌<◌, ◌≤◌, Some, IsSome, IfOk, length};
+ghost use Rattle.std.specs.Prelude.{◌≡◌, ◌+◌, ◌<◌, ◌≤◌, ◌^◌, ◌++◌, Some, IsSome, IfOk, length};
 ghost use Rattle.bw_law.specs.Effects.{freed};
+ghost use Rattle.bw_law.specs.MorePages.{ids_from};
 ghost use Rattle.bw_law.specs.Refusals.{last_id, all_but_last};
 ghost use Rattle.bw_law.specs.Tables.{ids_down};
 
@@ -35,6 +36,23 @@ impl FreeList {
         for id in (1..pages).rev() {
             ids.push(id)?;
         }
+        Ok(FreeList { ids })
+    }
+
+    /// These ids behind that many others from the first on, the greatest first, with room for every
+    /// id.
+    #[tactic(auto, using(crate::proofs::FreeIds::more_ids))]
+    pub(crate) fn behind(&self, first: u32, more: u32) -> Result<FreeList, AllocError>
+        requires { first + more < 2 ^ 32 }
+        ensures ids { IfOk result (λ list. list.ids ≡ ids_from first more ++ self.now.ids) }
+        ensures room { IfOk result (λ list. first + more ≤ list.room) }
+    {
+        let pages = first + more;
+        let mut ids = Vec::with_capacity(*self.ids.allocator(), pages as usize)?;
+        for id in (first..pages).rev() {
+            ids.push(id)?;
+        }
+        ids.extend_from_slice(&self.ids)?;
         Ok(FreeList { ids })
     }
 

@@ -12,6 +12,7 @@ mod get_many;
 mod leaf;
 mod listing;
 mod order;
+mod pages;
 mod rest;
 mod slot;
 mod steps;
@@ -19,11 +20,11 @@ mod survey;
 mod table;
 mod visit;
 
-pub use bw_chain::Wished;
+pub use bw_keys::Wished;
 pub use bw_step::{
-    AtOnce, Book, Consolidate, CopyFault, Delete, Go, Grow, Insert, Kind, Leaf, Look, Mark, Merge,
-    Modify, Next, Place, Receipt, Refused, Split, Stage, Step, Summary, Survey, TermAdd,
-    TermDelete, Todo, View,
+    Action, AtOnce, Book, Consolidate, CopyFault, Delete, Go, Grow, Insert, Kind, Leaf, Look, Mark,
+    Merge, Modify, Next, Performed, Place, Receipt, Refused, Split, Stage, Step, Summary, Survey,
+    TermAdd, TermDelete, Todo, Unperformed, View,
 };
 pub use fault::NewFault;
 pub use leaf::LeafRef;

@@ -1,12 +1,11 @@
 //! The leaf of a key, found while no page on the way to it is in the middle of a split or a merge:
 //! then a search has nothing to finish for others.
 
-ghost use Rattle.std.specs.Prelude.{◌≡◌, true, IfOk, IfErr, IfSome, IfNone};
+ghost use Rattle.std.specs.Prelude.{◌≡◌, ◌<◌, true, length, IfSome, IfNone};
 ghost use Rattle.bw_step.specs.Stages.{is_in_row};
 ghost use Rattle.bw_law.specs.Laws.{IsLeafOf};
-ghost use Rattle.bw_law.specs.Tables.{slot_at};
-ghost use Rattle.bw_table.specs.Gets.{IsUpTo, LeadsOn, live_child, next_page};
-ghost use Rattle.bw_table.specs.Rests.{HasUnfinished, is_unfinished};
+ghost use Rattle.bw_law.specs.Tables.{Lawful, slot_at};
+ghost use Rattle.bw_table.specs.Rests.{HasUnfinished, is_unfinished, next_by_routes};
 ghost use Rattle.bw_table.specs.SlotFacts.{HasSoundChain};
 ghost use Rattle.bw_table.specs.Views.{view_of};
 
@@ -16,12 +15,9 @@ use bw_keys::{Fence, Key, Pid};
 use bw_step::{Stage, View};
 use std::alloc::Allocator;
 
-/// A page on the way is in the middle of a split or a merge.
-struct Unfinished;
-
 impl<A: Allocator + Copy> Table<A> {
-    /// Returns the leaf whose range holds the key, if no page on the way to it is in the middle of a
-    /// split or a merge. It takes no memory.
+    /// Returns the leaf whose range holds the key, if no page on the way to it is in the middle of
+    /// a split or a merge. It takes no memory.
     #[inline(always)]
     pub fn leaf_at_rest(&self, key: Key) -> Option<View>
         ensures view { IfSome result (λ view.
@@ -30,65 +26,57 @@ impl<A: Allocator + Copy> Table<A> {
         ensures posted { IfSome result (λ view. view.stage ≡ Stage.Posted) }
         ensures unfinished { IfNone result (HasUnfinished self.now) }
     {
+        let page = self.page_at_rest(key)?;
+        Some(self.slot_in_row(page).view(page))
+    }
+
+    /// The page of that leaf. A page is asked for its stage when the walk has come to it, so a
+    /// route may lead to one that was taken in.
+    #[inline(never)]
+    pub(crate) fn page_at_rest(&self, key: Key) -> Option<Pid>
+        ensures leaf { IfSome result (λ page. IsLeafOf self.now key page.0) }
+        ensures posted { IfSome result (λ page. (slot_at self.now page.0).stage ≡ Stage.Posted) }
+        ensures unfinished { IfNone result (HasUnfinished self.now) }
+    {
         let mut page = Pid(self.root);
         'walk: loop {
-            match self.onward_at_rest(page, key) {
-                Ok(Some(next)) => page = next,
-                Ok(None) => return Some(self.slot_in_row(page).view(page)),
-                Err(Unfinished) => return None,
+            let slot = self.slot_inside(page);
+            if is_unfinished(slot.stage) {
+                return None;
+            }
+            match slot.next_by_routes(key) {
+                Some(next) => page = next,
+                None => return Some(page),
             }
         }
     }
 
-    /// The next page of a search for the key; none after the leaf.
+    /// The slot of a page that isn't past the end.
+    #[tactic(auto, using(crate::proofs::Whole::has_sound_chain))]
     #[inline(always)]
-    fn onward_at_rest(&self, page: Pid, key: Key) -> Result<Option<Pid>, Unfinished>
-        requires { IsUpTo self.now key page.0 }
-        ensures next { IfOk result (LeadsOn self.now key page.0) }
-        ensures posted { IfOk result (λ next. (slot_at self.now page.0).stage ≡ Stage.Posted) }
-        ensures unfinished { IfErr result (λ unfinished. HasUnfinished self.now) }
+    fn slot_inside(&self, page: Pid) -> &Slot<A>
+        requires { page.0 < length self.now.slots }
+        ensures lawful { Lawful self.now }
+        ensures there { result.now ≡ slot_at self.now page.0 }
+        ensures sound { HasSoundChain result.now }
     {
-        let slot = self.slot_in_row(page);
-        if is_unfinished(slot.stage) {
-            Err(Unfinished)
-        } else {
-            self.next_at_rest(slot, key)
-        }
+        &self.slots[page.0 as usize]
     }
+}
 
-    /// The page on the right where the key is past this one; otherwise the one below, if this one is
-    /// no leaf.
+impl<A: Allocator + Copy> Slot<A> {
+    /// The page on the right where the key is past this one; otherwise the one below, if this one
+    /// is no leaf. It may be one that was taken in.
     #[inline(always)]
-    fn next_at_rest(&self, slot: &Slot<A>, key: Key) -> Result<Option<Pid>, Unfinished>
-        requires in_row { is_in_row slot.now.stage ≡ true }
-        requires sound { HasSoundChain slot.now }
-        ensures next { IfOk result (λ next. next ≡ next_page self.now.slots slot.now key) }
-        ensures unfinished { IfErr result (λ unfinished. HasUnfinished self.now) }
+    fn next_by_routes(&self, key: Key) -> Option<Pid>
+        requires in_row { is_in_row self.now.stage ≡ true }
+        requires sound { HasSoundChain self.now }
+        ensures { result ≡ next_by_routes self.now key }
     {
-        match slot.summary.high {
-            Fence::Key(high) if high <= key => Ok(slot.summary.right),
-            _ if slot.summary.level == 0 => Ok(None),
-            _ => self.child_at_rest(slot, key),
-        }
-    }
-
-    /// The page by the greatest route at or below the key, which isn't merged.
-    #[inline(always)]
-    fn child_at_rest(&self, slot: &Slot<A>, key: Key) -> Result<Option<Pid>, Unfinished>
-        requires in_row { is_in_row slot.now.stage ≡ true }
-        requires sound { HasSoundChain slot.now }
-        ensures child { IfOk result (λ child. child ≡ live_child self.now.slots slot.now key) }
-        ensures unfinished { IfErr result (λ unfinished. HasUnfinished self.now) }
-    {
-        match slot.child(key) {
-            Some((_, child)) => {
-                if self.is_taken_in(child) {
-                    Err(Unfinished)
-                } else {
-                    Ok(Some(child))
-                }
-            }
-            None => Ok(None),
+        match self.summary.high {
+            Fence::Key(high) if high <= key => self.summary.right,
+            _ if self.summary.level == 0 => None,
+            _ => self.child_page(key),
         }
     }
 }

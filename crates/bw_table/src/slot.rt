@@ -1,4 +1,4 @@
-ghost use Rattle.std.specs.Prelude.{◌≡◌, ◌+◌, ◌==◌, ◌&&◌, true};
+ghost use Rattle.std.specs.Prelude.{◌≡◌, ◌+◌, ◌==◌, ◌&&◌, true, option_map};
 ghost use Rattle.bw_keys.specs.Ranges.{is_within};
 ghost use Rattle.bw_delta.specs.Entries.{at, first_from, last_upto, last_below};
 ghost use Rattle.bw_delta.specs.Pages.{upper_part};
@@ -8,12 +8,14 @@ ghost use Rattle.bw_law.specs.Same.{is_same_page};
 ghost use Rattle.bw_law.specs.Slots.{free_slot, chain_in, pairs_in, routes_in};
 ghost use Rattle.bw_law.specs.Tables.{first_slot, is_leaf_in_row};
 ghost use Rattle.bw_law.specs.Refusals.{is_full, is_worn, is_other_kind};
+ghost use Rattle.bw_table.specs.Gets.{page_of};
 ghost use Rattle.bw_table.specs.SlotFacts.{HasSoundChain, is_later_key};
 ghost use Rattle.bw_table.specs.Views.{view_of};
 ghost use Rattle.bw_table.specs.Visits.{is_there, own_todo};
 
 use bw_chain::{
-    child, find, is_later_key, is_upper_part, next_at, previous_at, route_at, route_before, same,
+    child, child_page, find, is_later_key, is_upper_part, next_at, previous_at, route_at,
+    route_before, same,
 };
 use bw_delta::{Base, Chain};
 use bw_keys::{Fence, Key, MAX_DEPTH, Pid, Range, Version};
@@ -201,6 +203,19 @@ impl<A: Allocator + Copy> Slot<A> {
     {
         match &self.chain {
             Some(chain) => child(chain, key),
+            None => None,
+        }
+    }
+
+    /// The page of that route alone.
+    #[inline(always)]
+    pub(crate) fn child_page(&self, key: Key) -> Option<Pid>
+        requires in_row { is_in_row self.now.stage ≡ true }
+        requires sound { HasSoundChain self.now }
+        ensures { result ≡ option_map page_of (last_upto key (routes_in self.now)) }
+    {
+        match &self.chain {
+            Some(chain) => child_page(chain, key),
             None => None,
         }
     }

@@ -1,3 +1,2 @@
 pub mod AtOnce
-mod Halving
 pub mod Trees

@@ -1,19 +1,15 @@
 //! A table whose book is the sum of its workers' shares, at every moment outside its own calls.
 
 ghost use Rattle.std.specs.Prelude.{◌≡◌, ◌≢◌, ◌+◌, ◌-◌, ◌<◌, ◌↔◌, None, Some, All, length};
-ghost use Rattle.std.specs.Prelude.{IsOk, IfOk, IfErr, OnOk, OnErr, IfSome, IfNone};
+ghost use Rattle.std.specs.Prelude.{IsOk, IfOk, IfErr, OnOk, OnErr};
 ghost use Rattle.bw_step.specs.ProposalView.{proposal_of};
-ghost use Rattle.bw_law.specs.Tables.{new_table, TellsMap};
+ghost use Rattle.bw_law.specs.Tables.{new_table};
 ghost use Rattle.bw_law.specs.Laws.{MapAfter};
-ghost use Rattle.bw_keys.specs.Reasons.{first_reason};
 ghost use Rattle.bw_law.specs.Refusals.{refusal};
-ghost use Rattle.bw_table.specs.Answers.{IsDenialFor};
-ghost use Rattle.bw_table.specs.InPlaces.{IsDoneAtOnce, IsRecordedAtOnce, IsConsolidatedAtOnce, IsHalvedAtOnce, IsPostedByOne};
-ghost use Rattle.bw_table.specs.InPlaces.{consolidating, half_reasons};
+ghost use Rattle.bw_table.specs.Actions.{IsPerformed, IsWhyNot};
 ghost use Rattle.bw_table.specs.Orders.{HasPairs};
-ghost use Rattle.bw_tree.specs.Shares.{no_changes, shared_in, CountsIn, CountsAtOnce, IsReceiptAtOnce, IsConsolidationOf};
+ghost use Rattle.bw_tree.specs.Shares.{no_changes, shared_in, CountsIn, CountsPerformed, Reports};
 ghost use Rattle.bw_step.specs.Steps.{IsReceiptOf};
-ghost use Rattle.bw_step.specs.Tellings.{telling_of};
 ghost use Rattle.bw_tree.specs.Trees.{IsTree, IsClosed, Leads};
 ghost use Rattle.bw_tree.specs.Trees.{OpensFor, IsNewFault, MayBeMade, is_bad_number};
 
@@ -21,10 +17,9 @@ use crate::fault::{MissingShare, NewFault, Unshared};
 use crate::ledgers::Ledgers;
 use crate::made_by::MadeBy;
 use crate::share::{Blanks, Share};
-use bw_chain::Wished;
 use bw_delta::Spare;
-use bw_keys::{Config, Key, MAX_WORKERS, Pid, Version};
-use bw_step::{AtOnce, Denied, Receipt, Refused, Step};
+use bw_keys::{Config, MAX_WORKERS};
+use bw_step::{Action, Performed, Receipt, Refused, Step, Unperformed};
 use bw_table::Table;
 use std::alloc::{Allocator, Global};
 use std::marker::Model;
@@ -153,87 +148,24 @@ impl<A: Allocator + Copy, I: MadeBy, D: Ledger> Booked<A, I, D> {
         Ok(receipt)
     }
 
-    /// Makes the wish come true for the key and consolidates its leaf, as `Table::change_at_once`
-    /// does, and counts an insertion or a removal in the share.
+    /// Performs the action as `Table::perform` does, and counts an insertion or a removal in the share.
     #[inline(always)]
-    pub fn change_at_once(
-        &mut self,
-        share: &mut Share<I, D>,
-        key: Key,
-        wished: Wished,
-    ) -> Option<AtOnce>
-        ensures done { IfSome result (λ it.
-            IsDoneAtOnce self.old it.page.0 key wished it.receipt self.new) }
-        ensures map { IfSome result (λ it.
-            TellsMap (telling_of it.receipt) self.old.slots self.new.slots) }
-        ensures receipt { IfSome result (λ it. IsReceiptAtOnce key wished it.receipt) }
-        ensures unchanged { IfNone result (self.new ≡ self.old) }
-        ensures share { CountsAtOnce share.old share.new result }
-    {
-        let done = self.table.change_at_once(key, wished)?;
-        self.ledgers.count(share, done.receipt);
-        Some(done)
-    }
-
-    /// Puts the record of the change that is wished on the key's leaf, as `Table::record_at_once`
-    /// does, and counts an insertion or a removal in the share.
-    #[inline(always)]
-    pub fn record_at_once(
-        &mut self,
-        share: &mut Share<I, D>,
-        key: Key,
-        wished: Wished,
-        spare: Spare<A>,
-    ) -> Option<AtOnce>
-        ensures done { IfSome result (λ it.
-            IsRecordedAtOnce self.old it.page.0 key wished it.receipt self.new) }
-        ensures receipt { IfSome result (λ it. IsReceiptAtOnce key wished it.receipt) }
-        ensures unchanged { IfNone result (self.new ≡ self.old) }
-        ensures share { CountsAtOnce share.old share.new result }
-    {
-        let done = self.table.record_at_once(key, wished, spare)?;
-        self.ledgers.count(share, done.receipt);
-        Some(done)
-    }
-
-    /// Consolidates the page where it lies, as `Table::consolidate_at_once` does.
-    pub fn consolidate_at_once(
+    pub fn perform(
         &mut self,
         alloc: A,
-        page: Pid,
-        seen: Version,
-    ) -> Result<Receipt, Denied>
-        ensures done { IfOk result (IsConsolidatedAtOnce self.old page.0 seen.0 self.new) }
-        ensures receipt { IfOk result (IsConsolidationOf page) }
-        ensures denied { IfErr result
-            (IsDenialFor (refusal self.old (consolidating self.old page.0 seen.0))) }
+        share: &mut Share<I, D>,
+        action: Action,
+        spare: Option<Spare<A>>,
+    ) -> Result<Performed, Unperformed>
+        ensures done { IfOk result (IsPerformed self.old action self.new) }
+        ensures reports { IfOk result (Reports action) }
+        ensures why { IfErr result (IsWhyNot self.old action) }
         ensures unchanged { OnErr result (self.new ≡ self.old) }
+        ensures share { CountsPerformed share.old share.new result }
     {
-        self.table.consolidate_at_once(alloc, page, seen)
-    }
-
-    /// Splits the page in half where it lies, as `Table::halve_at_once` does.
-    pub fn halve_at_once(
-        &mut self,
-        alloc: A,
-        page: Pid,
-        seen: Version,
-    ) -> Result<(Key, Pid), Denied>
-        ensures done { IfOk result (λ term.
-            IsHalvedAtOnce self.old page.0 seen.0 term self.new) }
-        ensures denied { IfErr result
-            (IsDenialFor (first_reason (half_reasons self.old page.0 seen.0))) }
-        ensures unchanged { OnErr result (self.new ≡ self.old) }
-    {
-        self.table.halve_at_once(alloc, page, seen)
-    }
-
-    /// Names an unposted page in its parent, as `Table::add_term_at_once` does.
-    pub fn add_term_at_once(&mut self, child: Pid, spare: Spare<A>) -> Option<Pid>
-        ensures done { IfSome result (λ parent. IsPostedByOne self.old parent child self.new) }
-        ensures unchanged { IfNone result (self.new ≡ self.old) }
-    {
-        self.table.add_term_at_once(child, spare)
+        let done = self.table.perform(alloc, action, spare)?;
+        self.ledgers.count(share, done.receipt);
+        Ok(done)
     }
 
     /// Returns the table, and asks for no share. So nothing ties its book to the shares.

@@ -9,12 +9,14 @@ ghost use Rattle.bw_tree.specs.Trees.{IsTree, IsClosed, OpensFor, IsNewFault, Ma
 use crate::booked::Booked;
 use crate::fault::{MissingShare, NewFault, Unshared};
 use crate::made_by::MadeBy;
+use crate::ordered::Ordered;
 use crate::share::{Blanks, Share};
 use crate::shared::Shared;
-use bw_chain::Wished;
-use bw_delta::{Chain, Spare};
+use bw_delta::Chain;
 use bw_keys::{Config, Key, Pid, Version};
-use bw_step::{AtOnce, CopyFault, Denied, Look, Next, Place, Receipt, Step, View};
+use bw_step::{
+    Action, CopyFault, Denied, Look, Next, Performed, Place, Receipt, Step, Unperformed, View,
+};
 use bw_table::Table;
 use std::alloc::{Allocator, Global};
 use std::sync::ledger::Ledger;
@@ -152,64 +154,17 @@ impl<R: Wait + Drop, A: Allocator + Copy, I: MadeBy, D: Ledger> Shared<A, Step<A
         Some(self.booked.lock(&self.rt).table().look_up(key))
     }
 
-    fn next_at(&self, key: Key) -> Option<(Key, u64)> {
-        self.booked.lock(&self.rt).table().next_at(key)
-    }
-
-    fn previous_at(&self, key: Key) -> Option<(Key, u64)> {
-        self.booked.lock(&self.rt).table().previous_at(key)
-    }
-
-    fn len(&self) -> u64 {
-        self.booked.lock(&self.rt).len()
-    }
-
     #[inline(always)]
-    fn change_at_once(&self, share: &mut Share<I, D>, key: Key, wished: Wished) -> Option<AtOnce> {
-        self.booked
-            .lock(&self.rt)
-            .change_at_once(share, key, wished)
-    }
-
-    #[inline(always)]
-    fn record_at_once(
+    fn perform(
         &self,
         alloc: A,
         share: &mut Share<I, D>,
-        key: Key,
-        wished: Wished,
-    ) -> Option<AtOnce> {
-        let spare = Spare::new(alloc).ok()?;
+        action: Action,
+    ) -> Result<Performed, Unperformed> {
+        let spare = action.spare(alloc);
         self.booked
             .lock(&self.rt)
-            .record_at_once(share, key, wished, spare)
-    }
-
-    fn consolidate_at_once(
-        &self,
-        alloc: A,
-        page: Pid,
-        seen: Version,
-    ) -> Option<Result<Receipt, Denied>> {
-        Some(
-            self.booked
-                .lock(&self.rt)
-                .consolidate_at_once(alloc, page, seen),
-        )
-    }
-
-    fn halve_at_once(
-        &self,
-        alloc: A,
-        page: Pid,
-        seen: Version,
-    ) -> Option<Result<(Key, Pid), Denied>> {
-        Some(self.booked.lock(&self.rt).halve_at_once(alloc, page, seen))
-    }
-
-    fn add_term_at_once(&self, alloc: A, child: Pid) -> Option<Pid> {
-        let spare = Spare::new(alloc).ok()?;
-        self.booked.lock(&self.rt).add_term_at_once(child, spare)
+            .perform(alloc, share, action, spare)
     }
 
     #[inline(always)]
@@ -232,5 +187,20 @@ impl<R: Wait + Drop, A: Allocator + Copy, I: MadeBy, D: Ledger> Shared<A, Step<A
             Ok(receipt) => Ok(receipt),
             Err(reason) => Err(Denied::Refused(reason)),
         }
+    }
+}
+
+impl<R: Wait + Drop, A: Allocator + Copy, I: MadeBy, D: Ledger> Ordered<A, Step<A>>
+    for Tree<R, A, I, D> {
+    fn next_at(&self, key: Key) -> Option<(Key, u64)> {
+        self.booked.lock(&self.rt).table().next_at(key)
+    }
+
+    fn previous_at(&self, key: Key) -> Option<(Key, u64)> {
+        self.booked.lock(&self.rt).table().previous_at(key)
+    }
+
+    fn len(&self) -> u64 {
+        self.booked.lock(&self.rt).len()
     }
 }

@@ -1,17 +1,18 @@
 //! One worker's hand on a tree that others share.
 
-ghost use Rattle.std.specs.Prelude.{◌≡◌, [], Some, Ok, OnOk, OnErr};
+ghost use Rattle.std.specs.Prelude.{◌≡◌, [], Some, Ok, OnOk, OnErr, length};
 ghost use Rattle.bw_step.specs.ProposalView.{proposal_of};
 ghost use Rattle.bw_procedures.specs.declared.steps.Keep.TheVariants as keeps;
 ghost use Rattle.bw_procedures.specs.Seen.{Installed, Looked, ends_of};
 ghost use Rattle.bw_work.specs.Hands.{Sums};
 
 use crate::gate::Gate;
-use bw_chain::Wished;
 use bw_delta::{Chain, NoMemory};
 use bw_keys::{Config, Key, Pid, Version};
-use bw_procedures::{Account, Ends, Keep, Steps, Trail};
-use bw_step::{AtOnce, CopyFault, Denied, Kind, Look, Next, Place, Receipt, Step, View};
+use bw_procedures::{Account, Ends, Keep, Steps, Trail, is_consolidated_behind};
+use bw_step::{
+    Action, CopyFault, Denied, Kind, Look, Next, Performed, Place, Receipt, Step, Unperformed, View,
+};
 use bw_tree::{Share, Shared};
 use std::alloc::{Allocator, Global};
 
@@ -111,6 +112,14 @@ impl<'t, A: Allocator + Copy, S: Shared<A, Step<A>>, G: Gate, T: Trail> Hand<'t,
         Ok(())
     }
 
+    /// Returns the number of receipts on the trail, whether or not they are kept.
+    #[inline(always)]
+    pub fn trail_len(&self) -> usize
+        ensures { result ≡ length self.now.account.seen.trail }
+    {
+        self.account.trail_len()
+    }
+
     /// Returns the receipts since the last `take_trail`, in their order, and goes on with an empty
     /// trail. See [`Hand`] for when to call it.
     pub fn take_trail(&mut self) -> T
@@ -180,101 +189,36 @@ impl<'t, A: Allocator + Copy, S: Shared<A, Step<A>>, G: Gate, T: Trail> Steps<A,
 
     #[inline(always)]
     fn look_at_once(&mut self, key: Key, keep: Keep) -> Result<Option<Look>, NoMemory> {
+        self.account.reserve()?;
         let Some(look) = self.tree.look_at_once(key) else {
             return Ok(None);
         };
-        self.account.reserve()?;
         self.account.looked(key, keep, Some(look));
         Ok(Some(look))
     }
 
-    #[inline(always)]
-    fn change_at_once(&mut self, key: Key, wished: Wished) -> Option<AtOnce> {
-        // Longer chains stay as they are, as a tending would leave them.
-        if self.account.config().chain != 1 || self.account.reserve_two().is_err() {
-            return None;
-        }
-        let done = self.tree.change_at_once(&mut self.share, key, wished)?;
-        self.account.done_at_once(done);
-        pass_behind(self.gate, self.worker, done.receipt);
-        Some(done)
-    }
-
+    // Longer chains stay as they are, as a tending would leave them.
     #[inline(always)]
     fn records_at_once(&self) -> bool {
         self.account.config().chain != 1
     }
 
     #[inline(always)]
-    fn record_at_once(&mut self, key: Key, wished: Wished) -> Option<AtOnce> {
-        if self.account.reserve().is_err() {
-            return None;
+    fn perform(&mut self, action: Action) -> Result<Performed, Unperformed> {
+        if self.account.reserve_for(action).is_err() {
+            return Err(Unperformed::Denied(Denied::NoMemory));
         }
-        let done = self
-            .tree
-            .record_at_once(self.alloc, &mut self.share, key, wished)?;
-        self.account.recorded_at_once(done);
-        Some(done)
-    }
-
-    fn consolidate_at_once(
-        &mut self,
-        page: Pid,
-        version: Version,
-    ) -> Option<Result<Receipt, Denied>> {
-        if self.account.reserve().is_err() {
-            return Some(Err(Denied::NoMemory));
-        }
-        let answer = self.tree.consolidate_at_once(self.alloc, page, version)?;
-        match answer {
-            Ok(receipt) => {
-                self.account.accepted(receipt);
-                pass(self.gate, self.worker, receipt);
-                Some(Ok(receipt))
+        match self.tree.perform(self.alloc, &mut self.share, action) {
+            Ok(done) => {
+                self.account.performed(action, done);
+                pass_performed(self.gate, self.worker, action, done.receipt);
+                Ok(done)
             }
-            Err(Denied::NoMemory) => Some(Err(Denied::NoMemory)),
-            Err(Denied::Refused(reason)) => {
-                self.account.refused(reason);
-                Some(Err(Denied::Refused(reason)))
+            Err(why) => {
+                self.account.unperformed(action, why);
+                Err(why)
             }
         }
-    }
-
-    fn halve_at_once(&mut self, page: Pid, version: Version) -> Option<Result<(Key, Pid), Denied>> {
-        if self.account.reserve().is_err() {
-            return Some(Err(Denied::NoMemory));
-        }
-        let answer = self.tree.halve_at_once(self.alloc, page, version)?;
-        match answer {
-            Ok((separator, new)) => {
-                self.account.accepted(Receipt::Shaped {
-                    kind: Kind::Split,
-                    page,
-                    other: Some(new),
-                });
-                self.gate.at(self.worker, Kind::Split);
-                Some(Ok((separator, new)))
-            }
-            Err(Denied::NoMemory) => Some(Err(Denied::NoMemory)),
-            Err(Denied::Refused(reason)) => {
-                self.account.refused(reason);
-                Some(Err(Denied::Refused(reason)))
-            }
-        }
-    }
-
-    fn add_term_at_once(&mut self, child: Pid) -> Option<Pid> {
-        if self.account.reserve().is_err() {
-            return None;
-        }
-        let parent = self.tree.add_term_at_once(self.alloc, child)?;
-        self.account.accepted(Receipt::Shaped {
-            kind: Kind::TermAdd,
-            page: parent,
-            other: Some(child),
-        });
-        self.gate.at(self.worker, Kind::TermAdd);
-        Some(parent)
     }
 
     #[inline(always)]
@@ -347,23 +291,6 @@ impl<'t, A: Allocator + Copy, S: Shared<A, Step<A>>, G: Gate, T: Trail> Steps<A,
     fn trail(&self) -> &[Receipt] {
         self.account.trail()
     }
-
-    #[inline(always)]
-    fn trail_len(&self) -> usize {
-        self.account.trail_len()
-    }
-}
-
-/// Calls the gate for the consolidation behind a change that was made at once; a look has none.
-#[inline(always)]
-fn pass_behind<G: Gate>(gate: &G, worker: u32, receipt: Receipt) {
-    match receipt {
-        Receipt::Looked { .. } => {}
-        Receipt::Inserted { .. }
-        | Receipt::Deleted { .. }
-        | Receipt::Modified { .. }
-        | Receipt::Shaped { .. } => gate.at(worker, Kind::Consolidate),
-    }
 }
 
 /// Calls the gate where the receipt is that of a change of the tree's shape.
@@ -375,5 +302,15 @@ fn pass<G: Gate>(gate: &G, worker: u32, receipt: Receipt) {
         | Receipt::Deleted { .. }
         | Receipt::Modified { .. }
         | Receipt::Looked { .. } => {}
+    }
+}
+
+/// Calls the gate so for what was performed, and then for the consolidation of the page behind it, if
+/// there was one.
+#[inline(always)]
+fn pass_performed<G: Gate>(gate: &G, worker: u32, action: Action, receipt: Receipt) {
+    pass(gate, worker, receipt);
+    if is_consolidated_behind(action, receipt) {
+        gate.at(worker, Kind::Consolidate);
     }
 }

@@ -2,6 +2,7 @@
 //! others. Each of them takes the atomic steps of which the calls are made.
 #![tactic(auto)]
 
+mod calls;
 mod gate;
 mod hand;
 mod pages;
@@ -12,6 +13,7 @@ pub use bw_procedures::{
     Act, Calls, Cleared, Del, Done, Ends, Fault, GivenUp, Keep, Put, Reply, Set, Slice, Steps,
     Trail, do_act,
 };
+pub use calls::{clear, delete, get, help, page_from, put, set, tend};
 pub use gate::{Gate, Open};
 pub use hand::Hand;
 pub use pages::Pages;

@@ -5,7 +5,7 @@ use crate::hand::Hand;
 use bw_keys::Key;
 use bw_procedures::Trail;
 use bw_step::Step;
-use bw_tree::Shared;
+use bw_tree::Ordered;
 use std::alloc::Allocator;
 
 /// Questions about the map, each of them answered in one hold of the tree's lock, without memory
@@ -42,7 +42,7 @@ pub trait Queries {
     }
 }
 
-impl<'t, A: Allocator + Copy, S: Shared<A, Step<A>>, G: Gate, T: Trail> Queries
+impl<'t, A: Allocator + Copy, S: Ordered<A, Step<A>>, G: Gate, T: Trail> Queries
     for Hand<'t, A, S, G, T> {
     fn next_at(&self, key: Key) -> Option<(Key, u64)> {
         self.tree.next_at(key)

@@ -8,3 +8,4 @@ pub mod Pops
 pub mod Reading
 pub mod Replies
 pub mod Retains
+pub mod Growing

@@ -1,5 +1,5 @@
 -- The map as its callers see it, and what a call makes of it.
-use Rattle.std.specs.Prelude.{◌≡◌, ℕ, Result, IfOk, ◌==◌, ◌&&◌, not, Bool, nat_le, nat_lt, List, [], ◌∷◌, Option, Some, None, filter, length, refl}
+use Rattle.std.specs.Prelude.{◌≡◌, ℕ, ◌+◌, ◌-◌, ◌≤◌, Result, IfOk, ◌==◌, ◌&&◌, not, Bool, nat_le, nat_lt, List, [], ◌∷◌, Option, Some, None, filter, length, refl}
 use Rattle.std.specs.Coded.{Coded, code_by, coded×, coded_ℕ, coded_list}
 use Rattle.std.specs.Cmp.Lexicographic.{pointwise}
 use Rattle.std.specs.Range.Bound.{start_index, end_index}
@@ -51,11 +51,27 @@ pairs_of (slot ∷ slots) = put_all (leaf_pairs slot) (pairs_of slots)
 abbrev pub map_of : TableValue → MapValue
 map_of table = record { config = table.config; pairs = pairs_of table.slots; free = length table.free }
 
+-- the map that it is, where it may come to have that many pages
+abbrev pub map_upto : ℕ → TableValue → MapValue
+map_upto most table = record {
+  config = record table.config { pages = most };
+  pairs = pairs_of table.slots;
+  free = (most - table.config.pages) + length table.free;
+}
+
 -- the table is lawful and booked, and its worker has no receipts
 pub record IsReady (table : TableValue) (trail : List Receipt) : Type 0 where
   pub lawful : Lawful table
   pub booked : Booked table
   pub no_receipts : trail ≡ []
+
+-- the same, and the table has no more pages than it may come to have
+pub record IsReadyUpto (most : ℕ) (table : TableValue) (trail : List Receipt) : Type 0 where
+  pub lawful : Lawful table
+  pub booked : Booked table
+  pub no_receipts : trail ≡ []
+  pub pages : table.config.pages ≤ most
+  pub few : most ≤ 65536
 
 -- the key lies from the low on and below the end
 abbrev pub is_inside : ℕ → ℕ → ℕ × ℕ → Bool

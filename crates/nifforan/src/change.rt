@@ -97,7 +97,8 @@ impl<A: Allocator + Copy> Map<A> {
         ensures unchanged { OnErr result (self.new.pairs ≡ self.old.pairs) }
         ensures config { self.new.config ≡ self.old.config }
     {
-        self.worker.set_found(found, key, value)
+        self.make_room();
+        self.set_found_in_room(found, key, value)
     }
 
     /// Deletes the key, which was looked up.

@@ -1,7 +1,7 @@
 //! A key that is looked up and then changed, in one search.
 
 ghost use Rattle.std.specs.Prelude.{◌≡◌, [], Some, None, IfSome, IfNone, OnErr};
-ghost use Rattle.bw_chain.specs.declared.in_place.Wished.TheVariants as wishes;
+ghost use Rattle.bw_keys.specs.declared.wished.Wished.TheVariants as wishes;
 ghost use Rattle.bw_step.specs.Tellings.{telling_of};
 ghost use Rattle.bw_law.specs.Tables.{IsValueAt, SameMap, TellsMap};
 ghost use Rattle.bw_procedures.specs.Writing.{IsReceiptFor, IsReceiptOfSet, IsReceiptOfDelete};

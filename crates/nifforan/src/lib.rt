@@ -12,6 +12,7 @@ mod iter;
 mod map;
 mod pairs;
 mod retain;
+mod room;
 mod worker;
 
 pub use bw_keys::{BadConfig, Config, Fence, Field, Key};

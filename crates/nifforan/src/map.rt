@@ -1,4 +1,4 @@
-ghost use Rattle.std.specs.Prelude.{◌≡◌, ◌↔◌, ◌-◌, [], None, length, map, true};
+ghost use Rattle.std.specs.Prelude.{◌≡◌, ◌↔◌, ◌-◌, ◌≤◌, [], None, length, map, true};
 ghost use Rattle.std.specs.Prelude.{IsTrue, IsSome, IsOk, IfOk, IfErr, OnErr};
 ghost use Rattle.bw_keys.specs.Limits.{first_bad_field};
 ghost use Rattle.bw_keys.specs.Ranges.{end_of, key_count};
@@ -6,7 +6,7 @@ ghost use Rattle.bw_delta.specs.Entries.{at, rises};
 ghost use Rattle.bw_delta.specs.Entries.{first_entry, last_entry, first_from, last_upto};
 ghost use Rattle.bw_table.specs.Answers.{IsNewFault};
 ghost use Rattle.nifforan.specs.Calls.{Puts, Sets, Deletes, Clears};
-ghost use Rattle.nifforan.specs.Maps.{map_of, between, within};
+ghost use Rattle.nifforan.specs.Maps.{map_of, map_upto, pairs_of, between, within};
 ghost use Rattle.nifforan.specs.Maps.{before_put, before_set, before_delete};
 
 use crate::bounds::{end_fence, first_key, start_fence};
@@ -31,24 +31,27 @@ use std::ops::RangeBounds;
 #[derive(Drop)]
 pub struct Map<A: Allocator + Copy> {
     pub(crate) worker: Worker<A>,
+    /// How many pages the table may come to have.
+    pub(crate) most: u32,
 }
 
 impl<A: Allocator + Copy> Model for Map<A> {
-    ghost use Rattle.nifforan.specs.Maps.{MapValue, map_code, map_of, IsReady};
+    ghost use Rattle.nifforan.specs.Maps.{MapValue, map_code, map_upto, IsReadyUpto};
 
     ghost Value = { MapValue };
 
     ghost coded = { map_code };
 
-    ghost view = { λ m. map_of m.worker.owner.table.value };
+    ghost view = { λ m. map_upto m.most m.worker.owner.table.value };
 
     ghost invariant = { λ m.
-        IsReady m.worker.owner.table.value m.worker.owner.account.seen.trail };
+        IsReadyUpto m.most m.worker.owner.table.value m.worker.owner.account.seen.trail };
 }
 
 impl<A: Allocator + Copy> Map<A> {
     /// Creates a map without pairs. The pairs will lie in `alloc`, all else in the machine's
-    /// memory. Fails if a field of the configuration is out of its range, or memory is short.
+    /// memory. It begins with a few pages, and doubles them as it grows, up to `config.pages`. Fails
+    /// if a field of the configuration is out of its range, or memory is short.
     pub fn new(machine: Global, alloc: A, config: Config) -> Result<Map<A>, NewFault>
         ensures config { IfOk result (λ map. map.config ≡ config) }
         ensures empty { IfOk result (λ map. map.pairs ≡ []) }
@@ -56,31 +59,43 @@ impl<A: Allocator + Copy> Map<A> {
         ensures fine { IsOk result → first_bad_field config ≡ None }
         ensures fault { IfErr result (IsNewFault config) }
     {
-        let table = Table::new(machine, alloc, config)?;
-        Ok(Map::from_table(machine, alloc, table))
+        if let Err(bad) = config.check() {
+            return Err(NewFault::BadConfig(bad));
+        }
+        let first = Config {
+            pages: config.pages.min(FIRST_PAGES),
+            ..config
+        };
+        let table = Table::new(machine, alloc, first)?;
+        Ok(Map {
+            worker: Worker::new(machine, alloc, table),
+            most: config.pages,
+        })
     }
 
-    /// Creates the map that the table has. New pairs will lie in `alloc`, all else in the machine's
-    /// memory.
+    /// Creates the map that the table has, which keeps to that table's pages. New pairs will lie in
+    /// `alloc`, all else in the machine's memory.
     pub fn from_table(machine: Global, alloc: A, table: Table<A>) -> Map<A>
         ensures { result ≡ map_of table }
     {
+        let most = table.config().pages;
         Map {
             worker: Worker::new(machine, alloc, table),
+            most,
         }
     }
 
-    /// Returns the table, with its pairs.
+    /// Returns the table, with its pairs and with the pages that it has come to have.
     pub fn into_table(self) -> Table<A>
-        ensures { map_of result ≡ self }
+        ensures { map_upto self.config.pages result ≡ self }
     {
-        let Map { worker } = self;
+        let Map { worker, .. } = self;
         worker.into_table()
     }
 
     /// Lends the table, for what reads one without changing it.
     pub fn table(&self) -> &Table<A>
-        ensures { map_of result.now ≡ self.now }
+        ensures { map_upto self.now.config.pages result.now ≡ self.now }
     {
         &self.worker.owner.table.value
     }
@@ -89,7 +104,10 @@ impl<A: Allocator + Copy> Map<A> {
     pub fn config(&self) -> Config
         ensures { result ≡ self.now.config }
     {
-        self.worker.owner.table.value.config()
+        Config {
+            pages: self.most,
+            ..self.worker.owner.table.value.config()
+        }
     }
 
     /// Does nothing. The contract states that the keys of the pairs rise, for a caller whose proof
@@ -121,7 +139,8 @@ impl<A: Allocator + Copy> Map<A> {
     pub fn free_pages(&self) -> usize
         ensures { result ≡ self.now.free }
     {
-        self.worker.owner.table.value.free_pages()
+        let table = &self.worker.owner.table.value;
+        (self.most - table.config().pages) as usize + table.free_pages()
     }
 
     /// Returns whether the map has room for no further page, in constant time. Then no page is split,
@@ -231,7 +250,8 @@ impl<A: Allocator + Copy> Map<A> {
         ensures unchanged { OnErr result (self.new.pairs ≡ self.old.pairs) }
         ensures config { self.new.config ≡ self.old.config }
     {
-        self.worker.put(key, value)
+        self.make_room();
+        self.put_in_room(key, value)
     }
 
     /// Sets the key to the value. The reply has the value before it, if there was one.
@@ -241,7 +261,8 @@ impl<A: Allocator + Copy> Map<A> {
         ensures unchanged { OnErr result (self.new.pairs ≡ self.old.pairs) }
         ensures config { self.new.config ≡ self.old.config }
     {
-        self.worker.set(key, value)
+        self.make_room();
+        self.set_in_room(key, value)
     }
 
     /// Deletes the key, if it has a value. The reply has that value.
@@ -264,6 +285,9 @@ impl<A: Allocator + Copy> Map<A> {
         self.worker.clear(low, high)
     }
 }
+
+/// How many pages a new map's table has.
+const FIRST_PAGES: u32 = 8;
 
 impl<'m, A: Allocator + Copy> IntoIterator for &'m Map<A> {
     ghost use Rattle.std.specs.Prelude.{◌≡◌};

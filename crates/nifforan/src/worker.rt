@@ -10,7 +10,7 @@ ghost use Rattle.nifforan.specs.Maps.{before_set, before_delete};
 
 use bw_alone::{Own, Owner};
 use bw_keys::{Fence, Key};
-use bw_procedures::{Calls, Cleared, Del, Done, Fault, Put, Set};
+use bw_procedures::{Calls, Cleared, Del, Done, Fault, GivenUp, Put, Set};
 use bw_table::Table;
 use std::alloc::{Allocator, Global};
 
@@ -22,13 +22,13 @@ pub(crate) struct Worker<A: Allocator + Copy> {
 }
 
 impl<A: Allocator + Copy> Worker<A> {
-    /// Creates a worker without receipts. Its trail will lie in the machine's memory, all else that
-    /// it makes in `alloc`.
+    /// Creates a worker without receipts, which gives up those of its steps. What it makes will lie
+    /// in `alloc`.
     pub(crate) fn new(machine: Global, alloc: A, table: Table<A>) -> Worker<A>
         ensures table { result.owner.table.value ≡ table }
         ensures ready { IsReady result.owner.table.value result.owner.account.seen.trail }
     {
-        let mut owner = Owner::new(machine, alloc, Own { value: table });
+        let mut owner = Owner::with_trail(GivenUp::new(), alloc, Own { value: table });
         owner.forget();
         Worker { owner, machine }
     }

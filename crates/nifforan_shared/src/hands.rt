@@ -12,7 +12,7 @@ use crate::seats::{Seat, seats_of};
 use crate::task::Task;
 use bw_procedures::Trail;
 use bw_step::Step;
-use bw_tree::{Share, Shared};
+use bw_tree::{Ordered, Share};
 use bw_work::Gate;
 use std::alloc::Global;
 use std::sync::Wait;
@@ -35,7 +35,7 @@ impl<
     K: Drop,
     O: Drop,
     L: Trail,
-    T: Shared<Global, Step<Global>, Insertions = I, Removals = D>,
+    T: Ordered<Global, Step<Global>, Insertions = I, Removals = D>,
     G: Gate,
     J: Task<K, Output = O, Trail = L>,
 > Part<Seat<I, D, K>> for OnTree<'t, T, G, J> {
@@ -71,7 +71,7 @@ pub fn work_all<
     K: Drop + Send,
     O: Drop + Send,
     L: Trail + Send,
-    T: Shared<Global, Step<Global>, Insertions = I, Removals = D> + Sync,
+    T: Ordered<Global, Step<Global>, Insertions = I, Removals = D> + Sync,
     G: Gate + Sync,
     J: Task<K, Output = O, Trail = L> + Sync,
     R: Threads + Wait + Sync,

@@ -5,12 +5,13 @@ ghost use Rattle.bw_tree.specs.Shares.{no_changes};
 ghost use Rattle.nifforan_shared.specs.Workers.{share_by};
 
 use crate::worker::Notes;
-use bw_chain::Wished;
 use bw_delta::{Chain, NoMemory};
 use bw_keys::{Config, Key, Pid, Version};
 use bw_procedures::{Ends, Keep, Steps, Trail};
-use bw_step::{AtOnce, CopyFault, Denied, Look, Next, Place, Receipt, Step, View};
-use bw_tree::{Share, Shared};
+use bw_step::{
+    Action, CopyFault, Denied, Look, Next, Performed, Place, Receipt, Step, Unperformed, View,
+};
+use bw_tree::{Ordered, Share, Shared};
 use bw_work::{Gate, Hand, Queries};
 use std::alloc::Global;
 use std::marker::Model;
@@ -102,32 +103,12 @@ impl<'t, S: Shared<Global, Step<Global>>, G: Gate, L: Trail> Steps<Global, Step<
         self.hand.look_at_once(key, keep)
     }
 
-    fn change_at_once(&mut self, key: Key, wished: Wished) -> Option<AtOnce> {
-        self.hand.change_at_once(key, wished)
-    }
-
     fn records_at_once(&self) -> bool {
         self.hand.records_at_once()
     }
 
-    fn record_at_once(&mut self, key: Key, wished: Wished) -> Option<AtOnce> {
-        self.hand.record_at_once(key, wished)
-    }
-
-    fn consolidate_at_once(
-        &mut self,
-        page: Pid,
-        version: Version,
-    ) -> Option<Result<Receipt, Denied>> {
-        self.hand.consolidate_at_once(page, version)
-    }
-
-    fn halve_at_once(&mut self, page: Pid, version: Version) -> Option<Result<(Key, Pid), Denied>> {
-        self.hand.halve_at_once(page, version)
-    }
-
-    fn add_term_at_once(&mut self, child: Pid) -> Option<Pid> {
-        self.hand.add_term_at_once(child)
+    fn perform(&mut self, action: Action) -> Result<Performed, Unperformed> {
+        self.hand.perform(action)
     }
 
     fn visit(&mut self, place: Place, key: Key, goal: u8) -> Next {
@@ -165,13 +146,9 @@ impl<'t, S: Shared<Global, Step<Global>>, G: Gate, L: Trail> Steps<Global, Step<
     fn trail(&self) -> &[Receipt] {
         self.hand.trail()
     }
-
-    fn trail_len(&self) -> usize {
-        self.hand.trail_len()
-    }
 }
 
-impl<'t, S: Shared<Global, Step<Global>>, G: Gate, L: Trail> Queries for Member<'t, S, G, L> {
+impl<'t, S: Ordered<Global, Step<Global>>, G: Gate, L: Trail> Queries for Member<'t, S, G, L> {
     fn next_at(&self, key: Key) -> Option<(Key, u64)> {
         self.hand.next_at(key)
     }
@@ -185,7 +162,7 @@ impl<'t, S: Shared<Global, Step<Global>>, G: Gate, L: Trail> Queries for Member<
     }
 }
 
-impl<'t, S: Shared<Global, Step<Global>>, G: Gate, L: Trail> Notes for Member<'t, S, G, L> {
+impl<'t, S: Ordered<Global, Step<Global>>, G: Gate, L: Trail> Notes for Member<'t, S, G, L> {
     fn note(&mut self, key: Key, look: Look) -> Result<(), NoMemory> {
         self.hand.note(key, look)
     }

@@ -28,7 +28,7 @@ pub trait Hook<S: Shared<Global, Step<Global>>> {
     }
 }
 
-/// A shared tree behind a hook.
+/// A shared tree behind a hook: one that has its configuration and the atomic steps alone.
 #[derive(Drop)]
 pub struct Hooked<'t, S, H> {
     pub tree: &'t S,
@@ -61,18 +61,6 @@ impl<'t, S: Shared<Global, Step<Global>>, H: Hook<S>> Shared<Global, Step<Global
 
     fn look(&self, pid: Pid, key: Key) -> Option<Look> {
         self.hook.look(self.tree, pid, key)
-    }
-
-    fn next_at(&self, key: Key) -> Option<(Key, u64)> {
-        self.tree.next_at(key)
-    }
-
-    fn previous_at(&self, key: Key) -> Option<(Key, u64)> {
-        self.tree.previous_at(key)
-    }
-
-    fn len(&self) -> u64 {
-        self.tree.len()
     }
 
     fn copy_page(

@@ -32,6 +32,17 @@ pub struct Beside {
     pub was_full: bool,
 }
 
+/// Makes the map anew of its table, which gets the pages that the map might have come to have.
+fn made_anew(machine: Global, map: Map<Global>) -> Result<Map<Global>, AllocError> {
+    let most = map.config().pages;
+    let mut table = map.into_table();
+    let pages = table.config().pages;
+    if pages <= most && most <= 65_536 && table.add_pages(most - pages).is_err() {
+        return Err(AllocError);
+    }
+    Ok(Map::from_table(machine, machine, table))
+}
+
 fn owned(pair: (&u64, &u64)) -> (u64, u64) {
     (*pair.0, *pair.1)
 }
@@ -230,7 +241,7 @@ impl Beside {
             && self.is_looked_at(&map, low)
             && self.is_read(&map, low, high)
             && self.is_read_backwards(&map, low, high);
-        let map = Map::from_table(machine, machine, map.into_table());
+        let map = made_anew(machine, map)?;
         let held = Box::new(machine, Held::Own(map))?;
         drop(replace(handle, Handle::of(held)).into_box(machine));
         Ok(is_alike)

@@ -237,7 +237,7 @@ impl Both {
     /// Returns whether the map equals a copy, which has its configuration.
     fn is_copied(&self) -> Result<bool, Fail> {
         let copy = self.map.try_clone()?;
-        Ok(self.map == copy && copy.table().config() == self.config)
+        Ok(self.map == copy && copy.config() == self.config)
     }
 
     /// Returns whether the map equals another one of the same pairs, until that changes.

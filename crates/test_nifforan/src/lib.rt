@@ -15,6 +15,8 @@ mod frozen;
 #[cfg(test)]
 mod given_up;
 #[cfg(test)]
+mod growing;
+#[cfg(test)]
 mod looks;
 #[cfg(test)]
 mod many;

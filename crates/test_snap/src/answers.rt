@@ -7,7 +7,7 @@ ghost use Rattle.bw_tree.specs.Trees.{OpensFor};
 use crate::one_reader::{Names, publish_all_of, watched_tree};
 use bw_keys::{Config, Fence, Key, Pid, Version};
 use bw_snap::{Announcements, Naming, ReadTree, Reader};
-use bw_step::{AtOnce, Denied, Look, Receipt, Step, View};
+use bw_step::{Action, Look, Performed, Step, Unperformed, View};
 use bw_table::{Table, Wished};
 use bw_tree::{Blanks, MadeBy, Share, Shared, Tree};
 use bw_work::{Calls, Hand, Open, Steps};
@@ -53,11 +53,7 @@ enum Question {
 enum Answer {
     Leaf(Option<View>),
     Look(Option<Look>),
-    Change(Option<AtOnce>),
-    Record(Option<AtOnce>),
-    Consolidate(Option<Result<Receipt, Denied>>),
-    Halve(Option<Result<(Key, Pid), Denied>>),
-    AddTerm(Option<Pid>),
+    Action(Action, Result<Performed, Unperformed>),
 }
 
 fn drawn_wish(rng: &mut Pcg32) -> Wished {
@@ -99,23 +95,22 @@ fn ask<S: Shared<Global, Step<Global>>>(
     share: &mut Share<S::Insertions, S::Removals>,
     question: Question,
 ) -> Answer {
-    match question {
-        Question::Leaf(key) => Answer::Leaf(tree.leaf_at_once(key)),
-        Question::Look(key) => Answer::Look(tree.look_at_once(key)),
-        Question::Change(key, wished) => Answer::Change(tree.change_at_once(share, key, wished)),
-        Question::Record(key, wished) => {
-            Answer::Record(tree.record_at_once(machine, share, key, wished))
-        }
+    let action = match question {
+        Question::Leaf(key) => return Answer::Leaf(tree.leaf_at_once(key)),
+        Question::Look(key) => return Answer::Look(tree.look_at_once(key)),
+        Question::Change(key, wished) => Action::Change { key, wished },
+        Question::Record(key, wished) => Action::Record { key, wished },
         Question::Consolidate(page, is_stale) => {
-            let version = version_of(tree, page, is_stale);
-            Answer::Consolidate(tree.consolidate_at_once(machine, page, version))
+            let seen = version_of(tree, page, is_stale);
+            Action::Consolidate { page, seen }
         }
         Question::Halve(page, is_stale) => {
-            let version = version_of(tree, page, is_stale);
-            Answer::Halve(tree.halve_at_once(machine, page, version))
+            let seen = version_of(tree, page, is_stale);
+            Action::Halve { page, seen }
         }
-        Question::AddTerm(page) => Answer::AddTerm(tree.add_term_at_once(machine, page)),
-    }
+        Question::AddTerm(child) => Action::AddTerm { child },
+    };
+    Answer::Action(action, tree.perform(machine, share, action))
 }
 
 /// Makes the wish come true in a plain map.
@@ -189,10 +184,10 @@ fn answers_of<S: Shared<Global, Step<Global>>, B: Behind>(
     for asked in 0..QUESTIONS {
         let question = drawn_question(&mut rng);
         let answer = ask(machine, tree, &mut share, question);
-        if let (
-            Question::Change(key, wished) | Question::Record(key, wished),
-            Answer::Change(Some(_)) | Answer::Record(Some(_)),
-        ) = (question, answer)
+        if let Answer::Action(
+            Action::Change { key, wished } | Action::Record { key, wished },
+            Ok(_),
+        ) = answer
         {
             carry_out(&mut map, key, wished)?;
         }
@@ -294,13 +289,15 @@ fn ask_read_tree<R: Wait + Copy>(
 fn done_of(answers: &[Answer]) -> [u32; 5] {
     let mut done = [0u32; 5];
     for answer in answers {
-        let kind = match *answer {
-            Answer::Change(Some(_)) => 0,
-            Answer::Record(Some(_)) => 1,
-            Answer::Consolidate(Some(Ok(_))) => 2,
-            Answer::Halve(Some(Ok(_))) => 3,
-            Answer::AddTerm(Some(_)) => 4,
-            _ => continue,
+        let Answer::Action(action, Ok(_)) = *answer else {
+            continue;
+        };
+        let kind = match action {
+            Action::Change { .. } => 0,
+            Action::Record { .. } => 1,
+            Action::Consolidate { .. } => 2,
+            Action::Halve { .. } => 3,
+            Action::AddTerm { .. } => 4,
         };
         done[kind] = done[kind].wrapping_add(1);
     }

@@ -15,7 +15,6 @@ mod crew;
 mod one_reader;
 #[cfg(test)]
 mod questions;
-pub mod reads;
 #[cfg(test)]
 mod seen;
 #[cfg(test)]

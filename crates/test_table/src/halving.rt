@@ -41,7 +41,7 @@ pub(crate) fn halve_by_steps(
 }
 
 /// Returns whether the page may be the parent of a page with this view.
-fn is_above(over: View, under: View) -> bool {
+pub(crate) fn is_above(over: View, under: View) -> bool {
     let below_high = match over.high {
         Fence::Key(high) => under.low < high,
         Fence::Top => true,

@@ -7,9 +7,13 @@
 #[cfg(test)]
 mod at_once;
 #[cfg(test)]
+mod drawn_merges;
+#[cfg(test)]
 mod drawn_steps;
 #[cfg(test)]
 mod four_puts;
+#[cfg(test)]
+mod growing;
 #[cfg(test)]
 mod halving;
 #[cfg(test)]
@@ -20,6 +24,8 @@ mod histories;
 mod many;
 #[cfg(test)]
 mod memory;
+#[cfg(test)]
+mod merging;
 #[cfg(test)]
 mod recording;
 #[cfg(test)]

@@ -433,7 +433,7 @@ struct Twins {
 }
 
 /// Makes the receipt's change in the map, and returns whether the map had what it says.
-fn follows(map: &mut BTreeMap<Key, u64>, receipt: Receipt) -> Result<bool, Fail> {
+pub(crate) fn follows(map: &mut BTreeMap<Key, u64>, receipt: Receipt) -> Result<bool, Fail> {
     Ok(match receipt {
         Receipt::Inserted { key, value, .. } => map.insert(key, value)?.is_none(),
         Receipt::Modified {
@@ -466,7 +466,7 @@ fn wanted(map: &BTreeMap<Key, u64>, key: Key, wished: Wished) -> Option<u64> {
     }
 }
 
-fn install_drawn(
+pub(crate) fn install_drawn(
     alloc: Global,
     table: &mut Table<Global>,
     seed: u64,

@@ -1,9 +1,10 @@
 //! A worker alone, and a hand on a tree, look and make changes at once where a page is consolidated
 //! after each record. Where chains are longer, a hand puts records and consolidates pages at once, and a
-//! worker alone takes each step. A hand on a tree that takes atomic steps alone makes the same drawn
-//! calls step by step. All are answered alike, leave the same receipts and the same tree, and spend the
-//! same effort.
+//! worker alone takes each step of a change. A hand on a tree that takes atomic steps alone makes the
+//! same drawn calls step by step, and so does a worker of which only those are written. All are answered
+//! alike, leave the same receipts and the same tree, and spend the same effort.
 
+use crate::plain::Plain;
 use bw_delta::NoMemory;
 use bw_keys::{Config, Fence, Pid};
 use bw_step::{Kind, Receipt, Step};
@@ -118,9 +119,19 @@ pub(crate) fn are_alike(
 struct ByHand {
     machine: Global,
     calls: Vec<Call>,
-    /// Whether the tree is asked for atomic steps alone.
-    by_steps: bool,
+    way: Way,
     passed: AtomicU64,
+}
+
+/// Which steps are taken.
+#[derive(Clone, Copy)]
+enum Way {
+    /// What can be done at once is.
+    AtOnce,
+    /// The tree takes atomic steps alone.
+    TreeBySteps,
+    /// The hand does.
+    HandBySteps,
 }
 
 /// Nothing comes between the worker and the tree, but that the tree takes nothing at once.
@@ -145,13 +156,17 @@ impl Gate for ByHand {
 }
 
 impl ByHand {
-    fn drawn(machine: Global, seed: u64, by_steps: bool) -> Result<ByHand, NoMemory> {
+    fn drawn(machine: Global, seed: u64, way: Way) -> Result<ByHand, NoMemory> {
         Ok(ByHand {
             machine,
             calls: drawn_calls(machine, CALLS, seed)?,
-            by_steps,
+            way,
             passed: AtomicU64::new(0),
         })
+    }
+
+    fn calls_of(&self, worker: u32) -> &[Call] {
+        if worker == 0 { &self.calls } else { &[] }
     }
 
     fn outcome<S: Shared<Global, Step<Global>>>(
@@ -160,9 +175,22 @@ impl ByHand {
         worker: u32,
         share: Share<S::Insertions, S::Removals>,
     ) -> Played<S::Insertions, S::Removals, Outcome> {
-        let calls: &[Call] = if worker == 0 { &self.calls } else { &[] };
         let mut hand = Hand::new(self.machine, self.machine, tree, share, worker, self);
-        let told = outcome_of(self.machine, &mut hand, calls);
+        let told = outcome_of(self.machine, &mut hand, self.calls_of(worker));
+        let (share, _) = hand.finish();
+        Played { share, told }
+    }
+
+    fn outcome_by_steps<S: Shared<Global, Step<Global>>>(
+        &self,
+        tree: &S,
+        worker: u32,
+        share: Share<S::Insertions, S::Removals>,
+    ) -> Played<S::Insertions, S::Removals, Outcome> {
+        let hand = Hand::new(self.machine, self.machine, tree, share, worker, self);
+        let mut plain = Plain { steps: hand };
+        let told = outcome_of(self.machine, &mut plain, self.calls_of(worker));
+        let Plain { steps: hand } = plain;
         let (share, _) = hand.finish();
         Played { share, told }
     }
@@ -175,11 +203,13 @@ impl Play<Outcome> for ByHand {
         worker: u32,
         share: Share<S::Insertions, S::Removals>,
     ) -> Played<S::Insertions, S::Removals, Outcome> {
-        if self.by_steps {
-            let hook = &Steadily;
-            self.outcome(&Hooked { tree, hook }, worker, share)
-        } else {
-            self.outcome(tree, worker, share)
+        match self.way {
+            Way::AtOnce => self.outcome(tree, worker, share),
+            Way::TreeBySteps => {
+                let hook = &Steadily;
+                self.outcome(&Hooked { tree, hook }, worker, share)
+            }
+            Way::HandBySteps => self.outcome_by_steps(tree, worker, share),
         }
     }
 }
@@ -227,8 +257,13 @@ fn difference<R: Threads + Wait + Sync + Send + Copy>(
 ) -> Result<Option<&'static str>, Fail> {
     let seed = u64::from(config.chain);
     let left = left_alone(machine, config, &drawn_calls(machine, CALLS, seed)?)?;
-    for (by_steps, name) in [(false, "a hand at once"), (true, "a hand by steps")] {
-        let by_hand = ByHand::drawn(machine, seed, by_steps)?;
+    let ways = [
+        (Way::AtOnce, "a hand at once"),
+        (Way::TreeBySteps, "a tree by steps"),
+        (Way::HandBySteps, "a hand by steps"),
+    ];
+    for (way, name) in ways {
+        let by_hand = ByHand::drawn(machine, seed, way)?;
         if !is_same_by_hand(rt, config, &left, &by_hand)? {
             return Ok(Some(name));
         }

@@ -1,6 +1,6 @@
 //! Searches in a list of entries, as a base page has one.
 
-ghost use Rattle.std.specs.Prelude.{◌≡◌, ◌≤◌, ◌<◌, ◌+◌, ◌-◌, ◌*◌, ◌^◌, min, length, take, drop};
+ghost use Rattle.std.specs.Prelude.{◌≡◌, ◌≤◌, ◌<◌, ◌+◌, ◌-◌, ◌*◌, ◌^◌, min, length, take, drop, IsTrue, ◌↔◌};
 ghost use Rattle.bw_keys.specs.Ranges.{end_of};
 ghost use Rattle.bw_delta.specs.Entries.{at, below, from, first_from, last_below};
 ghost use Rattle.bw_delta.specs.Slices.{list_of};
@@ -23,10 +23,11 @@ fn count_below<X: Copy>(entries: EntrySlice<'_, X>, fence: Fence) -> usize
     }
 }
 
-/// Counts the entries below the key: first those of whole blocks of eight, and then those among the
-/// eight entries where the key lies. It reads keys alone, and adds up what comparisons say without a
-/// branch, as no processor can predict the way that a search takes. It reads the ends of all blocks,
-/// as none has to wait for another; a page of more than eight blocks is brought down to these first.
+/// Counts the entries below the key: first those of whole eighths of the list, and then those among
+/// the eight entries where the key lies. It reads keys alone, and takes what comparisons say
+/// without a branch, as no processor can predict the way that a search takes. It reads the ends of
+/// all eighths, as none has to wait for another; a page of more than 64 entries is brought down to
+/// these first.
 #[inline(always)]
 pub(crate) fn count_below_key<X: Copy>(entries: EntrySlice<'_, X>, key: Key) -> usize
     requires ascending { IsAscending (list_of entries) }
@@ -35,16 +36,16 @@ pub(crate) fn count_below_key<X: Copy>(entries: EntrySlice<'_, X>, key: Key) -> 
     match entries.len().checked_sub(8) {
         Some(last) => {
             let passed = count_by_quarters(entries, key);
-            let start = count_blocks(entries, passed, key).min(last);
+            let start = count_eighths(entries, passed, key).min(last);
             start + count_eight(entries, start + 8, key)
         }
         None => count_few(entries, key),
     }
 }
 
-/// Counts the entries below the key but for the last 64 of them at most. Each step compares the keys
-/// at the ends of three quarters of the entries left. Few pages have so many entries that it takes
-/// a step.
+/// Counts the entries below the key but for the last 64 of them at most. Each step compares the
+/// keys at the ends of three quarters of the entries left. Few pages have so many entries that it
+/// takes a step.
 #[inline(always)]
 fn count_by_quarters<X: Copy>(entries: EntrySlice<'_, X>, key: Key) -> usize
     requires ascending { IsAscending (list_of entries) }
@@ -87,20 +88,26 @@ fn count_quarters<X: Copy>(
 }
 
 /// Counts the entries below the key, of which there are 64 at most from the place on, but for those
-/// in the block of eight where the key lies. The last entry of each block tells whether the block
-/// lies below it.
+/// in the eighth of the list where the key lies. The last entry of each eighth tells whether it
+/// lies below the key. Each comparison only chooses a number, so the processor has no branch to
+/// guess.
 #[inline(always)]
-fn count_blocks<X: Copy>(entries: EntrySlice<'_, X>, place: usize, key: Key) -> usize
+fn count_eighths<X: Copy>(entries: EntrySlice<'_, X>, place: usize, key: Key) -> usize
     requires ascending { IsAscending (list_of entries) }
+    requires some { 8 ≤ length (list_of entries) }
     requires from { place ≤ length (below key (list_of entries)) }
     requires upto { length (below key (list_of entries)) ≤ place + 64 }
     ensures least { result ≤ length (below key (list_of entries.entry)) }
     ensures most { length (below key (list_of entries.entry)) < result + 8 }
 {
-    let blocks = (entries.len() - place).min(64) / 8;
+    let eighth = (entries.len() - place).min(64) / 8;
     let mut passed = place;
-    for block in 0..blocks {
-        passed += 8 * one_if_below(entries, place + 8 * block + 7, key);
+    let mut end = place;
+    for _ in 0..8_usize {
+        end += eighth;
+        if is_below(entries, end - 1, key) {
+            passed = end;
+        }
     }
     passed
 }
@@ -118,7 +125,8 @@ fn count_few<X: Copy>(entries: EntrySlice<'_, X>, key: Key) -> usize
     count
 }
 
-/// Counts the entries below the key among the last eight before the end.
+/// Counts the entries below the key among the last eight before the end: the fourth of them tells
+/// which three others are worth a look, and the last one stands for itself.
 #[inline(always)]
 fn count_eight<X: Copy>(entries: EntrySlice<'_, X>, end: usize, key: Key) -> usize
     requires ascending { IsAscending (list_of entries) }
@@ -126,27 +134,21 @@ fn count_eight<X: Copy>(entries: EntrySlice<'_, X>, end: usize, key: Key) -> usi
     requires inside { end ≤ length (list_of entries) }
     ensures { result ≡ min (length (below key (list_of entries.entry)) - (end - 8)) 8 }
 {
-    count_four(entries, end - 4, key) + count_four(entries, end, key)
+    let four = 4 * one_if_below(entries, end - 5, key);
+    let last = one_if_below(entries, end - 1, key);
+    four + count_three(entries, end - 5 + four, key) + last
 }
 
 #[inline(always)]
-fn count_four<X: Copy>(entries: EntrySlice<'_, X>, end: usize, key: Key) -> usize
+fn count_three<X: Copy>(entries: EntrySlice<'_, X>, end: usize, key: Key) -> usize
     requires ascending { IsAscending (list_of entries) }
-    requires least { 4 ≤ end }
+    requires least { 3 ≤ end }
     requires inside { end ≤ length (list_of entries) }
-    ensures { result ≡ min (length (below key (list_of entries.entry)) - (end - 4)) 4 }
+    ensures { result ≡ min (length (below key (list_of entries.entry)) - (end - 3)) 3 }
 {
-    count_two(entries, end - 2, key) + count_two(entries, end, key)
-}
-
-#[inline(always)]
-fn count_two<X: Copy>(entries: EntrySlice<'_, X>, end: usize, key: Key) -> usize
-    requires ascending { IsAscending (list_of entries) }
-    requires least { 2 ≤ end }
-    requires inside { end ≤ length (list_of entries) }
-    ensures { result ≡ min (length (below key (list_of entries.entry)) - (end - 2)) 2 }
-{
-    one_if_below(entries, end - 2, key) + one_if_below(entries, end - 1, key)
+    one_if_below(entries, end - 3, key)
+        + one_if_below(entries, end - 2, key)
+        + one_if_below(entries, end - 1, key)
 }
 
 /// Returns 1 if the entry at the place lies below the key, and 0 if not.
@@ -156,7 +158,17 @@ fn one_if_below<X: Copy>(entries: EntrySlice<'_, X>, place: usize, key: Key) -> 
     requires inside { place < length (list_of entries) }
     ensures { result ≡ min (length (below key (list_of entries.entry)) - place) 1 }
 {
-    usize::from(entries.key(place) < key)
+    usize::from(is_below(entries, place, key))
+}
+
+/// Reports whether the entry at the place lies below the key.
+#[inline(always)]
+fn is_below<X: Copy>(entries: EntrySlice<'_, X>, place: usize, key: Key) -> bool
+    requires ascending { IsAscending (list_of entries) }
+    requires inside { place < length (list_of entries) }
+    ensures { IsTrue result ↔ (place < length (below key (list_of entries.entry))) }
+{
+    entries.key(place) < key
 }
 
 /// Returns the entries below the fence.

@@ -1,6 +1,6 @@
 //! The greatest entry up to a key.
 
-ghost use Rattle.std.specs.Prelude.{◌≡◌, ℕ, ◌≤◌, List};
+ghost use Rattle.std.specs.Prelude.{◌≡◌, ℕ, ◌≤◌, List, option_map};
 ghost use Rattle.bw_keys.specs.Ranges.{end_of};
 ghost use Rattle.bw_delta.specs.Entries.{last_below, last_upto};
 ghost use Rattle.bw_chain.specs.Ascends.{IsAscending};
@@ -18,8 +18,8 @@ use bw_delta::{Base, Chain, Node};
 use bw_keys::{Fence, Key};
 use std::alloc::Allocator;
 
-/// Returns the greatest entry up to the key. Most pages of routes have no records, so that is looked at
-/// first.
+/// Returns the greatest entry up to the key. Most pages of routes have no records, so that is
+/// looked at first.
 #[inline(always)]
 pub(crate) fn last_upto<A: Allocator + Copy, X: EntryValue>(
     chain: &Chain<A>,
@@ -38,8 +38,44 @@ pub(crate) fn last_upto<A: Allocator + Copy, X: EntryValue>(
     }
 }
 
-/// Returns the same. Where no deletion and no merge is in the way, it takes one walk down the records
-/// and one search of the base page.
+/// Returns the value of the same entry. A search on an inner page reads no key but those that it
+/// compares.
+#[inline(always)]
+pub(crate) fn last_value_upto<A: Allocator + Copy, X: EntryValue>(
+    chain: &Chain<A>,
+    key: Key,
+) -> Option<X>
+    requires ascending { IsAscending (entries_by X.own_entries X.own_change chain.now) }
+    ensures { result ≡ option_map (λ entry. entry.1)
+        (last_upto key (entries_by X.own_entries X.own_change chain.now)) }
+{
+    match &chain.node {
+        Node::Bare(base) => match last_listed(X::entries_on(base), past(key)) {
+            Some((_, value)) => Some(value),
+            None => None,
+        },
+        Node::Above(_, _) | Node::Merged(_, _, _) => last_value_under_records(chain, key),
+    }
+}
+
+/// Returns the same, out of the way of a search that meets bare pages.
+#[inline(never)]
+fn last_value_under_records<A: Allocator + Copy, X: EntryValue>(
+    chain: &Chain<A>,
+    key: Key,
+) -> Option<X>
+    requires ascending { IsAscending (entries_by X.own_entries X.own_change chain.now) }
+    ensures { result ≡ option_map (λ entry. entry.1)
+        (last_upto key (entries_by X.own_entries X.own_change chain.now)) }
+{
+    match last_under_records::<A, X>(chain, key) {
+        Some((_, value)) => Some(value),
+        None => None,
+    }
+}
+
+/// Returns the same entry. Where no deletion and no merge is in the way, it takes one walk down the
+/// records and one search of the base page.
 fn last_under_records<A: Allocator + Copy, X: EntryValue>(
     chain: &Chain<A>,
     key: Key,

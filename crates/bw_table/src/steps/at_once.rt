@@ -1,10 +1,11 @@
 //! A change of one key and the consolidation of its page, made in the place where the page lies.
 
-ghost use Rattle.std.specs.Prelude.{◌≡◌, ◌≢◌, ◌+◌, ◌<◌, ◌^◌, None, Some, true, false, IsTrue, IfSome, IfNone, length};
+ghost use Rattle.std.specs.Prelude.{◌≡◌, ◌≢◌, ◌+◌, ◌<◌, ◌≤◌, ◌^◌, None, Some, true, false, IsTrue, IfSome, IfNone, length};
 ghost use Rattle.bw_delta.specs.declared.chain.Delta.TheVariants as deltas;
 ghost use Rattle.bw_delta.specs.Entries.{at};
 ghost use Rattle.bw_delta.specs.Fence.{is_leaf};
 ghost use Rattle.bw_delta.specs.Pages.{upper_part};
+ghost use Rattle.bw_delta.specs.Records.{depth};
 ghost use Rattle.bw_delta.specs.Sound.{page_for};
 ghost use Rattle.bw_table.specs.SlotFacts.{HasSoundChain, upper_summary};
 ghost use Rattle.bw_chain.specs.InPlaces.{delta_for};
@@ -12,42 +13,46 @@ ghost use Rattle.bw_chain.specs.Pages.Halves.{listed_key_at};
 ghost use Rattle.bw_step.specs.declared.view.Stage.TheVariants.{Posted};
 ghost use Rattle.bw_step.specs.declared.receipt.Kind.TheVariants as kinds;
 ghost use Rattle.bw_step.specs.declared.receipt.Receipt.TheVariants.{Shaped};
+ghost use Rattle.bw_step.specs.Stages.{is_in_row};
 ghost use Rattle.bw_step.specs.Tellings.{telling_of};
+ghost use Rattle.bw_law.specs.Laws.{IsLeafOf};
 ghost use Rattle.bw_law.specs.Slots.{slot_in, chain_in, pairs_in, routes_in};
 ghost use Rattle.bw_law.specs.Tables.{TellsMap, slot_at, number_of, book_with};
-ghost use Rattle.bw_table.specs.InPlaces.{IsShallowLeaf, MayChangeAtOnce, MayCut, MayPostAtOnce, MaySplitAtOnce, TakesCut, TakesInPlace, IsSplitAtOnce, IsSplitUnder, IsPosted, HasNoTerm, TakesTerm, slot_cut, IsDoneAtOnce, count_after, slot_with, slots_with, slots_posted_at_once, slots_split_at_once, receipt_for};
+ghost use Rattle.bw_table.specs.InPlaces.{IsPostedLeaf, MayCut, MayPostAtOnce, MaySplitAtOnce, TakesCut, TakesInPlace, IsSplitAtOnce, IsSplitUnder, IsPosted, HasNoTerm, TakesTerm, slot_cut, IsDoneAtOnce, count_after, slot_with, slots_with, slots_posted_at_once, slots_split_at_once, receipt_for};
 
 use crate::book::number_of;
 use crate::slot::Slot;
 use crate::table::Table;
-use bw_chain::{InPlace, Wished, change_in_place, cut_in_place, route_in_place, upper_part_of};
+use bw_chain::{InPlace, change_in_place, cut_in_place, route_in_place, upper_part_of};
 use bw_delta::{Base, Delta};
-use bw_keys::{Fence, Key, Pid};
+use bw_keys::{Fence, Key, Pid, Wished};
 use bw_step::{AtOnce, Book, Receipt, Stage, Summary};
 use std::alloc::Allocator;
 
 impl<A: Allocator + Copy> Table<A> {
-    /// Carries out the wish for a key and consolidates its leaf, as a change and a consolidation one
-    /// behind the other do. Returns `None` and changes nothing where a page on the way to the leaf is
-    /// in the middle of a split or a merge, where more than the record of its split stands on the leaf,
-    /// where a number is used up, and where memory is short.
+    /// Carries out the wish for a key and consolidates its leaf, as a change and a consolidation
+    /// one behind the other do. Returns `None` and changes nothing where a page on the way to the
+    /// leaf is in the middle of a split or a merge, where more than the record of its split stands
+    /// on the leaf, where a number is used up, and where memory is short.
     #[inline(always)]
     pub fn change_at_once(&mut self, key: Key, wished: Wished) -> Option<AtOnce>
         ensures done { IfSome result (λ done.
             IsDoneAtOnce self.old done.page.0 key wished done.receipt self.new) }
         ensures map { IfSome result (λ done.
             TellsMap (telling_of done.receipt) self.old.slots self.new.slots) }
+        ensures leaf { IfSome result (λ done. IsLeafOf self.old key done.page.0) }
         ensures count { IfSome result (λ done. done.count ≡ (slot_at self.new done.page.0).count) }
         ensures depth { IfSome result (λ done. done.depth ≡ (slot_at self.new done.page.0).depth) }
         ensures unchanged { IfNone result (self.new ≡ self.old) }
     {
-        let page = self.leaf_at_rest(key)?.pid;
-        let receipt = self.change_leaf(page, key, wished)?;
+        let page = self.page_at_rest(key)?;
+        let receipt = self.change_at_rest(page, key, wished)?;
         Some(self.at_once(page, receipt))
     }
 
-    /// The same on a page, without a walk. Returns `None` and changes nothing where it isn't such a leaf,
-    /// where its range doesn't hold the key, where a number is used up, and where memory is short.
+    /// The same on a page, without a walk. Returns `None` and changes nothing where it isn't such a
+    /// leaf, where its range doesn't hold the key, where a number is used up, and where memory is
+    /// short.
     #[inline(always)]
     pub fn change_leaf(&mut self, page: Pid, key: Key, wished: Wished) -> Option<Receipt>
         ensures done { IfSome result (λ receipt.
@@ -56,30 +61,46 @@ impl<A: Allocator + Copy> Table<A> {
             TellsMap (telling_of receipt) self.old.slots self.new.slots) }
         ensures unchanged { IfNone result (self.new ≡ self.old) }
     {
-        if !self.may_change_at_once(page, key) {
+        if !self.slot(page)?.is_posted_leaf(key) {
+            return None;
+        }
+        self.change_at_rest(page, key, wished)
+    }
+
+    /// The same on a posted leaf whose range holds the key, as a walk has found one. How many
+    /// records stand on it is seen where the change is made.
+    #[inline(always)]
+    fn change_at_rest(&mut self, page: Pid, key: Key, wished: Wished) -> Option<Receipt>
+        requires { IsPostedLeaf (slot_at self.old page.0) key }
+        ensures done { IfSome result (λ receipt.
+            IsDoneAtOnce self.old page.0 key wished receipt self.new) }
+        ensures map { IfSome result (λ receipt.
+            TellsMap (telling_of receipt) self.old.slots self.new.slots) }
+        ensures unchanged { IfNone result (self.new ≡ self.old) }
+    {
+        if !self.can_count_on(page) {
             return None;
         }
         let done = change_at(&mut self.slots, page, key, wished)?;
         Some(note(&mut self.book, key, done))
     }
 
-    /// Whether the page is a leaf that takes the change of a key in place, by all but its memory.
+    /// Whether the book's number can rise, and the version of the page twice.
     #[inline(always)]
-    fn may_change_at_once(&self, page: Pid, key: Key) -> bool
-        ensures { IsTrue result → MayChangeAtOnce self.now page.0 key }
+    fn can_count_on(&self, page: Pid) -> bool
+        requires { is_in_row (slot_at self.now page.0).stage ≡ true }
+        ensures number { IsTrue result → number_of self.now.book + 1 < 2 ^ 64 }
+        ensures version { IsTrue result → (slot_at self.now page.0).version + 2 < 2 ^ 64 }
     {
-        let Some(slot) = self.slot(page) else {
-            return false;
-        };
-        self.number() < u64::MAX && slot.is_shallow_leaf(key)
+        self.number() < u64::MAX && self.slot_in_row(page).version < u64::MAX - 1
     }
 }
 
 impl<A: Allocator + Copy> Table<A> {
     /// Names a page that no parent names yet in its parent, and consolidates the parent, as the two
-    /// steps one behind the other do. Returns false and changes nothing where the parent isn't a posted
-    /// page without records whose range holds the low of the child, where a number is used up, and
-    /// where memory is short.
+    /// steps one behind the other do. Returns false and changes nothing where the parent isn't a
+    /// posted page without records whose range holds the low of the child, where a number is used
+    /// up, and where memory is short.
     pub fn post_at_once(&mut self, parent: Pid, child: Pid) -> bool
         ensures { IsPosted self.old parent.0 child result self.new }
     {
@@ -157,11 +178,12 @@ impl<A: Allocator + Copy> Slot<A> {
 }
 
 impl<A: Allocator + Copy> Table<A> {
-    /// Splits a page before the entry with the number, counted from 0, and consolidates it, as the two
-    /// steps one behind the other do. The new page has room for as many entries as it may get before it
-    /// is split. Returns the new page, or returns `None` and changes nothing where the page isn't a
-    /// posted one without records, where that entry is its first or isn't there or leads to a page that
-    /// is leaving, where no slot is free, where a number is used up, and where memory is short.
+    /// Splits a page before the entry with the number, counted from 0, and consolidates it, as the
+    /// two steps one behind the other do. The new page has room for as many entries as it may get
+    /// before it is split. Returns the new page, or returns `None` and changes nothing where the
+    /// page isn't a posted one without records, where that entry is its first or isn't there or
+    /// leads to a page that is leaving, where no slot is free, where a number is used up, and where
+    /// memory is short.
     pub fn split_at_once(&mut self, page: Pid, number: usize) -> Option<Pid>
         ensures done { IfSome result (λ new.
             IsSplitAtOnce self.old page.0 number (Shaped kinds.Split page (Some new)) self.new) }
@@ -181,8 +203,8 @@ impl<A: Allocator + Copy> Table<A> {
     }
 
     /// Splits a page as [`Table::split_at_once`] does, then names the new page in the parent as
-    /// [`Table::post_at_once`] does. Returns the new page, and whether it is posted: where the parent
-    /// doesn't take it, the page is split all the same.
+    /// [`Table::post_at_once`] does. Returns the new page, and whether it is posted: where the
+    /// parent doesn't take it, the page is split all the same.
     pub fn split_under(&mut self, parent: Pid, page: Pid, number: usize) -> Option<(Pid, bool)>
         ensures done { IfSome result (λ done.
             IsSplitUnder self.old parent.0 page.0 number done.0 done.1 self.new) }
@@ -299,6 +321,8 @@ fn change_at<A: Allocator + Copy>(
     ensures delta { IfSome result (λ done. done.delta ≡ delta_for wished key done.had) }
     ensures changed { IfSome result (λ done.
         slots.new.items ≡ slots_with page.0 done.delta slots.old.items) }
+    ensures shallow { IfSome result (λ done.
+        depth (chain_in (slot_in slots.old.items page.0)) ≤ 1) }
     ensures unchanged { IfNone result (slots.new.items ≡ slots.old.items) }
 {
     slots[page.0 as usize].change_in_place(key, wished)
@@ -347,17 +371,12 @@ fn note(book: &mut Book, key: Key, done: InPlace) -> Receipt
 }
 
 impl<A: Allocator + Copy> Slot<A> {
-    /// Whether this is a posted leaf with one record at most, whose range holds the key and whose
-    /// version can rise twice.
+    /// Whether this is a posted leaf whose range holds the key.
     #[inline(always)]
-    fn is_shallow_leaf(&self, key: Key) -> bool
-        ensures { IsTrue result → IsShallowLeaf self.now key }
+    fn is_posted_leaf(&self, key: Key) -> bool
+        ensures { IsTrue result → IsPostedLeaf self.now key }
     {
-        self.stage == Stage::Posted
-            && self.summary.level == 0
-            && self.summary.depth <= 1
-            && self.version < u64::MAX - 1
-            && self.holds(key)
+        self.stage == Stage::Posted && self.summary.level == 0 && self.holds(key)
     }
 
     /// Carries out the wish in the base page's own list.
@@ -367,6 +386,7 @@ impl<A: Allocator + Copy> Slot<A> {
         ensures had { IfSome result (λ done. done.had ≡ at key (pairs_in self.old)) }
         ensures delta { IfSome result (λ done. done.delta ≡ delta_for wished key done.had) }
         ensures changed { IfSome result (λ done. self.new ≡ slot_with done.delta self.old) }
+        ensures shallow { IfSome result (λ done. depth (chain_in self.old) ≤ 1) }
         ensures unchanged { IfNone result (self.new ≡ self.old) }
     {
         let Some(chain) = &mut self.chain else {

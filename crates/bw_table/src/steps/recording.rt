@@ -3,6 +3,7 @@
 ghost use Rattle.std.specs.Prelude.{◌≡◌, ◌++◌, ◌∷◌, [], option_map, IfSome, IfNone, IfOk, IfErr, OnErr};
 ghost use Rattle.bw_step.specs.ProposalView.{proposal_of};
 ghost use Rattle.bw_step.specs.declared.receipt.Receipt.TheVariants.{Looked};
+ghost use Rattle.bw_law.specs.Laws.{IsLeafOf};
 ghost use Rattle.bw_law.specs.Refusals.{open_reasons, refusal, worn};
 ghost use Rattle.bw_law.specs.Tables.{slot_at};
 ghost use Rattle.bw_table.specs.Answers.{AnswersFirst, IsDenialFor};
@@ -11,9 +12,8 @@ ghost use Rattle.bw_table.specs.InPlaces.{IsRecordedAtOnce, IsConsolidatedAtOnce
 use crate::slot::Slot;
 use crate::steps::shared::check_open;
 use crate::table::Table;
-use bw_chain::Wished;
 use bw_delta::Spare;
-use bw_keys::{Key, Pid, Version};
+use bw_keys::{Key, Pid, Version, Wished};
 use bw_step::{
     AtOnce, Consolidate, CopyFault, Delete, Denied, Insert, Look, Modify, Receipt, Refused, Step,
     View,
@@ -28,6 +28,7 @@ impl<A: Allocator + Copy> Table<A> {
     pub fn record_at_once(&mut self, key: Key, wished: Wished, spare: Spare<A>) -> Option<AtOnce>
         ensures done { IfSome result (λ done.
             IsRecordedAtOnce self.old done.page.0 key wished done.receipt self.new) }
+        ensures leaf { IfSome result (λ done. IsLeafOf self.old key done.page.0) }
         ensures count { IfSome result (λ done. done.count ≡ (slot_at self.new done.page.0).count) }
         ensures depth { IfSome result (λ done. done.depth ≡ (slot_at self.new done.page.0).depth) }
         ensures unchanged { IfNone result (self.new ≡ self.old) }

@@ -14,12 +14,12 @@ returns-in-Ok-clause-follows g c =
     record {
       place = c.install.ensures.same;
       config = config_kept old new step c.in-Ok.receipt taken;
-      leads = rw (c.accepted.ensures, c.reserve.ensures.seen) (step_leads old step c.in-Ok.receipt new c.args.self.now.account.seen.trail law.lawful law.booked (search rules) taken);
+      leads = rw (c.accepted.ensures.seen, c.reserve.ensures.seen) (step_leads old step c.in-Ok.receipt new c.args.self.now.account.seen.trail law.lawful law.booked (search rules) taken);
     }
 
 pub returns-in-Ok-clause-seen : goal.returns-in-Ok-clause-seen
 returns-in-Ok-clause-seen g c =
-    rw (c.accepted.ensures, c.reserve.ensures.seen) (record {
+    rw (c.accepted.ensures.seen, c.reserve.ensures.seen) (record {
       told = is_told _ _ _ _ c.in-Ok.ensures.taken;
       counts = record { config = refl; full = refl; tall = refl; worn = refl };
       trail = refl;

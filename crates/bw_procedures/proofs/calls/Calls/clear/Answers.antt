@@ -1,37 +1,30 @@
 use Rattle.std.proofs.Common.{rules, ◌≡◌, ◌∙◌, sym, arith}
-use Rattle.bw_procedures.proofs.Removals.{adds_read, adds_read_of, adds_spent, adds_upto, grow_then, no_fault, spent_grows, swept_read}
+use Rattle.bw_procedures.proofs.Removals.{adds_read, adds_read_of, adds_spent, grow_then, no_fault, spent_grows, swept_read}
 use Rattle.bw_procedures.proofs.calls.Calls.clear.Goals as goal
 
 pub returns-in-Err-clause-receipts : goal.returns-in-Err-clause-receipts
 returns-in-Err-clause-receipts g c = adds_spent _ _ _ _ _ _ _ c.leaves.invariant.receipts c.page_from.ensures.seen
 
-pub add-removed-requires : goal.add-removed-requires
-add-removed-requires g c =
-    let inv = c.leaves.invariant in
-    let slice = c.in-Ok.ensures.slice in
-    let same : c.as_slice.result.now ≡ c.in-Ok.slice.pairs.items = search rules in
-    adds_upto _ _ _ _ _ (adds_read _ _ _ _ _ _ _ _ _ _ _ _ inv.from_low slice.next_above inv.receipts c.page_from.ensures.seen slice.rises (rw same at c.remove_below-leaf.ensures.removes))
-
 pub returns-then-is_some-clause-receipts : goal.returns-then-is_some-clause-receipts
 returns-then-is_some-clause-receipts g c =
     let inv = c.leaves.invariant in
     let slice = c.in-Ok.ensures.slice in
-    let same : c.as_slice.result.now ≡ c.in-Ok.slice.pairs.items = search rules in
-    rw c.add-removed.ensures (adds_read_of _ _ _ _ _ _ _ _ _ _ _ _ inv.from_low slice.next_above inv.receipts c.page_from.ensures.seen slice.rises (rw same at c.remove_below-leaf.ensures.removes))
+    let same : c.as_slice-pairs.result.now ≡ c.in-Ok.slice.pairs.items = search rules in
+    (adds_read_of _ _ _ _ _ _ _ _ _ _ _ _ inv.from_low slice.next_above inv.receipts c.page_from.ensures.seen slice.rises (rw same at c.remove_below-leaf.ensures.removes))
 
 pub returns-in_default-clause-receipts : goal.returns-in_default-clause-receipts
 returns-in_default-clause-receipts g c =
     let inv = c.leaves.invariant in
     let slice = c.in-Ok.ensures.slice in
-    let same : c.as_slice.result.now ≡ c.in-Ok.slice.pairs.items = search rules in
-    rw c.add-removed.ensures (adds_read_of _ _ _ _ _ _ _ _ _ _ _ _ inv.from_low slice.next_above inv.receipts c.page_from.ensures.seen slice.rises (rw same at c.remove_below-leaf.ensures.removes))
+    let same : c.as_slice-pairs.result.now ≡ c.in-Ok.slice.pairs.items = search rules in
+    (adds_read_of _ _ _ _ _ _ _ _ _ _ _ _ inv.from_low slice.next_above inv.receipts c.page_from.ensures.seen slice.rises (rw same at c.remove_below-leaf.ensures.removes))
 
 pub returns-in_default-clause-swept : goal.returns-in_default-clause-swept
 returns-in_default-clause-swept g c ended key above less =
     let inv = c.leaves.invariant in
     let page = c.page_from.ensures in
     let leaf = c.remove_below-leaf.ensures in
-    let same : c.as_slice.result.now ≡ c.in-Ok.slice.pairs.items = search rules in
+    let same : c.as_slice-pairs.result.now ≡ c.in-Ok.slice.pairs.items = search rules in
     swept_read _ _ _ _ g.met.Self.Steps.joins _ _ _ _ key _ _ _ _ _ _ _ inv.follows page.follows leaf.follows page.seen c.in-Ok.ensures.shows c.in-Ok.ensures.slice.rises
     (rw same at leaf.removes) (no_fault _ (sym c.is_some.ensures ∙ c.if-is_some.false)) inv.swept above (rw c.in_default.is (omega (arith, less, c.end_among_keys.ensures))) less
 
@@ -41,12 +34,12 @@ leaves-preserved g c =
     let page = c.page_from.ensures in
     let slice = c.in-Ok.ensures.slice in
     let leaf = c.remove_below-leaf.ensures in
-    let same : c.as_slice.result.now ≡ c.in-Ok.slice.pairs.items = search rules in
+    let same : c.as_slice-pairs.result.now ≡ c.in-Ok.slice.pairs.items = search rules in
     record {
       follows = g.met.Self.Steps.joins _ _ _ inv.follows (g.met.Self.Steps.joins _ _ _ page.follows leaf.follows);
       grows = grow_then _ _ _ inv.grows (grow_then _ _ _ (spent_grows _ _ page.seen) leaf.grows);
       from_low = let next = rw c.in-Some.is at slice.next_above in omega (arith, inv.from_low, next);
-      receipts = rw c.add-removed.ensures (rw c.in-Some.is at (adds_read _ _ _ _ _ _ _ _ _ _ _ _ inv.from_low slice.next_above inv.receipts page.seen slice.rises (rw same at leaf.removes)));
+      receipts = (rw c.in-Some.is at (adds_read _ _ _ _ _ _ _ _ _ _ _ _ inv.from_low slice.next_above inv.receipts page.seen slice.rises (rw same at leaf.removes)));
       swept = λ key above below less.
           swept_read _ _ _ _ g.met.Self.Steps.joins _ _ _ _ key _ _ _ _ _ _ _ inv.follows page.follows leaf.follows page.seen c.in-Ok.ensures.shows slice.rises
           (rw same at leaf.removes) (no_fault _ (sym c.is_some.ensures ∙ c.if-is_some.false)) inv.swept above (rw c.in-Some.is below) less;
@@ -60,3 +53,9 @@ returns-then-is_some-clause-follows g c = g.met.Self.Steps.joins _ _ _ c.leaves.
 
 pub returns-in_default-clause-follows : goal.returns-in_default-clause-follows
 returns-in_default-clause-follows g c = g.met.Self.Steps.joins _ _ _ c.leaves.invariant.follows (g.met.Self.Steps.joins _ _ _ c.in-Ok.ensures.follows c.remove_below-leaf.ensures.follows)
+
+pub returns-then-not-has_room-clause-receipts : goal.returns-then-not-has_room-clause-receipts
+returns-then-not-has_room-clause-receipts g c = adds_spent _ _ _ _ _ _ _ c.leaves.invariant.receipts c.page_from.ensures.seen
+
+pub returns-then-not-has_room-clause-follows : goal.returns-then-not-has_room-clause-follows
+returns-then-not-has_room-clause-follows g c = g.met.Self.Steps.joins _ _ _ c.leaves.invariant.follows c.page_from.ensures.follows

@@ -1,0 +1,59 @@
+//! What a table does in one hold of its lock, and what comes of it.
+
+use crate::fault::Denied;
+use crate::receipt::Receipt;
+use bw_delta::Spare;
+use bw_keys::{Key, Pid, Version, Wished};
+use std::alloc::Allocator;
+
+/// What is done to a table in one hold of its lock. It has no memory of its own.
+#[derive(Clone, Copy, Debug, PartialEq, Eq, Hash)]
+pub enum Action {
+    /// Makes the wish come true for the key and consolidates its leaf, in the place where that
+    /// lies.
+    Change { key: Key, wished: Wished },
+    /// Puts the record of the change that is wished on the key's leaf.
+    Record { key: Key, wished: Wished },
+    /// Consolidates the page, if it still has the version that was seen.
+    Consolidate { page: Pid, seen: Version },
+    /// Splits the page in half, if it still has the version that was seen.
+    Halve { page: Pid, seen: Version },
+    /// Names an unposted page in its parent.
+    AddTerm { child: Pid },
+}
+
+impl Action {
+    /// The memory that it takes of a table, if it takes any and there is some.
+    #[inline(always)]
+    pub fn spare<A: Allocator + Copy>(self, alloc: A) -> Option<Spare<A>> {
+        match self {
+            Action::Record { .. } | Action::AddTerm { .. } => Spare::new(alloc).ok(),
+            Action::Change { .. } | Action::Consolidate { .. } | Action::Halve { .. } => None,
+        }
+    }
+}
+
+/// What an action came to.
+#[derive(Clone, Copy, Debug, PartialEq, Eq, Hash)]
+pub struct Performed {
+    /// The page that was looked at or changed: the key's leaf, or the parent of a page that was
+    /// named.
+    pub page: Pid,
+    /// The key that was wished of, where the page was split, or where the term begins.
+    pub key: Key,
+    /// The receipt of the look, or of the first step.
+    pub receipt: Receipt,
+    /// How many entries the page has then.
+    pub count: u64,
+    /// How many records stand on it then.
+    pub depth: u8,
+}
+
+/// Why an action wasn't performed. Nothing was changed then.
+#[derive(Clone, Copy, Debug, PartialEq, Eq, Hash)]
+pub enum Unperformed {
+    /// Its step is refused, or memory is short.
+    Denied(Denied),
+    /// It can't be done in one hold: the steps are to be proposed one by one.
+    StepByStep,
+}

@@ -1,0 +1,31 @@
+use Rattle.bw_table.proofs.InPlaces.{may_change, leaf_is_inside, leaf_takes, done_at_once, whole_at_once, tells_at_once}
+use Rattle.bw_table.proofs.table.Table.change_at_rest.Goals as goal
+
+pub change_at-requires : goal.change_at-requires
+change_at-requires g c =
+    let may = rw (← c.self.view_is) at (may_change c.args.self.now c.args.page.0 c.args.key c.requires (c.can_count_on.ensures.version c.if-not-can_count_on.false) (c.can_count_on.ensures.number c.if-not-can_count_on.false)) in
+    record { exists = leaf_is_inside c.self.invariant may; takes = leaf_takes c.self.invariant may }
+
+pub note-requires : goal.note-requires
+note-requires g c =
+    let may = rw (← c.self.view_is) at (may_change c.args.self.now c.args.page.0 c.args.key c.requires (c.can_count_on.ensures.version c.if-not-can_count_on.false) (c.can_count_on.ensures.number c.if-not-can_count_on.false)) in
+    record { number = may.number }
+
+pub invariant_of-self-2 : goal.invariant_of-self-2
+invariant_of-self-2 g c =
+    let may = rw (← c.self.view_is) at (may_change c.args.self.now c.args.page.0 c.args.key c.requires (c.can_count_on.ensures.version c.if-not-can_count_on.false) (c.can_count_on.ensures.number c.if-not-can_count_on.false)) in
+    let it = c.in_ok-done.ensures in
+    let done = done_at_once c.self.invariant may c.args.wished it.shallow it.had it.delta it.changed c.note.ensures.receipt in
+    rw c.note.ensures.book (whole_at_once _ _ c.args.page.0 _ c.note.result _ _ c.self.invariant done)
+
+pub returns : goal.returns
+returns g c =
+    let may = rw (← c.self.view_is) at (may_change c.args.self.now c.args.page.0 c.args.key c.requires (c.can_count_on.ensures.version c.if-not-can_count_on.false) (c.can_count_on.ensures.number c.if-not-can_count_on.false)) in
+    let it = c.in_ok-done.ensures in
+    let done = done_at_once c.self.invariant may c.args.wished it.shallow it.had it.delta it.changed c.note.ensures.receipt in
+    rw (← c.self.view_is)
+    (record {
+      done = rw c.note.ensures.book done;
+      map = tells_at_once _ _ c.args.page.0 c.args.key _ c.note.result _ _ c.self.invariant may.leaf done;
+      unchanged = tt;
+    })

@@ -1,0 +1,101 @@
+-- What a table does in one hold of its lock, and the steps of the law that it stands for.
+use Rattle.std.specs.Prelude.{◌≡◌, ℕ, List, [], ◌∷◌, Option, Some, None, map, unwrap_or, option_to_list}
+use Rattle.bw_chain.specs.Pages.Halves.{listed_middle_key}
+use Rattle.bw_keys.specs.declared.wished.Wished.{Wished}
+use Rattle.bw_delta.specs.Entries.{at}
+use Rattle.bw_delta.specs.Sound.{page_for}
+use Rattle.bw_keys.specs.declared.page.Pid.{Pid}
+use Rattle.bw_keys.specs.Reasons.{first_reason}
+use Rattle.bw_step.specs.declared.at_once.AtOnce.{AtOnce}
+use Rattle.bw_step.specs.Proposals.{Proposal, consolidate, term_add}
+use Rattle.bw_step.specs.declared.receipt.Kind.TheVariants as kinds
+use Rattle.bw_step.specs.declared.receipt.Receipt.{Receipt}
+use Rattle.bw_step.specs.declared.receipt.Receipt.TheVariants.{Looked, Shaped}
+use Rattle.bw_law.specs.Effects.{after}
+use Rattle.bw_law.specs.Laws.{IsLeafOf}
+use Rattle.bw_law.specs.Refusals.{refusal}
+use Rattle.bw_law.specs.Runs.{TakesInTurn}
+use Rattle.bw_law.specs.Slots.{chain_in, pairs_in}
+use Rattle.bw_law.specs.Tables.{TableValue, slot_at, number_of}
+use Rattle.bw_table.specs.Answers.{IsDenialFor}
+use Rattle.bw_table.specs.InPlaces.{step_for, consolidating, halving, half_reasons}
+use Rattle.bw_step.specs.declared.action.Action.{Action}
+use Rattle.bw_step.specs.declared.action.Action.TheVariants as actions
+use Rattle.bw_step.specs.declared.action.Performed.{Performed}
+use Rattle.bw_step.specs.declared.action.Unperformed.{Unperformed}
+use Rattle.bw_step.specs.declared.action.Unperformed.TheVariants.{Denied, StepByStep}
+
+-- the consolidation of the page as it is in the table
+abbrev pub consolidation_of : TableValue → ℕ → Proposal
+consolidation_of table page = consolidating table page (slot_at table page).version
+
+-- a step, and behind it the consolidation of a page; nothing where there is no step
+abbrev pub consolidated_behind : TableValue → ℕ → Option Proposal → List Proposal
+consolidated_behind table page None = []
+consolidated_behind table page (Some step) = step ∷ consolidation_of (after table step) page ∷ []
+
+-- what the page has at the key
+abbrev pub had_at : TableValue → ℕ → ℕ → Option ℕ
+had_at table page key = at key (pairs_in (slot_at table page))
+
+-- the step that carries out the wish for the key on the page as it is, if there is anything to do
+abbrev pub wished_step : TableValue → ℕ → ℕ → Wished → Option Proposal
+wished_step table page key wished = step_for page (slot_at table page).version key wished (had_at table page key)
+
+-- the key of the page's middle entry, or 0, where no page can be split, if it has no two entries
+abbrev pub middle_of : TableValue → ℕ → ℕ
+middle_of table page = unwrap_or (listed_middle_key (page_for (chain_in (slot_at table page))).listed) 0
+
+-- the term of the child in the parent, as both are in the table
+abbrev pub term_of : TableValue → ℕ → ℕ → Proposal
+term_of table parent child = term_add parent (slot_at table parent).version child (slot_at table child).version
+
+-- the steps that the action stands for, where this is the page that it finds
+abbrev pub steps_for : TableValue → ℕ → Action → List Proposal
+steps_for table page (actions.Change key wished) = consolidated_behind table page (wished_step table page key wished)
+steps_for table page (actions.Record key wished) = option_to_list (wished_step table page key wished)
+steps_for table page (actions.Consolidate at seen) = consolidating table at.0 seen.0 ∷ []
+steps_for table page (actions.Halve at seen) = halving table at.0 seen.0 (middle_of table at.0) ∷ []
+steps_for table page (actions.AddTerm child) = term_of table page child.0 ∷ []
+
+-- the action finds this page and this key
+abbrev pub Finds : TableValue → Action → Pid → ℕ → Type 0
+Finds table (actions.Change key wished) page found = IsLeafOf table key page.0 × (found ≡ key)
+Finds table (actions.Record key wished) page found = IsLeafOf table key page.0 × (found ≡ key)
+Finds table (actions.Consolidate at seen) page found = (page ≡ at) × (found ≡ (slot_at table at.0).low)
+Finds table (actions.Halve at seen) page found = (page ≡ at) × (found ≡ middle_of table at.0)
+Finds table (actions.AddTerm child) page found = found ≡ (slot_at table child.0).low
+
+-- the receipt of a look for the key at the page
+abbrev pub look_at : TableValue → ℕ → ℕ → Receipt
+look_at table page key = Looked (number_of table.book) key (had_at table page key)
+
+-- each step is the consolidation of the page
+abbrev pub with_receipts : Pid → List Proposal → List (Proposal × Receipt)
+with_receipts page steps = map (λ step. (step, Shaped kinds.Consolidate page None)) steps
+
+-- the steps were taken, the first with this receipt; or, where there are none, the receipt is that of a look
+abbrev pub Takes : TableValue → Performed → TableValue → List Proposal → Type 0
+Takes old it new [] = (it.receipt ≡ look_at old it.page.0 it.key) × (new ≡ old)
+Takes old it new (step ∷ behind) = TakesInTurn old ((step, it.receipt) ∷ with_receipts it.page behind) new
+
+-- the action was performed, and this is what it came to
+pub record IsPerformed (old : TableValue) (action : Action) (new : TableValue) (it : Performed) : Type 0 where
+  pub finds : Finds old action it.page it.key
+  pub takes : Takes old it new (steps_for old it.page.0 action)
+  pub count : it.count ≡ (slot_at new it.page.0).count
+  pub depth : it.depth ≡ (slot_at new it.page.0).depth
+
+-- what was done at once on a page, with its key
+abbrev pub performed_by : AtOnce → ℕ → Performed
+performed_by done key = record { page = done.page; key = key; receipt = done.receipt; count = done.count; depth = done.depth }
+
+-- Why it isn't performed: a page that is named is consolidated or split unless the step is refused or memory is short, and the
+-- others need not be done at once.
+abbrev pub IsWhyNot : TableValue → Action → Unperformed → Type 0
+IsWhyNot table (actions.Consolidate page seen) (Denied denied) = IsDenialFor (refusal table (consolidating table page.0 seen.0)) denied
+IsWhyNot table (actions.Halve page seen) (Denied denied) = IsDenialFor (first_reason (half_reasons table page.0 seen.0)) denied
+IsWhyNot table action (Denied denied) = ⊥
+IsWhyNot table (actions.Consolidate page seen) StepByStep = ⊥
+IsWhyNot table (actions.Halve page seen) StepByStep = ⊥
+IsWhyNot table action StepByStep = Unit {0}

@@ -1,0 +1,114 @@
+//! A table to which pages are added is one that had them all from the beginning.
+
+use crate::at_once::are_alike;
+use crate::recording::install_drawn;
+use bw_keys::Config;
+use bw_table::Table;
+use rand_core::{Rng, SeedableRng};
+use rand_pcg::Pcg32;
+use std::alloc::Global;
+use std::test::Fail;
+use test_kit::SMALL;
+
+/// The number of pages that a table begins with, and comes to.
+const FEW: u32 = 8;
+
+const ALL: u32 = SMALL.pages;
+
+/// The number of drawn steps.
+const STEPS: u32 = 4000;
+
+/// A table that begins with few pages, and one that has all.
+#[derive(Drop)]
+struct Twins {
+    growing: Table<Global>,
+    whole: Table<Global>,
+    /// How many steps were taken.
+    taken: u32,
+}
+
+impl Twins {
+    fn new(alloc: Global, first_version: u64) -> Result<Twins, Fail> {
+        let config = Config {
+            first_version,
+            ..SMALL
+        };
+        let few = Config {
+            pages: FEW,
+            ..config
+        };
+        Ok(Twins {
+            growing: Table::new(alloc, alloc, few)?,
+            whole: Table::new(alloc, alloc, config)?,
+            taken: 0,
+        })
+    }
+
+    /// Adds up to so many pages to the one that has few. Returns whether it has them.
+    fn grow(&mut self, most: u32) -> Result<bool, Fail> {
+        let (pages, free) = (self.growing.config().pages, self.growing.free_pages());
+        let more = most.min(ALL.saturating_sub(pages));
+        self.growing.add_pages(more)?;
+        Ok(
+            self.growing.config().pages == pages.saturating_add(more)
+                && self.growing.free_pages() == free.saturating_add(more as usize),
+        )
+    }
+
+    /// Takes a drawn step on both tables, for which a page is free while the one hasn't all. Returns
+    /// whether they answer alike.
+    fn step(&mut self, alloc: Global, rng: &mut Pcg32) -> Result<bool, Fail> {
+        let is_grown = match rng.next_u32() % 64 {
+            0 => self.grow(rng.next_u32() % 8)?,
+            _ if self.growing.is_full() => self.grow(1 + rng.next_u32() % 8)?,
+            _ => true,
+        };
+        let seed = rng.next_u64();
+        let answer = install_drawn(alloc, &mut self.growing, seed)?;
+        self.taken = self.taken.saturating_add(u32::from(answer.is_ok()));
+        Ok(is_grown && answer == install_drawn(alloc, &mut self.whole, seed)?)
+    }
+
+    /// Returns whether both have the same pages and pairs, and lack the same number of free ones.
+    fn are_alike(&self, machine: Global) -> Result<bool, Fail> {
+        let lacking = ALL.saturating_sub(self.growing.config().pages) as usize;
+        let (pairs, wanted) = (self.growing.pairs(machine)?, self.whole.pairs(machine)?);
+        Ok(
+            self.growing.free_pages().saturating_add(lacking) == self.whole.free_pages()
+                && self.growing.root() == self.whole.root()
+                && pairs.iter().eq(wanted.iter())
+                && are_alike(&self.growing, &self.whole),
+        )
+    }
+}
+
+/// Takes drawn steps. Returns the first after which the tables weren't alike, if there is one.
+fn first_wrong(alloc: Global, rng: &mut Pcg32, twins: &mut Twins) -> Result<Option<u32>, Fail> {
+    for step in 0..STEPS {
+        if !twins.step(alloc, rng)? || (step % 32 == 31 && !twins.are_alike(alloc)?) {
+            return Ok(Some(step));
+        }
+    }
+    Ok(None)
+}
+
+/// Makes two tables and takes steps. Returns the first wrong one, how many pages there are in the end, and
+/// whether a third of the steps were taken.
+fn stepped(alloc: Global, seed: u64) -> Result<(Option<u32>, u32, bool), Fail> {
+    let mut rng = Pcg32::seed_from_u64(seed);
+    let mut twins = Twins::new(alloc, seed)?;
+    let wrong = first_wrong(alloc, &mut rng, &mut twins)?;
+    Ok((wrong, twins.growing.config().pages, twins.taken > STEPS / 3))
+}
+
+#[test]
+fn a_table_that_grows_is_one_that_had_all_pages(rt: HostRuntime) -> Result<(), Fail> {
+    for seed in 0..4 {
+        assert_eq!(rt;
+            stepped(rt.alloc(), seed)?,
+            (None, ALL, true),
+            "seed {seed}"
+        );
+    }
+    Ok(())
+}
