@@ -63,7 +63,8 @@ impl<'r, L: Looks + Drop> Task<Kit<L>> for Rows<'r> {
 pub(crate) fn do_rows<
     I: Ledger + Send + Sync,
     D: Ledger + Send + Sync,
-    L: Looks + Drop + Send,
+    S: Drop,
+    L: Looks<Stamp = S> + Drop + Send,
     T: Ordered<Global, Step<Global>, Insertions = I, Removals = D> + Sync,
     R: Threads + Wait + Sync,
     G: Gate + Sync,
