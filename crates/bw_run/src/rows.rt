@@ -63,8 +63,7 @@ impl<'r, L: Looks + Drop> Task<Kit<L>> for Rows<'r> {
 pub(crate) fn do_rows<
     I: Ledger + Send + Sync,
     D: Ledger + Send + Sync,
-    S: Drop,
-    L: Looks<Stamp = S> + Drop + Send,
+    L: Looks + Drop + Send,
     T: Ordered<Global, Step<Global>, Insertions = I, Removals = D> + Sync,
     R: Threads + Wait + Sync,
     G: Gate + Sync,

@@ -10,17 +10,19 @@ use Rattle.bw_step.specs.declared.fault.Denied.{Denied}
 use Rattle.bw_step.specs.declared.receipt.Receipt.{Receipt}
 use Rattle.bw_step.specs.declared.receipt.Receipt.TheVariants.{Inserted, Deleted, Modified, Looked, Shaped}
 use Rattle.bw_step.specs.Proposals.{Proposal}
-use Rattle.bw_law.specs.Effects.{receipt_of}
-use Rattle.bw_law.specs.Runs.{TakesInTurn}
+use Rattle.bw_law.specs.Effects.{receipt_of, pid}
+use Rattle.bw_law.specs.Runs.{run, TakesInTurn}
+use Rattle.bw_law.specs.Slots.{pairs_in}
 use Rattle.bw_law.specs.Tables.{TableValue, slot_at}
-use Rattle.bw_table.specs.Actions.{IsPerformed, Takes, with_receipts, wished_step, had_at, consolidated_behind, steps_for}
-use Rattle.bw_table.specs.InPlaces.{step_for, IsDoneAtOnce, IsConsolidatedAtOnce, IsHalvedAtOnce, consolidating}
+use Rattle.bw_table.specs.Actions.{IsPerformed, Takes, with_receipts, wished_step, had_at, consolidated_behind, term_of, steps_for}
+use Rattle.bw_table.specs.InPlaces.{step_for, IsDoneAtOnce, IsConsolidatedAtOnce, IsHalvedAtOnce, consolidating, halving}
 use Rattle.bw_step.specs.declared.action.Action.{Action}
 use Rattle.bw_step.specs.declared.action.Action.TheVariants as actions
 use Rattle.bw_step.specs.declared.action.Performed.{Performed}
 use Rattle.bw_table.proofs.Actions.{changed, anew_taken, half_taken}
-use Rattle.bw_snap.specs.Notes.{held_note, held_for, held_record, held_notes, steps_of, table_with}
+use Rattle.bw_snap.specs.Notes.{held_note, held_for, held_record, held_notes, step_of, steps_of, table_with}
 use Rattle.bw_snap.specs.declared.note.Change.TheVariants as changes
+use Rattle.bw_snap.specs.declared.note.Record.TheVariants as records
 use Rattle.bw_snap.specs.Snapshots.{LeadTo}
 use Rattle.bw_snap.proofs.Notes.{runs_to}
 

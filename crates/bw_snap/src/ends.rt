@@ -1,6 +1,6 @@
 //! The reading and the writing end of the published pair, and their steps.
 
-ghost use Rattle.std.specs.Prelude.{◌≡◌, ◌<◌, ◌^◌, [], true, IfOk, IfErr, IfSome, OnOk, OnErr};
+ghost use Rattle.std.specs.Prelude.{◌≡◌, ◌<◌, ◌^◌, [], IfOk, IfErr, OnOk, OnErr};
 ghost use Rattle.left_right.specs.Sides.{view};
 ghost use Rattle.bw_law.specs.Tables.{new_table};
 ghost use Rattle.bw_snap.specs.Snapshots.{BeginsWith};
@@ -10,7 +10,7 @@ ghost use Rattle.bw_snap.specs.Answers.{IsAnswerIn};
 use crate::front::{Front, Naming};
 use crate::note::Note;
 use crate::proposed::List;
-use crate::question::{Number, Question};
+use crate::question::Question;
 use crate::shown::{Backed, Sees, Shown, Takes, Tells};
 use bw_delta::NoMemory;
 use bw_keys::Config;
@@ -140,30 +140,29 @@ pub fn newcomer<N: Naming>(source: &Source<N>) -> Result<ReadingEnd<N>, NoMemory
     }
 }
 
-/// Returns whether the reader has seen the list, which was published: so the published table's list
-/// goes on from it. No clause says so, hence the comparison. False where the table gave no entry.
-pub fn catches_up<N: Naming>(reader: ReadingEnd<N>, front: &Front) -> (ReadingEnd<N>, bool)
-    requires { front.now.announcements ≡ N.announcements }
-    ensures { result.1 ≡ true → BeginsWith (view result.0.place) front.now.list }
-{
-    let (reader, told) = ask(reader, (Number, PhantomData));
-    match told {
-        Ok(told) => (reader, told.front.goes_on(front)),
-        Err(_number) => (reader, false),
-    }
-}
-
-/// Returns a new reader that has learnt all that the writing end has seen, where there is a place for
-/// one.
-pub fn told<N: Naming>(writer: &mut WritingEnd<N>) -> Option<ReadingEnd<N>>
+/// Returns a new reader that has learnt all that the writing end has seen.
+fn told<N: Naming>(writer: &mut WritingEnd<N>) -> Result<ReadingEnd<N>, AllocError>
     ensures desk { writer.new.desk.shown ≡ writer.old.desk.shown }
     ensures log { (writer.new.log ≡ writer.old.log) × (writer.new.behind ≡ writer.old.behind) }
     ensures seen { view writer.new.desk.place ≡ view writer.old.desk.place }
-    ensures told { IfSome result (λ reader. view reader.place ≡ view writer.old.desk.place) }
+    ensures told { IfOk result (λ reader. view reader.place ≡ view writer.old.desk.place) }
 {
-    let Ok(mut reader) = writer.factory().reader() else {
-        return None;
-    };
+    let mut reader = writer.factory().reader()?;
     reader.learn::<Takes>(writer.tell::<Tells>());
-    Some(reader)
+    Ok(reader)
+}
+
+/// Returns the same, as soon as there is a place for it.
+pub fn surely_told<N: Naming, R: Wait>(writer: &mut WritingEnd<N>, rt: &R) -> ReadingEnd<N>
+    ensures desk { writer.new.desk.shown ≡ writer.old.desk.shown }
+    ensures log { (writer.new.log ≡ writer.old.log) × (writer.new.behind ≡ writer.old.behind) }
+    ensures seen { view writer.new.desk.place ≡ view writer.old.desk.place }
+    ensures told { view result.place ≡ view writer.old.desk.place }
+{
+    for _ in rt.forever() {
+        if let Ok(reader) = told(writer) {
+            return reader;
+        }
+    }
+    unreachable!()
 }

@@ -1,13 +1,13 @@
 //! Readers that take no lock.
 
-ghost use Rattle.std.specs.Prelude.{◌≡◌, ◌⊎◌, IfOk, OnOk, OnErr};
+ghost use Rattle.std.specs.Prelude.{◌≡◌, ◌⊎◌, [], IfOk, OnOk, OnErr};
 ghost use Rattle.left_right.specs.Sides.{view};
 ghost use Rattle.bw_keys.specs.Ranges.{end_of};
 ghost use Rattle.bw_snap.specs.Snapshots.{BeginsWith};
 ghost use Rattle.bw_snap.specs.Answers.{IsAnswerIn, IsFoundIn, AreFoundIn, IsLookIn, IsFirstIn, IsLastIn};
 ghost use Rattle.bw_snap.specs.Answers.{IsNextIn, IsPreviousIn, IsNumberIn, IsLenIn, IsListedIn, IsRangeIn};
 
-use crate::ends::{Answered, ReadingEnd, ask, catches_up};
+use crate::ends::{Answered, ReadingEnd, ask};
 use crate::fault::{Closed, ScanFault};
 use crate::front::{Front, Naming};
 use crate::question::{GetMany, Len, Listing, LookAt, NextAt, Number, PreviousAt, Question};
@@ -24,12 +24,10 @@ use std::marker::{Model, PhantomData};
 pub struct Reader<N: Naming> {
     inner: ReadingEnd<N>,
     front: Front,
-    /// Whether the inner reader hasn't seen that list: it was learnt once the tree was closed.
-    is_late: bool,
 }
 
 impl<N: Naming> Model for Reader<N> {
-    ghost use Rattle.std.specs.Prelude.{◌≡◌, List, false};
+    ghost use Rattle.std.specs.Prelude.{◌≡◌, List};
     ghost use Rattle.bw_step.specs.Proposals.{Proposal};
     ghost use Rattle.bw_snap.specs.Codes.{steps_code};
     ghost use Rattle.bw_snap.specs.Snapshots.{BeginsWith};
@@ -42,7 +40,7 @@ impl<N: Naming> Model for Reader<N> {
     ghost view = { λ r. r.front.list };
 
     ghost invariant = { λ r. (r.front.announcements ≡ N.announcements)
-        × (r.is_late ≡ false → BeginsWith (seen_by r.inner.place) r.front.list) };
+        × BeginsWith (seen_by r.inner.place) r.front.list };
 }
 
 impl<N: Naming> Reader<N> {
@@ -51,11 +49,7 @@ impl<N: Naming> Reader<N> {
         requires list { BeginsWith (view inner.place) front.list }
         ensures { result ≡ front.list }
     {
-        Reader {
-            inner,
-            front,
-            is_late: false,
-        }
+        Reader { inner, front }
     }
 
     /// Learns the stamp's list. The reader's list becomes the longer of the two, which begins with
@@ -67,13 +61,7 @@ impl<N: Naming> Reader<N> {
     {
         if stamp.front.goes_on(&self.front) {
             let Stamp { inner, front } = stamp;
-            self.is_late = match inner {
-                Some(inner) => {
-                    self.inner = inner;
-                    false
-                }
-                None => !replace_with(&mut self.inner, &front, catches_up),
-            };
+            self.inner = inner;
             self.front = front;
         }
     }
@@ -85,9 +73,6 @@ impl<N: Naming> Reader<N> {
         ensures answer { IfOk result (IsAnswerIn N.config (Q.answers question) self.new) }
         ensures closed { OnErr result (self.new ≡ self.old) }
     {
-        if self.is_late {
-            return Err(Closed);
-        }
         match replace_with(&mut self.inner, (question, PhantomData), ask) {
             Ok(Answered { answer, front }) => {
                 self.front = front;
@@ -217,9 +202,6 @@ impl<N: Naming> Reader<N> {
             (IsRangeIn N.config low (end_of high) limit self.new out.new.items) }
         ensures fault { OnErr result ((self.new ≡ self.old) × (out.new ≡ out.old)) }
     {
-        if self.is_late {
-            return Err(ScanFault::Closed);
-        }
         let empty = Vec::new(*out.allocator());
         let listing = Listing {
             low,

@@ -1,6 +1,6 @@
 //! What the program does, over a reader and two writers.
 
-ghost use Rattle.std.specs.Prelude.{◌≡◌, ◌<◌, ◌≤◌, IfOk, OnOk};
+ghost use Rattle.std.specs.Prelude.{◌≡◌, ◌≤◌, IfOk, OnOk};
 ghost use Rattle.std.specs.Option.{ForSome};
 ghost use Rattle.std.specs.Io.KnownBytes.{Appends};
 ghost use Rattle.bw_trace.specs.Statuses.{run_status, status_of, verdict_status};
@@ -45,7 +45,7 @@ static USUAL: [&str; 1] = ["run"];
 
 /// Carries out the words, which leave out the program's own name, and returns the exit status. No
 /// words stand for `run` alone. Writes results and help to `output`, and fault lines and the usage
-/// text to `faults`, where nothing is written of what ends with 0.
+/// text to `faults`.
 ///
 /// | Status | Case |
 /// |---|---|
@@ -62,18 +62,14 @@ pub fn command<T: Threads + Wait + Sync + Send + Copy, R: Read + Drop, W: Write,
     output: &mut W,
     faults: &mut E,
 ) -> u8
-    ensures few { result ≤ 4 }
-    ensures silent { result ≡ 0 → faults.new ≡ faults.old }
+    ensures { result ≤ 4 }
 {
     let progress = Progress::new();
-    let obeyed = obey(rt, alloc, words, input, output, None::<&mut E>, &progress);
-    end(output, faults, obeyed)
+    command_counted(rt, alloc, words, input, output, faults, &progress)
 }
 
-/// Carries out the words as [`command`] does, for somebody who watches the faults, as on a terminal:
-/// counts the rows of a run meanwhile, and notes of what ends well how many rows have a fault beside
-/// their reply, and which lines of a script were refused.
-pub fn command_watched<T: Threads + Wait + Sync + Send + Copy, R: Read + Drop, W: Write, E: Write>(
+/// Carries out the words as [`command`] does, and counts the rows of a run meanwhile.
+pub fn command_counted<T: Threads + Wait + Sync + Send + Copy, R: Read + Drop, W: Write, E: Write>(
     rt: T,
     alloc: Global,
     words: &[&str],
@@ -84,31 +80,20 @@ pub fn command_watched<T: Threads + Wait + Sync + Send + Copy, R: Read + Drop, W
 ) -> u8
     ensures { result ≤ 4 }
 {
-    let obeyed = obey(rt, alloc, words, input, output, Some(faults), progress);
-    end(output, faults, obeyed)
-}
-
-/// Tells the fault of what ended with one, or prints the help. Returns the exit status.
-fn end<W: Write, E: Write>(output: &mut W, faults: &mut E, obeyed: Result<u8, Fault>) -> u8
-    requires { IfOk obeyed (λ status. status ≤ 4) }
-    ensures few { result ≤ 4 }
-    ensures silent { result ≡ 0 → faults.new ≡ faults.old }
-{
-    match obeyed {
+    match obey(rt, alloc, words, input, output, faults, progress) {
         Ok(status) => status,
         Err(Fault::Usage(error)) => tell_usage(output, faults, &error),
         Err(fault) => tell(faults, &fault),
     }
 }
 
-/// Carries out the words, and writes notes, if they are asked for, of what ends well.
 fn obey<T: Threads + Wait + Sync + Send + Copy, R: Read + Drop, W: Write, E: Write>(
     rt: T,
     alloc: Global,
     words: &[&str],
     input: R,
     output: &mut W,
-    notes: Option<&mut E>,
+    faults: &mut E,
     progress: &Progress,
 ) -> Result<u8, Fault>
     ensures { IfOk result (λ status. status ≤ 4) }
@@ -122,16 +107,16 @@ fn obey<T: Threads + Wait + Sync + Send + Copy, R: Read + Drop, W: Write, E: Wri
                 RunOptions::of(options)?,
                 input,
                 output,
-                notes,
+                faults,
                 progress,
             )
         }
         Some(("draw", options)) => {
-            do_draw(rt, alloc, DrawOptions::of(options)?, input, output, notes)
+            do_draw(rt, alloc, DrawOptions::of(options)?, input, output, faults)
         }
         Some(("film", options)) => do_film(alloc, FilmOptions::of(options)?, input, output),
         Some(("stats", options)) => {
-            do_stats(rt, alloc, ShowOptions::of(options)?, input, output, notes)
+            do_stats(rt, alloc, ShowOptions::of(options)?, input, output, faults)
         }
         Some(("steps", _)) => do_steps(alloc, input, output),
         Some(("make", options)) => do_make(alloc, options, output),
@@ -155,7 +140,7 @@ fn do_run<T: Threads + Wait + Sync + Send + Copy, R: Read + Drop, W: Write, E: W
     options: RunOptions,
     input: R,
     output: &mut W,
-    notes: Option<&mut E>,
+    faults: &mut E,
     progress: &Progress,
 ) -> Result<u8, Fault>
     ensures { IfOk result (λ status. status ≤ 4) }
@@ -169,11 +154,8 @@ fn do_run<T: Threads + Wait + Sync + Send + Copy, R: Read + Drop, W: Write, E: W
     match run_counted(rt, alloc, config, workers, readers, &rows, &Open, progress) {
         Ok(finished) => {
             let status = print_run(alloc, options, output, &finished)?;
-            match notes {
-                Some(notes) if !options.quiet => {
-                    let _ = write_notes(notes, &finished);
-                }
-                _ => {}
+            if !options.quiet {
+                let _ = write_notes(faults, &finished);
             }
             Ok(status)
         }
@@ -209,11 +191,11 @@ fn do_draw<T: Threads + Wait + Sync + Send + Copy, R: Read + Drop, W: Write, E: 
     options: DrawOptions,
     input: R,
     output: &mut W,
-    notes: Option<&mut E>,
+    faults: &mut E,
 ) -> Result<u8, Fault>
     ensures { IfOk result (λ status. status ≤ 4) }
 {
-    let table = table_of(rt, alloc, options.shown, input, notes)?;
+    let table = table_of(rt, alloc, options.shown, input, faults)?;
     draw(alloc, &table, options.key, output)?;
     Ok(DONE)
 }
@@ -238,11 +220,11 @@ fn do_stats<T: Threads + Wait + Sync + Send + Copy, R: Read + Drop, W: Write, E:
     options: ShowOptions,
     input: R,
     output: &mut W,
-    notes: Option<&mut E>,
+    faults: &mut E,
 ) -> Result<u8, Fault>
     ensures { IfOk result (λ status. status ≤ 4) }
 {
-    let table = table_of(rt, alloc, options, input, notes)?;
+    let table = table_of(rt, alloc, options, input, faults)?;
     tell_stats(alloc, &table, output)?;
     Ok(DONE)
 }
@@ -308,8 +290,7 @@ fn write_verdict<W: Write>(output: &mut W, verdict: Verdict) -> io::Result<()>
 
 /// Prints the help if the words ask for it, and otherwise the usage as a fault.
 fn tell_usage<W: Write, E: Write>(output: &mut W, faults: &mut E, error: &clap::Error) -> u8
-    ensures few { result ≤ 4 }
-    ensures silent { result ≡ 0 → faults.new ≡ faults.old }
+    ensures { result ≤ 4 }
 {
     if error.use_stderr() {
         let _ = write!(faults, "{error}");
@@ -334,8 +315,7 @@ pub fn tell_run_fault<E: Write>(faults: &mut E, fault: RunFault) -> u8
 }
 
 fn tell<E: Write>(faults: &mut E, fault: &Fault) -> u8
-    ensures status { result ≡ status_of fault.now }
-    ensures failed { 0 < result }
+    ensures { result ≡ status_of fault.now }
 {
     let _ = writeln!(faults, "bwtree: {fault}");
     fault.status()

@@ -1,6 +1,6 @@
 //! The standard streams of a program that others read.
 
-use bw_trace::{Progress, command, command_watched};
+use bw_trace::{Progress, command_counted};
 use std::alloc::Global;
 use std::cell::Cell;
 use std::io;
@@ -68,8 +68,7 @@ impl<R: Read, W: Write> Read for Hinted<R, W> {
 }
 
 /// Carries out the words, and returns the exit status. The first read of the input writes the hint
-/// behind it, if there is one. Where somebody watches the faults, notes are written there too, and
-/// the rows of a run are counted.
+/// behind it, if there is one.
 pub(crate) fn answer<
     T: Threads + Wait + Sync + Send + Copy,
     R: Read + Drop,
@@ -82,7 +81,7 @@ pub(crate) fn answer<
     (input, hint): (R, Option<&'static str>),
     output: W,
     faults: E,
-    watch: Option<&Progress>,
+    progress: &Progress,
 ) -> u8 {
     let is_closed = Cell::new(false);
     let input = Hinted {
@@ -98,10 +97,5 @@ pub(crate) fn answer<
         stream: faults,
         is_closed: &is_closed,
     };
-    match watch {
-        None => command(rt, alloc, words, input, &mut output, &mut faults),
-        Some(progress) => {
-            command_watched(rt, alloc, words, input, &mut output, &mut faults, progress)
-        }
-    }
+    command_counted(rt, alloc, words, input, &mut output, &mut faults, progress)
 }

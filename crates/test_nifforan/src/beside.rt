@@ -32,6 +32,17 @@ pub struct Beside {
     pub was_full: bool,
 }
 
+/// Makes the map anew of its table, which gets the pages that the map might have come to have.
+fn made_anew(machine: Global, map: Map<Global>) -> Result<Map<Global>, AllocError> {
+    let most = map.config().pages;
+    let mut table = map.into_table();
+    let pages = table.config().pages;
+    if pages <= most && most <= 65_536 && table.add_pages(most - pages).is_err() {
+        return Err(AllocError);
+    }
+    Ok(Map::from_table(machine, machine, table))
+}
+
 fn owned(pair: (&u64, &u64)) -> (u64, u64) {
     (*pair.0, *pair.1)
 }
@@ -73,11 +84,11 @@ impl Beside {
             handle.create(machine, settings),
         ];
         let mut is_alike = opened == [OK, OPEN];
-        for round in 0..rounds {
+        for _ in 0..rounds {
             for _ in 0..100 {
                 is_alike &= self.call(handle)?;
             }
-            is_alike &= self.reads_of_map(handle, round % 8 == 7)?;
+            is_alike &= self.reads_of_map(handle)?;
         }
         handle.close(machine);
         Ok(is_alike)
@@ -213,9 +224,9 @@ impl Beside {
         removed
     }
 
-    /// Takes the map out of the handle, reads it at a drawn key, and puts it back, or makes it anew of
-    /// its table before.
-    fn reads_of_map(&mut self, handle: &mut Handle, is_last: bool) -> Result<bool, AllocError> {
+    /// Takes the map out of the handle, reads it at a drawn key, and puts it back, made anew of its
+    /// table.
+    fn reads_of_map(&mut self, handle: &mut Handle) -> Result<bool, AllocError> {
         let machine = self.machine;
         let low = self.key();
         let high = low.saturating_add(self.below(40).into());
@@ -230,11 +241,7 @@ impl Beside {
             && self.is_looked_at(&map, low)
             && self.is_read(&map, low, high)
             && self.is_read_backwards(&map, low, high);
-        let map = if is_last {
-            made_anew(machine, map)?
-        } else {
-            map
-        };
+        let map = made_anew(machine, map)?;
         let held = Box::new(machine, Held::Own(map))?;
         drop(replace(handle, Handle::of(held)).into_box(machine));
         Ok(is_alike)
@@ -281,17 +288,6 @@ impl Beside {
         let all = self.pairs.iter().rev().map(owned);
         map.range(low..high).rev().eq(within) && map.iter().rev().eq(all)
     }
-}
-
-/// Returns the map of the map's table, which gets the pages that it may have yet.
-fn made_anew(machine: Global, map: Map<Global>) -> Result<Map<Global>, AllocError> {
-    let most = map.config().pages;
-    let mut table = map.into_table();
-    let pages = table.config().pages;
-    if pages < most && most <= 65_536 && table.add_pages(most - pages).is_err() {
-        return Err(AllocError);
-    }
-    Ok(Map::from_table(machine, machine, table))
 }
 
 /// Returns whether a read found the first of the wanted pairs, as many as there are places, names the

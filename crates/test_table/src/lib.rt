@@ -27,8 +27,6 @@ mod memory;
 #[cfg(test)]
 mod merging;
 #[cfg(test)]
-mod performing;
-#[cfg(test)]
 mod recording;
 #[cfg(test)]
 mod rest;

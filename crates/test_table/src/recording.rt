@@ -22,7 +22,7 @@ use test_kit::{
 const LONGEST_WALK: u32 = 1000;
 
 /// Returns the leaf that a walk for the key comes to, unless it meets something unfinished.
-pub(crate) fn walk(table: &Table<Global>, key: Key) -> Option<View> {
+fn walk(table: &Table<Global>, key: Key) -> Option<View> {
     let mut place = table.root();
     for _ in 0..LONGEST_WALK {
         let next = table.visit(place, key, 0);
@@ -52,7 +52,7 @@ fn change_for(page: u32, key: Key, wished: Wished, found: Option<u64>) -> Option
 
 /// Walks to the key's leaf, looks, and takes the step. None where there is no leaf, and where the step
 /// is refused.
-pub(crate) fn record_by_steps(
+fn record_by_steps(
     alloc: Global,
     table: &mut Table<Global>,
     key: Key,
@@ -84,7 +84,7 @@ pub(crate) fn record_by_steps(
 }
 
 /// Copies the page, makes it anew of the copy, and takes the step.
-pub(crate) fn consolidate_by_steps(
+fn consolidate_by_steps(
     alloc: Global,
     table: &mut Table<Global>,
     page: u32,
@@ -448,7 +448,7 @@ pub(crate) fn follows(map: &mut BTreeMap<Key, u64>, receipt: Receipt) -> Result<
     })
 }
 
-pub(crate) fn drawn_wish(rng: &mut Pcg32) -> Wished {
+fn drawn_wish(rng: &mut Pcg32) -> Wished {
     let value = rng.next_u64();
     match rng.next_u32() % 4 {
         0 => Wished::Set(value),

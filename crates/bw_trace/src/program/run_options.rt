@@ -16,9 +16,9 @@ pub(crate) struct RunOptions {
     pub setting: Setting,
     /// Whether the replies are printed, before the leaves.
     pub replies: bool,
-    /// Whether the history is printed, in place of all else, the replies too.
+    /// Whether the history is printed, in place of all else.
     pub history: bool,
-    /// Whether nothing is noted of a run that ends well, though somebody watches.
+    /// Whether standard error has faults alone.
     pub quiet: bool,
 }
 
@@ -42,12 +42,9 @@ pub(crate) fn run_command<'a>(alloc: Global) -> Result<Command<'a>, AllocError> 
     let run = Command::new(alloc, "run")
         .about("Runs the trace on standard input")
         .after_help(OF_RUN);
+    let replies = flag(alloc, "replies", "Prints the replies, too");
     with_setting(alloc, run)?
-        .arg(flag(alloc, "replies", "Prints the replies, too"))?
+        .arg(replies.conflicts_with("history")?)?
         .arg(flag(alloc, "history", "Prints the history alone"))?
-        .arg(flag(
-            alloc,
-            "quiet",
-            "Says nothing of a run that ends well, not even on a terminal",
-        ))
+        .arg(flag(alloc, "quiet", "Says nothing of a run that ends well"))
 }

@@ -33,25 +33,24 @@ pub(crate) fn write_answers<R: Read + Drop, W: Write>(
     Ok(())
 }
 
-/// Plays the first lines of the script, this many of them, notes which of them were refused, and
+/// Plays the first lines of the script, this many of them, tells which of them were refused, and
 /// returns the table that they leave.
 #[tactic(auto, using(bw_scripts::proofs::Playing::stays_played))]
 pub(crate) fn played_table<R: Read + Drop, E: Write>(
     alloc: Global,
     input: R,
     lines: usize,
-    notes: Option<&mut E>,
+    faults: &mut E,
 ) -> Result<Table<Global>, Fault>
     ensures { IfOk result IsPlayed }
 {
     let Ok(reader) = BufReader::new(alloc, input) else {
         return Err(Fault::Memory);
     };
-    let mut notes = notes;
     let mut player = Player::new(alloc);
     for line in reader.lines(alloc).take(lines) {
         if let Some(answer) = take(&mut player, line)? {
-            note_refusal(&mut notes, player.lines(), &answer);
+            tell_refusal(faults, player.lines(), &answer);
         }
     }
     Ok(player.into_table().ok_or(ScriptFault::NoTable)?)
@@ -72,11 +71,8 @@ fn take(player: &mut Player, line: io::Result<String>) -> Result<Option<Answer>,
     }
 }
 
-/// Notes the answer to the line with this number, where it says that the line changed nothing.
-fn note_refusal<E: Write>(notes: &mut Option<&mut E>, line: u64, answer: &Answer) {
-    let Some(notes) = notes else {
-        return;
-    };
+/// Tells the answer to the line with this number, where it says that the line changed nothing.
+fn tell_refusal<E: Write>(faults: &mut E, line: u64, answer: &Answer) {
     match answer {
         Answer::BadConfig(_)
         | Answer::BadEntries
@@ -84,7 +80,7 @@ fn note_refusal<E: Write>(notes: &mut Option<&mut E>, line: u64, answer: &Answer
         | Answer::RefusalForetold(_, _)
         | Answer::OtherForetold(_)
         | Answer::Changed(_) => {
-            let _ = writeln!(notes, "line {line}: {answer}");
+            let _ = writeln!(faults, "line {line}: {answer}");
         }
         _ => {}
     }
