@@ -6,12 +6,13 @@ ghost use Rattle.bw_tree.specs.Trees.{OpensFor};
 use crate::Stop;
 use crate::tally::Tally;
 use crate::task::{Task, Work};
-use crate::trees::{PART, Timed, fill_by_hand};
-use crate::work::{change_one, drawn_part, eight_keys, key_at, work};
+use crate::trees::{PART, Timed};
+use crate::work::{change_one, drawn_part, eight_keys, fill as fill_part, key_at, work};
 use bw_keys::Config;
 use bw_snap::{Announcements, Naming, ReadTree, Reader, ScanFault};
+use bw_step::Step;
 use bw_tree::{Blanks, Share};
-use bw_work::{Hand, Open};
+use bw_work::{GivenUp, Hand, Open, Steps};
 use rand_core::Rng;
 use rand_pcg::Pcg32;
 use std::alloc::Global;
@@ -215,6 +216,42 @@ impl Crew {
         }
         Ok(tally)
     }
+
+    /// Writes by a hand until the readers have ended.
+    fn write_by<R: Clock + Wait + Copy, N: Naming, D: Ledger, S: Steps<Global, Step<Global>>>(
+        &self,
+        rt: &R,
+        tree: &ReadTree<R, N, D>,
+        hand: &mut S,
+    ) -> Result<Written, Stop> {
+        let mut rng = Pcg32::new(WRITER, 1);
+        let mut written = Written::NOTHING;
+        let start = Instant::now(rt)?;
+        for _ in 0..u64::MAX {
+            if self.ended.load(Ordering::SeqCst) == 1 {
+                break;
+            }
+            if change_one(hand, &self.task, &mut rng)?.has_changes() {
+                self.note_change(rt, tree, &mut written)?;
+            }
+        }
+        written.seconds = start.elapsed(rt)?.as_secs_f64();
+        Ok(written)
+    }
+
+    /// Counts a change, and publishes where it is time to.
+    fn note_change<R: Clock + Wait + Copy, N: Naming, D: Ledger>(
+        &self,
+        rt: &R,
+        tree: &ReadTree<R, N, D>,
+        written: &mut Written,
+    ) -> Result<(), Stop> {
+        written.changes = written.changes.saturating_add(1);
+        if written.changes.is_multiple_of(self.every) {
+            written.longest = written.longest.max(publish_time(rt, tree)?);
+        }
+        Ok(())
+    }
 }
 
 impl Working for Crew {
@@ -235,23 +272,7 @@ impl Working for Crew {
         share: Share<N, D>,
     ) -> Result<Written, Stop> {
         let mut hand = Hand::new(self.alloc, self.alloc, tree, share, 0, &Open);
-        let mut rng = Pcg32::new(WRITER, 1);
-        let mut written = Written::NOTHING;
-        let start = Instant::now(&rt)?;
-        for _ in 0..u64::MAX {
-            if self.ended.load(Ordering::SeqCst) == 1 {
-                break;
-            }
-            if !change_one(&mut hand, &self.task, &mut rng)?.has_changes() {
-                continue;
-            }
-            written.changes = written.changes.saturating_add(1);
-            if written.changes.is_multiple_of(self.every) {
-                written.longest = written.longest.max(publish_time(&rt, tree)?);
-            }
-        }
-        written.seconds = start.elapsed(&rt)?.as_secs_f64();
-        Ok(written)
+        self.write_by(&rt, tree, &mut hand)
     }
 
     fn end(&self) {
@@ -269,17 +290,16 @@ fn publish_time<R: Clock + Wait + Copy, N: Naming, D: Ledger>(
     Ok(start.elapsed(rt)?)
 }
 
-/// Fills the tree, and publishes it part by part if asked to.
-fn fill<R: Wait + Copy, N: Naming, D: Ledger>(
+/// Puts the keys by a hand, and publishes the tree part by part if asked to.
+fn fill_and_publish<R: Wait + Copy, N: Naming, D: Ledger, S: Steps<Global, Step<Global>>>(
     tree: &ReadTree<R, N, D>,
-    share: Share<N, D>,
-    crew: &Crew,
+    hand: &mut S,
+    task: &Task,
+    order: &[u32],
     is_published: bool,
-) -> Result<Share<N, D>, Stop> {
-    let order = crew.task.order(crew.alloc)?;
-    let mut share = share;
+) -> Result<(), Stop> {
     for part in order.chunks(PART) {
-        share = fill_by_hand(crew.alloc, tree, share, &crew.task, part)?;
+        fill_part(hand, task, part)?;
         if is_published {
             let _stamp = tree.publish()?;
         }
@@ -288,7 +308,20 @@ fn fill<R: Wait + Copy, N: Naming, D: Ledger>(
         // the copy that readers don't see takes the last part too
         let _stamp = tree.publish()?;
     }
-    Ok(share)
+    Ok(())
+}
+
+/// Fills the tree, and publishes it part by part if asked to.
+fn fill<R: Wait + Copy, N: Naming, D: Ledger>(
+    tree: &ReadTree<R, N, D>,
+    share: Share<N, D>,
+    crew: &Crew,
+    is_published: bool,
+) -> Result<Share<N, D>, Stop> {
+    let order = crew.task.order(crew.alloc)?;
+    let mut hand = Hand::with_trail(GivenUp::new(), crew.alloc, tree, share, 0, &Open);
+    fill_and_publish(tree, &mut hand, &crew.task, &order, is_published)?;
+    Ok(hand.finish().0)
 }
 
 /// Loads the tree by one worker, and publishes once per `every` puts.
@@ -300,13 +333,50 @@ fn put_all<R: Clock + Wait + Copy, N: Naming, D: Ledger>(
 ) -> Result<Timed, Stop> {
     let order = crew.task.order(crew.alloc)?;
     let mut hand = Hand::new(crew.alloc, crew.alloc, tree, share, 0, &Open);
+    put_by(rt, tree, &mut hand, crew, &order)
+}
+
+/// Does the same by a hand.
+fn put_by<R: Clock + Wait + Copy, N: Naming, D: Ledger, S: Steps<Global, Step<Global>>>(
+    rt: &R,
+    tree: &ReadTree<R, N, D>,
+    hand: &mut S,
+    crew: &Crew,
+    order: &[u32],
+) -> Result<Timed, Stop> {
     let mut tally = Tally::default();
     let start = Instant::now(rt)?;
     for part in order.chunks((crew.every as usize).max(1)) {
-        tally = tally.plus(work(&mut hand, crew.alloc, &crew.task, 0, part)?);
+        tally = tally.plus(work(hand, crew.alloc, &crew.task, 0, part)?);
         let _stamp = tree.publish()?;
     }
     Timed::since(rt, start, tally)
+}
+
+/// Does the trial on a tree.
+fn try_on<
+    N: Naming + Send + Sync,
+    D: Ledger + Send + Sync,
+    R: Clock + Threads + Wait + Sync + Send + Copy,
+>(
+    rt: R,
+    tree: &ReadTree<R, N, D>,
+    share: Share<N, D>,
+    readers: Vec<Reader<N>>,
+    crew: &Crew,
+) -> Result<Figures, Stop> {
+    if crew.trial == Trial::Puts {
+        return Ok(Figures::of(put_all(&rt, tree, share, crew)?));
+    }
+    let share = fill(tree, share, crew, crew.trial != Trial::Pending)?;
+    if crew.trial != Trial::Beside {
+        return Ok(Figures::of(read_timed(&rt, crew.alloc, readers, crew)?));
+    }
+    let (written, read) = work_side_by_side(rt, crew.alloc, tree, share, readers, crew);
+    Ok(Figures {
+        timed: read?,
+        written: written?,
+    })
 }
 
 /// Makes a tree, and does the trial on it.
@@ -324,28 +394,16 @@ fn try_over<
     requires announcements { announcements.seen.book ≡ N.announcements }
     requires ledgers { OpensFor N.Ledger N.config D.Ledger config blanks }
 {
-    let alloc = crew.alloc;
     let (tree, mut shares, readers) = ReadTree::<R, N, D>::with_readers(
         rt,
-        alloc,
+        crew.alloc,
         config,
         blanks,
         announcements,
         crew.task.workers,
     )?;
     let share = shares.pop().ok_or(Stop::Wrong)?;
-    if crew.trial == Trial::Puts {
-        return Ok(Figures::of(put_all(&rt, &tree, share, crew)?));
-    }
-    let share = fill(&tree, share, crew, crew.trial != Trial::Pending)?;
-    if crew.trial != Trial::Beside {
-        return Ok(Figures::of(read_timed(&rt, alloc, readers, crew)?));
-    }
-    let (written, read) = work_side_by_side(rt, alloc, &tree, share, readers, crew);
-    Ok(Figures {
-        timed: read?,
-        written: written?,
-    })
+    try_on(rt, &tree, share, readers, crew)
 }
 
 /// Does a trial on a new tree, with as many readers as the task has workers.

@@ -55,32 +55,59 @@ impl Request {
 
     /// Reads what is asked of trees of this configuration.
     fn read_on(config: Config, words: &[&str]) -> Option<Request> {
-        match words {
-            ["puts", keys, every] => Some(Request::Puts {
-                task: Task::read(config, "load", "1", keys, "0")?,
-                every: number(every, 1, u32::MAX)?,
-            }),
-            ["pending", work, keys] => {
-                Some(Request::Pending(Task::read(config, work, "1", keys, "0")?))
-            }
-            ["tallies", keys, operations] => Some(Request::Tallies(Task::read(
-                config, "load", "1", keys, operations,
-            )?)),
-            ["beside", work, readers, keys, operations, every] => {
-                let task = Task::read(config, work, readers, keys, operations)?;
-                let every = number(every, 1, u32::MAX)?;
-                Structure::Reader
-                    .is_for(&task)
-                    .then_some(Request::Beside { task, every })
-            }
-            [structure, work, workers, keys, operations] => {
-                let structure = Structure::read(structure)?;
-                let task = Task::read(config, work, workers, keys, operations)?;
-                structure
-                    .is_for(&task)
-                    .then_some(Request::Rate(structure, task))
-            }
-            _ => None,
+        let (first, rest) = words.split_first()?;
+        match *first {
+            "puts" => Request::read_puts(config, rest),
+            "pending" => Request::read_pending(config, rest),
+            "tallies" => Request::read_tallies(config, rest),
+            "beside" => Request::read_beside(config, rest),
+            word => Request::read_rate(config, word, rest),
         }
+    }
+
+    fn read_puts(config: Config, words: &[&str]) -> Option<Request> {
+        let [keys, every] = words else {
+            return None;
+        };
+        Some(Request::Puts {
+            task: Task::read(config, "load", "1", keys, "0")?,
+            every: number(every, 1, u32::MAX)?,
+        })
+    }
+
+    fn read_pending(config: Config, words: &[&str]) -> Option<Request> {
+        let [work, keys] = words else {
+            return None;
+        };
+        Some(Request::Pending(Task::read(config, work, "1", keys, "0")?))
+    }
+
+    fn read_tallies(config: Config, words: &[&str]) -> Option<Request> {
+        let [keys, operations] = words else {
+            return None;
+        };
+        Some(Request::Tallies(Task::read(config, "load", "1", keys, operations)?))
+    }
+
+    fn read_beside(config: Config, words: &[&str]) -> Option<Request> {
+        let [work, readers, keys, operations, every] = words else {
+            return None;
+        };
+        let task = Task::read(config, work, readers, keys, operations)?;
+        let every = number(every, 1, u32::MAX)?;
+        Structure::Reader
+            .is_for(&task)
+            .then_some(Request::Beside { task, every })
+    }
+
+    fn read_rate(config: Config, word: &str, words: &[&str]) -> Option<Request> {
+        let [work, workers, keys, operations] = words else {
+            return None;
+        };
+        let structure = Structure::read(word)?;
+        let task = Task::read(config, work, workers, keys, operations)?;
+        structure
+            .is_for(&task)
+            .then_some(Request::Rate(structure, task))
     }
 }

@@ -118,8 +118,8 @@ pub(crate) const CONFIG: Config = Config {
     first_version: 0,
 };
 
-/// The number of keys that one worker puts while a tree is filled. Its trail is dropped then, so
-/// that trails take little of the memory.
+/// The number of keys that are put in a row while a table or a tree with readers is filled. A worker
+/// alone drops its trail then, so that trails take little of the memory.
 pub(crate) const PART: usize = 4096;
 
 /// Fills the table with a part of the keys.
@@ -166,18 +166,17 @@ fn time_alone(
     Timed::since(rt, start, tally)
 }
 
-/// Fills the tree with a part of the keys, and returns the share.
-pub(crate) fn fill_by_hand<S: Shared<Global, Step<Global>>>(
+/// Fills the tree by a worker that keeps no receipt, and returns the share.
+fn fill_by_hand<S: Shared<Global, Step<Global>>>(
     alloc: Global,
     tree: &S,
     share: Share<S::Insertions, S::Removals>,
     task: &Task,
-    part: &[u32],
+    order: &[u32],
 ) -> Result<Share<S::Insertions, S::Removals>, Stop> {
-    let mut filling = Hand::new(alloc, alloc, tree, share, 0, &Open);
-    fill(&mut filling, task, part)?;
-    let (share, _trail) = filling.finish();
-    Ok(share)
+    let mut filling = Hand::with_trail(GivenUp::new(), alloc, tree, share, 0, &Open);
+    fill(&mut filling, task, order)?;
+    Ok(filling.finish().0)
 }
 
 fn run_shared<R: Clock + Threads + Wait + Sync + Send + Copy>(
@@ -222,11 +221,9 @@ fn run_on_tree<
     gives_up: bool,
 ) -> Result<Timed, Stop> {
     let order = task.order(alloc)?;
-    let mut first = shares.pop().ok_or(Stop::Wrong)?;
-    for part in order.chunks(PART) {
-        first = fill_by_hand(alloc, tree, first, task, part)?;
-    }
-    if shares.push(first).is_err() {
+    let first = shares.pop().ok_or(Stop::Wrong)?;
+    let filled = fill_by_hand(alloc, tree, first, task, &order)?;
+    if shares.push(filled).is_err() {
         return Err(Stop::Memory);
     }
     let keys = task.known_keys(alloc, order)?;

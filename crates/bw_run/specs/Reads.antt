@@ -7,6 +7,7 @@ use Rattle.bw_procedures.specs.declared.reply.Reply.{Reply}
 use Rattle.bw_procedures.specs.declared.reply.Reply.TheVariants as replies
 use Rattle.bw_procedures.specs.declared.act.Act.{Act}
 use Rattle.bw_procedures.specs.declared.act.Act.TheVariants as acts
+use Rattle.bw_run.specs.declared.looks.Found.{Found}
 
 -- the readers of n workers: the first workers have one each, as long as there are any
 abbrev pub handed_out : {R : Type 0} → ℕ → List R → List (Option R)
@@ -15,10 +16,15 @@ handed_out (suc n) [] = None ∷ handed_out n []
 handed_out (suc n) (reader ∷ readers) = Some reader ∷ handed_out n readers
 
 -- what a reader found at the key, if there is a reader
-abbrev pub IsFoundBy : {R : Type 0} → (R → ℕ → Look → Type 0) → Option R → ℕ → Option Look → Type 0
-IsFoundBy reads (Some reader) key (Some look) = reads reader key look
-IsFoundBy reads None key None = Unit {0}
-IsFoundBy reads reader key look = ⊥
+abbrev pub IsFoundBy : {R S : Type 0} → (R → ℕ → Look → Type 0) → Option R → ℕ → Option (Found S) → Type 0
+IsFoundBy finds (Some reader) key (Some found) = finds reader key found.look
+IsFoundBy finds None key None = Unit {0}
+IsFoundBy finds reader key found = ⊥
+
+-- of what the stamp beside a look covers, the reader had learnt
+abbrev pub IsLearntBy : {R S : Type 0} → (R → S → Type 0) → Option R → Option (Found S) → Type 0
+IsLearntBy has_learnt (Some reader) (Some found) = has_learnt reader found.published.value
+IsLearntBy has_learnt reader found = Unit {0}
 
 -- the reply reports what the reader found, and the receipt of that look is the one that was added
 abbrev pub IsReadBy : (Look → Type 0) → ℕ → List Receipt → List Receipt → Reply → Type 0

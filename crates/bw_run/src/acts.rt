@@ -55,7 +55,7 @@ fn do_row<W: Notes, L: Looks>(hand: &mut W, reader: &mut Option<L>, act: Act) ->
     let machine = hand.alloc();
     match act {
         Act::Get { key } => match L::look_by(reader, key)? {
-            Some(look) => Ok(keep(hand, key, look)?),
+            Some(found) => Ok(keep(hand, key, found.look)?),
             None => Ok(do_act(hand, machine, act)?),
         },
         // A reader answers gets alone.

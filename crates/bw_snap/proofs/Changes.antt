@@ -6,23 +6,21 @@ use Rattle.bw_keys.specs.declared.page.Pid.{Pid}
 use Rattle.bw_keys.specs.declared.page.Version.{Version}
 use Rattle.bw_keys.specs.declared.wished.Wished.{Wished}
 use Rattle.bw_keys.specs.declared.wished.Wished.TheVariants as wishes
-use Rattle.bw_step.specs.declared.fault.Denied.{Denied}
 use Rattle.bw_step.specs.declared.receipt.Receipt.{Receipt}
 use Rattle.bw_step.specs.declared.receipt.Receipt.TheVariants.{Inserted, Deleted, Modified, Looked, Shaped}
 use Rattle.bw_step.specs.Proposals.{Proposal}
-use Rattle.bw_law.specs.Effects.{receipt_of, pid}
-use Rattle.bw_law.specs.Runs.{run, TakesInTurn}
-use Rattle.bw_law.specs.Slots.{pairs_in}
+use Rattle.bw_law.specs.Effects.{receipt_of}
+use Rattle.bw_law.specs.Runs.{TakesInTurn}
 use Rattle.bw_law.specs.Tables.{TableValue, slot_at}
-use Rattle.bw_table.specs.Actions.{IsPerformed, Takes, with_receipts, wished_step, had_at, consolidated_behind, term_of, steps_for}
-use Rattle.bw_table.specs.InPlaces.{step_for, IsDoneAtOnce, IsConsolidatedAtOnce, IsHalvedAtOnce, consolidating, halving}
+use Rattle.bw_table.specs.Actions.{IsPerformed, Takes, with_receipts, wished_step, had_at, consolidated_behind, steps_for}
+use Rattle.bw_table.specs.InPlaces.{step_for, IsDoneAtOnce}
 use Rattle.bw_step.specs.declared.action.Action.{Action}
 use Rattle.bw_step.specs.declared.action.Action.TheVariants as actions
 use Rattle.bw_step.specs.declared.action.Performed.{Performed}
-use Rattle.bw_table.proofs.Actions.{changed, anew_taken, half_taken}
-use Rattle.bw_snap.specs.Notes.{held_note, held_for, held_record, held_notes, step_of, steps_of, table_with}
+use Rattle.bw_step.specs.declared.action.Unperformed.{Unperformed}
+use Rattle.bw_table.proofs.Actions.{changed}
+use Rattle.bw_snap.specs.Notes.{held_note, held_for, held_record, held_notes, steps_of, table_with}
 use Rattle.bw_snap.specs.declared.note.Change.TheVariants as changes
-use Rattle.bw_snap.specs.declared.note.Record.TheVariants as records
 use Rattle.bw_snap.specs.Snapshots.{LeadTo}
 use Rattle.bw_snap.proofs.Notes.{runs_to}
 
@@ -91,19 +89,24 @@ made_where_some old new page key wished None test done is holds = absurd (cc (is
 made_where_some old new page key wished (Some receipt) test done is holds =
     let it : Performed = record { page = page; key = key; receipt = receipt; count = 0; depth = 0 } in
     let steps = steps_for old page.0 (actions.Change key wished) in
-    sym (runs_to old new steps (takes_lead old new it steps (changed old new it wished done)))
+    sym (runs_to old new steps (takes_lead old new it steps (changed old new it wished page key receipt refl refl refl done)))
 
-pub consolidated_where_ok : (old new : TableValue) (page : Pid) (seen : Version) (answer : Result Receipt Denied) (test : Bool)
-    → IfOk answer (IsConsolidatedAtOnce old page.0 seen.0 new) → test ≡ is_ok answer → test ≡ true → new ≡ table_with old (changes.Consolidation page seen)
-consolidated_where_ok old new page seen (Err denied) test done is holds = absurd (cc (is, holds))
-consolidated_where_ok old new page seen (Ok receipt) test done is holds =
-    let it : Performed = record { page = page; key = 0; receipt = receipt; count = 0; depth = 0 } in
-    let steps : List Proposal = consolidating old page.0 seen.0 ∷ [] in
-    sym (runs_to old new steps (takes_lead old new it steps (anew_taken old new page.0 seen.0 receipt done)))
+-- and after an action that a copy performed
+performed_leads_to : (old new : TableValue) (action : Action) (steps : List Proposal) (answer : Result Performed Unperformed) (test : Bool) → ((it : Performed) → steps_for old it.page.0 action ≡ steps)
+    → IfOk answer (IsPerformed old action new) → test ≡ is_ok answer → test ≡ true → LeadTo old steps new
+performed_leads_to old new action steps (Err why) test stands done is holds = absurd (cc (is, holds))
+performed_leads_to old new action steps (Ok it) test stands done is holds = subst (λ (s : List Proposal). LeadTo old s new) (stands it) (performed_leads old new it action done)
 
-pub halved_where_ok : (old new : TableValue) (page : Pid) (seen : Version) (answer : Result (ℕ × Pid) Denied) (test : Bool)
-    → IfOk answer (λ term. IsHalvedAtOnce old page.0 seen.0 term new) → test ≡ is_ok answer → test ≡ true → new ≡ table_with old (changes.Half page seen)
-halved_where_ok old new page seen (Err denied) test done is holds = absurd (cc (is, holds))
-halved_where_ok old new page seen (Ok term) test done is holds =
-    let taken = half_taken old new page.0 seen.0 term done in
-    sym (runs_to old new (steps_for old page.0 (actions.Halve page seen)) (taken.1, taken.3 ∙ taken.2.leads))
+pub consolidated_where_ok : (old new : TableValue) (page : Pid) (seen : Version) (answer : Result Performed Unperformed) (test : Bool)
+    → IfOk answer (IsPerformed old (actions.Consolidate page seen) new) → test ≡ is_ok answer → test ≡ true → new ≡ table_with old (changes.Consolidation page seen)
+consolidated_where_ok old new page seen answer test done is holds =
+    let action : Action = actions.Consolidate page seen in
+    let steps = steps_for old page.0 action in
+    sym (runs_to old new steps (performed_leads_to old new action steps answer test (λ it. refl) done is holds))
+
+pub halved_where_ok : (old new : TableValue) (page : Pid) (seen : Version) (answer : Result Performed Unperformed) (test : Bool)
+    → IfOk answer (IsPerformed old (actions.Halve page seen) new) → test ≡ is_ok answer → test ≡ true → new ≡ table_with old (changes.Half page seen)
+halved_where_ok old new page seen answer test done is holds =
+    let action : Action = actions.Halve page seen in
+    let steps = steps_for old page.0 action in
+    sym (runs_to old new steps (performed_leads_to old new action steps answer test (λ it. refl) done is holds))

@@ -1,5 +1,5 @@
 -- What the lock of a tree with readers keeps, and what its calls answer.
-use Rattle.std.specs.Prelude.{◌≡◌, ℕ, Bool, true, false, List, [], Option, Some, None}
+use Rattle.std.specs.Prelude.{◌≡◌, ℕ, Bool, true, false, List, [], Some, None}
 use Rattle.bw_keys.specs.declared.config.Config.{Config}
 use Rattle.bw_keys.specs.Limits.{first_bad_field, is_out_of}
 use Rattle.bw_step.specs.Proposals.{Proposal}

@@ -1,6 +1,6 @@
 //! The reading and the writing end of the published pair, and their steps.
 
-ghost use Rattle.std.specs.Prelude.{◌≡◌, ◌<◌, ◌^◌, [], IfOk, IfErr, OnOk, OnErr};
+ghost use Rattle.std.specs.Prelude.{◌≡◌, ◌<◌, ◌^◌, [], false, IfOk, IfErr, IfSome, OnOk, OnErr};
 ghost use Rattle.left_right.specs.Sides.{view};
 ghost use Rattle.bw_law.specs.Tables.{new_table};
 ghost use Rattle.bw_snap.specs.Snapshots.{BeginsWith};
@@ -10,7 +10,7 @@ ghost use Rattle.bw_snap.specs.Answers.{IsAnswerIn};
 use crate::front::{Front, Naming};
 use crate::note::Note;
 use crate::proposed::List;
-use crate::question::Question;
+use crate::question::{Number, Question};
 use crate::shown::{Backed, Sees, Shown, Takes, Tells};
 use bw_delta::NoMemory;
 use bw_keys::Config;
@@ -71,22 +71,27 @@ pub struct Answered<A> {
     pub front: Front,
 }
 
-/// Returns what the published table answers, or the question where the table gave no entry. The type
-/// of the answer comes beside the question, since `replace_with` wants it named by an argument.
+/// Returns what the published table answers, or the question where the table gave no entry or the
+/// reader is late. The type of the answer comes beside the question, since `replace_with` wants it
+/// named by an argument, and whether the reader is late, since a test here costs a read the least.
 #[inline(always)]
 pub fn ask<N: Naming, Q: Question>(
     reader: ReadingEnd<N>,
-    asked: (Q, PhantomData<Q::Answer>),
+    asked: (Q, bool, PhantomData<Q::Answer>),
 ) -> (ReadingEnd<N>, Result<Answered<Q::Answer>, Q>)
     ensures answer { IfOk result.1
         (λ told. IsAnswerIn N.config (Q.answers asked.0) told.front.list told.answer) }
     ensures announced { IfOk result.1 (λ told. told.front.announcements ≡ N.announcements) }
     ensures seen { BeginsWith (view result.0.place) (view reader.place) }
     ensures list { IfOk result.1 (λ told. told.front.list ≡ view result.0.place) }
+    ensures timely { OnOk result.1 (asked.1 ≡ false) }
     ensures closed { OnErr result.1 (view result.0.place ≡ view reader.place) }
     ensures back { IfErr result.1 (λ question. question ≡ asked.0) }
 {
-    let (question, _answer) = asked;
+    let (question, is_late, _answer) = asked;
+    if is_late {
+        return (reader, Err(question));
+    }
     match reader.enter_as::<Sees<N>>() {
         Ok(reading) => {
             let shown = reading.get();
@@ -140,29 +145,33 @@ pub fn newcomer<N: Naming>(source: &Source<N>) -> Result<ReadingEnd<N>, NoMemory
     }
 }
 
-/// Returns a new reader that has learnt all that the writing end has seen.
-fn told<N: Naming>(writer: &mut WritingEnd<N>) -> Result<ReadingEnd<N>, AllocError>
-    ensures desk { writer.new.desk.shown ≡ writer.old.desk.shown }
-    ensures log { (writer.new.log ≡ writer.old.log) × (writer.new.behind ≡ writer.old.behind) }
-    ensures seen { view writer.new.desk.place ≡ view writer.old.desk.place }
-    ensures told { IfOk result (λ reader. view reader.place ≡ view writer.old.desk.place) }
+/// Has the reader enter, and returns whether it comes late for the list, which was published: so the
+/// published table's list goes on from it. No clause says so, hence the comparison. True where the
+/// table gave no entry.
+pub fn comes_late<N: Naming>(reader: ReadingEnd<N>, front: &Front) -> (ReadingEnd<N>, bool)
+    requires { front.now.announcements ≡ N.announcements }
+    ensures { result.1 ≡ false → BeginsWith (view result.0.place) front.now.list }
 {
-    let mut reader = writer.factory().reader()?;
-    reader.learn::<Takes>(writer.tell::<Tells>());
-    Ok(reader)
-}
-
-/// Returns the same, as soon as there is a place for it.
-pub fn surely_told<N: Naming, R: Wait>(writer: &mut WritingEnd<N>, rt: &R) -> ReadingEnd<N>
-    ensures desk { writer.new.desk.shown ≡ writer.old.desk.shown }
-    ensures log { (writer.new.log ≡ writer.old.log) × (writer.new.behind ≡ writer.old.behind) }
-    ensures seen { view writer.new.desk.place ≡ view writer.old.desk.place }
-    ensures told { view result.place ≡ view writer.old.desk.place }
-{
-    for _ in rt.forever() {
-        if let Ok(reader) = told(writer) {
-            return reader;
+    let (reader, told) = ask(reader, (Number, false, PhantomData));
+    if let Ok(told) = told {
+        if told.front.goes_on(front) {
+            return (reader, false);
         }
     }
-    unreachable!()
+    (reader, true)
+}
+
+/// Returns a new reader that has learnt all that the writing end has seen, where there is a place for
+/// one.
+pub fn told<N: Naming>(writer: &mut WritingEnd<N>) -> Option<ReadingEnd<N>>
+    ensures desk { writer.new.desk.shown ≡ writer.old.desk.shown }
+    ensures log { (writer.new.log ≡ writer.old.log) × (writer.new.behind ≡ writer.old.behind) }
+    ensures seen { view writer.new.desk.place ≡ view writer.old.desk.place }
+    ensures told { IfSome result (λ reader. view reader.place ≡ view writer.old.desk.place) }
+{
+    let Ok(mut reader) = writer.factory().reader() else {
+        return None;
+    };
+    reader.learn::<Takes>(writer.tell::<Tells>());
+    Some(reader)
 }

@@ -1,7 +1,6 @@
 //! The locked table, with the writing end of the published pair.
 
 ghost use Rattle.std.specs.Prelude.{◌≡◌, ◌<◌, ◌++◌, ◌∷◌, ◌↔◌, [], None, length, All, IsOk, IfOk, IfErr, OnOk, OnErr};
-ghost use Rattle.bw_keys.specs.Limits.{first_bad_field};
 ghost use Rattle.bw_step.specs.ProposalView.{proposal_of};
 ghost use Rattle.bw_step.specs.Steps.{IsReceiptOf};
 ghost use Rattle.bw_law.specs.Laws.{MapAfter};
@@ -17,7 +16,7 @@ ghost use Rattle.bw_snap.specs.Ends.{Appends, unpublished, noted_since};
 ghost use Rattle.bw_snap.specs.Notes.{held_note, held_record};
 ghost use Rattle.bw_snap.specs.Trees.{IsPublished, IsWhyNotUnlessWant, IsSnapFault, MayBeRead, is_bad_reader_number, published_as_it_is};
 
-use crate::ends::{WritingEnd, advance, append, begin, newcomer, surely_told};
+use crate::ends::{WritingEnd, advance, append, begin, newcomer, told};
 use crate::fault::SnapFault;
 use crate::front::{Announcements, Front, Head, Naming};
 use crate::note::{Change, Note, Record};
@@ -102,8 +101,8 @@ impl<R: Wait + Drop, N: Naming, D: Ledger> Published<R, N, D> {
             Err(fault) => return Err(fault),
         };
         let (head, announced) = announcements.named::<N>();
-        // those of the readers, and of a stamp for each reader and each worker
-        let places = 2 * readers as usize + shares.len();
+        // for each reader its own, and one for a stamp
+        let places = 2 * readers as usize;
         let writer = match begin(machine, config, &announced, places) {
             Ok(writer) => writer,
             Err(NoMemory) => return Err(SnapFault::NoMemory),
@@ -211,9 +210,7 @@ impl<R: Wait + Drop, N: Naming, D: Ledger> Published<R, N, D> {
     }
 
     /// Publishes what is pending, and returns a stamp of the list that was published. Fails where
-    /// memory is refused, and where as many stamps are neither learnt nor dropped as the tree has
-    /// readers and workers together. The stamp's place is reserved before anything is published, so
-    /// that none is missing afterwards.
+    /// memory is refused.
     pub fn publish(&mut self) -> Result<Stamp<N>, NoMemory>
         ensures table { OnOk result (self.new.table ≡ self.old.table) }
         ensures published { OnOk result (self.new.published ≡ self.old.table) }
@@ -222,7 +219,6 @@ impl<R: Wait + Drop, N: Naming, D: Ledger> Published<R, N, D> {
         ensures stamp { IfOk result (λ stamp. stamp ≡ self.new.list) }
         ensures unchanged { OnErr result (self.new ≡ self.old) }
     {
-        let kept = newcomer(self.writer.factory())?;
         settle(&mut self.writer, &mut self.held)?;
         self.announced.announce(&self.head, &self.writer, &self.rt);
         append(&mut self.writer, Note::Mark(self.announced.again()))?;
@@ -230,8 +226,7 @@ impl<R: Wait + Drop, N: Naming, D: Ledger> Published<R, N, D> {
             Ok(()) => {}
             Err(_) => return Err(NoMemory),
         }
-        drop(kept);
-        let inner = surely_told(&mut self.writer, &self.rt);
+        let inner = told(&mut self.writer);
         Ok(Stamp::over(inner, self.writer.published().front.again()))
     }
 

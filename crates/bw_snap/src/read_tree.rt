@@ -78,8 +78,8 @@ impl<R: Wait + Copy, N: Naming, D: Ledger> ReadTree<R, N, D> {
         Ok((tree, shares, readers))
     }
 
-    /// Publishes all that was taken, and returns a stamp of the list that was published. Fails as
-    /// `Published::publish` does: for want of memory, and where too many stamps are out.
+    /// Publishes all that was taken, and returns a stamp of the list that was published. Fails where
+    /// memory is refused, as `Published::publish` does.
     pub fn publish(&self) -> Result<Stamp<N>, NoMemory> {
         self.published.lock(&self.rt).publish()
     }

@@ -1,13 +1,13 @@
 //! Readers that take no lock.
 
-ghost use Rattle.std.specs.Prelude.{◌≡◌, ◌⊎◌, [], IfOk, OnOk, OnErr};
+ghost use Rattle.std.specs.Prelude.{◌≡◌, ◌⊎◌, IfOk, OnOk, OnErr};
 ghost use Rattle.left_right.specs.Sides.{view};
 ghost use Rattle.bw_keys.specs.Ranges.{end_of};
 ghost use Rattle.bw_snap.specs.Snapshots.{BeginsWith};
 ghost use Rattle.bw_snap.specs.Answers.{IsAnswerIn, IsFoundIn, AreFoundIn, IsLookIn, IsFirstIn, IsLastIn};
 ghost use Rattle.bw_snap.specs.Answers.{IsNextIn, IsPreviousIn, IsNumberIn, IsLenIn, IsListedIn, IsRangeIn};
 
-use crate::ends::{Answered, ReadingEnd, ask};
+use crate::ends::{Answered, ReadingEnd, ask, comes_late};
 use crate::fault::{Closed, ScanFault};
 use crate::front::{Front, Naming};
 use crate::question::{GetMany, Len, Listing, LookAt, NextAt, Number, PreviousAt, Question};
@@ -24,10 +24,12 @@ use std::marker::{Model, PhantomData};
 pub struct Reader<N: Naming> {
     inner: ReadingEnd<N>,
     front: Front,
+    /// Whether the inner reader hasn't seen that list: it was learnt once the tree was closed.
+    is_late: bool,
 }
 
 impl<N: Naming> Model for Reader<N> {
-    ghost use Rattle.std.specs.Prelude.{◌≡◌, List};
+    ghost use Rattle.std.specs.Prelude.{◌≡◌, List, false};
     ghost use Rattle.bw_step.specs.Proposals.{Proposal};
     ghost use Rattle.bw_snap.specs.Codes.{steps_code};
     ghost use Rattle.bw_snap.specs.Snapshots.{BeginsWith};
@@ -40,7 +42,7 @@ impl<N: Naming> Model for Reader<N> {
     ghost view = { λ r. r.front.list };
 
     ghost invariant = { λ r. (r.front.announcements ≡ N.announcements)
-        × BeginsWith (seen_by r.inner.place) r.front.list };
+        × (r.is_late ≡ false → BeginsWith (seen_by r.inner.place) r.front.list) };
 }
 
 impl<N: Naming> Reader<N> {
@@ -49,7 +51,11 @@ impl<N: Naming> Reader<N> {
         requires list { BeginsWith (view inner.place) front.list }
         ensures { result ≡ front.list }
     {
-        Reader { inner, front }
+        Reader {
+            inner,
+            front,
+            is_late: false,
+        }
     }
 
     /// Learns the stamp's list. The reader's list becomes the longer of the two, which begins with
@@ -61,7 +67,13 @@ impl<N: Naming> Reader<N> {
     {
         if stamp.front.goes_on(&self.front) {
             let Stamp { inner, front } = stamp;
-            self.inner = inner;
+            self.is_late = match inner {
+                Some(inner) => {
+                    self.inner = inner;
+                    false
+                }
+                None => replace_with(&mut self.inner, &front, comes_late),
+            };
             self.front = front;
         }
     }
@@ -73,7 +85,7 @@ impl<N: Naming> Reader<N> {
         ensures answer { IfOk result (IsAnswerIn N.config (Q.answers question) self.new) }
         ensures closed { OnErr result (self.new ≡ self.old) }
     {
-        match replace_with(&mut self.inner, (question, PhantomData), ask) {
+        match replace_with(&mut self.inner, (question, self.is_late, PhantomData), ask) {
             Ok(Answered { answer, front }) => {
                 self.front = front;
                 Ok(answer)
@@ -209,7 +221,7 @@ impl<N: Naming> Reader<N> {
             limit,
             list: replace(out, empty),
         };
-        match replace_with(&mut self.inner, (listing, PhantomData), ask) {
+        match replace_with(&mut self.inner, (listing, self.is_late, PhantomData), ask) {
             Ok(Answered { answer, front }) => {
                 *out = answer.list;
                 match answer.done {

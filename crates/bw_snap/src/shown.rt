@@ -11,7 +11,7 @@ use crate::proposed::List;
 use atomic_table::{Join, Split};
 use bw_delta::Spare;
 use bw_step::Step;
-use bw_table::Table;
+use bw_table::{Action, Table};
 use crossbeam_utils::rule::{Outcome, Protocol};
 use left_right::Absorb;
 use std::alloc::{AllocError, Global};
@@ -98,9 +98,13 @@ fn carry_out(machine: Global, table: &mut Table<Global>, change: Change) -> bool
         Change::Write { page, key, wished } => table.change_leaf(page, key, wished).is_some(),
         Change::Record(recorded) => put(machine, table, recorded),
         Change::Consolidation { page, seen } => {
-            table.consolidate_at_once(machine, page, seen).is_ok()
+            let consolidation = Action::Consolidate { page, seen };
+            table.perform(machine, consolidation, None).is_ok()
         }
-        Change::Half { page, seen } => table.halve_at_once(machine, page, seen).is_ok(),
+        Change::Half { page, seen } => {
+            let halving = Action::Halve { page, seen };
+            table.perform(machine, halving, None).is_ok()
+        }
     }
 }
 

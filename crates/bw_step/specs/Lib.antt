@@ -5,3 +5,4 @@ pub mod Steps
 pub mod Tellings
 pub mod Trails
 pub mod Texts
+pub mod Actions

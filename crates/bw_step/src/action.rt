@@ -1,5 +1,8 @@
 //! What a table does in one hold of its lock, and what comes of it.
 
+ghost use Rattle.std.specs.Prelude.{◌≡◌, true, IfSome};
+ghost use Rattle.bw_step.specs.Actions.{takes_spare};
+
 use crate::fault::Denied;
 use crate::receipt::Receipt;
 use bw_delta::Spare;
@@ -25,7 +28,9 @@ pub enum Action {
 impl Action {
     /// The memory that it takes of a table, if it takes any and there is some.
     #[inline(always)]
-    pub fn spare<A: Allocator + Copy>(self, alloc: A) -> Option<Spare<A>> {
+    pub fn spare<A: Allocator + Copy>(self, alloc: A) -> Option<Spare<A>>
+        ensures taken { IfSome result (λ _. takes_spare self ≡ true) }
+    {
         match self {
             Action::Record { .. } | Action::AddTerm { .. } => Spare::new(alloc).ok(),
             Action::Change { .. } | Action::Consolidate { .. } | Action::Halve { .. } => None,

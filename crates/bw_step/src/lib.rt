@@ -3,7 +3,6 @@
 #![tactic(auto)]
 
 mod action;
-mod at_once;
 mod fault;
 mod place;
 mod proposes;
@@ -15,7 +14,6 @@ mod survey;
 mod view;
 
 pub use action::{Action, Performed, Unperformed};
-pub use at_once::AtOnce;
 pub use fault::{CopyFault, Denied};
 pub use place::{Go, Next, Place, Todo};
 pub use proposes::Proposes;

@@ -27,6 +27,7 @@ use Rattle.bw_step.specs.Stages.{is_in_row}
 use Rattle.bw_step.specs.Tellings.{Telling, change, look, shape, telling_of}
 use Rattle.bw_law.specs.Effects.{TakesStep, lower_half, upper_half, with_record, with_stage, pid, consolidated, after, receipt_of}
 use Rattle.bw_law.specs.Refusals.{last_id, all_but_last, new_id, is_other_kind, split_reasons, refusal, term_add_reasons, insert_reasons, found_reasons, consolidate_reasons}
+use Rattle.bw_law.specs.Laws.{IsLeafOf}
 use Rattle.bw_law.specs.Runs.{TakesInTurn}
 use Rattle.bw_law.specs.Slots.{SlotValue, slot_in, chain_in, pairs_in, routes_in, empty_page, free_slot, last_number}
 use Rattle.bw_law.specs.Tables.{TableValue, TellsMap, SameMap, slot_at, slot_fences, number_of, book_with, IsPageOf}
@@ -103,6 +104,12 @@ consolidate_is_accepted slot base posted kind fits same =
 
 pub may_change : (table : TableValue) (page key : ℕ) → IsPostedLeaf (slot_at table page) key → (slot_at table page).version + 2 < 2 ^ 64 → number_of table.book + 1 < 2 ^ 64 → MayChangeAtOnce table page key
 may_change table page key leaf version number = record { leaf = leaf; version = version; number = number }
+
+-- a posted leaf whose range holds the key is the key's leaf
+pub posted_leaf_is_its : (table : TableValue) (page key : ℕ) → IsPostedLeaf (slot_at table page) key → IsLeafOf table key page
+posted_leaf_is_its table page key it =
+    let within = it.within in
+    record { in_row = ap is_in_row it.posted; is_leaf = it.leaf; spans = (grind (arith, nat_tests), grind (arith, nat_tests)) }
 
 module _ {table : TableValue} {room : ℕ} (whole : IsWhole table room) {page key : ℕ} (may : MayChangeAtOnce table page key) where
   here : is_in_row (slot_at table page).stage ≡ true

@@ -1,13 +1,12 @@
 -- What a table does in one hold of its lock, and the steps of the law that it stands for.
-use Rattle.std.specs.Prelude.{◌≡◌, ℕ, List, [], ◌∷◌, Option, Some, None, map, unwrap_or, option_to_list}
+use Rattle.std.specs.Prelude.{◌≡◌, ℕ, List, [], ◌∷◌, Option, Some, None, Result, IfOk, IfErr, OnErr, map, unwrap_or, option_to_list}
 use Rattle.bw_chain.specs.Pages.Halves.{listed_middle_key}
 use Rattle.bw_keys.specs.declared.wished.Wished.{Wished}
 use Rattle.bw_delta.specs.Entries.{at}
 use Rattle.bw_delta.specs.Sound.{page_for}
 use Rattle.bw_keys.specs.declared.page.Pid.{Pid}
 use Rattle.bw_keys.specs.Reasons.{first_reason}
-use Rattle.bw_step.specs.declared.at_once.AtOnce.{AtOnce}
-use Rattle.bw_step.specs.Proposals.{Proposal, consolidate, term_add}
+use Rattle.bw_step.specs.Proposals.{Proposal, term_add}
 use Rattle.bw_step.specs.declared.receipt.Kind.TheVariants as kinds
 use Rattle.bw_step.specs.declared.receipt.Receipt.{Receipt}
 use Rattle.bw_step.specs.declared.receipt.Receipt.TheVariants.{Looked, Shaped}
@@ -86,10 +85,6 @@ pub record IsPerformed (old : TableValue) (action : Action) (new : TableValue) (
   pub count : it.count ≡ (slot_at new it.page.0).count
   pub depth : it.depth ≡ (slot_at new it.page.0).depth
 
--- what was done at once on a page, with its key
-abbrev pub performed_by : AtOnce → ℕ → Performed
-performed_by done key = record { page = done.page; key = key; receipt = done.receipt; count = done.count; depth = done.depth }
-
 -- Why it isn't performed: a page that is named is consolidated or split unless the step is refused or memory is short, and the
 -- others need not be done at once.
 abbrev pub IsWhyNot : TableValue → Action → Unperformed → Type 0
@@ -99,3 +94,9 @@ IsWhyNot table action (Denied denied) = ⊥
 IsWhyNot table (actions.Consolidate page seen) StepByStep = ⊥
 IsWhyNot table (actions.Halve page seen) StepByStep = ⊥
 IsWhyNot table action StepByStep = Unit {0}
+
+-- the action was performed, or this is why not, and then the table is as it was
+pub record Performs (action : Action) (old : TableValue) (answer : Result Performed Unperformed) (new : TableValue) : Type 0 where
+  pub done : IfOk answer (IsPerformed old action new)
+  pub why : IfErr answer (IsWhyNot old action)
+  pub unchanged : OnErr answer (new ≡ old)

@@ -1,11 +1,8 @@
 -- What the table answers to a step, and to a configuration.
-use Rattle.std.specs.Prelude.{◌≡◌, ℕ, List, Option, Some, None, Result, Ok, Err}
+use Rattle.std.specs.Prelude.{◌≡◌, List, Option, Some, None, Result, Ok, Err}
 use Rattle.bw_keys.specs.declared.config.Config.{Config}
 use Rattle.bw_keys.specs.Limits.{first_bad_field}
 use Rattle.bw_keys.specs.Reasons.{first_reason}
-use Rattle.bw_law.specs.Refusals.{last_id, open_reasons}
-use Rattle.bw_law.specs.Slots.{SlotValue}
-use Rattle.bw_law.specs.Tables.{TableValue}
 use Rattle.bw_step.specs.declared.fault.Denied.{Denied}
 use Rattle.bw_step.specs.declared.fault.Denied.TheVariants as denials
 use Rattle.bw_step.specs.declared.refused.Refused.{Refused}
@@ -30,9 +27,3 @@ IsDenialFor reason denials.NoMemory = reason ≡ None
 abbrev pub IsNewFault : Config → NewFault → Type 0
 IsNewFault config (BadConfig bad) = first_bad_field config ≡ Some bad.0
 IsNewFault config NoMemory = first_bad_field config ≡ None
-
--- a split of the page into halves would be refused for want of a free slot alone: it is an open leaf without records
-abbrev pub LacksPageFor : TableValue → SlotValue → ℕ → Type 0
-LacksPageFor table slot seen =
-    (last_id table.free ≡ None)
-    × ((first_reason (open_reasons slot seen) ≡ None) × ((slot.level ≡ 0) × (slot.depth ≡ 0)))

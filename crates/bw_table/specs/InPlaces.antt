@@ -1,5 +1,5 @@
 -- A change of a key and the consolidation of its page, one behind the other, as one call does them.
-use Rattle.std.specs.Prelude.{◌≡◌, ℕ, suc, ◌+◌, ◌-◌, ◌<◌, ◌^◌, nat_lt, Bool, true, false, List, [], ◌∷◌, ◌++◌, slice_set, length, ◌≢◌, Option, Some, None, is_none, is_some, unwrap_or}
+use Rattle.std.specs.Prelude.{◌≡◌, ℕ, suc, ◌+◌, ◌-◌, ◌<◌, ◌≤◌, ◌^◌, nat_lt, Bool, true, false, List, [], ◌∷◌, ◌++◌, slice_set, length, ◌≢◌, Option, Some, None, is_none, is_some, unwrap_or}
 use Rattle.bw_keys.specs.declared.page.Pid.{Pid}
 use Rattle.bw_keys.specs.declared.range.Fence.TheVariants.{Key}
 use Rattle.bw_keys.specs.Ranges.{is_within}
@@ -143,22 +143,6 @@ IsDoneAtOnce old page key wished receipt new =
     let had = at key (pairs_in slot) in
     LooksOrTakes old page (Looked (number_of old.book) key had) receipt new (step_for page slot.version key wished had)
 
--- one look and no change, or the step
-abbrev pub LooksOrTakesOne : TableValue → Receipt → Receipt → TableValue → Option Proposal → Type 0
-LooksOrTakesOne old look receipt new None = (receipt ≡ look) × (new ≡ old)
-LooksOrTakesOne old look receipt new (Some step) = TakesInTurn old ((step, receipt) ∷ []) new
-
--- the record of the wish was put on the page
-abbrev pub IsRecordedAtOnce : TableValue → ℕ → ℕ → Wished → Receipt → TableValue → Type 0
-IsRecordedAtOnce old page key wished receipt new =
-    let slot = slot_at old page in
-    let had = at key (pairs_in slot) in
-    LooksOrTakesOne old (Looked (number_of old.book) key had) receipt new (step_for page slot.version key wished had)
-
--- the page was consolidated by a step that is not refused
-abbrev pub IsConsolidatedAtOnce : TableValue → ℕ → ℕ → TableValue → Receipt → Type 0
-IsConsolidatedAtOnce old page seen new receipt = (base : Page) × TakesInTurn old ((consolidate page seen base, receipt) ∷ []) new
-
 -- the consolidation of a page as it is
 abbrev pub consolidating : TableValue → ℕ → ℕ → Proposal
 consolidating table page seen = consolidate page seen (page_for (chain_in (slot_at table page)))
@@ -181,16 +165,6 @@ half_reasons table page seen =
     let separator = unwrap_or (listed_middle_key listed) 0 in
     open_reasons slot seen ++ when (nat_lt 0 slot.depth) NotBare ∷ when (nat_lt (listed_length listed) 2) BadSeparator
     ∷ halving_reasons slot (slot_at table (new_id table)) (is_leaving_at table.slots (at separator (routes_in slot))) (is_none (last_id table.free)) separator
-
--- the page was split at the key of its middle entry, by a step that is not refused; this is the term of the new page
-pub record IsHalvedAtOnce (old : TableValue) (page seen : ℕ) (term : ℕ × Pid) (new : TableValue) : Type 0 where
-  pub middle : listed_middle_key (page_for (chain_in (slot_at old page))).listed ≡ Some term.0
-  pub takes : TakesInTurn old ((halving old page seen term.0, Shaped kinds.Split (pid page) (Some term.1)) ∷ []) new
-
--- the page was named in the parent by a step that is not refused
-abbrev pub IsPostedByOne : TableValue → Pid → Pid → TableValue → Type 0
-IsPostedByOne old parent child new =
-    (parent_seen : ℕ) × (child_seen : ℕ) × TakesInTurn old ((term_add parent.0 parent_seen child.0 child_seen, Shaped kinds.TermAdd parent (Some child)) ∷ []) new
 
 -- the page that ends before the separator, consolidated, where this many of its entries go to the new page
 abbrev pub slot_cut : ℕ → Pid → ℕ → SlotValue → SlotValue
@@ -244,24 +218,26 @@ pub record IsOver (over slot : SlotValue) : Type 0 where
   pub within : is_within over.low over.high slot.low ≡ true
   pub after_low : over.low < slot.low
 
--- the page links to the other, and the entries of both can be counted
-pub record IsLeftOf (into slot : SlotValue) (page : ℕ) : Type 0 where
+-- the page links to the other, and the entries of both can be counted and aren't more than that
+pub record IsLeftOf (into slot : SlotValue) (page most : ℕ) : Type 0 where
   pub link : into.right ≡ Some (pid page)
   pub count : into.count + slot.count < 2 ^ 64
+  pub fits : into.count + slot.count ≤ most
 
 -- a bare page under another one and the one on its left, which are bare too; the versions can rise
-pub record MayMerge (over into slot : SlotValue) (page : ℕ) : Type 0 where
+pub record MayMerge (over into slot : SlotValue) (page most : ℕ) : Type 0 where
   pub over_bare : IsBare over
   pub left_bare : IsBare into
   pub bare : IsBare slot
   pub under : IsOver over slot
-  pub left : IsLeftOf into slot page
+  pub left : IsLeftOf into slot page most
   pub over_version : over.version + 2 < 2 ^ 64
   pub left_version : into.version + 2 < 2 ^ 64
   pub version : slot.version + 3 < 2 ^ 64
 
 abbrev pub MayMergeUnder : TableValue → ℕ → ℕ → ℕ → Type 0
-MayMergeUnder table parent left page = MayMerge (slot_at table parent) (slot_at table left) (slot_at table page) page
+MayMergeUnder table parent left page =
+    MayMerge (slot_at table parent) (slot_at table left) (slot_at table page) page table.config.fanout
 
 -- the numbers of the slot can rise, and its chain ends where the right one begins
 pub record Meets (into right : SlotValue) : Type 0 where
@@ -304,6 +280,10 @@ slots_merged_at_once parent left page slots =
     let slot = slot_in slots page in
     slice_set (slice_set (slice_set slots page (free_slot (slot.version + 3))) left (slot_joined (slot_in slots left) slot)) parent
     (slot_with (Some (deltas.TermDelete slot.low)) (slot_in slots parent))
+
+-- the entries of both pages aren't more than a page may have
+abbrev pub FitsInto : TableValue → ℕ → ℕ → Type 0
+FitsInto table left page = (slot_at table left).count + (slot_at table page).count ≤ table.config.fanout
 
 -- the steps that take a page out, with their receipts: it is marked, and its left neighbour takes it in and is consolidated; then
 -- the parent loses its term and is consolidated

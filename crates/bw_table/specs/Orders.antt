@@ -8,7 +8,8 @@ use Rattle.bw_keys.specs.contracts.page.Pid as pid
 use Rattle.bw_keys.specs.Ranges.{key_count}
 use Rattle.bw_delta.specs.Entries.{at, rises}
 use Rattle.bw_law.specs.Laws.{IsTheMap}
-use Rattle.bw_law.specs.Tables.{TableValue, Maps}
+use Rattle.bw_law.specs.Slots.{pairs_in}
+use Rattle.bw_law.specs.Tables.{TableValue, Maps, slot_at}
 
 -- no key of the map lies from the low on and below the end
 abbrev pub HasNoKeyWithin : TableValue → ℕ → ℕ → Type 0
@@ -44,6 +45,12 @@ pub record LeafValue : Type 0 where
   pub low : ℕ
   pub high : Fence
   pub pairs : List (ℕ × ℕ)
+
+-- the page as a leaf
+abbrev pub leaf_at : TableValue → Pid → LeafValue
+leaf_at table page =
+    let slot = slot_at table page.0 in
+    record { pid = page; low = slot.low; high = slot.high; pairs = pairs_in slot }
 
 abbrev pub leaf_code : Coded LeafValue
 leaf_code =

@@ -6,7 +6,7 @@ ghost use Rattle.bw_chain.specs.Passing.Heads.{BeginsWith, EndsWith};
 ghost use Rattle.bw_delta.specs.Entries.{below, first_from, from, last_upto};
 ghost use Rattle.bw_delta.specs.Slices.{list_of};
 ghost use Rattle.bw_law.specs.Laws.{IsLeafOf};
-ghost use Rattle.bw_table.specs.Orders.{ArePairsWithin};
+ghost use Rattle.bw_table.specs.Orders.{ArePairsWithin, leaf_at};
 
 use crate::slot::Slot;
 use crate::table::Table;
@@ -123,6 +123,7 @@ impl<A: Allocator + Copy> Table<A> {
     #[inline(always)]
     pub fn leaf_of(&self, key: Key) -> LeafRef<'_, A>
         ensures page { IsLeafOf self.now key result.pid.0 }
+        ensures lent { result ≡ leaf_at self.now result.pid }
         ensures low { result.low ≤ key }
         ensures high { key < end_of result.high }
         ensures pairs { ArePairsWithin self.now result.low (end_of result.high) result.pairs }

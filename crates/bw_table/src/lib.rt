@@ -22,9 +22,9 @@ mod visit;
 
 pub use bw_keys::Wished;
 pub use bw_step::{
-    Action, AtOnce, Book, Consolidate, CopyFault, Delete, Go, Grow, Insert, Kind, Leaf, Look, Mark,
-    Merge, Modify, Next, Performed, Place, Receipt, Refused, Split, Stage, Step, Summary, Survey,
-    TermAdd, TermDelete, Todo, Unperformed, View,
+    Action, Book, Consolidate, CopyFault, Delete, Go, Grow, Insert, Kind, Leaf, Look, Mark, Merge,
+    Modify, Next, Performed, Place, Receipt, Refused, Split, Stage, Step, Summary, Survey, TermAdd,
+    TermDelete, Todo, Unperformed, View,
 };
 pub use fault::NewFault;
 pub use leaf::LeafRef;

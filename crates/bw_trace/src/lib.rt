@@ -9,4 +9,4 @@ pub use bw_texts::{
     Act, History, MOST_HISTORY_ROWS, MOST_TRACE_ROWS, OutFault, Part, Row, TextFault, is_trace_for,
     make, read_history, read_trace, write_history, write_trace,
 };
-pub use program::{command, command_counted, tell_run_fault};
+pub use program::{command, command_watched, tell_run_fault};

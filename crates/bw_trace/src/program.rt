@@ -1,6 +1,6 @@
 //! What the program does, over a reader and two writers.
 
-ghost use Rattle.std.specs.Prelude.{◌≡◌, ◌≤◌, IfOk, OnOk};
+ghost use Rattle.std.specs.Prelude.{◌≡◌, ◌<◌, ◌≤◌, IfOk, OnOk};
 ghost use Rattle.std.specs.Option.{ForSome};
 ghost use Rattle.std.specs.Io.KnownBytes.{Appends};
 ghost use Rattle.bw_trace.specs.Statuses.{run_status, status_of, verdict_status};
@@ -45,7 +45,7 @@ static USUAL: [&str; 1] = ["run"];
 
 /// Carries out the words, which leave out the program's own name, and returns the exit status. No
 /// words stand for `run` alone. Writes results and help to `output`, and fault lines and the usage
-/// text to `faults`.
+/// text to `faults`, where nothing is written of what ends with 0.
 ///
 /// | Status | Case |
 /// |---|---|
@@ -62,14 +62,19 @@ pub fn command<T: Threads + Wait + Sync + Send + Copy, R: Read + Drop, W: Write,
     output: &mut W,
     faults: &mut E,
 ) -> u8
-    ensures { result ≤ 4 }
+    ensures few { result ≤ 4 }
+    ensures silent { result ≡ 0 → faults.new ≡ faults.old }
 {
     let progress = Progress::new();
-    command_counted(rt, alloc, words, input, output, faults, &progress)
+    let mut notes = io::sink();
+    let obeyed = obey(rt, alloc, words, input, output, &mut notes, &progress);
+    end(output, faults, obeyed)
 }
 
-/// Carries out the words as [`command`] does, and counts the rows of a run meanwhile.
-pub fn command_counted<T: Threads + Wait + Sync + Send + Copy, R: Read + Drop, W: Write, E: Write>(
+/// Carries out the words as [`command`] does, for somebody who watches the faults, as on a terminal:
+/// counts the rows of a run meanwhile, and notes of what ends well how many rows have a fault beside
+/// their reply, and which lines of a script were refused.
+pub fn command_watched<T: Threads + Wait + Sync + Send + Copy, R: Read + Drop, W: Write, E: Write>(
     rt: T,
     alloc: Global,
     words: &[&str],
@@ -80,20 +85,31 @@ pub fn command_counted<T: Threads + Wait + Sync + Send + Copy, R: Read + Drop, W
 ) -> u8
     ensures { result ≤ 4 }
 {
-    match obey(rt, alloc, words, input, output, faults, progress) {
+    let obeyed = obey(rt, alloc, words, input, output, faults, progress);
+    end(output, faults, obeyed)
+}
+
+/// Tells the fault of what ended with one, or prints the help. Returns the exit status.
+fn end<W: Write, E: Write>(output: &mut W, faults: &mut E, obeyed: Result<u8, Fault>) -> u8
+    requires { IfOk obeyed (λ status. status ≤ 4) }
+    ensures few { result ≤ 4 }
+    ensures silent { result ≡ 0 → faults.new ≡ faults.old }
+{
+    match obeyed {
         Ok(status) => status,
         Err(Fault::Usage(error)) => tell_usage(output, faults, &error),
         Err(fault) => tell(faults, &fault),
     }
 }
 
-fn obey<T: Threads + Wait + Sync + Send + Copy, R: Read + Drop, W: Write, E: Write>(
+/// Carries out the words. Writes results to `output`, and to `notes` what is noted of them.
+fn obey<T: Threads + Wait + Sync + Send + Copy, R: Read + Drop, W: Write, N: Write>(
     rt: T,
     alloc: Global,
     words: &[&str],
     input: R,
     output: &mut W,
-    faults: &mut E,
+    notes: &mut N,
     progress: &Progress,
 ) -> Result<u8, Fault>
     ensures { IfOk result (λ status. status ≤ 4) }
@@ -107,16 +123,16 @@ fn obey<T: Threads + Wait + Sync + Send + Copy, R: Read + Drop, W: Write, E: Wri
                 RunOptions::of(options)?,
                 input,
                 output,
-                faults,
+                notes,
                 progress,
             )
         }
         Some(("draw", options)) => {
-            do_draw(rt, alloc, DrawOptions::of(options)?, input, output, faults)
+            do_draw(rt, alloc, DrawOptions::of(options)?, input, output, notes)
         }
         Some(("film", options)) => do_film(alloc, FilmOptions::of(options)?, input, output),
         Some(("stats", options)) => {
-            do_stats(rt, alloc, ShowOptions::of(options)?, input, output, faults)
+            do_stats(rt, alloc, ShowOptions::of(options)?, input, output, notes)
         }
         Some(("steps", _)) => do_steps(alloc, input, output),
         Some(("make", options)) => do_make(alloc, options, output),
@@ -134,13 +150,13 @@ fn parse<'a>(alloc: Global, words: &'a [&'a str]) -> Result<ArgMatches<'a>, clap
 }
 
 /// Runs the trace, and prints nothing before the run has ended.
-fn do_run<T: Threads + Wait + Sync + Send + Copy, R: Read + Drop, W: Write, E: Write>(
+fn do_run<T: Threads + Wait + Sync + Send + Copy, R: Read + Drop, W: Write, N: Write>(
     rt: T,
     alloc: Global,
     options: RunOptions,
     input: R,
     output: &mut W,
-    faults: &mut E,
+    notes: &mut N,
     progress: &Progress,
 ) -> Result<u8, Fault>
     ensures { IfOk result (λ status. status ≤ 4) }
@@ -155,7 +171,7 @@ fn do_run<T: Threads + Wait + Sync + Send + Copy, R: Read + Drop, W: Write, E: W
         Ok(finished) => {
             let status = print_run(alloc, options, output, &finished)?;
             if !options.quiet {
-                let _ = write_notes(faults, &finished);
+                let _ = write_notes(notes, &finished);
             }
             Ok(status)
         }
@@ -185,17 +201,17 @@ fn print_run<W: Write>(
 }
 
 /// Draws the table that the trace or the script leaves.
-fn do_draw<T: Threads + Wait + Sync + Send + Copy, R: Read + Drop, W: Write, E: Write>(
+fn do_draw<T: Threads + Wait + Sync + Send + Copy, R: Read + Drop, W: Write, N: Write>(
     rt: T,
     alloc: Global,
     options: DrawOptions,
     input: R,
     output: &mut W,
-    faults: &mut E,
+    notes: &mut N,
 ) -> Result<u8, Fault>
     ensures { IfOk result (λ status. status ≤ 4) }
 {
-    let table = table_of(rt, alloc, options.shown, input, faults)?;
+    let table = table_of(rt, alloc, options.shown, input, notes)?;
     draw(alloc, &table, options.key, output)?;
     Ok(DONE)
 }
@@ -214,17 +230,17 @@ fn do_film<R: Read + Drop, W: Write>(
 }
 
 /// Prints the numbers of the table that the trace or the script leaves.
-fn do_stats<T: Threads + Wait + Sync + Send + Copy, R: Read + Drop, W: Write, E: Write>(
+fn do_stats<T: Threads + Wait + Sync + Send + Copy, R: Read + Drop, W: Write, N: Write>(
     rt: T,
     alloc: Global,
     options: ShowOptions,
     input: R,
     output: &mut W,
-    faults: &mut E,
+    notes: &mut N,
 ) -> Result<u8, Fault>
     ensures { IfOk result (λ status. status ≤ 4) }
 {
-    let table = table_of(rt, alloc, options, input, faults)?;
+    let table = table_of(rt, alloc, options, input, notes)?;
     tell_stats(alloc, &table, output)?;
     Ok(DONE)
 }
@@ -290,7 +306,8 @@ fn write_verdict<W: Write>(output: &mut W, verdict: Verdict) -> io::Result<()>
 
 /// Prints the help if the words ask for it, and otherwise the usage as a fault.
 fn tell_usage<W: Write, E: Write>(output: &mut W, faults: &mut E, error: &clap::Error) -> u8
-    ensures { result ≤ 4 }
+    ensures few { result ≤ 4 }
+    ensures silent { result ≡ 0 → faults.new ≡ faults.old }
 {
     if error.use_stderr() {
         let _ = write!(faults, "{error}");
@@ -315,7 +332,8 @@ pub fn tell_run_fault<E: Write>(faults: &mut E, fault: RunFault) -> u8
 }
 
 fn tell<E: Write>(faults: &mut E, fault: &Fault) -> u8
-    ensures { result ≡ status_of fault.now }
+    ensures status { result ≡ status_of fault.now }
+    ensures failed { 0 < result }
 {
     let _ = writeln!(faults, "bwtree: {fault}");
     fault.status()

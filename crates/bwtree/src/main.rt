@@ -1,5 +1,5 @@
-//! The program `bwtree`: `bw_trace::command` over the standard streams. On a terminal it says how
-//! far a run is, and that it reads what is typed.
+//! The program `bwtree`: `bw_trace::command` over the standard streams. Where standard error is a
+//! terminal, it says there how far a run is, what it notes, and that it reads what is typed.
 #![tactic(auto)]
 
 mod streams;
@@ -33,7 +33,8 @@ fn main(rt: HostRuntime) -> io::Result<ExitCode> {
         .map(|word| word.as_str())
         .collect(alloc)?;
     let is_quiet = words.iter().any(|word| *word == "--quiet");
-    let hint = (!is_quiet && rt.stdin().is_terminal()).then_some(HINT);
+    let is_watched = !is_quiet && rt.stderr().is_terminal();
+    let hint = (is_watched && rt.stdin().is_terminal()).then_some(HINT);
     let progress = Progress::new();
     let ending = Ending::new();
     let answer = || {
@@ -44,12 +45,12 @@ fn main(rt: HostRuntime) -> io::Result<ExitCode> {
             (rt.stdin(), hint),
             rt.stdout(),
             rt.stderr(),
-            &progress,
+            is_watched.then_some(&progress),
         );
         ending.announce(&rt);
         status
     };
-    if is_quiet || !rt.stderr().is_terminal() {
+    if !is_watched {
         return Ok(ExitCode::from(answer()));
     }
     let (_, status) = thread::join(

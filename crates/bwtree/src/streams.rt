@@ -1,6 +1,6 @@
 //! The standard streams of a program that others read.
 
-use bw_trace::{Progress, command_counted};
+use bw_trace::{Progress, command, command_watched};
 use std::alloc::Global;
 use std::cell::Cell;
 use std::io;
@@ -68,7 +68,8 @@ impl<R: Read, W: Write> Read for Hinted<R, W> {
 }
 
 /// Carries out the words, and returns the exit status. The first read of the input writes the hint
-/// behind it, if there is one.
+/// behind it, if there is one. Where somebody watches the faults, notes are written there too, and
+/// the rows of a run are counted.
 pub(crate) fn answer<
     T: Threads + Wait + Sync + Send + Copy,
     R: Read + Drop,
@@ -81,7 +82,7 @@ pub(crate) fn answer<
     (input, hint): (R, Option<&'static str>),
     output: W,
     faults: E,
-    progress: &Progress,
+    watch: Option<&Progress>,
 ) -> u8 {
     let is_closed = Cell::new(false);
     let input = Hinted {
@@ -97,5 +98,10 @@ pub(crate) fn answer<
         stream: faults,
         is_closed: &is_closed,
     };
-    command_counted(rt, alloc, words, input, &mut output, &mut faults, progress)
+    match watch {
+        None => command(rt, alloc, words, input, &mut output, &mut faults),
+        Some(progress) => {
+            command_watched(rt, alloc, words, input, &mut output, &mut faults, progress)
+        }
+    }
 }

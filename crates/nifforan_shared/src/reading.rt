@@ -4,8 +4,9 @@ ghost use Rattle.std.specs.Prelude.{◌≡◌, IfOk, length};
 
 use bw_delta::NoMemory;
 use bw_keys::{Fence, Key};
-use bw_snap::{Closed, Naming, ReadTree, ScanFault};
+use bw_snap::{Closed, Naming, ReadTree, ScanFault, Stamp};
 use std::alloc::Global;
+use std::snapshot::Snapshot;
 use std::sync::Wait;
 use std::sync::ledger::Ledger;
 
@@ -21,17 +22,26 @@ pub trait Reads {
     ghost use Rattle.bw_snap.specs.Answers.{IsNumberIn, IsLenIn, IsListedIn, IsRangeIn};
     ghost use Rattle.bw_snap.specs.Snapshots.{BeginsWith};
 
+    /// What a publication hands out, and nothing else does.
+    type Stamp;
+
     // the configuration that the tree was made by
     ghost made_by: { Self → Config };
 
     // the list of steps that it has seen or learnt of
     ghost list: { Self → List Proposal };
 
+    // the list of steps that the stamp covers
+    ghost covers: { Self.Stamp → List Proposal };
+
     /// Publishes what all workers have changed so far, and learns of it: what this reader reads
-    /// from then on has all that. Takes the tree's lock.
-    fn publish(&mut self) -> Result<(), NoMemory>
+    /// from then on has all that. Takes the tree's lock. What it returns has no bytes: by it clauses
+    /// name the list that was published.
+    fn publish(&mut self) -> Result<Snapshot<Self::Stamp>, NoMemory>
         ensures made_by { made_by self.new ≡ made_by self.old }
-        ensures learnt { BeginsWith (list self.new) (list self.old) }
+        ensures seen { BeginsWith (list self.new) (list self.old) }
+        ensures learnt { IfOk result (λ published.
+            BeginsWith (list self.new) (covers published.value)) }
         ensures refused { OnErr result (list self.new ≡ list self.old) };
 
     /// Returns the value at the key, if the map has one.
@@ -138,14 +148,19 @@ pub fn readings_of<'t, R: Wait + Copy, N: Naming, D: Ledger>(
 }
 
 impl<'t, R: Wait + Copy, N: Naming, D: Ledger> Reads for Reading<'t, R, N, D> {
+    type Stamp = Stamp<N>;
+
     ghost made_by = { λ r. N.config };
 
     ghost list = { λ r. r.reader };
 
-    fn publish(&mut self) -> Result<(), NoMemory> {
+    ghost covers = { λ stamp. stamp };
+
+    fn publish(&mut self) -> Result<Snapshot<Stamp<N>>, NoMemory> {
         let stamp = self.tree.publish()?;
+        let published = Snapshot::of(&stamp);
         self.reader.learn(stamp);
-        Ok(())
+        Ok(published)
     }
 
     fn get(&mut self, key: Key) -> Result<Option<u64>, Closed> {

@@ -10,6 +10,7 @@
 //! | `<` | a line of the input |
 //! | `<-` | a line of the input, without its line feed |
 //! | `<!` | from here on the input can't be read |
+//! | `*` | somebody watches the faults, as on a terminal |
 //! | `..` | the output has any lines, and below them those that follow |
 //! | `>`, `>-` | a line of the output, with its line feed or without |
 //! | `!`, `!-` | a line of the faults, with its line feed or without |
@@ -18,7 +19,7 @@
 //!
 //! An empty line says nothing. The lines of the answer stand in this order.
 
-use crate::program::{Input, answer_to};
+use crate::program::{Answer, Input, answer_to};
 use crate::texts::compare;
 use anyhow::{Result, bail, ensure};
 use std::alloc::Global;
@@ -33,6 +34,8 @@ struct Case<'a> {
     more: Option<&'a str>,
     input: String,
     has_failure: bool,
+    /// Whether somebody watches the faults.
+    is_watched: bool,
     /// Whether the output has lines above those that are wanted.
     has_more: bool,
     /// The lines of the answer, with their marks.
@@ -51,8 +54,7 @@ pub(crate) fn agree<R: Threads + Wait + Sync + Send + Copy>(
     let mut line = 1usize;
     for block in text.split("\n$") {
         if line > 1 {
-            let case = read_case(alloc, block)?;
-            if let Err(fault) = judge(rt, alloc, &case) {
+            if let Err(fault) = judge_block(rt, alloc, block) {
                 bail!("the case in line {line}: {fault}");
             }
             cases = cases.saturating_add(1);
@@ -69,23 +71,43 @@ fn read_case<'a>(alloc: Global, block: &'a str) -> Result<Case<'a>> {
         more: None,
         input: String::new(alloc),
         has_failure: false,
+        is_watched: false,
         has_more: false,
         wanted: String::new(alloc),
     };
     for line in lines.lines() {
+        case.take(line)?;
+    }
+    Ok(case)
+}
+
+impl<'a> Case<'a> {
+    /// Takes a line of the file.
+    fn take(&mut self, line: &'a str) -> Result<()> {
         let (mark, text) = line.split_once(' ').unwrap_or((line, ""));
         match mark {
             "" | "#" => {}
-            "+" => case.more = Some(text),
-            "<" => writeln!(case.input, "{text}")?,
-            "<-" => case.input.push_str(text)?,
-            "<!" => case.has_failure = true,
-            ".." => case.has_more = true,
-            ">" | ">-" | "!" | "!-" | "=" => writeln!(case.wanted, "{mark} {text}")?,
+            "+" => self.more = Some(text),
+            "<" => writeln!(self.input, "{text}")?,
+            "<-" => self.input.push_str(text)?,
+            "<!" => self.has_failure = true,
+            "*" => self.is_watched = true,
+            ".." => self.has_more = true,
+            ">" | ">-" | "!" | "!-" | "=" => writeln!(self.wanted, "{mark} {text}")?,
             _ => bail!("{mark} is no mark of a line"),
         }
+        Ok(())
     }
-    Ok(case)
+}
+
+/// Fails where the program first doesn't answer the case of a block as wanted.
+fn judge_block<R: Threads + Wait + Sync + Send + Copy>(
+    rt: R,
+    alloc: Global,
+    block: &str,
+) -> Result<()> {
+    let case = read_case(alloc, block)?;
+    judge(rt, alloc, &case)
 }
 
 /// Fails where the program first doesn't answer as wanted.
@@ -104,27 +126,36 @@ fn judge_with<R: Threads + Wait + Sync + Send + Copy>(
     case: &Case,
     more: &str,
 ) -> Result<()> {
-    let input = Input {
-        text: case.input.as_bytes(),
-        has_failure: case.has_failure,
-    };
-    let (words, next) = case.words.split_once(" | ").unwrap_or((case.words, ""));
-    let mut answer = answer_to(rt, alloc, words, more, input)?;
-    if !next.is_empty() && answer.status == 0 {
-        let given = answer.output;
-        let input = Input {
-            text: given.as_bytes(),
-            has_failure: false,
-        };
-        answer = answer_to(rt, alloc, next, "", input)?;
-    }
-    let lines = answer.lines(alloc)?;
+    let lines = answer_with(rt, alloc, case, more)?.lines(alloc)?;
     let many = case.wanted.lines().count();
     let above = lines.lines().count().saturating_sub(many);
     compare(
         below(&lines, if case.has_more { above } else { 0 }),
         &case.wanted,
     )
+}
+
+/// Returns what the program answers to the case, and to what that prints if there is a second call.
+fn answer_with<R: Threads + Wait + Sync + Send + Copy>(
+    rt: R,
+    alloc: Global,
+    case: &Case,
+    more: &str,
+) -> Result<Answer> {
+    let (words, next) = case.words.split_once(" | ").unwrap_or((case.words, ""));
+    let input = Input {
+        text: case.input.as_bytes(),
+        has_failure: case.has_failure,
+    };
+    let answer = answer_to(rt, alloc, words, more, input, case.is_watched)?;
+    if next.is_empty() || answer.status != 0 {
+        return Ok(answer);
+    }
+    let input = Input {
+        text: answer.output.as_bytes(),
+        has_failure: false,
+    };
+    answer_to(rt, alloc, next, "", input, false)
 }
 
 /// Returns what stands below this number of lines of a text.

@@ -1,7 +1,7 @@
 //! The program's command, over memory.
 
 use anyhow::{Result, ensure};
-use bw_trace::command;
+use bw_trace::{Progress, command, command_watched};
 use std::alloc::Global;
 use std::io;
 use std::io::Read;
@@ -59,19 +59,34 @@ fn add_lines(lines: &mut String, mark: char, text: &str) -> Result<()> {
     Ok(())
 }
 
-/// Returns what the program answers to these words, with more behind them.
+/// Returns what the program answers to these words, with more behind them. Notes are among the
+/// faults where somebody watches these.
 pub(crate) fn answer_to<R: Threads + Wait + Sync + Send + Copy>(
     rt: R,
     alloc: Global,
     words: &str,
     more: &str,
     input: Input,
+    is_watched: bool,
 ) -> Result<Answer> {
     let words = words.split_whitespace().chain(more.split_whitespace());
     let words: Vec<&str> = words.collect(alloc)?;
     let mut output = Vec::new(alloc);
     let mut faults = Vec::new(alloc);
-    let status = command(rt, alloc, &words, input, &mut output, &mut faults);
+    let status = if is_watched {
+        let progress = Progress::new();
+        command_watched(
+            rt,
+            alloc,
+            &words,
+            input,
+            &mut output,
+            &mut faults,
+            &progress,
+        )
+    } else {
+        command(rt, alloc, &words, input, &mut output, &mut faults)
+    };
     Ok(Answer {
         status,
         output: String::from_utf8(output)?,
@@ -91,7 +106,7 @@ pub(crate) fn output_of<R: Threads + Wait + Sync + Send + Copy>(
         text: text.as_bytes(),
         has_failure: false,
     };
-    let answer = answer_to(rt, alloc, words, more, input)?;
+    let answer = answer_to(rt, alloc, words, more, input, false)?;
     ensure!(
         answer.status == 0 && answer.faults.is_empty(),
         "the program refused the text"

@@ -29,16 +29,21 @@ pub(crate) fn drawings(alloc: Global, script: &str) -> Result<Vec<String>> {
     let mut player = Player::new(alloc);
     let mut drawings = Vec::new(alloc);
     for line in script.lines() {
-        match player.play(line) {
-            Ok(None | Some(Answer::Made | Answer::Accepted(_))) => {}
-            Ok(Some(answer)) => bail!("line {}: {answer}", player.lines()),
-            Err(fault) => bail!("{fault}"),
-        }
+        play(&mut player, line)?;
         if line.starts_with('#') {
             drawings.push(drawing(alloc, &player)?)?;
         }
     }
     Ok(drawings)
+}
+
+/// Plays a line. Fails where it isn't taken.
+fn play(player: &mut Player, line: &str) -> Result<()> {
+    match player.play(line) {
+        Ok(None | Some(Answer::Made | Answer::Accepted(_))) => Ok(()),
+        Ok(Some(answer)) => bail!("line {}: {answer}", player.lines()),
+        Err(fault) => bail!("{fault}"),
+    }
 }
 
 fn drawing(alloc: Global, player: &Player) -> Result<String> {

@@ -20,12 +20,13 @@ use crate::texts::compare;
 use crate::vectors::config_of;
 use anyhow::{Context, Result, bail};
 use bw_keys::Config;
-use bw_run::{Reply, do_act};
+use bw_run::{Act, Reply, Row, do_act};
 use bw_snap::{Announcements, Naming, ReadTree, Reader, Stamp};
+use bw_step::Step;
 use bw_table::Table;
 use bw_trace::read_trace;
 use bw_tree::{Blanks, Share};
-use bw_work::{Hand, Open};
+use bw_work::{Hand, Open, Steps};
 use std::alloc::Global;
 use std::marker::Brand;
 use std::sync::Wait;
@@ -34,8 +35,35 @@ use std::sync::ledger::Ledger;
 /// The most workers that a tree has.
 const MOST_WORKERS: u32 = 64;
 
-/// Does the rows of the text, each by its worker.
+/// Makes the call, and writes its reply.
+fn answer<S: Steps<Global, Step<Global>>>(
+    alloc: Global,
+    steps: &mut S,
+    act: Act,
+    played: &mut String,
+) -> Result<()> {
+    match do_act(steps, alloc, act) {
+        Ok(reply) => writeln!(played, "> {reply}")?,
+        Err(fault) => writeln!(played, "> no reply: {fault}")?,
+    }
+    Ok(())
+}
+
+/// Does a row by its worker, who has this share, and returns the share.
 fn work<R: Wait + Copy, N: Naming, D: Ledger>(
+    alloc: Global,
+    tree: &ReadTree<R, N, D>,
+    share: Share<N, D>,
+    row: Row,
+    played: &mut String,
+) -> (Share<N, D>, Result<()>) {
+    let mut hand = Hand::new(alloc, alloc, tree, share, row.worker, &Open);
+    let answered = answer(alloc, &mut hand, row.act, played);
+    (hand.finish().0, answered)
+}
+
+/// Does the rows of the text, each by its worker.
+fn work_all<R: Wait + Copy, N: Naming, D: Ledger>(
     alloc: Global,
     tree: &ReadTree<R, N, D>,
     shares: &mut Vec<Share<N, D>>,
@@ -44,12 +72,9 @@ fn work<R: Wait + Copy, N: Naming, D: Ledger>(
 ) -> Result<()> {
     for row in read_trace(alloc, rows.as_bytes(), MOST_WORKERS)? {
         let share = shares.pop().context("no share is left")?;
-        let mut hand = Hand::new(alloc, alloc, tree, share, row.worker, &Open);
-        match do_act(&mut hand, alloc, row.act) {
-            Ok(reply) => writeln!(played, "> {reply}")?,
-            Err(fault) => writeln!(played, "> no reply: {fault}")?,
-        }
-        shares.push(hand.finish().0).ok().context("no memory")?;
+        let (share, answered) = work(alloc, tree, share, row, played);
+        shares.push(share).ok().context("no memory")?;
+        answered?;
     }
     Ok(())
 }
@@ -79,6 +104,48 @@ fn read<N: Naming>(
     Ok(())
 }
 
+/// Does what the words say by the reader that they name.
+fn read_by<N: Naming>(
+    alloc: Global,
+    readers: &mut [Reader<N>],
+    stamps: &mut Vec<Stamp<N>>,
+    place: &str,
+    words: &[&str],
+    played: &mut String,
+) -> Result<()> {
+    let reader = readers.get_mut(place.parse::<usize>()?);
+    read(alloc, reader.context("no reader")?, stamps, words, played)
+}
+
+/// Publishes all, and keeps the stamp.
+fn publish<R: Wait + Copy, N: Naming, D: Ledger>(
+    tree: &ReadTree<R, N, D>,
+    stamps: &mut Vec<Stamp<N>>,
+) -> Result<()> {
+    stamps.push(tree.publish()?).ok().context("no memory")
+}
+
+/// Does what a line says, and writes the answer.
+fn play_line<R: Wait + Copy, N: Naming, D: Ledger>(
+    alloc: Global,
+    tree: &ReadTree<R, N, D>,
+    shares: &mut Vec<Share<N, D>>,
+    readers: &mut [Reader<N>],
+    stamps: &mut Vec<Stamp<N>>,
+    line: &str,
+    played: &mut String,
+) -> Result<()> {
+    let words: Vec<&str> = line.split(' ').collect(alloc)?;
+    match words.as_slice() {
+        ["close" | "abandon"] => Ok(()),
+        ["publish"] => publish(tree, stamps),
+        ["reader", place, reading @ ..] => {
+            read_by(alloc, readers, stamps, place, reading, played)
+        }
+        _ => work_all(alloc, tree, shares, line, played),
+    }
+}
+
 /// Does what the lines say, and writes their answers.
 fn play_lines<R: Wait + Copy, N: Naming, D: Ledger>(
     alloc: Global,
@@ -89,33 +156,32 @@ fn play_lines<R: Wait + Copy, N: Naming, D: Ledger>(
     played: &mut String,
 ) -> Result<()> {
     let mut stamps = Vec::new(alloc);
-    for line in lines.lines().filter(|line| !line.starts_with("> ")) {
-        writeln!(played, "{line}")?;
-        let words: Vec<&str> = line.split(' ').collect(alloc)?;
-        match words.as_slice() {
-            ["close" | "abandon"] => {}
-            ["publish"] => stamps.push(tree.publish()?).ok().context("no memory")?,
-            ["reader", place, reading @ ..] => {
-                let reader = readers.get_mut(place.parse::<usize>()?);
-                read(
-                    alloc,
-                    reader.context("no reader")?,
-                    &mut stamps,
-                    reading,
-                    played,
-                )?;
-            }
-            _ => work(alloc, tree, shares, line, played)?,
+    for line in lines.lines() {
+        if !line.starts_with("> ") {
+            writeln!(played, "{line}")?;
+            play_line(alloc, tree, shares, readers, &mut stamps, line, played)?;
         }
     }
     Ok(())
+}
+
+/// Writes what the reader of a closed tree answers.
+fn tell_reader<N: Naming>(
+    alloc: Global,
+    reader: &mut Reader<N>,
+    played: &mut String,
+) -> Result<()> {
+    let mut pairs = vec![in alloc; (7, 77)]?;
+    let scan = reader.scan(0, 10, &mut pairs);
+    let (get, look) = (reader.get(0), reader.look(0));
+    Ok(writeln!(played, "> {get:?} {look:?} {scan:?} {pairs:?}")?)
 }
 
 /// Writes what is left of a tree.
 fn tell<N: Naming>(
     alloc: Global,
     table: &Table<Global>,
-    readers: Vec<Reader<N>>,
+    readers: &mut [Reader<N>],
     played: &mut String,
 ) -> Result<()> {
     let survey = table.survey(alloc)?;
@@ -124,11 +190,8 @@ fn tell<N: Naming>(
     }
     writeln!(played, "> {:?}", survey.book)?;
     writeln!(played, "> {:?}", table.pairs(alloc)?)?;
-    for mut reader in readers {
-        let mut pairs = vec![in alloc; (7, 77)]?;
-        let scan = reader.scan(0, 10, &mut pairs);
-        let (get, look) = (reader.get(0), reader.look(0));
-        writeln!(played, "> {get:?} {look:?} {scan:?} {pairs:?}")?;
+    for reader in readers {
+        tell_reader(alloc, reader, played)?;
     }
     Ok(())
 }
@@ -161,25 +224,47 @@ fn play_over<R: Wait + Copy, N: Naming, D: Ledger>(
     } else {
         tree.close(shares)?
     };
-    tell(alloc, &table, readers, played)
+    tell(alloc, &table, &mut readers, played)
+}
+
+/// How a tree is made.
+#[derive(Clone, Copy)]
+struct Making {
+    workers: u32,
+    readers: u32,
+    config: Config,
+}
+
+/// Reads the line that makes the tree.
+fn read_making(alloc: Global, line: &str) -> Result<Making> {
+    let words: Vec<&str> = line.splitn(4, ' ').collect(alloc)?;
+    let ["tree", workers, readers, options] = words.as_slice() else {
+        bail!("{line}: no tree");
+    };
+    Ok(Making {
+        workers: workers.parse()?,
+        readers: readers.parse()?,
+        config: config_of(options)?,
+    })
 }
 
 /// Plays the script, and returns it with its answers.
 fn play<R: Wait + Copy>(rt: R, alloc: Global, script: &str) -> Result<String> {
     let (title, rest) = script.split_once('\n').context("a title alone")?;
     let (tree, lines) = rest.split_once('\n').unwrap_or((rest, ""));
-    let mut played = format!(in alloc; "{title}\n{tree}\n")?;
-    let words: Vec<&str> = tree.splitn(4, ' ').collect(alloc)?;
-    let ["tree", workers, readers, options] = words.as_slice() else {
-        bail!("{tree}: no tree");
-    };
+    let Making {
+        workers,
+        readers,
+        config,
+    } = read_making(alloc, tree)?;
     let lines = lines.to_string(alloc)?;
+    let mut played = format!(in alloc; "{title}\n{tree}\n")?;
     play_over::<R, Brand, Brand>(
         rt,
         alloc,
-        config_of(options)?,
-        readers.parse()?,
-        Blanks::new(workers.parse()?),
+        config,
+        readers,
+        Blanks::new(workers),
         Announcements::new(),
         &lines,
         &mut played,
@@ -187,12 +272,18 @@ fn play<R: Wait + Copy>(rt: R, alloc: Global, script: &str) -> Result<String> {
     Ok(played)
 }
 
+/// Plays a script, and compares its answers with those in it.
+fn agree_on<R: Wait + Copy>(rt: R, alloc: Global, script: &str) -> Result<()> {
+    let played = play(rt, alloc, script)?;
+    compare(played.trim_end(), script.trim_end())
+}
+
 /// Plays the scripts of the text, and compares the answers to each with those in it.
 pub(crate) fn agree<R: Wait + Copy>(rt: R, alloc: Global, text: &str) -> Result<String> {
     let mut lines = String::new(alloc);
     for script in text.split("\n\n") {
         let title = script.lines().next().context("no title")?;
-        compare(play(rt, alloc, script)?.trim_end(), script.trim_end()).context(title)?;
+        agree_on(rt, alloc, script).context(title)?;
         writeln!(lines, "{title}: as foretold")?;
     }
     Ok(lines)

@@ -127,7 +127,7 @@ impl Vector {
         readers: u32,
         wanted: &str,
     ) -> Result<String> {
-        let words = format!(in alloc; "{} --readers={readers} --quiet {wanted}", self.options)?;
+        let words = format!(in alloc; "{} --readers={readers} {wanted}", self.options)?;
         output_of(rt, alloc, "run", &words, &self.trace)
     }
 }

@@ -11,7 +11,7 @@ use bw_run::do_act;
 use bw_step::{Receipt, Step};
 use bw_table::Table;
 use bw_trace::{read_trace, write_history};
-use bw_tree::{Blanks, MadeBy, Tree};
+use bw_tree::{Blanks, MadeBy, Share, Tree};
 use bw_work::{Alone, Hand, Open, Steps};
 use std::alloc::Global;
 use std::sync::Wait;
@@ -56,6 +56,19 @@ pub(crate) fn run_alone(alloc: Global, config: Config, trace: &[u8]) -> Result<S
     ending(alloc, replies, trail, &table)
 }
 
+/// Does the rows by a hand with this share. Returns the share, the trail and the replies.
+fn work_by_hand<I: MadeBy, D: Ledger, R: Wait + Drop>(
+    alloc: Global,
+    tree: &Tree<R, Global, I, D>,
+    share: Share<I, D>,
+    trace: &[u8],
+) -> (Share<I, D>, Vec<Receipt>, Result<String>) {
+    let mut hand = Hand::new(alloc, alloc, tree, share, 0, &Open);
+    let replies = work(alloc, &mut hand, trace);
+    let (share, trail) = hand.finish();
+    (share, trail, replies)
+}
+
 pub(crate) fn run_by_hand<I: MadeBy, D: Ledger, R: Wait + Drop>(
     rt: R,
     alloc: Global,
@@ -67,10 +80,8 @@ pub(crate) fn run_by_hand<I: MadeBy, D: Ledger, R: Wait + Drop>(
 {
     let (tree, mut shares) = Tree::<R, Global, I, D>::new(rt, alloc, alloc, config, blanks)?;
     let share = shares.pop().context("there is no share")?;
-    let mut hand = Hand::new(alloc, alloc, &tree, share, 0, &Open);
-    let replies = work(alloc, &mut hand, trace)?;
-    let (share, trail) = hand.finish();
+    let (share, trail, replies) = work_by_hand(alloc, &tree, share, trace);
     shares.push(share).ok().context("no memory")?;
     let table = tree.close(shares)?;
-    ending(alloc, replies, trail, &table)
+    ending(alloc, replies?, trail, &table)
 }

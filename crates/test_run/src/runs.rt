@@ -1,6 +1,6 @@
 //! Runs of long traces, and of several workers, whose replies depend on who comes first.
 
-use bw_trace::{Progress, command, command_counted};
+use bw_trace::{Progress, command, command_watched};
 use std::alloc::Global;
 use std::process::Abort;
 use std::sync::Wait;
@@ -62,11 +62,17 @@ static LONG: [Long; 3] = [
     ),
 ];
 
+/// What is noted of the run that finds the table full, where somebody watches it.
+static NOTED: [(&str, &str); 2] = [
+    ("--replies", "1 row found the table full: more --pages\n"),
+    ("--quiet", ""),
+];
+
 #[test]
 fn long_traces_end_as_worked_out(rt: HostRuntime) -> Result<(), Fail> {
     for (keys, more, word, reply, end) in LONG.iter() {
         let trace = rising(rt.alloc(), *keys, more)?;
-        let output = printed(&rt, &["run", "--quiet", "--replies", word], trace.as_str())?;
+        let output = printed(&rt, &["run", "--replies", word], trace.as_str())?;
         let output = output.as_str();
         assert!(rt; output.contains(reply) && output.ends_with(end), "{more}");
         assert!(rt; !output.contains("full)\ninserted"), "{more}");
@@ -74,29 +80,22 @@ fn long_traces_end_as_worked_out(rt: HostRuntime) -> Result<(), Fail> {
     Ok(())
 }
 
-/// Runs the program on the input. Returns its status, and how many rows it counted, and how many faults.
-fn counted<R: Abort + AllocGlobal + Threads + Wait + Sync + Send + Copy>(
-    rt: &R,
-    words: &[&str],
-    input: &str,
-) -> (u8, u64, u64) {
-    let alloc = rt.alloc();
-    let progress = Progress::new();
-    let mut written = Vec::new(alloc);
-    let mut told = Vec::new(alloc);
-    let input = input.as_bytes();
-    let status = command_counted(*rt, alloc, words, input, &mut written, &mut told, &progress);
-    (status, progress.rows(), progress.faults())
-}
-
 /// The last few rows aren't counted, and the last one of all finds the table full.
 #[test]
 fn a_run_counts_its_rows_and_their_faults(rt: HostRuntime) -> Result<(), Fail> {
+    let alloc = rt.alloc();
     let (keys, more, word, _, _) = LONG[1];
-    let trace = rising(rt.alloc(), keys, more)?;
-    let (status, rows, faults) = counted(&rt, &["run", "--quiet", word], trace.as_str());
-    assert_eq!(rt; (status, faults), (0, 1));
-    assert!(rt; 4000 < rows && rows <= 4111, "{rows}");
+    let trace = rising(alloc, keys, more)?;
+    for (flag, notes) in NOTED.iter() {
+        let words = ["run", word, *flag];
+        let progress = Progress::new();
+        let (input, mut written, mut told) = (trace.as_bytes(), Vec::new(alloc), Vec::new(alloc));
+        let status = command_watched(rt, alloc, &words, input, &mut written, &mut told, &progress);
+        assert_eq!(rt; (status, progress.faults()), (0, 1));
+        let rows = progress.rows();
+        assert!(rt; 4000 < rows && rows <= 4111, "{rows}");
+        assert_eq!(rt; std::str::from_utf8(&told)?, *notes);
+    }
     Ok(())
 }
 

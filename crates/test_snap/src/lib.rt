@@ -1,5 +1,5 @@
 //! Tests of a reader in a thread of its own beside two workers: what it sees while one of them is
-//! held, and while both write and publish all the time. Tests of the room for stamps, and of what is
+//! held, and while both write and publish all the time. Tests of stamps without a place, and of what is
 //! done in one hold of the lock, too.
 #![tactic(auto)]
 

@@ -1,13 +1,13 @@
-//! As many stamps as a tree has room for, and a publication past them.
+//! More unused stamps than a tree has places for.
 
 ghost use Rattle.std.specs.Prelude.{◌≡◌};
 ghost use Rattle.bw_tree.specs.Trees.{OpensFor};
 
+use crate::one_reader::{Names, watched_tree};
 use bw_keys::{Config, Key};
-use bw_snap::{Announcements, MAX_READERS, Naming, ReadTree, Reader, Stamp};
-use bw_step::Step;
+use bw_snap::{Announcements, Closed, Naming, ReadTree, Reader, Stamp};
 use bw_tree::{Blanks, Share};
-use bw_work::{Calls, Hand, Open, Steps};
+use bw_work::{Calls, Hand, Open};
 use std::alloc::Global;
 use std::marker::Brand;
 use std::sync::Wait;
@@ -15,19 +15,19 @@ use std::sync::ledger::Ledger;
 use std::test::Fail;
 use test_kit::LARGE;
 
-/// The key that is put when there is no room for a stamp: there was room for one of each reader, and of
-/// the one worker.
-const PAST: Key = MAX_READERS as Key + 1;
+/// How many stamps are out at once. A tree with one reader has a place for one of them.
+const STAMPS: Key = 40;
 
-/// Puts keys, and publishes after each, until there is no room for a stamp.
-fn stamp_all<R: Wait + Copy, N: Naming, D: Ledger, S: Steps<Global, Step<Global>>>(
+/// Puts the keys, and publishes after each.
+fn stamp_all<R: Wait + Copy, N: Naming, D: Ledger>(
     machine: Global,
     tree: &ReadTree<R, N, D>,
-    steps: &mut S,
+    share: Share<N, D>,
 ) -> Result<Vec<Stamp<N>>, Fail> {
+    let mut hand = Hand::new(machine, machine, tree, share, 0, &Open);
     let mut stamps = Vec::new(machine);
-    for key in 0..PAST {
-        steps.put(key, key)?;
+    for key in 0..STAMPS {
+        hand.put(key, key)?;
         if stamps.push(tree.publish()?).is_err() {
             return Err("no memory".into());
         }
@@ -35,93 +35,63 @@ fn stamp_all<R: Wait + Copy, N: Naming, D: Ledger, S: Steps<Global, Step<Global>
     Ok(stamps)
 }
 
-/// What readers find.
+/// Learns half of the stamps, from the end on. Returns whether it then finds the key of each.
+fn learn_half<N: Naming>(reader: &mut Reader<N>, stamps: &mut Vec<Stamp<N>>) -> Result<bool, Fail> {
+    for key in 0..STAMPS / 2 {
+        let Some(stamp) = stamps.pop() else {
+            return Err("there is no stamp".into());
+        };
+        reader.learn(stamp);
+        if reader.get(key)? != Some(key) {
+            return Ok(false);
+        }
+    }
+    Ok(true)
+}
+
+/// What a reader finds by the stamps.
 #[derive(Clone, Copy, Debug, PartialEq, Eq)]
 struct Found {
-    /// At the last two keys, once a publication was refused for want of room for its stamp.
-    refused: [Option<u64>; 2],
-    /// At the last key, once a stamp was learnt and a publication covered the key.
-    covered: Option<u64>,
-    /// At the last key, by a reader that has learnt all other stamps.
-    learnt: Option<u64>,
+    /// Whether the key of each stamp that it learns, while the tree is open.
+    open: bool,
+    /// At the first key, by the other stamps, once the tree is closed.
+    closed: Result<Option<u64>, Closed>,
 }
 
-/// Publishes while there is no room for a stamp, and again when one was learnt.
-fn publish_past<R: Wait + Copy, N: Naming, D: Ledger>(
-    tree: &ReadTree<R, N, D>,
-    stamps: Vec<Stamp<N>>,
-    one: &mut Reader<N>,
-    other: &mut Reader<N>,
-) -> Result<Found, Fail> {
-    if tree.publish().is_ok() {
-        return Err("there is room for one stamp more".into());
-    }
-    let refused = [one.get(PAST - 1)?, one.get(PAST)?];
-    let mut stamps = stamps;
-    let Some(stamp) = stamps.pop() else {
-        return Err("there is no stamp".into());
-    };
-    one.learn(stamp);
-    one.learn(tree.publish()?);
-    for stamp in stamps {
-        other.learn(stamp);
-    }
-    Ok(Found {
-        refused,
-        covered: one.get(PAST)?,
-        learnt: other.get(PAST)?,
-    })
-}
-
-/// Uses all stamps up, puts one more key, and publishes.
-fn publish_all<R: Wait + Copy, N: Naming, D: Ledger>(
-    machine: Global,
-    tree: &ReadTree<R, N, D>,
-    share: Share<N, D>,
-    (mut one, mut other): (Reader<N>, Reader<N>),
-) -> Result<Found, Fail> {
-    let mut hand = Hand::new(machine, machine, tree, share, 0, &Open);
-    let stamps = stamp_all(machine, tree, &mut hand)?;
-    hand.put(PAST, PAST)?;
-    publish_past(tree, stamps, &mut one, &mut other)
-}
-
-fn publish_over<R: Wait + Copy, N: Naming, D: Ledger>(
+fn find_over<R: Wait + Copy, N: Naming, D: Ledger>(
     rt: R,
     machine: Global,
     config: Config,
-    blanks: Blanks,
-    announcements: Announcements,
+    names: Names,
 ) -> Result<Found, Fail>
-    requires announcements { announcements.seen.book ≡ N.announcements }
-    requires ledgers { OpensFor N.Ledger N.config D.Ledger config blanks }
+    requires announcements { names.1.seen.book ≡ N.announcements }
+    requires ledgers { OpensFor N.Ledger N.config D.Ledger config names.0 }
 {
-    let (tree, mut shares, mut readers) = ReadTree::<R, N, D>::with_readers(
-        rt,
-        machine,
-        config,
-        blanks,
-        announcements,
-        MAX_READERS,
-    )?;
-    let (Some(share), Some(one), Some(other)) = (shares.pop(), readers.pop(), readers.pop()) else {
-        return Err("there are too few shares or readers".into());
-    };
-    publish_all(machine, &tree, share, (one, other))
+    let (tree, share, mut reader) = watched_tree::<R, N, D>(rt, machine, config, names)?;
+    let mut stamps = stamp_all(machine, &tree, share)?;
+    stamps.reverse();
+    let open = learn_half(&mut reader, &mut stamps)?;
+    drop(tree.into_table());
+    for stamp in stamps {
+        reader.learn(stamp);
+    }
+    Ok(Found {
+        open,
+        closed: reader.get(0),
+    })
 }
 
-fn publish_on_new_tree<R: Wait + Copy>(rt: R, machine: Global) -> Result<Found, Fail> {
-    let (blanks, announcements) = (Blanks::new(1), Announcements::new());
-    publish_over::<R, Brand, Brand>(rt, machine, LARGE, blanks, announcements)
+fn find_on_new_tree<R: Wait + Copy>(rt: R, machine: Global) -> Result<Found, Fail> {
+    let names = (Blanks::new(1), Announcements::new());
+    find_over::<R, Brand, Brand>(rt, machine, LARGE, names)
 }
 
 #[test]
-fn there_is_room_for_a_stamp_of_each_reader_and_worker(rt: HostRuntime) -> Result<(), Fail> {
+fn stamps_past_the_places_for_them_are_learnt_too(rt: HostRuntime) -> Result<(), Fail> {
     let found = Found {
-        refused: [Some(PAST - 1), None],
-        covered: Some(PAST),
-        learnt: Some(PAST),
+        open: true,
+        closed: Err(Closed),
     };
-    assert_eq!(rt; publish_on_new_tree(rt, rt.alloc())?, found);
+    assert_eq!(rt; find_on_new_tree(rt, rt.alloc())?, found);
     Ok(())
 }

@@ -2,7 +2,7 @@
 
 use crate::rest::{FULL, after};
 use bw_keys::{Key, Pid};
-use bw_table::{AtOnce, Receipt, Table, Wished};
+use bw_table::{Action, Performed, Receipt, Table, Unperformed, Wished};
 use std::alloc::Global;
 use std::test::Fail;
 use test_kit::{Change, SMALL, receipt, take_all};
@@ -20,6 +20,21 @@ pub(crate) fn are_alike(one: &Table<Global>, other: &Table<Global>) -> bool {
         && one.book() == other.book()
 }
 
+/// What is answered to an action.
+pub(crate) type Answer = Result<Performed, Unperformed>;
+
+/// Returns what the receipt's step, or look, for the key came to on the page.
+pub(crate) fn performed(table: &Table<Global>, page: Pid, key: Key, receipt: Receipt) -> Answer {
+    let view = table.peek(page).ok_or(Unperformed::StepByStep)?;
+    Ok(Performed {
+        page,
+        key,
+        receipt,
+        count: view.count,
+        depth: view.depth,
+    })
+}
+
 /// What is done at once for a key, and by steps.
 pub(crate) struct Row {
     /// Steps on the tree of three leaves, of which the first two have the record of their split.
@@ -33,10 +48,11 @@ pub(crate) struct Row {
 }
 
 impl Row {
-    pub(crate) fn wanted(&self) -> Option<AtOnce> {
-        let (page, count, depth, receipt) = self.done?;
-        Some(AtOnce {
+    pub(crate) fn wanted(&self) -> Answer {
+        let (page, count, depth, receipt) = self.done.ok_or(Unperformed::StepByStep)?;
+        Ok(Performed {
             page: Pid(page),
+            key: self.key,
             receipt,
             count,
             depth,
@@ -147,10 +163,11 @@ pub(crate) fn after_both(
 }
 
 /// Returns what is done at once, and whether the steps leave the same table.
-fn changed(alloc: Global, row: &Row) -> Result<(Option<AtOnce>, bool), Fail> {
+fn changed(alloc: Global, row: &Row) -> Result<(Answer, bool), Fail> {
     let by_steps = after_both(alloc, row.before, row.steps)?;
     let mut table = after(alloc, row.before)?;
-    let done = table.change_at_once(row.key, row.wished);
+    let (key, wished) = (row.key, row.wished);
+    let done = table.perform(alloc, Action::Change { key, wished }, None);
     Ok((done, are_alike(&table, &by_steps)))
 }
 

@@ -6,7 +6,7 @@ use crate::recording::{follows, install_drawn};
 use bw_delta::{Base, Entries, Spare};
 use bw_keys::{Config, Key, Pid};
 use bw_step::Stage;
-use bw_table::{Table, View, Wished};
+use bw_table::{Action, Table, View, Wished};
 use rand_core::{Rng, SeedableRng};
 use rand_pcg::Pcg32;
 use std::alloc::Global;
@@ -250,15 +250,17 @@ impl Twins {
     /// Puts the record of a wish on both tables, and consolidates the leaf where its chain is long then.
     /// Returns whether they answer alike, and as the map does.
     fn record(&mut self, alloc: Global, chain: u8, key: Key, wished: Wished) -> Result<bool, Fail> {
-        let done = self.at_once.record_at_once(key, wished, Spare::new(alloc)?);
-        if done
-            != self
-                .by_steps
-                .record_at_once(key, wished, Spare::new(alloc)?)
-        {
+        let action = Action::Record { key, wished };
+        let done = self
+            .at_once
+            .perform(alloc, action, Some(Spare::new(alloc)?));
+        let other = self
+            .by_steps
+            .perform(alloc, action, Some(Spare::new(alloc)?));
+        if done != other {
             return Ok(false);
         }
-        let Some(done) = done else {
+        let Ok(done) = done else {
             return Ok(true);
         };
         let is_long = done.depth >= chain;

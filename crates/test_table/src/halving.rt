@@ -1,12 +1,12 @@
 //! A split at once is a copy, its upper half and one step, and a term at once is a search for the
 //! parent and one step.
 
-use crate::at_once::are_alike;
+use crate::at_once::{Answer, are_alike, performed};
 use crate::rest::{FREED, FULL, MARKED, MERGED, SPLIT, after, three_leaves};
 use bw_delta::{NoMemory, Spare};
 use bw_keys::{Config, Fence, Key, Pid, Version};
 use bw_step::Denied;
-use bw_table::{Receipt, Refused, Stage, Table, View};
+use bw_table::{Action, Receipt, Refused, Stage, Table, Unperformed, View};
 use linked_list_allocator::LocalHeap;
 use std::alloc::Global;
 use std::test::Fail;
@@ -14,8 +14,17 @@ use test_kit::{
     Change, Rooms, SMALL, THREE_LEAVES, growing_heaps, seen, step_of, step_with, take_all,
 };
 
-/// What a split at once answers: the separator and the new page.
-pub(crate) type Half = Result<(Key, Pid), Denied>;
+/// What is looked at of an answer to a split in half: the separator and the new page.
+type Half = Result<(Key, Option<Pid>), Unperformed>;
+
+fn half_of(answer: Answer) -> Half {
+    let done = answer?;
+    let new = match done.receipt {
+        Receipt::Shaped { other, .. } => other,
+        _ => None,
+    };
+    Ok((done.key, new))
+}
 
 /// Copies the page, takes the upper half of it, and takes the step.
 pub(crate) fn halve_by_steps(
@@ -23,21 +32,19 @@ pub(crate) fn halve_by_steps(
     table: &mut Table<Global>,
     page: u32,
     version: Version,
-) -> Result<Half, NoMemory> {
+) -> Result<Answer, NoMemory> {
     let step = step_with(alloc, table, Change::Split(page), (version, version))?;
-    match table.install(step) {
-        Ok(
-            Receipt::Shaped {
-                other: Some(new),
-                ..
-            },
-        ) => {
-            let low = table.peek(new).map(|view| view.low);
-            Ok(Ok((low.unwrap_or(0), new)))
+    Ok(match table.install(step) {
+        Ok(receipt) => {
+            let new = match receipt {
+                Receipt::Shaped { other, .. } => other,
+                _ => None,
+            };
+            let low = new.and_then(|new| table.peek(new)).map(|view| view.low);
+            performed(table, Pid(page), low.unwrap_or(0), receipt)
         }
-        Ok(_) => Ok(Err(Denied::NoMemory)),
-        Err(reason) => Ok(Err(Denied::Refused(reason))),
-    }
+        Err(reason) => Err(Unperformed::Denied(Denied::Refused(reason))),
+    })
 }
 
 /// Returns whether the page may be the parent of a page with this view.
@@ -52,27 +59,30 @@ pub(crate) fn is_above(over: View, under: View) -> bool {
         && below_high
 }
 
-/// Looks through all pages for the parent of an unposted one, and takes the step. None where there is
-/// no parent, and where the step is refused.
+/// Looks through all pages for the parent of an unposted one, and takes the step. It isn't done where
+/// there is no parent, and where the step is refused.
 pub(crate) fn add_term_by_steps(
     alloc: Global,
     table: &mut Table<Global>,
-    child: u32,
-) -> Result<Option<Pid>, NoMemory> {
-    let Some(under) = table.peek(Pid(child)) else {
-        return Ok(None);
+    child: Pid,
+) -> Result<Answer, NoMemory> {
+    let Some(under) = table.peek(child) else {
+        return Ok(Err(Unperformed::StepByStep));
     };
     if under.stage != Stage::Unposted {
-        return Ok(None);
+        return Ok(Err(Unperformed::StepByStep));
     }
     for parent in 0..table.config().pages {
         let over = table.peek(Pid(parent));
         if over.is_some_and(|over| is_above(over, under)) {
-            let step = step_of(alloc, table, Change::TermAdd(parent, child))?;
-            return Ok(table.install(step).ok().map(|_| Pid(parent)));
+            let step = step_of(alloc, table, Change::TermAdd(parent, child.0))?;
+            return Ok(match table.install(step) {
+                Ok(receipt) => performed(table, Pid(parent), under.low, receipt),
+                Err(_) => Err(Unperformed::StepByStep),
+            });
         }
     }
-    Ok(None)
+    Ok(Err(Unperformed::StepByStep))
 }
 
 /// The root has its three routes and no record; the child that is routed in the middle is leaving.
@@ -101,24 +111,24 @@ const JOINED: [Change; 3] = [
     Change::Consolidate(0),
 ];
 
-const REFUSED_SMALL: Half = Err(Denied::Refused(Refused::BadSeparator));
+const REFUSED_SMALL: Half = Err(Unperformed::Denied(Denied::Refused(Refused::BadSeparator)));
 
-const NOT_BARE: Half = Err(Denied::Refused(Refused::NotBare));
+const NOT_BARE: Half = Err(Unperformed::Denied(Denied::Refused(Refused::NotBare)));
 
-const STALE: Half = Err(Denied::Refused(Refused::Stale));
+const STALE: Half = Err(Unperformed::Denied(Denied::Refused(Refused::Stale)));
 
-const ABSENT: Half = Err(Denied::Refused(Refused::Absent));
+const ABSENT: Half = Err(Unperformed::Denied(Denied::Refused(Refused::Absent)));
 
-const FROZEN: Half = Err(Denied::Refused(Refused::Frozen));
+const FROZEN: Half = Err(Unperformed::Denied(Denied::Refused(Refused::Frozen)));
 
 /// Some steps on the tree of three leaves, a page, how much older the version is that was seen, and the
 /// answer.
 static HALVES: [(&[Change], u32, u64, Half); 20] = [
     // of three pairs two go to the new page, of five three; of three routes two
-    (&[], 3, 0, Ok((6, Pid(4)))),
-    (&FULL, 3, 0, Ok((7, Pid(4)))),
-    (&[Change::Consolidate(2)], 2, 0, Ok((3, Pid(4)))),
-    (&JOINED, 0, 0, Ok((3, Pid(4)))),
+    (&[], 3, 0, Ok((6, Some(Pid(4))))),
+    (&FULL, 3, 0, Ok((7, Some(Pid(4))))),
+    (&[Change::Consolidate(2)], 2, 0, Ok((3, Some(Pid(4))))),
+    (&JOINED, 0, 0, Ok((3, Some(Pid(4))))),
     // the record of a split, that of a term, and one of a pair
     (&[], 0, 0, NOT_BARE),
     (&[], 2, 0, NOT_BARE),
@@ -138,11 +148,11 @@ static HALVES: [(&[Change], u32, u64, Half); 20] = [
     (&MERGED, 1, 0, ABSENT),
     (&MARKED, 1, 0, FROZEN),
     // a page that has no term yet
-    (&SPLIT, 4, 0, Ok((8, Pid(5)))),
+    (&SPLIT, 4, 0, Ok((8, Some(Pid(5))))),
 ];
 
 /// Splits the page of one table at once, and of the other by steps, as one that saw it that much older.
-/// Returns the answer where both are alike.
+/// Returns what is looked at of the answer where both are alike.
 fn halved_alike(
     alloc: Global,
     table: Table<Global>,
@@ -152,10 +162,18 @@ fn halved_alike(
 ) -> Result<Option<Half>, NoMemory> {
     let (mut table, mut by_steps) = (table, by_steps);
     let version = Version(seen(&table, page).0.saturating_sub(older));
-    let answer = table.halve_at_once(alloc, Pid(page), version);
+    let action = Action::Halve {
+        page: Pid(page),
+        seen: version,
+    };
+    let answer = table.perform(alloc, action, None);
     let wanted = halve_by_steps(alloc, &mut by_steps, page, version)?;
     let are_same = answer == wanted && are_alike(&table, &by_steps);
-    Ok(if are_same { Some(answer) } else { None })
+    Ok(if are_same {
+        Some(half_of(answer))
+    } else {
+        None
+    })
 }
 
 #[test]
@@ -207,8 +225,8 @@ static TERMS: [(&[Change], u32, Option<u32>); 11] = [
     ),
 ];
 
-/// Names the page of one table in its parent at once, and of the other by steps. Returns the answer where
-/// both are alike.
+/// Names the page of one table in its parent at once, and of the other by steps. Returns the parent, if
+/// it was named, where both are alike.
 fn posted_alike(
     alloc: Global,
     table: Table<Global>,
@@ -216,10 +234,15 @@ fn posted_alike(
     child: u32,
 ) -> Result<Option<Option<Pid>>, NoMemory> {
     let (mut table, mut by_steps) = (table, by_steps);
-    let answer = table.add_term_at_once(Pid(child), Spare::new(alloc)?);
+    let (child, spare) = (Pid(child), Some(Spare::new(alloc)?));
+    let answer = table.perform(alloc, Action::AddTerm { child }, spare);
     let wanted = add_term_by_steps(alloc, &mut by_steps, child)?;
     let are_same = answer == wanted && are_alike(&table, &by_steps);
-    Ok(if are_same { Some(answer) } else { None })
+    Ok(if are_same {
+        Some(answer.ok().map(|done| done.page))
+    } else {
+        None
+    })
 }
 
 #[test]
@@ -263,7 +286,8 @@ fn a_full_table_splits_nothing(rt: HostRuntime) -> Result<(), Fail> {
     for (page, reason) in [(6, Refused::TableFull), (3, Refused::NotBare)] {
         let (table, by_steps) = (without_a_page_left(alloc)?, without_a_page_left(alloc)?);
         let answer = halved_alike(alloc, table, by_steps, page, 0)?;
-        assert_eq!(rt; answer, Some(Err(Denied::Refused(reason))), "page {page}");
+        let wanted = Err(Unperformed::Denied(Denied::Refused(reason)));
+        assert_eq!(rt; answer, Some(wanted), "page {page}");
     }
     Ok(())
 }
@@ -277,8 +301,12 @@ static TWO_PAIRS: [Change; 3] = [
 
 /// The version that a page begins with, how much older the one is that was seen, and the answer.
 static WORN: [(u64, u64, Half); 3] = [
-    (u64::MAX - 4, 0, Ok((2, Pid(1)))),
-    (u64::MAX - 3, 0, Err(Denied::Refused(Refused::Worn))),
+    (u64::MAX - 4, 0, Ok((2, Some(Pid(1))))),
+    (
+        u64::MAX - 3,
+        0,
+        Err(Unperformed::Denied(Denied::Refused(Refused::Worn))),
+    ),
     (u64::MAX - 3, 1, STALE),
 ];
 
@@ -400,9 +428,13 @@ fn is_halved_in<'a>(
 ) -> Result<bool, Fail> {
     let mut table = three_leaves(machine, ample)?;
     let before = table.peek(Pid(3));
-    match table.halve_at_once(heap, Pid(3), seen(&table, 3)) {
+    let action = Action::Halve {
+        page: Pid(3),
+        seen: seen(&table, 3),
+    };
+    match table.perform(heap, action, None) {
         Ok(_) => Ok(true),
-        Err(Denied::NoMemory) if table.peek(Pid(3)) == before => Ok(false),
+        Err(Unperformed::Denied(Denied::NoMemory)) if table.peek(Pid(3)) == before => Ok(false),
         Err(_) => Err("another answer".into()),
     }
 }

@@ -1,13 +1,13 @@
 //! A record at once is a look and one step, and a consolidation at once is a copy, the page made of
 //! it and one step. Drawn acts of these, and splits and terms at once between them, are those of steps.
 
-use crate::at_once::{Row, after_both, are_alike};
+use crate::at_once::{Answer, Row, after_both, are_alike, performed};
 use crate::halving::{add_term_by_steps, halve_by_steps};
 use crate::rest::{FREED, MARKED, MERGED, SPLIT, after, three_leaves};
 use bw_delta::{NoMemory, Spare};
 use bw_keys::{Config, Key, Pid, Version};
 use bw_step::Denied;
-use bw_table::{AtOnce, Go, Receipt, Refused, Table, View, Wished};
+use bw_table::{Action, Go, Receipt, Refused, Table, Unperformed, View, Wished};
 use linked_list_allocator::LocalHeap;
 use rand_core::{Rng, SeedableRng};
 use rand_pcg::Pcg32;
@@ -50,19 +50,19 @@ fn change_for(page: u32, key: Key, wished: Wished, found: Option<u64>) -> Option
     }
 }
 
-/// Walks to the key's leaf, looks, and takes the step. None where there is no leaf, and where the step
-/// is refused.
+/// Walks to the key's leaf, looks, and takes the step. It isn't done where there is no leaf, and where
+/// the step is refused.
 fn record_by_steps(
     alloc: Global,
     table: &mut Table<Global>,
     key: Key,
     wished: Wished,
-) -> Result<Option<AtOnce>, NoMemory> {
+) -> Result<Answer, NoMemory> {
     let Some(leaf) = walk(table, key) else {
-        return Ok(None);
+        return Ok(Err(Unperformed::StepByStep));
     };
     let Some(look) = table.look(leaf.pid, key) else {
-        return Ok(None);
+        return Ok(Err(Unperformed::StepByStep));
     };
     let looked = receipt!(looked look.at, key, look.found);
     let taken = match change_for(leaf.pid.0, key, wished, look.found) {
@@ -72,15 +72,10 @@ fn record_by_steps(
             table.install(step).ok()
         }
     };
-    let (Some(receipt), Some(view)) = (taken, table.peek(leaf.pid)) else {
-        return Ok(None);
-    };
-    Ok(Some(AtOnce {
-        page: leaf.pid,
-        receipt,
-        count: view.count,
-        depth: view.depth,
-    }))
+    Ok(match taken {
+        Some(receipt) => performed(table, leaf.pid, key, receipt),
+        None => Err(Unperformed::StepByStep),
+    })
 }
 
 /// Copies the page, makes it anew of the copy, and takes the step.
@@ -89,12 +84,19 @@ fn consolidate_by_steps(
     table: &mut Table<Global>,
     page: u32,
     version: Version,
-) -> Result<Result<Receipt, Denied>, NoMemory> {
-    let step = step_with(alloc, table, Change::Consolidate(page), (version, version))?;
-    match table.install(step) {
-        Ok(receipt) => Ok(Ok(receipt)),
-        Err(reason) => Ok(Err(Denied::Refused(reason))),
-    }
+) -> Result<Answer, NoMemory> {
+    let page = Pid(page);
+    let step = step_with(
+        alloc,
+        table,
+        Change::Consolidate(page.0),
+        (version, version),
+    )?;
+    let low = table.peek(page).map(|view| view.low);
+    Ok(match table.install(step) {
+        Ok(receipt) => performed(table, page, low.unwrap_or(0), receipt),
+        Err(reason) => Err(Unperformed::Denied(Denied::Refused(reason))),
+    })
 }
 
 static ROWS: [Row; 14] = [
@@ -203,10 +205,12 @@ static ROWS: [Row; 14] = [
 ];
 
 /// Returns what is done at once, and whether the step leaves the same table.
-fn recorded(alloc: Global, row: &Row) -> Result<(Option<AtOnce>, bool), Fail> {
+fn recorded(alloc: Global, row: &Row) -> Result<(Answer, bool), Fail> {
     let by_steps = after_both(alloc, row.before, row.steps)?;
     let mut table = after(alloc, row.before)?;
-    let done = table.record_at_once(row.key, row.wished, Spare::new(alloc)?);
+    let (key, wished) = (row.key, row.wished);
+    let spare = Some(Spare::new(alloc)?);
+    let done = table.perform(alloc, Action::Record { key, wished }, spare);
     Ok((done, are_alike(&table, &by_steps)))
 }
 
@@ -265,16 +269,17 @@ fn with_records(
     Ok(table)
 }
 
-/// Carries the wish for key 6 out in one table at once, and in the other by steps. Returns what was done
+/// Carries the wish for key 6 out in one table at once, and in the other by steps. Returns the answer
 /// where both are alike.
 fn recorded_alike(
     alloc: Global,
     table: Table<Global>,
     by_steps: Table<Global>,
     wished: Wished,
-) -> Result<Option<Option<AtOnce>>, NoMemory> {
+) -> Result<Option<Answer>, NoMemory> {
     let (mut table, mut by_steps) = (table, by_steps);
-    let done = table.record_at_once(6, wished, Spare::new(alloc)?);
+    let spare = Some(Spare::new(alloc)?);
+    let done = table.perform(alloc, Action::Record { key: 6, wished }, spare);
     let wanted = record_by_steps(alloc, &mut by_steps, 6, wished)?;
     let are_same = done == wanted && are_alike(&table, &by_steps);
     Ok(if are_same { Some(done) } else { None })
@@ -288,7 +293,7 @@ fn a_leaf_takes_64_records_and_as_many_as_it_has_versions(rt: HostRuntime) -> Re
         let by_steps = with_records(alloc, Version(*version), *records)?;
         let done = recorded_alike(alloc, table, by_steps, *wished)?;
         assert_eq!(rt;
-            done.map(|done| done.is_some()),
+            done.map(|done| done.is_ok()),
             Some(*is_done),
             "{records} records"
         );
@@ -319,9 +324,9 @@ static ANEW: [(&[Change], u32, u64, Option<Refused>); 13] = [
 ];
 
 /// Returns the receipt of the page's consolidation, or the refusal.
-fn answer_for(page: u32, refused: Option<Refused>) -> Result<Receipt, Denied> {
+fn answer_for(page: u32, refused: Option<Refused>) -> Result<Receipt, Unperformed> {
     match refused {
-        Some(reason) => Err(Denied::Refused(reason)),
+        Some(reason) => Err(Unperformed::Denied(Denied::Refused(reason))),
         None => Ok(Receipt::Shaped {
             kind: bw_table::Kind::Consolidate,
             page: Pid(page),
@@ -331,20 +336,28 @@ fn answer_for(page: u32, refused: Option<Refused>) -> Result<Receipt, Denied> {
 }
 
 /// Consolidates the page of one table at once, and of the other by steps, as one that saw it that much
-/// older. Returns the answer where both are alike.
+/// older. Returns the receipt, or the refusal, where both are alike.
 fn consolidated_alike(
     alloc: Global,
     table: Table<Global>,
     by_steps: Table<Global>,
     page: u32,
     older: u64,
-) -> Result<Option<Result<Receipt, Denied>>, NoMemory> {
+) -> Result<Option<Result<Receipt, Unperformed>>, NoMemory> {
     let (mut table, mut by_steps) = (table, by_steps);
     let version = Version(seen(&table, page).0.saturating_sub(older));
-    let answer = table.consolidate_at_once(alloc, Pid(page), version);
+    let action = Action::Consolidate {
+        page: Pid(page),
+        seen: version,
+    };
+    let answer = table.perform(alloc, action, None);
     let wanted = consolidate_by_steps(alloc, &mut by_steps, page, version)?;
     let are_same = answer == wanted && are_alike(&table, &by_steps);
-    Ok(if are_same { Some(answer) } else { None })
+    Ok(if are_same {
+        Some(answer.map(|done| done.receipt))
+    } else {
+        None
+    })
 }
 
 #[test]
@@ -387,9 +400,13 @@ fn is_consolidated_in<'a>(
 ) -> Result<bool, Fail> {
     let mut table = three_leaves(machine, ample)?;
     let before = table.peek(Pid(0));
-    match table.consolidate_at_once(heap, Pid(0), seen(&table, 0)) {
+    let action = Action::Consolidate {
+        page: Pid(0),
+        seen: seen(&table, 0),
+    };
+    match table.perform(heap, action, None) {
         Ok(_) => Ok(true),
-        Err(Denied::NoMemory) if table.peek(Pid(0)) == before => Ok(false),
+        Err(Unperformed::Denied(Denied::NoMemory)) if table.peek(Pid(0)) == before => Ok(false),
         Err(_) => Err("another answer".into()),
     }
 }
@@ -479,11 +496,14 @@ impl Twins {
     /// Carries out a wish, and consolidates the leaf where its chain is long then. Returns whether the
     /// tables answer alike, and as the map does.
     fn record(&mut self, alloc: Global, chain: u8, key: Key, wished: Wished) -> Result<bool, Fail> {
-        let done = self.at_once.record_at_once(key, wished, Spare::new(alloc)?);
+        let spare = Some(Spare::new(alloc)?);
+        let done = self
+            .at_once
+            .perform(alloc, Action::Record { key, wished }, spare);
         if done != record_by_steps(alloc, &mut self.by_steps, key, wished)? {
             return Ok(false);
         }
-        let Some(done) = done else {
+        let Ok(done) = done else {
             return Ok(true);
         };
         let wanted = wanted(&self.map, key, wished);
@@ -499,24 +519,33 @@ impl Twins {
 
     /// Consolidates a page, and returns whether the tables answer alike.
     fn consolidate(&mut self, alloc: Global, page: u32, version: Version) -> Result<bool, Fail> {
-        let answer = self.at_once.consolidate_at_once(alloc, Pid(page), version);
+        let action = Action::Consolidate {
+            page: Pid(page),
+            seen: version,
+        };
+        let answer = self.at_once.perform(alloc, action, None);
         Ok(answer == consolidate_by_steps(alloc, &mut self.by_steps, page, version)?)
     }
 
     /// Splits a page in half, and returns whether the tables answer alike.
     fn halve(&mut self, alloc: Global, page: u32, version: Version) -> Result<bool, Fail> {
-        let answer = self.at_once.halve_at_once(alloc, Pid(page), version);
+        let action = Action::Halve {
+            page: Pid(page),
+            seen: version,
+        };
+        let answer = self.at_once.perform(alloc, action, None);
         self.halved = self.halved.saturating_add(u32::from(answer.is_ok()));
         Ok(answer == halve_by_steps(alloc, &mut self.by_steps, page, version)?)
     }
 
     /// Names a page in its parent, and returns whether the tables answer alike.
     fn post(&mut self, alloc: Global, child: u32) -> Result<bool, Fail> {
-        let parent = self
+        let (child, spare) = (Pid(child), Some(Spare::new(alloc)?));
+        let answer = self
             .at_once
-            .add_term_at_once(Pid(child), Spare::new(alloc)?);
-        self.posted = self.posted.saturating_add(u32::from(parent.is_some()));
-        Ok(parent == add_term_by_steps(alloc, &mut self.by_steps, child)?)
+            .perform(alloc, Action::AddTerm { child }, spare);
+        self.posted = self.posted.saturating_add(u32::from(answer.is_ok()));
+        Ok(answer == add_term_by_steps(alloc, &mut self.by_steps, child)?)
     }
 
     /// Takes a drawn step on both tables, and returns whether they answer alike, and as the map does.

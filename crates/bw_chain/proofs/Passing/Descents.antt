@@ -14,10 +14,10 @@ use Rattle.bw_delta.specs.Sound.{IsWellBuilt, Joins}
 use Rattle.bw_delta.proofs.Rises.{rises-lower, below_all}
 use Rattle.bw_delta.proofs.Stands.{range_not_empty, end_among_keys}
 use Rattle.bw_chain.specs.Ascends.{IsAscending}
-use Rattle.bw_chain.specs.Changes.{entries_by}
+use Rattle.bw_chain.specs.Changes.{changed, entries_by}
 use Rattle.bw_chain.specs.Laws.{RiseInRange, AreCutAtHigh}
 use Rattle.bw_chain.specs.Passing.Cuts.{IsUncut}
-use Rattle.bw_chain.specs.Passing.Edited.{IsFalling, edited_below}
+use Rattle.bw_chain.specs.Passing.Edited.{IsFalling, NotesBelow, edited_below}
 use Rattle.bw_chain.specs.declared.entries.change.Change.{Change}
 use Rattle.bw_chain.specs.declared.entries.change.Change.TheVariants.{Put, Without, Below, Nothing}
 use Rattle.bw_chain.proofs.Ascending.{ascend_from_rise}
@@ -59,6 +59,14 @@ module _ {X : Type 0} (own : Listed → List (ℕ × X)) (change : Delta → Cha
 
   pub downward : (end : ℕ) (delta : Delta) (whole chain : Records) → whole ≡ above delta chain → IsWellBuilt whole → end ≤ end_of (fences whole).high → Downward end delta chain
   downward end delta whole chain is built within = under_record end delta chain (rw is at built) (rw is at within)
+
+  -- the record's change, noted among the edits
+  pub noted_above : (end : ℕ) (delta : Delta) (whole chain : Records) (by : Change X) (old new : List (ℕ × Option X)) → whole ≡ above delta chain → Downward end delta chain → by ≡ change delta → NotesBelow end (changed by) old new
+      → edited_below end new (entries_by own change chain) ≡ edited_below end old (entries_by own change whole)
+  noted_above end delta whole chain by old new is down same notes =
+      notes (entries_by own change chain) down.ascending
+      ∙ ap (λ (c : Change X). edited_below end old (changed c (entries_by own change chain))) same
+      ∙ ap (λ (r : Records). edited_below end old (entries_by own change r)) (sym is)
 
   pub record Sideward (end : ℕ) (whole : Records) (merging : Merging) (left right : Records) (edits : List (ℕ × Option X)) : Type 0 where
     pub built_left : IsWellBuilt left

@@ -10,6 +10,7 @@ ghost use Rattle.bw_delta.specs.Sound.{page_for};
 ghost use Rattle.bw_table.specs.SlotFacts.{HasSoundChain, upper_summary};
 ghost use Rattle.bw_chain.specs.InPlaces.{delta_for};
 ghost use Rattle.bw_chain.specs.Pages.Halves.{listed_key_at};
+ghost use Rattle.bw_step.specs.declared.action.Action.TheVariants as actions;
 ghost use Rattle.bw_step.specs.declared.view.Stage.TheVariants.{Posted};
 ghost use Rattle.bw_step.specs.declared.receipt.Kind.TheVariants as kinds;
 ghost use Rattle.bw_step.specs.declared.receipt.Receipt.TheVariants.{Shaped};
@@ -18,6 +19,7 @@ ghost use Rattle.bw_step.specs.Tellings.{telling_of};
 ghost use Rattle.bw_law.specs.Laws.{IsLeafOf};
 ghost use Rattle.bw_law.specs.Slots.{slot_in, chain_in, pairs_in, routes_in};
 ghost use Rattle.bw_law.specs.Tables.{TellsMap, slot_at, number_of, book_with};
+ghost use Rattle.bw_table.specs.Actions.{Performs};
 ghost use Rattle.bw_table.specs.InPlaces.{IsPostedLeaf, MayCut, MayPostAtOnce, MaySplitAtOnce, TakesCut, TakesInPlace, IsSplitAtOnce, IsSplitUnder, IsPosted, HasNoTerm, TakesTerm, slot_cut, IsDoneAtOnce, count_after, slot_with, slots_with, slots_posted_at_once, slots_split_at_once, receipt_for};
 
 use crate::book::number_of;
@@ -26,28 +28,29 @@ use crate::table::Table;
 use bw_chain::{InPlace, change_in_place, cut_in_place, route_in_place, upper_part_of};
 use bw_delta::{Base, Delta};
 use bw_keys::{Fence, Key, Pid, Wished};
-use bw_step::{AtOnce, Book, Receipt, Stage, Summary};
+use bw_step::{Book, Performed, Receipt, Stage, Summary, Unperformed};
 use std::alloc::Allocator;
 
 impl<A: Allocator + Copy> Table<A> {
     /// Carries out the wish for a key and consolidates its leaf, as a change and a consolidation
-    /// one behind the other do. Returns `None` and changes nothing where a page on the way to the
-    /// leaf is in the middle of a split or a merge, where more than the record of its split stands
-    /// on the leaf, where a number is used up, and where memory is short.
+    /// one behind the other do. It isn't done where a page on the way to the leaf is in the middle
+    /// of a split or a merge, where more than the record of its split stands on the leaf, where a
+    /// number is used up, and where memory is short.
     #[inline(always)]
-    pub fn change_at_once(&mut self, key: Key, wished: Wished) -> Option<AtOnce>
-        ensures done { IfSome result (λ done.
-            IsDoneAtOnce self.old done.page.0 key wished done.receipt self.new) }
-        ensures map { IfSome result (λ done.
-            TellsMap (telling_of done.receipt) self.old.slots self.new.slots) }
-        ensures leaf { IfSome result (λ done. IsLeafOf self.old key done.page.0) }
-        ensures count { IfSome result (λ done. done.count ≡ (slot_at self.new done.page.0).count) }
-        ensures depth { IfSome result (λ done. done.depth ≡ (slot_at self.new done.page.0).depth) }
-        ensures unchanged { IfNone result (self.new ≡ self.old) }
+    pub(super) fn perform_change(
+        &mut self,
+        key: Key,
+        wished: Wished,
+    ) -> Result<Performed, Unperformed>
+        ensures { Performs (actions.Change key wished) self.old result self.new }
     {
-        let page = self.page_at_rest(key)?;
-        let receipt = self.change_at_rest(page, key, wished)?;
-        Some(self.at_once(page, receipt))
+        let Some(page) = self.page_at_rest(key) else {
+            return Err(Unperformed::StepByStep);
+        };
+        let Some(receipt) = self.change_at_rest(page, key, wished) else {
+            return Err(Unperformed::StepByStep);
+        };
+        Ok(self.performed(page, key, receipt))
     }
 
     /// The same on a page, without a walk. Returns `None` and changes nothing where it isn't such a
@@ -59,6 +62,7 @@ impl<A: Allocator + Copy> Table<A> {
             IsDoneAtOnce self.old page.0 key wished receipt self.new) }
         ensures map { IfSome result (λ receipt.
             TellsMap (telling_of receipt) self.old.slots self.new.slots) }
+        ensures leaf { IfSome result (λ _. IsLeafOf self.old key page.0) }
         ensures unchanged { IfNone result (self.new ≡ self.old) }
     {
         if !self.slot(page)?.is_posted_leaf(key) {
@@ -76,6 +80,7 @@ impl<A: Allocator + Copy> Table<A> {
             IsDoneAtOnce self.old page.0 key wished receipt self.new) }
         ensures map { IfSome result (λ receipt.
             TellsMap (telling_of receipt) self.old.slots self.new.slots) }
+        ensures leaf { IfSome result (λ _. IsLeafOf self.old key page.0) }
         ensures unchanged { IfNone result (self.new ≡ self.old) }
     {
         if !self.can_count_on(page) {

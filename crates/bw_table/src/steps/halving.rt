@@ -1,16 +1,18 @@
 //! A page split in half where it lies, and the new page named in its parent: each one step.
 
-ghost use Rattle.std.specs.Prelude.{◌≡◌, None, Some, is_none, unwrap_or, option_copied, ℕ, true, ◌<◌, IfOk, IfErr, IfSome, IfNone, OnOk, OnErr};
+ghost use Rattle.std.specs.Prelude.{◌≡◌, None, Some, is_none, unwrap_or, option_copied, ℕ, true, ◌<◌, IfOk, IfErr, IfSome, IfNone, OnOk};
 ghost use Rattle.bw_delta.specs.Records.{Records, depth};
 ghost use Rattle.bw_delta.specs.Sound.{page_for};
 ghost use Rattle.bw_keys.specs.Reasons.{first_reason};
 ghost use Rattle.bw_chain.specs.Pages.Halves.{listed_middle_key};
+ghost use Rattle.bw_step.specs.declared.action.Action.TheVariants as actions;
 ghost use Rattle.bw_step.specs.Stages.{is_in_row};
 ghost use Rattle.bw_law.specs.Refusals.{refusal};
 ghost use Rattle.bw_law.specs.Slots.{SlotValue, chain_in};
 ghost use Rattle.bw_law.specs.Tables.{slot_at};
-ghost use Rattle.bw_table.specs.Answers.{AnswersFirst, IsDenialFor};
-ghost use Rattle.bw_table.specs.InPlaces.{IsHalvedAtOnce, IsPostedByOne, half_reasons, halving, halving_reasons};
+ghost use Rattle.bw_table.specs.Actions.{Performs};
+ghost use Rattle.bw_table.specs.Answers.{AnswersFirst};
+ghost use Rattle.bw_table.specs.InPlaces.{half_reasons, halving, halving_reasons};
 ghost use Rattle.bw_table.specs.SlotFacts.{HasSoundChain};
 
 use crate::slot::Slot;
@@ -19,30 +21,26 @@ use crate::table::Table;
 use bw_chain::{halve, middle_key};
 use bw_delta::{Base, Node, Spare};
 use bw_keys::{Key, Pid, Version};
-use bw_step::{Denied, Go, Receipt, Refused, Split, Stage, Step, TermAdd, View};
+use bw_step::{Denied, Go, Performed, Refused, Split, Stage, Step, TermAdd, Unperformed, View};
 use std::alloc::Allocator;
 
 impl<A: Allocator + Copy> Table<A> {
-    /// Splits the page in half where it lies, if it still has the version that was seen. Returns the
-    /// separator and the new page. No memory is taken for a split that is refused.
-    pub fn halve_at_once(
+    /// Splits the page in half where it lies, if it still has the version that was seen. No memory
+    /// is taken for a split that is refused.
+    pub(super) fn perform_halving(
         &mut self,
         alloc: A,
         page: Pid,
         seen: Version,
-    ) -> Result<(Key, Pid), Denied>
-        ensures done { IfOk result (λ term.
-            IsHalvedAtOnce self.old page.0 seen.0 term self.new) }
-        ensures denied { IfErr result
-            (IsDenialFor (first_reason (half_reasons self.old page.0 seen.0))) }
-        ensures unchanged { OnErr result (self.new ≡ self.old) }
+    ) -> Result<Performed, Unperformed>
+        ensures { Performs (actions.Halve page seen) self.old result self.new }
     {
         let base = match self.page_to_halve(page, seen) {
             Ok(base) => base,
-            Err(reason) => return Err(Denied::Refused(reason)),
+            Err(reason) => return Err(Unperformed::Denied(Denied::Refused(reason))),
         };
         let (Ok((separator, base)), Ok(spare)) = (halve(alloc, base), Spare::new(alloc)) else {
-            return Err(Denied::NoMemory);
+            return Err(Unperformed::Denied(Denied::NoMemory));
         };
         let receipt = self.split(Split {
             page,
@@ -51,13 +49,7 @@ impl<A: Allocator + Copy> Table<A> {
             base,
             spare,
         });
-        match receipt {
-            Receipt::Shaped {
-                other: Some(new),
-                ..
-            } => Ok((separator, new)),
-            _ => unreachable!(),
-        }
+        Ok(self.performed(page, separator, receipt))
     }
 
     /// The base of the page, if the page may be split in half, or why it may not.
@@ -135,19 +127,24 @@ impl<A: Allocator + Copy> Slot<A> {
 }
 
 impl<A: Allocator + Copy> Table<A> {
-    /// Names an unposted page in the page of the next level whose range holds its low, and returns that
-    /// page. Returns `None` and changes nothing where there is no such page, and where the term is
-    /// refused.
-    pub fn add_term_at_once(&mut self, child: Pid, spare: Spare<A>) -> Option<Pid>
-        ensures done { IfSome result (λ parent.
-            IsPostedByOne self.old parent child self.new) }
-        ensures unchanged { IfNone result (self.new ≡ self.old) }
+    /// Names an unposted page in the page of the next level whose range holds its low. It isn't
+    /// done without the spare memory, where there is no such page, and where the term is refused.
+    pub(super) fn perform_term(
+        &mut self,
+        child: Pid,
+        spare: Option<Spare<A>>,
+    ) -> Result<Performed, Unperformed>
+        ensures { Performs (actions.AddTerm child) self.old result self.new }
     {
-        let view = self.peek(child)?;
+        let (Some(spare), Some(view)) = (spare, self.peek(child)) else {
+            return Err(Unperformed::StepByStep);
+        };
         if view.stage != Stage::Unposted {
-            return None;
+            return Err(Unperformed::StepByStep);
         }
-        let parent = self.page_above(view)?;
+        let Some(parent) = self.page_above(view) else {
+            return Err(Unperformed::StepByStep);
+        };
         let step = Step::TermAdd(TermAdd {
             parent: parent.pid,
             parent_seen: parent.version,
@@ -156,8 +153,8 @@ impl<A: Allocator + Copy> Table<A> {
             spare,
         });
         match self.install(step) {
-            Ok(_) => Some(parent.pid),
-            Err(_) => None,
+            Ok(receipt) => Ok(self.performed(parent.pid, view.low, receipt)),
+            Err(_) => Err(Unperformed::StepByStep),
         }
     }
 

@@ -5,7 +5,7 @@ ghost use Rattle.std.specs.Prelude.{◌≡◌, ◌≢◌, ◌+◌, ◌<◌, ◌^
 ghost use Rattle.bw_delta.specs.declared.chain.Delta.TheVariants as deltas;
 ghost use Rattle.bw_law.specs.Slots.{slot_in};
 ghost use Rattle.bw_law.specs.Tables.{slot_at};
-ghost use Rattle.bw_table.specs.InPlaces.{IsBare, IsLeftOf, IsMergedUnder, IsOver, LosesTerm, Meets, MayMerge, MayMergeUnder, MergesIn, slot_joined, slot_with, slots_merged_at_once};
+ghost use Rattle.bw_table.specs.InPlaces.{FitsInto, IsBare, IsLeftOf, IsMergedUnder, IsOver, LosesTerm, Meets, MayMerge, MayMergeUnder, MergesIn, slot_joined, slot_with, slots_merged_at_once};
 
 use crate::slot::Slot;
 use crate::table::Table;
@@ -18,13 +18,13 @@ use std::mem;
 impl<A: Allocator + Copy> Table<A> {
     /// Merges a page into the page on its left and takes its term out of the parent, and
     /// consolidates these two, as the five steps one behind the other do. Returns the page on the
-    /// left, or returns
-    /// `None` and changes nothing where one of the three isn't a posted page without records, where the
+    /// left, or returns `None` and changes nothing where one of the three isn't a posted page without records, where the
     /// parent isn't above the two and begins before the page, where the entries of both are too
     /// many for a page, where a number is used up, and where memory is short.
     pub fn merge_under(&mut self, parent: Pid, page: Pid) -> Option<Pid>
         ensures done { IfSome result (λ left.
             IsMergedUnder self.old parent.0 page.0 left self.new) }
+        ensures fanout { IfSome result (λ left. FitsInto self.old left.0 page.0) }
         ensures unchanged { IfNone result (self.new ≡ self.old) }
     {
         let left = self.left_under(parent, page)?;
@@ -66,7 +66,7 @@ impl<A: Allocator + Copy> Table<A> {
 impl<A: Allocator + Copy> Slot<A> {
     /// Whether the page on the left takes in the other under this one.
     fn may_merge(&self, into: &Slot<A>, slot: &Slot<A>, page: Pid, most: u64) -> bool
-        ensures { IsTrue result → MayMerge self.now into.now slot.now page.0 }
+        ensures { IsTrue result → MayMerge self.now into.now slot.now page.0 most }
     {
         self.is_bare()
             && into.is_bare()
@@ -93,7 +93,7 @@ impl<A: Allocator + Copy> Slot<A> {
 
     /// Whether the page links to the other, and both together have no more entries than that.
     fn is_left_of(&self, slot: &Slot<A>, page: Pid, most: u64) -> bool
-        ensures { IsTrue result → IsLeftOf self.now slot.now page.0 }
+        ensures { IsTrue result → IsLeftOf self.now slot.now page.0 most }
     {
         self.summary.right == Some(page)
             && self.summary.count <= most

@@ -1,13 +1,13 @@
 //! A look for a key and the record of its change, or a page made anew where it lies: each one step.
 
-ghost use Rattle.std.specs.Prelude.{◌≡◌, ◌++◌, ◌∷◌, [], option_map, IfSome, IfNone, IfOk, IfErr, OnErr};
+ghost use Rattle.std.specs.Prelude.{◌≡◌, ◌++◌, ◌∷◌, [], option_map};
 ghost use Rattle.bw_step.specs.ProposalView.{proposal_of};
+ghost use Rattle.bw_step.specs.declared.action.Action.TheVariants as actions;
 ghost use Rattle.bw_step.specs.declared.receipt.Receipt.TheVariants.{Looked};
-ghost use Rattle.bw_law.specs.Laws.{IsLeafOf};
-ghost use Rattle.bw_law.specs.Refusals.{open_reasons, refusal, worn};
-ghost use Rattle.bw_law.specs.Tables.{slot_at};
-ghost use Rattle.bw_table.specs.Answers.{AnswersFirst, IsDenialFor};
-ghost use Rattle.bw_table.specs.InPlaces.{IsRecordedAtOnce, IsConsolidatedAtOnce, consolidating, step_for};
+ghost use Rattle.bw_law.specs.Refusals.{open_reasons, worn};
+ghost use Rattle.bw_table.specs.Actions.{Performs};
+ghost use Rattle.bw_table.specs.Answers.{AnswersFirst};
+ghost use Rattle.bw_table.specs.InPlaces.{step_for};
 
 use crate::slot::Slot;
 use crate::steps::shared::check_open;
@@ -15,81 +15,67 @@ use crate::table::Table;
 use bw_delta::Spare;
 use bw_keys::{Key, Pid, Version, Wished};
 use bw_step::{
-    AtOnce, Consolidate, CopyFault, Delete, Denied, Insert, Look, Modify, Receipt, Refused, Step,
-    View,
+    Consolidate, CopyFault, Delete, Denied, Insert, Look, Modify, Performed, Receipt, Refused,
+    Step, Unperformed, View,
 };
 use std::alloc::Allocator;
 
 impl<A: Allocator + Copy> Table<A> {
-    /// Looks the key up, and puts the record of the change that is wished on its leaf. Returns
-    /// `None` and changes nothing where a page on the way to the leaf is in the middle of a split or a
-    /// merge, and where the leaf takes no record.
+    /// Looks the key up, and puts the record of the change that is wished on its leaf. It isn't
+    /// done without the spare memory, where a page on the way to the leaf is in the middle of a
+    /// split or a merge, and where the leaf takes no record.
     #[inline(always)]
-    pub fn record_at_once(&mut self, key: Key, wished: Wished, spare: Spare<A>) -> Option<AtOnce>
-        ensures done { IfSome result (λ done.
-            IsRecordedAtOnce self.old done.page.0 key wished done.receipt self.new) }
-        ensures leaf { IfSome result (λ done. IsLeafOf self.old key done.page.0) }
-        ensures count { IfSome result (λ done. done.count ≡ (slot_at self.new done.page.0).count) }
-        ensures depth { IfSome result (λ done. done.depth ≡ (slot_at self.new done.page.0).depth) }
-        ensures unchanged { IfNone result (self.new ≡ self.old) }
+    pub(super) fn perform_record(
+        &mut self,
+        key: Key,
+        wished: Wished,
+        spare: Option<Spare<A>>,
+    ) -> Result<Performed, Unperformed>
+        ensures { Performs (actions.Record key wished) self.old result self.new }
     {
-        let leaf = self.leaf_at_rest(key)?;
-        let look = self.look(leaf.pid, key)?;
+        let Some(spare) = spare else {
+            return Err(Unperformed::StepByStep);
+        };
+        let Some(leaf) = self.leaf_at_rest(key) else {
+            return Err(Unperformed::StepByStep);
+        };
+        let Some(look) = self.look(leaf.pid, key) else {
+            return Err(Unperformed::StepByStep);
+        };
         let receipt = match step_for(leaf, key, wished, look.found, spare) {
             None => receipt_of(key, look),
             Some(step) => match self.install(step) {
                 Ok(receipt) => receipt,
-                Err(_) => return None,
+                Err(_) => return Err(Unperformed::StepByStep),
             },
         };
-        Some(self.at_once(leaf.pid, receipt))
-    }
-
-    /// What was done at once on a page.
-    #[inline(always)]
-    pub(super) fn at_once(&self, page: Pid, receipt: Receipt) -> AtOnce
-        ensures page { result.page ≡ page }
-        ensures receipt { result.receipt ≡ receipt }
-        ensures count { result.count ≡ (slot_at self.now page.0).count }
-        ensures depth { result.depth ≡ (slot_at self.now page.0).depth }
-    {
-        let (count, depth) = match self.slot(page) {
-            Some(slot) => (slot.summary.count, slot.summary.depth),
-            None => (0, 0),
-        };
-        AtOnce {
-            page,
-            receipt,
-            count,
-            depth,
-        }
+        Ok(self.performed(leaf.pid, key, receipt))
     }
 
     /// Consolidates the page where it lies, if it still has the version that was seen. No memory is
     /// taken for a step that is refused.
-    pub fn consolidate_at_once(
+    pub(super) fn perform_consolidation(
         &mut self,
         alloc: A,
         page: Pid,
         seen: Version,
-    ) -> Result<Receipt, Denied>
-        ensures done { IfOk result (IsConsolidatedAtOnce self.old page.0 seen.0 self.new) }
-        ensures denied { IfErr result
-            (IsDenialFor (refusal self.old (consolidating self.old page.0 seen.0))) }
-        ensures unchanged { OnErr result (self.new ≡ self.old) }
+    ) -> Result<Performed, Unperformed>
+        ensures { Performs (actions.Consolidate page seen) self.old result self.new }
     {
         let Some(slot) = self.slot(page) else {
-            return Err(Denied::Refused(Refused::Absent));
+            return Err(Unperformed::Denied(Denied::Refused(Refused::Absent)));
         };
         if let Err(reason) = may_be_made_anew(slot, seen) {
-            return Err(Denied::Refused(reason));
+            return Err(Unperformed::Denied(Denied::Refused(reason)));
         }
+        let key = slot.low();
         let base = match self.consolidated_page(alloc, page, seen) {
             Ok(base) => base,
-            Err(CopyFault::NoMemory) => return Err(Denied::NoMemory),
+            Err(CopyFault::NoMemory) => return Err(Unperformed::Denied(Denied::NoMemory)),
             Err(CopyFault::Absent | CopyFault::Stale) => unreachable!(),
         };
-        Ok(self.consolidate(Consolidate { page, seen, base }))
+        let receipt = self.consolidate(Consolidate { page, seen, base });
+        Ok(self.performed(page, key, receipt))
     }
 }
 

@@ -1,6 +1,6 @@
 //! Why the program ends without its result, and the statuses with which it ends.
 
-ghost use Rattle.std.specs.Prelude.{◌≡◌, ◌⊎◌};
+ghost use Rattle.std.specs.Prelude.{◌≡◌, ◌<◌, ◌⊎◌};
 ghost use Rattle.bw_trace.specs.declared.program.fault.Fault.TheVariants as program_fault;
 ghost use Rattle.bw_trace.specs.Statuses.{fault_of, film_fault_of, status_of};
 
@@ -48,7 +48,8 @@ pub(crate) enum Fault {
 
 impl Fault {
     pub(crate) fn status(&self) -> u8
-        ensures { result ≡ status_of self.now }
+        ensures status { result ≡ status_of self.now }
+        ensures failed { 0 < result }
     {
         match self {
             Fault::Text(TextFault::Row(_, _) | TextFault::Read)

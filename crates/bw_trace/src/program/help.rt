@@ -29,8 +29,8 @@ Where row N can't be read, 'bwtree: row N: PART' names its first bad part:
 Where a number is out of an option's range, 'bwtree: bad NAME' names the option.
 
 Replies: inserted, present V (put left V there), replaced V, removed V, nokey, found V, none,
-cleared N. 'inserted (table full)' wants more --pages. In the end standard error counts the rows
-with such a fault, and meanwhile, on a terminal, says each second how many rows are done.
+cleared N. 'inserted (table full)' wants more --pages. On a terminal standard error says each second
+how many rows are done, and in the end how many have such a fault.
 
 Example:
   bwtree make --rows 20 | bwtree run --replies";

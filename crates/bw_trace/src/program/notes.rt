@@ -1,4 +1,4 @@
-//! What standard error says of a run that came to its end.
+//! What is said of a run that came to its end, where somebody watches.
 
 use bw_run::Finished;
 use bw_work::Fault;
@@ -18,12 +18,12 @@ const NOTES: [(Fault, &str); 5] = [
 ];
 
 /// Writes a line for each fault that stands beside replies, with the number of its rows.
-pub(crate) fn write_notes<E: Write>(faults: &mut E, finished: &Finished) -> io::Result<()> {
+pub(crate) fn write_notes<N: Write>(notes: &mut N, finished: &Finished) -> io::Result<()> {
     for (fault, note) in NOTES {
         match finished.rows_with(fault) {
             0 => {}
-            1 => writeln!(faults, "1 row {note}")?,
-            rows => writeln!(faults, "{rows} rows {note}")?,
+            1 => writeln!(notes, "1 row {note}")?,
+            rows => writeln!(notes, "{rows} rows {note}")?,
         }
     }
     Ok(())

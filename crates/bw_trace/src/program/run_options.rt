@@ -16,9 +16,9 @@ pub(crate) struct RunOptions {
     pub setting: Setting,
     /// Whether the replies are printed, before the leaves.
     pub replies: bool,
-    /// Whether the history is printed, in place of all else.
+    /// Whether the history is printed, in place of all else, the replies too.
     pub history: bool,
-    /// Whether standard error has faults alone.
+    /// Whether nothing is noted of a run that ends well, though somebody watches.
     pub quiet: bool,
 }
 
@@ -42,9 +42,12 @@ pub(crate) fn run_command<'a>(alloc: Global) -> Result<Command<'a>, AllocError> 
     let run = Command::new(alloc, "run")
         .about("Runs the trace on standard input")
         .after_help(OF_RUN);
-    let replies = flag(alloc, "replies", "Prints the replies, too");
     with_setting(alloc, run)?
-        .arg(replies.conflicts_with("history")?)?
+        .arg(flag(alloc, "replies", "Prints the replies, too"))?
         .arg(flag(alloc, "history", "Prints the history alone"))?
-        .arg(flag(alloc, "quiet", "Says nothing of a run that ends well"))
+        .arg(flag(
+            alloc,
+            "quiet",
+            "Says nothing of a run that ends well, not even on a terminal",
+        ))
 }

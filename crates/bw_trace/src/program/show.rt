@@ -21,14 +21,14 @@ use std::io::{BufWriter, Read, Write};
 use std::sync::Wait;
 use std::thread::Threads;
 
-/// Returns the table that the trace or the script leaves, and tells which lines of the script were
+/// Returns the table that the trace or the script leaves, and notes which lines of the script were
 /// refused.
-pub(crate) fn table_of<T: Threads + Wait + Sync + Send + Copy, R: Read + Drop, E: Write>(
+pub(crate) fn table_of<T: Threads + Wait + Sync + Send + Copy, R: Read + Drop, N: Write>(
     rt: T,
     alloc: Global,
     options: ShowOptions,
     input: R,
-    faults: &mut E,
+    notes: &mut N,
 ) -> Result<Table<Global>, Fault>
     ensures played { options.steps ≡ true → IfOk result IsPlayed }
     ensures done { options.steps ≡ false →
@@ -36,7 +36,7 @@ pub(crate) fn table_of<T: Threads + Wait + Sync + Send + Copy, R: Read + Drop, E
 {
     let after = usize::try_from(options.after.unwrap_or(u64::MAX)).unwrap_or(usize::MAX);
     if options.steps {
-        return played_table(alloc, input, after, faults);
+        return played_table(alloc, input, after, notes);
     }
     let Setting {
         config,

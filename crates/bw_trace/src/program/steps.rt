@@ -33,14 +33,14 @@ pub(crate) fn write_answers<R: Read + Drop, W: Write>(
     Ok(())
 }
 
-/// Plays the first lines of the script, this many of them, tells which of them were refused, and
+/// Plays the first lines of the script, this many of them, notes which of them were refused, and
 /// returns the table that they leave.
 #[tactic(auto, using(bw_scripts::proofs::Playing::stays_played))]
-pub(crate) fn played_table<R: Read + Drop, E: Write>(
+pub(crate) fn played_table<R: Read + Drop, N: Write>(
     alloc: Global,
     input: R,
     lines: usize,
-    faults: &mut E,
+    notes: &mut N,
 ) -> Result<Table<Global>, Fault>
     ensures { IfOk result IsPlayed }
 {
@@ -50,7 +50,7 @@ pub(crate) fn played_table<R: Read + Drop, E: Write>(
     let mut player = Player::new(alloc);
     for line in reader.lines(alloc).take(lines) {
         if let Some(answer) = take(&mut player, line)? {
-            tell_refusal(faults, player.lines(), &answer);
+            note_refusal(notes, player.lines(), &answer);
         }
     }
     Ok(player.into_table().ok_or(ScriptFault::NoTable)?)
@@ -71,8 +71,8 @@ fn take(player: &mut Player, line: io::Result<String>) -> Result<Option<Answer>,
     }
 }
 
-/// Tells the answer to the line with this number, where it says that the line changed nothing.
-fn tell_refusal<E: Write>(faults: &mut E, line: u64, answer: &Answer) {
+/// Notes the answer to the line with this number, where it says that the line changed nothing.
+fn note_refusal<N: Write>(notes: &mut N, line: u64, answer: &Answer) {
     match answer {
         Answer::BadConfig(_)
         | Answer::BadEntries
@@ -80,7 +80,7 @@ fn tell_refusal<E: Write>(faults: &mut E, line: u64, answer: &Answer) {
         | Answer::RefusalForetold(_, _)
         | Answer::OtherForetold(_)
         | Answer::Changed(_) => {
-            let _ = writeln!(faults, "line {line}: {answer}");
+            let _ = writeln!(notes, "line {line}: {answer}");
         }
         _ => {}
     }

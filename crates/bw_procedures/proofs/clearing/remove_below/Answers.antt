@@ -1,3 +1,4 @@
+use Rattle.bw_procedures.proofs.Parts.{earned_if_any}
 use Rattle.std.proofs.Common.{rules, ◌≡◌, ◌∷◌, [], ◌++◌, ◌+◌, ◌<◌, ◌∙◌, ℕ, drop, get_or, sym, arith}
 use Rattle.std.proofs.lemmas.List.{drop_more}
 use Rattle.bw_keys.specs.Ranges.{end_of}
@@ -30,3 +31,9 @@ loop-pair-preserved g c =
 
 pub returns-then-is_some-clause-follows : goal.returns-then-is_some-clause-follows
 returns-then-is_some-clause-follows g c = g.met.S.Steps.joins _ _ _ c.loop-pair.invariant.follows c.remove-one.ensures.follows
+
+pub returns-then-is_some-clause-grows : goal.returns-then-is_some-clause-grows
+returns-then-is_some-clause-grows g c = grow_then _ _ _ c.loop-pair.invariant.grows c.remove-one.ensures.grows
+
+pub returns-then-is_some-clause-fault : goal.returns-then-is_some-clause-fault
+returns-then-is_some-clause-fault g c = earned_if_any c.remove-one.result.fault _ _ (g.S.Steps.seen c.remove-one.new.steps) c.loop-pair.invariant.grows c.remove-one.ensures.fault

@@ -1,3 +1,5 @@
+use Rattle.bw_procedures.proofs.Parts.{within_fails}
+use Rattle.bw_procedures.proofs.Writes.{reshapes_none}
 use Rattle.std.proofs.Common.{refl}
 use Rattle.bw_procedures.proofs.Joining.{reshapes_and_costs}
 use Rattle.bw_procedures.proofs.Rounds.{reshapes_then, idles}
@@ -25,3 +27,15 @@ returns-in-Idle-clause-follows g c = g.met.S.Steps.joins _ _ _ c.rounds.invarian
 
 pub returns-then-is_spent-clause-follows : goal.returns-then-is_spent-clause-follows
 returns-then-is_spent-clause-follows g c = g.met.S.Steps.joins _ _ _ c.rounds.invariant.follows c.in_ok-round.ensures.follows
+
+pub rounds-init : goal.rounds-init
+rounds-init g c = record { follows = g.met.S.Steps.stays _; reshapes = reshapes_none _ }
+
+pub rounds-preserved : goal.rounds-preserved
+rounds-preserved g c = record { follows = g.met.S.Steps.joins _ _ _ c.rounds.invariant.follows c.in_ok-round.ensures.follows; reshapes = reshapes_then _ _ _ c.rounds.invariant.reshapes c.in_ok-round.ensures.round.0 }
+
+pub rounds-smaller : goal.rounds-smaller
+rounds-smaller g c = let round = rw c.in-Next.is at c.in_ok-round.ensures.round in round.2
+
+pub returns-in_err-round-clause-reshapes : goal.returns-in_err-round-clause-reshapes
+returns-in_err-round-clause-reshapes g c = within_fails _ _ _ _ _ _ _ c.from_residual.ensures.1 c.rounds.invariant.reshapes c.in_err-round.ensures.round

@@ -7,3 +7,6 @@ returns-clause-posted g c = λ posted. posted_costs c.args.page c.perform.result
 
 pub returns-clause-unposted : goal.returns-clause-unposted
 returns-clause-unposted g c = λ unposted. unposted_same c.args.page c.perform.result _ _ c.perform.ensures.seen (sym c.is_ok.ensures.value ∙ unposted)
+
+pub returns-clause-follows : goal.returns-clause-follows
+returns-clause-follows g c = c.perform.ensures.follows

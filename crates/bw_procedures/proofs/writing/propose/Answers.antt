@@ -1,3 +1,4 @@
+use Rattle.bw_procedures.proofs.Writes.{reshapes_none}
 use Rattle.std.proofs.Common.{arith}
 use Rattle.bw_procedures.proofs.Rounds.{reshapes_then}
 use Rattle.bw_procedures.proofs.Joining.{attempt_fails}
@@ -29,3 +30,12 @@ pub returns-in_err-consolidate-in-Refused-Deep-clause-attempts : goal.returns-in
 returns-in_err-consolidate-in-Refused-Deep-clause-attempts g c =
     let offered = rw c.in-Refused-Deep.is at (c.in_ok-receipt.ensures.change c.step.ensures.change) in
     attempt_fails _ _ _ _ _ _ _ _ c.from_residual-in_err-consolidate-in-Refused-Deep.ensures.1 offered.0 c.in_err-consolidate-in-Refused-Deep.ensures.reshapes
+
+pub returns-in_err-receipt : goal.returns-in_err-receipt
+returns-in_err-receipt g c = record { follows = c.in_err-receipt.ensures.follows; attempts = attempt_fails _ _ _ _ _ _ _ _ c.from_residual-in_err-receipt.ensures.1 (reshapes_none _) (c.in_err-receipt.ensures.change c.step.ensures.change) }
+
+pub returns-in-Refused-Worn : goal.returns-in-Refused-Worn
+returns-in-Refused-Worn g c =
+    let offered = rw c.in-Refused-Worn.is at (c.in_ok-receipt.ensures.change c.step.ensures.change) in
+    let rose = rw c.in-Refused-Worn.field-0-is at (rw c.in-Refused-Worn.is at c.in_ok-receipt.ensures.counts) in
+    record { follows = c.in_ok-receipt.ensures.follows; attempts = (offered.0, rose) }

@@ -5,4 +5,4 @@ use Rattle.bw_run.proofs.acts.do_row.Goals as goal
 
 pub returns-in_ok-keep-in-Some-clause-told : goal.returns-in_ok-keep-in-Some-clause-told
 returns-in_ok-keep-in-Some-clause-told g c =
-    read_tells _ (λ (it : Look). it ≡ c.in-Some.look) c.in-Get.key c.args.act (g.W.Steps.seen c.args.hand.now).trail (g.W.Steps.seen c.keep.new.hand).trail c.in-Get.is c.in_ok-keep-in-Some.ensures.kept
+    read_tells _ (λ (it : Look). it ≡ c.in-Some.found.look) c.in-Get.key c.args.act (g.W.Steps.seen c.args.hand.now).trail (g.W.Steps.seen c.keep.new.hand).trail c.in-Get.is c.in_ok-keep-in-Some.ensures.kept

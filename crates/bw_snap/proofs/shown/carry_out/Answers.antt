@@ -9,5 +9,5 @@ returns-in-Write-clause-done c holds =
 pub returns-in-Consolidation-clause-done : goal.returns-in-Consolidation-clause-done
 returns-in-Consolidation-clause-done c holds =
     let it = c.in-Consolidation in
-    let call = c.consolidate_at_once in
+    let call = c.perform in
     rw it.is (consolidated_where_ok c.args.table.now call.new.self it.page it.seen call.result c.is_ok.result call.ensures.done c.is_ok.ensures.value holds)

@@ -1,6 +1,8 @@
-use Rattle.std.proofs.Common.{◌+◌, length, ap, arith}
+use Rattle.std.proofs.Common.{◌≡◌, ◌+◌, length, ap, arith}
 use Rattle.bw_keys.specs.Ranges.{key_count}
 use Rattle.bw_delta.specs.Slices.{list_of}
+use Rattle.bw_chain.specs.Passing.Edited.{edited}
+use Rattle.bw_chain.proofs.Passing.Around.{no_items}
 use Rattle.bw_chain.proofs.Passing.Merges.{length-edited-last}
 use Rattle.bw_chain.proofs.Passing.Passes.{ascending-from, falls-front}
 use Rattle.bw_chain.proofs.pass.counting.count_edited.Goals as goal
@@ -18,3 +20,10 @@ edits-preserved g c =
       ascending = ascending-from (edit.0 + 1) rest before.ascending;
       falling = falls-front 0 key_count c.in-Some.greater.now edit (rw parts at before.falling);
     })
+
+pub returns : goal.returns
+returns g c =
+    let rest = (list_of c.edits.rest) in
+    let none = no_items c.edits.left.now c.in_default.ensures.cases in
+    let all : edited c.edits.left.now rest ≡ rest = ap (λ edits. edited edits rest) none in
+    omega (arith, c.edits.invariant.counted, ap length all, c.saturating_add-2.ensures)

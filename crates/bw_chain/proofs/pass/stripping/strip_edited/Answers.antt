@@ -1,13 +1,13 @@
-use Rattle.std.proofs.Common.{◌≡◌, ◌∙◌, ◌+◌, ◌++◌, [], append-nil, refl, sym, ap}
+use Rattle.std.proofs.Common.{◌≡◌, ◌∙◌, ◌+◌, ◌++◌, [], append-nil, refl, sym, ap, subst}
 use Rattle.bw_keys.specs.Ranges.{key_count}
 use Rattle.bw_delta.specs.Entries.{below, from}
 use Rattle.bw_delta.specs.Slices.{list_of}
 use Rattle.bw_chain.specs.Passing.Edited.{edited, entry_of}
-use Rattle.bw_chain.specs.Passing.Rests.{begins_joined, otherwise_more, otherwise_later}
+use Rattle.bw_chain.specs.Passing.Rests.{Begins, begins_joined, otherwise_more, otherwise_later}
 use Rattle.bw_chain.proofs.Passing.Around.{no_items}
 use Rattle.bw_chain.proofs.Passing.Passes.{ascending-from, falls-front}
 use Rattle.bw_chain.proofs.Passing.Merges.{edited-last, rises-kept}
-use Rattle.bw_chain.proofs.Passing.Fronts.{front_none, front_more, front_otherwise}
+use Rattle.bw_chain.proofs.Passing.Fronts.{front_all, front_none, front_more, front_otherwise}
 use Rattle.bw_chain.proofs.pass.stripping.strip_edited.Goals as goal
 
 pub edits-init : goal.edits-init
@@ -59,3 +59,13 @@ returns-in-None g c =
     let all : edited c.edits.left.now rest ≡ rest = ap (λ edits. edited edits rest) none in
     let other = rw c.entries_from-2.ensures at c.in-None.ensures in
     front_otherwise c.args.fence (list_of c.args.list) _ _ (list_of c.edits.list) c.edits.invariant.front rest [] other (all ∙ sym (append-nil rest))
+
+pub returns-in-Some-strip_front-2 : goal.returns-in-Some-strip_front-2
+returns-in-Some-strip_front-2 g c =
+    let fence = c.args.fence in
+    let rest = (list_of c.edits.rest) in
+    let behind = (list_of c.in-Some-strip_front-2.behind) in
+    let none = no_items c.edits.left.now c.in_default.ensures.cases in
+    let all : edited c.edits.left.now rest ≡ rest = ap (λ edits. edited edits rest) none in
+    let last : Begins fence (list_of c.edits.list) rest behind = rw c.entries_from-2.ensures at c.in-Some-strip_front-2.ensures in
+    front_all fence (list_of c.args.list) _ _ (list_of c.edits.list) c.edits.invariant.front behind (subst (λ l. Begins fence (list_of c.edits.list) l behind) (sym all) last)

@@ -1,5 +1,7 @@
-use Rattle.std.proofs.Common.{suc, ◌≡◌, ◌<◌, ◌+◌, ◌++◌, ◌∙◌, take, length, append-nil, ap, arith}
+use Rattle.std.proofs.Common.{suc, ◌≡◌, ◌≤◌, ◌<◌, ◌+◌, ◌++◌, ◌∙◌, take, length, append-nil, ap, sym, arith}
+use Rattle.std.proofs.lemmas.List.{drop_all}
 use Rattle.std.specs.List.{zip}
+use Rattle.bw_delta.specs.Entries.{below, from}
 use Rattle.bw_delta.specs.Slices.{list_of}
 use Rattle.bw_delta.proofs.Zips.{length-zip}
 use Rattle.bw_chain.proofs.KeysAt.{below-drop, from-drop, last-below, last-after}
@@ -46,3 +48,18 @@ returns-clause-written g c =
     let inside : twos.result < length es = omega (arith, twos.ensures.within, c.if-count-len.false) in
     let room : c.args.place + twos.result < length now = omega (arith, inside, c.requires.room, twos.ensures.as_many, long) in
     rw c.write.ensures.written (one-written (zip c.args.keys.now c.args.values.now) now es c.args.place twos.result c.entry.result inside room c.entry.ensures twos.ensures.written)
+
+pub returns-then-count-len-clause-before : goal.returns-then-count-len-clause-before
+returns-then-count-len-clause-before g c =
+    let es = list_of c.args.entries in
+    let twos = c.copy_by_twos-count in
+    let all : length es ≤ twos.result = omega (arith, c.if-count-len.true) in
+    twos.ensures.before ∙ ap (λ l. take twos.result es ++ below c.args.key l) (drop_all twos.result es all) ∙ append-nil _
+
+pub returns-then-count-len-clause-after : goal.returns-then-count-len-clause-after
+returns-then-count-len-clause-after g c =
+    let es = list_of c.args.entries in
+    let twos = c.copy_by_twos-count in
+    let all : length es ≤ twos.result = omega (arith, c.if-count-len.true) in
+    let none = drop_all twos.result es all in
+    twos.ensures.after ∙ ap (from c.args.key) none ∙ sym none

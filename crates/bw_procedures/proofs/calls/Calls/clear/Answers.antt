@@ -1,3 +1,4 @@
+use Rattle.bw_procedures.proofs.Parts.{earned_behind, earned_if_any}
 use Rattle.std.proofs.Common.{rules, ◌≡◌, ◌∙◌, sym, arith}
 use Rattle.bw_procedures.proofs.Removals.{adds_read, adds_read_of, adds_spent, grow_then, no_fault, spent_grows, swept_read}
 use Rattle.bw_procedures.proofs.calls.Calls.clear.Goals as goal
@@ -59,3 +60,21 @@ returns-then-not-has_room-clause-receipts g c = adds_spent _ _ _ _ _ _ _ c.leave
 
 pub returns-then-not-has_room-clause-follows : goal.returns-then-not-has_room-clause-follows
 returns-then-not-has_room-clause-follows g c = g.met.Self.Steps.joins _ _ _ c.leaves.invariant.follows c.page_from.ensures.follows
+
+pub returns-in-Err-clause-grows : goal.returns-in-Err-clause-grows
+returns-in-Err-clause-grows g c = grow_then _ _ _ c.leaves.invariant.grows (spent_grows _ _ c.page_from.ensures.seen)
+
+pub returns-then-not-has_room-clause-grows : goal.returns-then-not-has_room-clause-grows
+returns-then-not-has_room-clause-grows g c = grow_then _ _ _ c.leaves.invariant.grows (spent_grows _ _ c.page_from.ensures.seen)
+
+pub returns-then-is_some-clause-grows : goal.returns-then-is_some-clause-grows
+returns-then-is_some-clause-grows g c = grow_then _ _ _ c.leaves.invariant.grows (grow_then _ _ _ (spent_grows _ _ c.page_from.ensures.seen) c.remove_below-leaf.ensures.grows)
+
+pub returns-in_default-clause-grows : goal.returns-in_default-clause-grows
+returns-in_default-clause-grows g c = grow_then _ _ _ c.leaves.invariant.grows (grow_then _ _ _ (spent_grows _ _ c.page_from.ensures.seen) c.remove_below-leaf.ensures.grows)
+
+pub returns-in-Err-clause-fault : goal.returns-in-Err-clause-fault
+returns-in-Err-clause-fault g c = earned_behind c.in-Err.fault _ _ (g.Self.Steps.seen c.page_from.new.self) c.leaves.invariant.grows c.in-Err.ensures.fault
+
+pub returns-then-is_some-clause-fault : goal.returns-then-is_some-clause-fault
+returns-then-is_some-clause-fault g c = earned_if_any c.remove_below-leaf.result.fault _ _ (g.Self.Steps.seen c.remove_below-leaf.new.steps) (grow_then _ _ _ c.leaves.invariant.grows (spent_grows _ _ c.page_from.ensures.seen)) c.remove_below-leaf.ensures.fault

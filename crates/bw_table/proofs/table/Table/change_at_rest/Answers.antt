@@ -1,4 +1,4 @@
-use Rattle.bw_table.proofs.InPlaces.{may_change, leaf_is_inside, leaf_takes, done_at_once, whole_at_once, tells_at_once}
+use Rattle.bw_table.proofs.InPlaces.{may_change, posted_leaf_is_its, leaf_is_inside, leaf_takes, done_at_once, whole_at_once, tells_at_once}
 use Rattle.bw_table.proofs.table.Table.change_at_rest.Goals as goal
 
 pub change_at-requires : goal.change_at-requires
@@ -27,5 +27,6 @@ returns g c =
     (record {
       done = rw c.note.ensures.book done;
       map = tells_at_once _ _ c.args.page.0 c.args.key _ c.note.result _ _ c.self.invariant may.leaf done;
+      leaf = posted_leaf_is_its _ c.args.page.0 c.args.key may.leaf;
       unchanged = tt;
     })

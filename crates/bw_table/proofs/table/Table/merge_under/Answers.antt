@@ -26,3 +26,8 @@ returns-clause-done g c =
     let it = c.in_ok-version.ensures in
     let freed = rw it.version at c.give_back.ensures.ids in
     rw (← c.self.view_is) (merged_at_once c.self.invariant c.args.parent.0 c.in_ok-left.left.0 c.args.page.0 may it.merged freed)
+
+pub returns-clause-fanout : goal.returns-clause-fanout
+returns-clause-fanout g c =
+    let may = rw (← c.self.view_is) at (c.may_merge_under.ensures c.if-not-may_merge_under.false) in
+    rw (← c.self.view_is) may.left.fits

@@ -1,0 +1,20 @@
+use Rattle.std.proofs.Common.{ap, sym, ◌∙◌}
+use Rattle.bw_keys.specs.declared.page.Pid.{Pid}
+use Rattle.bw_law.specs.Tables.{slot_at}
+use Rattle.bw_table.proofs.Actions.{changed}
+use Rattle.bw_table.proofs.table.Table.perform_change.Goals as goal
+
+pub returns : goal.returns
+returns g c =
+    let told = c.performed.ensures in
+    let new = c.change_at_rest.new.self in
+    record {
+      done = record {
+        finds = ((rw told.page c.in-Some.ensures.leaf), told.key);
+        takes = changed c.args.self.now new c.performed.result c.args.wished c.in-Some.page c.args.key c.in-Some-change_at_rest.receipt told.page told.key told.receipt c.in-Some-change_at_rest.ensures.done;
+        count = told.count ∙ ap (λ (p : Pid). (slot_at new p.0).count) (sym told.page);
+        depth = told.depth ∙ ap (λ (p : Pid). (slot_at new p.0).depth) (sym told.page);
+      };
+      why = tt;
+      unchanged = tt;
+    }
