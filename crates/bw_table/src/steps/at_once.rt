@@ -72,8 +72,8 @@ impl<A: Allocator + Copy> Table<A> {
     }
 
     /// The same on a posted leaf whose range holds the key, as a walk has found one. How many
-    /// records stand on it is seen where the change is made.
-    #[inline(always)]
+    /// records stand on it is seen where the change is made. It is called: `perform` with it built
+    /// in would be too large to be built into its own callers.
     fn change_at_rest(&mut self, page: Pid, key: Key, wished: Wished) -> Option<Receipt>
         requires { IsPostedLeaf (slot_at self.old page.0) key }
         ensures done { IfSome result (λ receipt.

@@ -23,8 +23,7 @@ use std::alloc::Allocator;
 impl<A: Allocator + Copy> Table<A> {
     /// Looks the key up, and puts the record of the change that is wished on its leaf. It isn't
     /// done without the spare memory, where a page on the way to the leaf is in the middle of a
-    /// split or a merge, and where the leaf takes no record. It is called and not built in, as a
-    /// `perform` with all of it would be too large to be built in itself.
+    /// split or a merge, and where the leaf takes no record. It is called, as `change_at_rest` is.
     pub(super) fn perform_record(
         &mut self,
         key: Key,
