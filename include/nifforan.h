@@ -52,7 +52,7 @@ enum {
     NIFFORAN_BAD_CHAIN = 4,
     NIFFORAN_BAD_PAGES = 5,
     NIFFORAN_BAD_TRIES = 6,
-    NIFFORAN_NO_MEMORY = 7,  /* malloc or realloc gave none */
+    NIFFORAN_NO_MEMORY = 7,  /* malloc or realloc gave none, be it for more pages, where the map may have more */
     NIFFORAN_TABLE_FULL = 8, /* no page is free: the map has as many as its settings allow. Mostly told by `care`:
                                 pairs go in all the same, and pages grow longer than their fanout */
     NIFFORAN_TOO_TALL = 9,   /* the tree has its greatest height */
@@ -84,16 +84,17 @@ typedef struct nifforan_settings {
     size_t size;            /* sizeof(nifforan_settings), by which a later library knows which fields there are */
     uint32_t fanout;        /* the pairs that a page may have before it is split, 4 to 64 */
     uint32_t chain;         /* the changes that a page may carry before it is written anew, 1 to 32 */
-    uint32_t pages;         /* the most pages that the map may have, 8 to 65536, at 156 bytes each: it begins with 8 and
-                               doubles them as it grows. The usual 16384 hold some 770,000 rising, 715,000 random or
-                               520,000 falling keys; past that each put takes longer, and `care` says so */
+    uint32_t pages;         /* the most pages that the map may have, 8 to 16777216. It begins with 8 and doubles them as it
+                               grows, so the usual 16777216 cost nothing: they are room for 520 million pairs in any
+                               order of insertion. Fewer bound the memory: n/31 + 6 pages are room for n pairs, and past
+                               that each put takes longer, and `care` says so */
     uint32_t tries;         /* the attempts that one call may make, 1 to 1000 */
     uint64_t first_version; /* the version that each page begins with, 0 as a rule: each change of a page takes one, and
                                one past 2^64 - 1 is NIFFORAN_WORN */
 } nifforan_settings;
 
 /* The usual settings: nifforan_settings settings = NIFFORAN_USUAL_SETTINGS; */
-#define NIFFORAN_USUAL_SETTINGS { sizeof(nifforan_settings), 64, 1, 16384, 1000, 0 }
+#define NIFFORAN_USUAL_SETTINGS { sizeof(nifforan_settings), 64, 1, 16777216, 1000, 0 }
 
 /* Where a range of keys ends; the key itself is not in the range. */
 typedef struct nifforan_high {
@@ -194,6 +195,18 @@ nifforan_reply nifforan_delete(nifforan *map, uint64_t key);
  * no others. It ends early also where the care for the pages is cut short, which then stands in `status`. The same call
  * takes out those that are left: begin it again while it removes any. */
 nifforan_cleared nifforan_clear(nifforan *map, uint64_t low, nifforan_high high);
+
+/* Takes memory ahead for pages enough for that many pairs more, in whatever order they are put, or for as many pages as
+ * the map may have: some six bytes a pair. Puts then need no memory for more pages, but for what the pages themselves
+ * take. With any status but NIFFORAN_OK all stays as it was: NIFFORAN_CLOSED_HANDLE, NIFFORAN_FROZEN, or
+ * NIFFORAN_NO_MEMORY. */
+uint32_t nifforan_reserve(nifforan *map, uint64_t pairs);
+
+/* Makes the map anew, with the same pairs and settings and no more pages than they want, as after a nifforan_reserve for
+ * too many, or after most keys were taken out. It takes some 0.3 us a pair, and meanwhile memory for both maps. With any
+ * status but NIFFORAN_OK all stays as it was: NIFFORAN_CLOSED_HANDLE, NIFFORAN_FROZEN, or what ended it, mostly
+ * NIFFORAN_NO_MEMORY. */
+uint32_t nifforan_shrink(nifforan *map);
 
 /* ---- Frozen maps, which many threads read at once without a lock, through a handle each. */
 

@@ -1,4 +1,4 @@
-/* A map that is opened, sees 100,000 calls, is frozen, shared and thawed now and then, and is closed: run under valgrind. The
+/* A map that is opened, sees 100,000 calls, is frozen, shared, thawed and made anew now and then, and is closed: run under valgrind. The
  * calls' answers are compared elsewhere. */
 #include <inttypes.h>
 #include <stdio.h>
@@ -54,6 +54,8 @@ int main(void) {
             if (nifforan_previous_at(&map, key).status != NIFFORAN_OK) return 9;
         }
         if (n % 1000 == 999 && !goes_on(&map)) return 10;
+        if (n % 5000 == 2500 && nifforan_reserve(&map, key) != NIFFORAN_OK) return 11;
+        if (n % 7000 == 3500 && nifforan_shrink(&map) != NIFFORAN_OK) return 12;
     }
     printf("%d calls, %" PRIu64 " pairs\n", CALLS, nifforan_pairs(&map).pairs);
     nifforan_close(&map);

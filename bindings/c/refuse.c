@@ -163,6 +163,11 @@ static uint32_t freeze_and_thaw(nifforan *map) {
     return status;
 }
 
+/* Takes pages ahead, or makes the map anew. */
+static uint32_t room(nifforan *map, uint64_t kind) {
+    return kind == 0 ? nifforan_reserve(map, throw_of(2 * KEYS)) : nifforan_shrink(map);
+}
+
 /* How many calls said that they were refused memory. */
 static uint64_t told;
 
@@ -177,6 +182,8 @@ static bool call(nifforan *map) {
         reply.status = clear(map, key, key + throw_of(21));
     else if (kind == 2)
         reply.status = freeze_and_thaw(map);
+    else if (kind < 5)
+        reply.status = room(map, kind - 3);
     else
         reply = call_on_key(map, key);
     const bool met = may_meet && requests >= refused_at;

@@ -1,5 +1,5 @@
 /* Statuses as the header tells them: of closed and open handles, of settings, of a map whose pages have no version left or
- * that has no page left, of keys and rooms at their limits, and of frozen maps. */
+ * that has no page left, of pages taken ahead, of keys and rooms at their limits, and of frozen maps. */
 #include <inttypes.h>
 #include <stdio.h>
 #include <stdlib.h>
@@ -32,6 +32,7 @@ static void is_closed(nifforan *map) {
     MUST(nifforan_set(map, 1, 2).status == NIFFORAN_CLOSED_HANDLE);
     MUST(nifforan_delete(map, 1).status == NIFFORAN_CLOSED_HANDLE);
     MUST(nifforan_clear(map, 0, NIFFORAN_TOP).status == NIFFORAN_CLOSED_HANDLE);
+    MUST(nifforan_reserve(map, 1) == NIFFORAN_CLOSED_HANDLE && nifforan_shrink(map) == NIFFORAN_CLOSED_HANDLE);
     MUST(nifforan_first(map).status == NIFFORAN_CLOSED_HANDLE && !nifforan_first(map).found);
     MUST(nifforan_last(map).status == NIFFORAN_CLOSED_HANDLE && !nifforan_last(map).found);
     MUST(nifforan_next_at(map, 1).status == NIFFORAN_CLOSED_HANDLE && !nifforan_next_at(map, 1).found);
@@ -55,13 +56,13 @@ static void settings_say(uint32_t status, nifforan_settings settings) {
 /* The ends of each range, and the first setting that is out of its own. */
 static void settings(void) {
     settings_say(NIFFORAN_OK, (nifforan_settings){ SIZE, 4, 1, 8, 1, 0 });
-    settings_say(NIFFORAN_OK, (nifforan_settings){ SIZE, 64, 32, 65536, 1000, UINT64_MAX });
+    settings_say(NIFFORAN_OK, (nifforan_settings){ SIZE, 64, 32, 16777216, 1000, UINT64_MAX });
     settings_say(NIFFORAN_BAD_FANOUT, (nifforan_settings){ SIZE, 3, 0, 7, 0, 0 });
     settings_say(NIFFORAN_BAD_FANOUT, (nifforan_settings){ SIZE, 65, 8, 4096, 1000, 0 });
     settings_say(NIFFORAN_BAD_CHAIN, (nifforan_settings){ SIZE, 16, 0, 7, 0, 0 });
     settings_say(NIFFORAN_BAD_CHAIN, (nifforan_settings){ SIZE, 16, 33, 4096, 1000, 0 });
     settings_say(NIFFORAN_BAD_PAGES, (nifforan_settings){ SIZE, 16, 8, 7, 0, 0 });
-    settings_say(NIFFORAN_BAD_PAGES, (nifforan_settings){ SIZE, 16, 8, 65537, 1000, 0 });
+    settings_say(NIFFORAN_BAD_PAGES, (nifforan_settings){ SIZE, 16, 8, 16777217, 1000, 0 });
     settings_say(NIFFORAN_BAD_TRIES, (nifforan_settings){ SIZE, 16, 8, 4096, 0, 0 });
     settings_say(NIFFORAN_BAD_TRIES, (nifforan_settings){ SIZE, 16, 8, 4096, 1001, 0 });
     settings_say(NIFFORAN_BAD_SIZE, (nifforan_settings){ 0, 3, 0, 7, 0, 0 });
@@ -160,12 +161,33 @@ static void full(void) {
     nifforan_close(&map);
 }
 
+/* Pages that are taken ahead and given back leave the pairs and what is free as they were, also where a map may have no
+ * more, and far more pairs are asked for than there may be. */
+static void room(void) {
+    nifforan map = NIFFORAN_CLOSED;
+    const nifforan_settings few = { SIZE, 4, 1, 8, 1000, 0 }, some = { SIZE, 64, 1, 4096, 1000, 0 };
+    const nifforan_settings made_by[] = { few, some };
+    for (int i = 0; i < 2; i++) {
+        MUST(nifforan_create(&map, &made_by[i]) == NIFFORAN_OK);
+        for (uint64_t key = 0; key < 12; key++) MUST(nifforan_put(&map, key, 2 * key).status == NIFFORAN_OK);
+        const uint64_t free = nifforan_pairs(&map).free_pages;
+        MUST(nifforan_reserve(&map, 0) == NIFFORAN_OK && nifforan_reserve(&map, 1000) == NIFFORAN_OK);
+        MUST(nifforan_reserve(&map, UINT64_MAX) == NIFFORAN_OK);
+        MUST(nifforan_pairs(&map).free_pages == free);
+        MUST(nifforan_shrink(&map) == NIFFORAN_OK);
+        MUST(nifforan_pairs(&map).pairs == 12);
+        for (uint64_t key = 0; key < 12; key++) reply_is(nifforan_get(&map, key), true, 2 * key);
+        nifforan_close(&map);
+    }
+}
+
 static void is_frozen(nifforan *map) {
     nifforan_reply reply = nifforan_put(map, 7, 1);
     MUST(reply.status == NIFFORAN_FROZEN && reply.care == NIFFORAN_OK && !reply.found && reply.value == 0);
     MUST(nifforan_set(map, 7, 1).status == NIFFORAN_FROZEN);
     MUST(nifforan_delete(map, 7).status == NIFFORAN_FROZEN);
     MUST(nifforan_clear(map, 0, NIFFORAN_TOP).status == NIFFORAN_FROZEN);
+    MUST(nifforan_reserve(map, 1) == NIFFORAN_FROZEN && nifforan_shrink(map) == NIFFORAN_FROZEN);
     MUST(nifforan_create(map, &usual) == NIFFORAN_OPEN_HANDLE);
     MUST(nifforan_freeze(map) == NIFFORAN_FROZEN);
     MUST(nifforan_pairs(map).pairs == 1);
@@ -223,6 +245,7 @@ int main(void) {
     settings();
     worn();
     full();
+    room();
     MUST(nifforan_create(&map, &usual) == NIFFORAN_OK);
     reply_is(nifforan_set(&map, 7, 49), false, 0);
     MUST(nifforan_create(&map, &usual) == NIFFORAN_OPEN_HANDLE);

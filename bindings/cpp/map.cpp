@@ -1,4 +1,4 @@
-// The class of examples/cpp/map.hpp: drawn calls beside std::map, iterators whose map is changed, faults of both forms, and
+// The class of examples/cpp/map.hpp: drawn calls beside std::map, also on a map that is made anew, iterators whose map is changed, faults of both forms, and
 // threads that read a frozen map at once. The first argument is how many calls are drawn.
 #include <algorithm>
 #include <cstdint>
@@ -165,7 +165,11 @@ static void drawn_calls(long calls) {
         settings.chain = 1 + 3 * fanout % 32;
         Map map(settings);
         Plain plain;
-        for (long n = 0; n < calls / 3; n++) call(map, plain, 3000);
+        for (long n = 0; n < calls / 3; n++) {
+            call(map, plain, 3000);
+            if (n % 500 == 100) map.reserve(draw(2) * plain.size() + draw(9000));
+            if (n % 900 == 300) map.shrink_to_fit();
+        }
         MUST(std::equal(map.begin(), map.end(), plain.begin(), plain.end(), same));
         MUST(std::equal(map.rbegin(), map.rend(), plain.rbegin(), plain.rend(), same));
         MUST((Plain(map.begin(), map.end()) == plain));
@@ -212,6 +216,8 @@ static void faults() {
     Map moved = std::move(map);
     must_throw(NIFFORAN_CLOSED_HANDLE, [&] { map.begin(); });
     must_throw(NIFFORAN_CLOSED_HANDLE, [&] { map.put(1, 1); });
+    must_throw(NIFFORAN_CLOSED_HANDLE, [&] { map.reserve(1); });
+    must_throw(NIFFORAN_CLOSED_HANDLE, [&] { map.shrink_to_fit(); });
     MUST(map.try_put(1, 1).status == NIFFORAN_CLOSED_HANDLE && map.try_clear().status == NIFFORAN_CLOSED_HANDLE);
     Frozen mine, theirs;
     MUST(mine.try_share(theirs) == NIFFORAN_CLOSED_HANDLE && map.try_freeze(mine) == NIFFORAN_CLOSED_HANDLE);

@@ -294,6 +294,15 @@ public:
         changes++;
         return nifforan_clear(&handle, low, high);
     }
+    // Takes memory ahead for that many pairs, as of an unordered_map: with those that are there already.
+    void reserve(std::uint64_t pairs) { check(try_reserve(pairs)); }
+    [[nodiscard]] std::uint32_t try_reserve(std::uint64_t pairs) noexcept {
+        const std::uint64_t there = nifforan_pairs(&handle).pairs;
+        return nifforan_reserve(&handle, pairs > there ? pairs - there : 0);
+    }
+    // Gives back the memory for pages that the pairs don't want, by making the map anew. Where it throws, it stays as it was.
+    void shrink_to_fit() { check(try_shrink_to_fit()); }
+    [[nodiscard]] std::uint32_t try_shrink_to_fit() noexcept { return nifforan_shrink(&handle); }
     // What cut the care for the pages short in the last put, set or erase: NIFFORAN_OK, or a fault. Its answer stands
     // all the same, and a later call takes the care up again.
     std::uint32_t care() const noexcept { return cut_short; }

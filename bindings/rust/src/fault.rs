@@ -22,7 +22,7 @@ pub enum Fault {
     BadPages,
     /// [`Settings::tries`](crate::Settings::tries) is out of its range.
     BadTries,
-    /// The allocator gave no memory.
+    /// The allocator gave no memory, be it for more pages, where the settings allow more.
     NoMemory,
     /// No page is free: the map has as many as its settings allow. Most calls do their work all the same,
     /// pages grow longer than their fanout, and [`Map::care`] tells it.

@@ -126,6 +126,8 @@ extern "C" {
     pub fn nifforan_set(map: *mut Handle, key: u64, value: u64) -> Reply;
     pub fn nifforan_delete(map: *mut Handle, key: u64) -> Reply;
     pub fn nifforan_clear(map: *mut Handle, low: u64, high: High) -> Cleared;
+    pub fn nifforan_reserve(map: *mut Handle, pairs: u64) -> u32;
+    pub fn nifforan_shrink(map: *mut Handle) -> u32;
     pub fn nifforan_freeze(map: *mut Handle) -> u32;
     pub fn nifforan_share(map: *mut Handle, other: *mut Handle) -> u32;
     pub fn nifforan_thaw(map: *mut Handle) -> u32;

@@ -23,6 +23,7 @@ pub struct Range<'m> {
 }
 
 impl<'m> Range<'m> {
+    #[inline]
     pub(crate) fn of(map: &'m Reads, ends: Option<(u64, High)>) -> Range<'m> {
         Range {
             map,
@@ -34,6 +35,7 @@ impl<'m> Range<'m> {
 impl Iterator for Range<'_> {
     type Item = (u64, u64);
 
+    #[inline]
     fn next(&mut self) -> Option<(u64, u64)> {
         self.walk.next(self.map)
     }
@@ -95,6 +97,7 @@ impl Rest {
         }
     }
 
+    #[inline]
     fn next(&mut self, map: &Reads) -> Option<(u64, u64)> {
         let pair = self.walk.next(map)?;
         self.count -= 1;
@@ -116,6 +119,7 @@ impl<'m> Iter<'m> {
         }
     }
 
+    #[inline]
     fn advance(&mut self) -> Option<(u64, u64)> {
         self.rest.next(self.map)
     }
@@ -144,6 +148,7 @@ impl IntoIter {
         IntoIter { map, rest }
     }
 
+    #[inline]
     fn advance(&mut self) -> Option<(u64, u64)> {
         self.rest.next(&self.map)
     }
@@ -208,6 +213,7 @@ macro_rules! iterate {
         impl Iterator for $name {
             type Item = $item;
 
+            #[inline]
             fn next(&mut self) -> Option<$item> {
                 let $it = self;
                 $pairs.advance().map($part)

@@ -1,8 +1,8 @@
 use crate::entry::Entry;
-use crate::ffi::{self, High, Pair};
+use crate::ffi::{self, High};
 use crate::iter::{IntoIter, IntoKeys, IntoValues, Iter};
 use crate::reads::{ends, reads};
-use crate::walk::ROOM;
+use crate::walk::Window;
 use crate::{Fault, Frozen, OccupiedEntry, Reads, Settings, Unfinished, Unfrozen};
 use std::ops::RangeBounds;
 
@@ -43,6 +43,21 @@ impl Map {
         Reads::opened_by(*settings, create).map(Map::of)
     }
 
+    /// Makes a map without pairs, and takes memory ahead for pages enough for this many: see [`Map::reserve`].
+    ///
+    /// ```
+    /// use nifforan::{Map, Settings};
+    /// let mut squares = Map::with_capacity(&Settings::default(), 1000)?;
+    /// squares.try_extend((0..1000).map(|root| (root, root * root)))?;
+    /// assert_eq!(squares.len(), 1000);
+    /// # Ok::<(), nifforan::Fault>(())
+    /// ```
+    pub fn with_capacity(settings: &Settings, pairs: usize) -> Result<Map, Fault> {
+        let mut map = Map::new(settings)?;
+        map.reserve(pairs)?;
+        Ok(map)
+    }
+
     /// The map of an open handle that isn't frozen.
     pub(crate) fn of(reads: Reads) -> Map {
         Map {
@@ -56,6 +71,30 @@ impl Map {
         let mut map = Map::new(self.settings())?;
         map.try_extend(self)?;
         Ok(map)
+    }
+
+    /// Takes memory ahead for pages enough for this many pairs more, in whatever order they are put, or for as many pages
+    /// as the settings allow: some six bytes a pair. It fails by [`Fault::NoMemory`], and then the map is as it was.
+    pub fn reserve(&mut self, additional: usize) -> Result<(), Fault> {
+        // SAFETY: see `Reads::handle`.
+        let status = unsafe { ffi::nifforan_reserve(self.reads.handle(), additional as u64) };
+        Fault::of(status).map_or(Ok(()), Err)
+    }
+
+    /// Gives back the memory for pages that the pairs don't want, by making the map anew, which takes some 0.3 µs a pair, and
+    /// meanwhile memory for both. Where it fails, the map is as it was.
+    ///
+    /// ```
+    /// let mut map: nifforan::Map = (0..100_000).map(|key| (key, 1)).collect();
+    /// map.clear(10..)?;
+    /// map.shrink_to_fit()?;
+    /// assert_eq!(map.len(), 10);
+    /// # Ok::<(), nifforan::Fault>(())
+    /// ```
+    pub fn shrink_to_fit(&mut self) -> Result<(), Fault> {
+        // SAFETY: see `Reads::handle`.
+        let status = unsafe { ffi::nifforan_shrink(self.reads.handle()) };
+        Fault::of(status).map_or(Ok(()), Err)
     }
 
     /// Gives the key the value unless it has one, and returns the one that it had, which it keeps then.
@@ -158,12 +197,12 @@ impl Map {
     /// ```
     pub fn retain(&mut self, mut keep: impl FnMut(u64, u64) -> bool) -> Result<u64, Unfinished> {
         self.care = ffi::OK;
-        let mut places = [Pair { key: 0, value: 0 }; ROOM];
+        let mut window = Window::empty();
         let mut removed = 0;
         let mut low = Some(0);
         while let Some(from) = low {
-            let read = self.reads.read(from, High::TOP, &mut places);
-            for pair in &places[..read.count] {
+            let read = window.read(&self.reads, from, High::TOP);
+            for pair in window.left() {
                 if keep(pair.key, pair.value) {
                     continue;
                 }
@@ -186,9 +225,11 @@ impl Map {
     /// ```
     pub fn try_extend(&mut self, pairs: impl IntoIterator<Item = (u64, u64)>) -> Result<(), Fault> {
         self.care = ffi::OK;
-        pairs
-            .into_iter()
-            .try_for_each(|(key, value)| self.also(|map| map.set(key, value)).map(drop))
+        let mut pairs = pairs.into_iter();
+        let hint = pairs.size_hint().0;
+        // keys of a map that has some may be among them, and without this memory pages come by and by
+        let _ahead = self.reserve(if self.is_empty() { hint } else { hint / 2 });
+        pairs.try_for_each(|(key, value)| self.also(|map| map.set(key, value)).map(drop))
     }
 
     /// Returns what cut the care for the pages short in the last call that changed the map, if anything did; where that
@@ -279,15 +320,13 @@ impl<'p> Extend<(&'p u64, &'p u64)> for Map {
     }
 }
 
-/// The usual settings, with more pages where the pairs that the iterator foresees may need them. Of two pairs with one
-/// key the later one stays. It panics at a fault.
+/// The usual settings. Of two pairs with one key the later one stays. It panics at a fault.
 impl FromIterator<(u64, u64)> for Map {
     #[track_caller]
     fn from_iter<I: IntoIterator<Item = (u64, u64)>>(pairs: I) -> Map {
-        let pairs = pairs.into_iter();
-        let settings = Settings::at_least(pairs.size_hint().0);
-        let made = Map::new(&settings).and_then(|mut map| map.try_extend(pairs).map(|()| map));
-        made.unwrap_or_else(|fault| fault.panic())
+        let mut map = Map::default();
+        map.extend(pairs);
+        map
     }
 }
 

@@ -5,6 +5,7 @@ use std::cell::UnsafeCell;
 use std::cmp::Ordering;
 use std::fmt;
 use std::hash::{Hash, Hasher};
+use std::mem::MaybeUninit;
 use std::ops::{Bound, RangeBounds};
 use std::panic::RefUnwindSafe;
 
@@ -150,19 +151,26 @@ impl Reads {
         Values(self.iter())
     }
 
-    pub(crate) fn read(&self, low: u64, high: High, places: &mut [ffi::Pair]) -> ffi::ReadAnswer {
-        let (pairs, room) = (places.as_mut_ptr(), places.len());
+    /// Writes the first `count` of the places, by its answer.
+    pub(crate) fn read(
+        &self,
+        low: u64,
+        high: High,
+        places: &mut [MaybeUninit<ffi::Pair>],
+    ) -> ffi::ReadAnswer {
+        let (pairs, room) = (places.as_mut_ptr().cast(), places.len());
         // SAFETY: see `handle`; the places are there, and this call's own.
         unsafe { ffi::nifforan_read(self.handle(), low, high, pairs, room) }
     }
 
+    /// The same, by falling keys.
     pub(crate) fn read_back(
         &self,
         low: u64,
         high: High,
-        places: &mut [ffi::Pair],
+        places: &mut [MaybeUninit<ffi::Pair>],
     ) -> ffi::ReadAnswer {
-        let (pairs, room) = (places.as_mut_ptr(), places.len());
+        let (pairs, room) = (places.as_mut_ptr().cast(), places.len());
         // SAFETY: see `handle`; the places are there, and this call's own.
         unsafe { ffi::nifforan_read_back(self.handle(), low, high, pairs, room) }
     }

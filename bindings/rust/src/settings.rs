@@ -13,8 +13,9 @@ pub struct Settings {
     pub fanout: u32,
     /// How many changes a page may carry before it is written anew, 1 to 32.
     pub chain: u32,
-    /// The most pages that the map may have, 8 to 65,536, at 156 bytes each, taken as it grows. The usual 16,384
-    /// hold some 770,000 rising, 715,000 random or 520,000 falling keys; past that each insertion takes longer, and
+    /// The most pages that the map may have, 8 to 16,777,216. It takes them as it grows, so the usual 16,777,216 cost
+    /// nothing: they are room for 520 million pairs in any order of insertion. Fewer bound the memory, as
+    /// [`for_pairs`](Settings::for_pairs) does; past them each insertion takes longer, and
     /// [`Map::care`](crate::Map::care) says so.
     pub pages: u32,
     /// How many attempts one call may make, 1 to 1,000.
@@ -24,8 +25,11 @@ pub struct Settings {
     pub first_version: u64,
 }
 
-/// The most pages that a map may have room for.
-const MOST_PAGES: u32 = 65_536;
+/// The most pages that a map may have.
+const MOST_PAGES: u32 = 1 << 24;
+
+/// The most pages that a bound for pairs has.
+const MOST_BOUND: u32 = 65_536;
 
 /// The least that a split leaves to either page, where pages may have 64 pairs.
 const HALF: u64 = 32;
@@ -34,8 +38,8 @@ const HALF: u64 = 32;
 const MOST_LEVELS: u64 = 5;
 
 impl Settings {
-    /// Returns the usual settings, with pages enough for this many insertions in any order; `None` where there can't be
-    /// enough, from 2,031,492 pairs on. It is the rule of Rattle's `Config::for_pairs`.
+    /// Returns the usual settings, but with no more pages than this many insertions may need, in whatever order, to bound the
+    /// map's memory; `None` from 2,031,492 pairs on. It is the rule of Rattle's `Config::for_pairs`.
     ///
     /// ```
     /// use nifforan::Settings;
@@ -45,20 +49,10 @@ impl Settings {
     #[must_use]
     pub fn for_pairs(pairs: u64) -> Option<Settings> {
         let pages = u32::try_from(pairs / (HALF - 1) + MOST_LEVELS).ok()?;
-        (pages <= MOST_PAGES).then(|| Settings {
+        (pages <= MOST_BOUND).then(|| Settings {
             pages: pages.max(8),
             ..Settings::default()
         })
-    }
-
-    /// The usual settings, with more pages where this many pairs may need them.
-    pub(crate) fn at_least(pairs: usize) -> Settings {
-        let usual = Settings::default();
-        let pages = Settings::for_pairs(pairs as u64).map_or(MOST_PAGES, |settings| settings.pages);
-        Settings {
-            pages: pages.max(usual.pages),
-            ..usual
-        }
     }
 
     pub(crate) fn in_c(&self) -> ffi::Settings {
@@ -74,13 +68,13 @@ impl Settings {
 }
 
 impl Default for Settings {
-    /// Returns pages of 64 pairs, written anew after each change, room for 16,384 of them, 1,000 tries, and versions
-    /// from 0 on.
+    /// Returns pages of 64 pairs, written anew after each change, the most of them that there may be, 1,000 tries, and
+    /// versions from 0 on.
     fn default() -> Settings {
         Settings {
             fanout: 64,
             chain: 1,
-            pages: 16_384,
+            pages: MOST_PAGES,
             tries: 1000,
             first_version: 0,
         }

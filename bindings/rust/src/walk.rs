@@ -1,40 +1,62 @@
 //! A walk over the pairs of a range, from either end, by reads of many pairs at once.
 
-use crate::ffi::{High, Pair};
+use crate::ffi::{High, Pair, ReadAnswer};
 use crate::Reads;
+use std::mem::MaybeUninit;
 
 /// How many pairs are read at once.
-pub(crate) const ROOM: usize = 32;
+const ROOM: usize = 64;
 
 /// Pairs that were read. Those that were not given out yet stand from `first` on and below `end`.
 #[derive(Clone, Copy)]
-struct Window {
-    places: [Pair; ROOM],
+pub(crate) struct Window {
+    /// Those below `end` were written.
+    places: [MaybeUninit<Pair>; ROOM],
     first: usize,
     end: usize,
 }
 
 impl Window {
-    const EMPTY: Window = Window {
-        places: [Pair { key: 0, value: 0 }; ROOM],
-        first: 0,
-        end: 0,
-    };
-
-    fn left(&self) -> &[Pair] {
-        &self.places[self.first..self.end]
+    #[inline]
+    pub fn empty() -> Window {
+        Window {
+            places: [const { MaybeUninit::uninit() }; ROOM],
+            first: 0,
+            end: 0,
+        }
     }
 
-    fn filled(&mut self, count: usize) {
-        (self.first, self.end) = (0, count);
+    /// Reads the first pairs of a range.
+    pub fn read(&mut self, map: &Reads, low: u64, high: High) -> ReadAnswer {
+        let read = map.read(low, high, &mut self.places);
+        (self.first, self.end) = (0, read.count);
+        read
     }
 
+    /// Reads its last pairs, the last one first.
+    fn read_back(&mut self, map: &Reads, low: u64, high: High) -> ReadAnswer {
+        let read = map.read_back(low, high, &mut self.places);
+        (self.first, self.end) = (0, read.count);
+        read
+    }
+
+    #[inline]
+    pub fn left(&self) -> &[Pair] {
+        let left: *const [MaybeUninit<Pair>] = &self.places[self.first..self.end];
+        // SAFETY: they were written, and stay so while they are lent.
+        unsafe { &*(left as *const [Pair]) }
+    }
+
+    #[inline]
     fn take_first(&mut self) -> Option<(u64, u64)> {
-        let pair = *self.left().first()?;
+        let place = *self.places[..self.end].get(self.first)?;
         self.first += 1;
+        // SAFETY: it was written.
+        let pair = unsafe { place.assume_init() };
         Some((pair.key, pair.value))
     }
 
+    #[inline]
     fn take_last(&mut self) -> Option<(u64, u64)> {
         let pair = *self.left().last()?;
         self.end -= 1;
@@ -55,18 +77,23 @@ pub(crate) struct Walk {
 
 impl Walk {
     /// None of the ends: a range without keys.
+    #[inline]
     pub fn of(ends: Option<(u64, High)>) -> Walk {
         Walk {
-            front: Window::EMPTY,
-            back: Window::EMPTY,
+            front: Window::empty(),
+            back: Window::empty(),
             unread: ends,
         }
     }
 
+    #[inline]
     pub fn next(&mut self, map: &Reads) -> Option<(u64, u64)> {
-        if self.front.left().is_empty() {
-            self.read_front(map);
-        }
+        self.front.take_first().or_else(|| self.read_next(map))
+    }
+
+    #[inline(never)]
+    fn read_next(&mut self, map: &Reads) -> Option<(u64, u64)> {
+        self.read_front(map);
         self.front.take_first().or_else(|| self.back.take_last())
     }
 
@@ -92,8 +119,7 @@ impl Walk {
         let Some((low, high)) = self.unread else {
             return;
         };
-        let read = map.read(low, high, &mut self.front.places);
-        self.front.filled(read.count);
+        let read = self.front.read(map, low, high);
         self.unread = read.has_next.then_some((read.next, high));
     }
 
@@ -101,8 +127,7 @@ impl Walk {
         let Some((low, high)) = self.unread else {
             return;
         };
-        let read = map.read_back(low, high, &mut self.back.places);
-        self.back.filled(read.count);
+        let read = self.back.read_back(map, low, high);
         self.unread = match self.back.left().last() {
             Some(pair) if read.has_next => Some((low, High::below(pair.key))),
             _ => None,

@@ -63,6 +63,49 @@ fn maps_are_compared_by_their_pairs() {
 }
 
 #[test]
+fn pages_are_taken_ahead_and_given_back() -> Result<(), Fault> {
+    let few = Settings {
+        pages: 4096,
+        ..Settings::default()
+    };
+    for settings in [few, Settings::default()] {
+        let mut map = Map::with_capacity(&settings, 50_000)?;
+        assert_eq!(map.free_pages(), settings.pages as usize - 1);
+        map.try_extend((0..50_000).rev().map(|key| (key, 2 * key)))?;
+        map.reserve(10)?;
+        assert_eq!(map.care(), None);
+        assert_eq!(map.clear(100..49_900), Ok(49_800));
+        let free = map.free_pages();
+        map.shrink_to_fit()?;
+        assert!(map.free_pages() >= free);
+        assert_eq!(map.settings(), &settings);
+        let kept = (0..100).chain(49_900..50_000).map(|key| (key, 2 * key));
+        assert!(map.iter().eq(kept));
+    }
+    let mut small = Map::new(&few)?;
+    small.reserve(usize::MAX)?; // as many pages as it may have
+    assert_eq!(small.free_pages(), 4095);
+    Ok(())
+}
+
+#[test]
+fn small_maps_take_little_and_large_ones_are_not_cut_short() -> Result<(), Fault> {
+    let small: Vec<Map> = (0..10_000)
+        .map(|map| (0..10).map(|key| (key, map)).collect())
+        .collect();
+    for (place, map) in small.iter().enumerate() {
+        assert_eq!((map.len(), map.get(9)), (10, Some(place as u64)));
+    }
+    let mut large = Map::default();
+    for key in (0..600_000).rev() {
+        large.put(key, key)?;
+        assert_eq!(large.care(), None);
+    }
+    assert!(large.iter().eq((0..600_000).map(|key| (key, key))));
+    Ok(())
+}
+
+#[test]
 fn a_copy_has_the_settings_and_is_changed_by_itself() -> Result<(), Fault> {
     let settings = Settings {
         fanout: 5,
@@ -81,10 +124,10 @@ fn a_copy_has_the_settings_and_is_changed_by_itself() -> Result<(), Fault> {
 }
 
 #[test]
-fn maps_are_collected_with_pages_enough() {
+fn maps_are_collected_with_the_usual_settings() {
     let map: Map = (0..600_000).map(|key| (key, 1)).collect();
     assert_eq!((map.len(), map.care()), (600_000, None));
-    assert_eq!(map.settings().pages, 600_000 / 31 + 5);
+    assert_eq!(map.settings(), &Settings::default());
     assert_eq!(Map::default().settings(), &Settings::default());
     // a later pair with the same key stays
     let map = Map::from([(1, 1), (2, 2), (1, 3)]);

@@ -25,7 +25,7 @@ use Rattle.bw_procedures.specs.Seen.{is_kept, trail_after_look}
 use Rattle.bw_alone.specs.Leading.{BearsNumber, Tells, Leads, leads_stay}
 
 -- the next change bears the number that the book has with it
-bears_number : (book : Book) (told : Telling) → IsNext book told → BearsNumber told (book_with book told)
+bears_number : (book : Book) (reported : Telling) → IsNext book reported → BearsNumber reported (book_with book reported)
 bears_number book (change number key before after) next = sym next.1
 bears_number book (looked at key found) next = absurd next
 bears_number book shape next = tt
@@ -42,7 +42,7 @@ pub step_leads : (old : TableValue) (step : Proposal) (receipt : Receipt) (new :
     → Leads old trail new (trail ++ receipt ∷ [])
 step_leads old step receipt new trail law booked accepted takes =
     leads_by old new trail receipt
-    (subst (λ r. Tells r old new) (sym takes.told)
+    (subst (λ r. Tells r old new) (sym takes.reported)
     (subst (λ t. Tells (receipt_of old step) old t) (sym takes.leads) (step_tells old step (step_law old step law booked accepted))))
 
 -- a look is answered where the page is a leaf in its row whose range holds the key
@@ -65,13 +65,13 @@ look_opens table page key look seen = by_test (is_leaf_in_row (slot_at table pag
       number = ap (λ (l : Look). l.at) answer;
     }
       where
-        told : Look
-        told = record { found = at key (pairs_in (slot_at table page)); at = number_of table.book }
+        reported : Look
+        reported = record { found = at key (pairs_in (slot_at table page)); at = number_of table.book }
 
-        opens : look_at table page key ≡ Some told
+        opens : look_at table page key ≡ Some reported
         opens = rw opened refl
 
-        answer : look ≡ told
+        answer : look ≡ reported
         answer = cc (seen, opens)
     by_test false shut = let answer : look_at table page key ≡ None = rw shut refl in absurd (cc (seen, answer))
 

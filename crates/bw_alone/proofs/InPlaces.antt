@@ -1,4 +1,4 @@
--- What a table does at once for a key leads to the map after it, as its steps do, one behind the other.
+-- What a table does at once for a key leads to the map after it, as its steps do, one after the other.
 use Rattle.std.proofs.Common.{◌≡◌, ◌≢◌, ℕ, Bool, true, false, List, [], ◌∷◌, ◌++◌, length, if◌then◌else◌, Option, Some, None, refl, sym, ap, subst, ◌∙◌, append_assoc}
 use Rattle.std.specs.Prelude.{option_to_list}
 use Rattle.bw_keys.specs.declared.page.Pid.{Pid}
@@ -55,7 +55,7 @@ turn_leads (taken ∷ rest) old new trail law booked turn =
     let others : Leads turn.0 (trail ++ taken.1 ∷ []) new ((trail ++ taken.1 ∷ []) ++ receipts_in rest) = turn_leads rest turn.0 new (trail ++ taken.1 ∷ []) kept.0 kept.1 turn.3 in
     subst (λ l. Leads old trail new l) (append_assoc trail (taken.1 ∷ []) (receipts_in rest)) (leads_join old trail turn.0 (trail ++ taken.1 ∷ []) new ((trail ++ taken.1 ∷ []) ++ receipts_in rest) first others)
 
--- a step and the consolidation behind it lead on
+-- a step and the consolidation after it lead on
 both_lead : (old new : TableValue) (page : ℕ) (receipt : Receipt) (trail : List Receipt) (step : Proposal) → Lawful old → Booked old → TakesBoth old step receipt page new
     → Leads old trail new (trail ++ receipt ∷ Shaped kinds.Consolidate (pid page) None ∷ [])
 both_lead old new page receipt trail step law booked both = turn_leads (both_steps step receipt page both.seen both.base) old new trail law booked both.takes
@@ -81,20 +81,20 @@ module _ (old new : TableValue) (it : Performed) where
   pub performed_keeps_config : (action : Action) → IsPerformed old action new it → new.config ≡ old.config
   performed_keeps_config action done = takes_keep_config (steps_for old it.page.0 action) done.takes
 
-  told_for : (key : ℕ) (wished : Wished) → it.key ≡ key → IsReportOf old it.page.0 it.key wished it.receipt → IsReceiptFor key wished it.receipt
-  told_for key wished found report =
+  reported_for : (key : ℕ) (wished : Wished) → it.key ≡ key → IsReportOf old it.page.0 it.key wished it.receipt → IsReceiptFor key wished it.receipt
+  reported_for key wished found report =
       subst (λ (k : ℕ). IsReceiptFor k wished it.receipt) found
       (subst (IsReceiptFor it.key wished) (sym report) (is_receipt_for (number_of old.book) it.key wished (had_at old it.page.0 it.key)))
 
   -- its receipt is the one that goes with it
-  pub performed_told : (action : Action) → IsPerformed old action new it → IsReceiptOfAction action it.page it.receipt
-  performed_told (actions.Change key wished) done =
-      told_for key wished done.finds.1 (change_reports old new it wished (subst (λ (k : ℕ). Takes old it new (steps_for old it.page.0 (actions.Change k wished))) (sym done.finds.1) done.takes))
-  performed_told (actions.Record key wished) done =
-      told_for key wished done.finds.1 (put_reports old new it wished (subst (λ (k : ℕ). Takes old it new (steps_for old it.page.0 (actions.Record k wished))) (sym done.finds.1) done.takes))
-  performed_told (actions.Consolidate page seen) done = done.takes.2.told
-  performed_told (actions.Halve page seen) done = (pid (new_id old), done.takes.2.told)
-  performed_told (actions.AddTerm child) done = done.takes.2.told
+  pub performed_reported : (action : Action) → IsPerformed old action new it → IsReceiptOfAction action it.page it.receipt
+  performed_reported (actions.Change key wished) done =
+      reported_for key wished done.finds.1 (change_reports old new it wished (subst (λ (k : ℕ). Takes old it new (steps_for old it.page.0 (actions.Change k wished))) (sym done.finds.1) done.takes))
+  performed_reported (actions.Record key wished) done =
+      reported_for key wished done.finds.1 (put_reports old new it wished (subst (λ (k : ℕ). Takes old it new (steps_for old it.page.0 (actions.Record k wished))) (sym done.finds.1) done.takes))
+  performed_reported (actions.Consolidate page seen) done = done.takes.2.reported
+  performed_reported (actions.Halve page seen) done = (pid (new_id old), done.takes.2.reported)
+  performed_reported (actions.AddTerm child) done = done.takes.2.reported
 
   module _ (trail : List Receipt) (law : Lawful old) (booked : Booked old) where
     abbrev LeadsBy : List Receipt → Type 0
@@ -106,14 +106,14 @@ module _ (old new : TableValue) (it : Performed) where
         let map : TellsMap (telling_of (look_at old it.page.0 it.key)) old.slots old.slots =
         ((λ value. let decides = leaf_decides old law it.page.0 it.key value leaf.in_row leaf.is_leaf leaf.spans in (decides.1, decides.0)), λ k v. ((λ maps. maps), (λ maps. maps)))
         in
-        let told : Tells (look_at old it.page.0 it.key) old old = record { map = map; book = refl; number = refl } in
+        let reported : Tells (look_at old it.page.0 it.key) old old = record { map = map; book = refl; number = refl } in
         subst (λ t. Leads old trail t (trail ++ it.receipt ∷ [])) (sym done.1)
-        (subst (λ r. Leads old trail old (trail ++ r ∷ [])) (sym done.0) (leads_by old old trail (look_at old it.page.0 it.key) told))
+        (subst (λ r. Leads old trail old (trail ++ r ∷ [])) (sym done.0) (leads_by old old trail (look_at old it.page.0 it.key) reported))
 
     step_leads_on : (step : Proposal) → Takes old it new (step ∷ []) → LeadsBy (it.receipt ∷ [])
     step_leads_on step done = turn_leads ((step, it.receipt) ∷ []) old new trail law booked done
 
-    -- behind a change in its place the page is consolidated, and behind a look it isn't
+    -- after a change in its place the page is consolidated, and after a look it isn't
     abbrev LeadsWith : Bool → Type 0
     LeadsWith is_behind = LeadsBy (it.receipt ∷ (if is_behind then Shaped kinds.Consolidate it.page None ∷ [] else []))
 
@@ -132,7 +132,7 @@ module _ (old new : TableValue) (it : Performed) where
         steps : (step : Proposal) → consolidates_behind (actions.Change key wished) (receipt_of old step) ≡ true → Takes old it new (step ∷ consolidation_of (after old step) it.page.0 ∷ [])
             → LeadsWith (consolidates_behind (actions.Change key wished) it.receipt)
         steps step is done =
-            let some : consolidates_behind (actions.Change key wished) it.receipt ≡ true = ap (consolidates_behind (actions.Change key wished)) done.2.told ∙ is in
+            let some : consolidates_behind (actions.Change key wished) it.receipt ≡ true = ap (consolidates_behind (actions.Change key wished)) done.2.reported ∙ is in
             subst LeadsWith (sym some) (turn_leads ((step, it.receipt) ∷ with_receipts it.page (consolidation_of (after old step) it.page.0 ∷ [])) old new trail law booked done)
 
         by_wish : (w : Wished) (o : Option ℕ) → Takes old it new (consolidated_behind old it.page.0 (step_for it.page.0 seen key w o)) → LeadsWith (consolidates_behind (actions.Change key wished) it.receipt)

@@ -5,8 +5,8 @@ use Rattle.std.proofs.lemmas.Bool.Decides.{nat_tests}
 use Rattle.std.proofs.lemmas.List.{append_cancel_left}
 use Rattle.bw_delta.specs.Entries.{at}
 use Rattle.bw_step.specs.declared.receipt.Receipt.{Receipt}
-use Rattle.bw_step.specs.Tellings.{Telling, change, look, shape, telling_of, Told, changed, looked, told_by, told_in}
-use Rattle.bw_step.proofs.Tellings.{told_in-append}
+use Rattle.bw_step.specs.Tellings.{Telling, change, look, shape, telling_of, Reported, changed, looked, reported_by, reported_in}
+use Rattle.bw_step.proofs.Tellings.{reported_in-append}
 use Rattle.bw_law.specs.Slots.{SlotValue}
 use Rattle.bw_law.specs.Tables.{TableValue, Maps, IsValueAt, SameMap, ChangesKey, TellsMap}
 use Rattle.bw_procedures.specs.Clearing.{IsRemovalOf, AreRemovals, HasRemovalOf}
@@ -16,7 +16,7 @@ use Rattle.bw_alone.specs.Showing.{Shows}
 use Rattle.bw_alone.specs.Clearing.{IsMapWithout}
 
 -- no pair is new, the keys of the removals are gone, and the keys out of the range stay
-record Loses (low high : ℕ) (removals : List Told) (old new : List SlotValue) : Type 0 where
+record Loses (low high : ℕ) (removals : List Reported) (old new : List SlotValue) : Type 0 where
   fewer : (key value : ℕ) → Maps new key value → Maps old key value
   gone : (key value : ℕ) → HasRemovalOf key removals → Maps new key value → ⊥
   others : (key value : ℕ) → (key < low) ⊎ (high ≤ key) → Maps old key value → Maps new key value
@@ -51,7 +51,7 @@ one_fewer k old new loses key value maps = by_test (key == k) refl
     by_test true same = let is : key ≡ k = grind (arith, nat_tests, same) in absurd (loses.gone value (subst (λ k. Maps new k value) is maps))
     by_test false differs = let other : key ≢ k = grind (arith, nat_tests, differs) in (loses.others key value other).0 maps
 
-one_removal : (k : ℕ) (x : Told) → IsRemovalOf k x → (key : ℕ) → IsRemovalOf key x → key ≡ k
+one_removal : (k : ℕ) (x : Reported) → IsRemovalOf k x → (key : ℕ) → IsRemovalOf key x → key ≡ k
 one_removal k (changed q (Some value) None) is key also = sym also ∙ is
 one_removal k (looked q None) is key also = sym also ∙ is
 one_removal k x is key also = absurd is
@@ -64,7 +64,7 @@ outside_rest : (low high k key : ℕ) → low ≤ k → (key < low) ⊎ (high �
 outside_rest low high k key above (inl less) = inl (omega (arith, above, less))
 outside_rest low high k key above (inr more) = inr more
 
-loses_then : (low high k : ℕ) (x : Told) (xs : List Told) (a b c : List SlotValue) → IsRemovalOf k x → low ≤ k → k < high → LosesOne k a b → Loses (k + 1) high xs b c → Loses low high (x ∷ xs) a c
+loses_then : (low high k : ℕ) (x : Reported) (xs : List Reported) (a b c : List SlotValue) → IsRemovalOf k x → low ≤ k → k < high → LosesOne k a b → Loses (k + 1) high xs b c → Loses low high (x ∷ xs) a c
 loses_then low high k x xs a b c is above below one rest = record {
   fewer = λ key value maps. one_fewer k a b one key value (rest.fewer key value maps);
   gone = gone;
@@ -75,7 +75,7 @@ loses_then low high k x xs a b c is above below one rest = record {
     gone key value (inl also) maps = one.gone value (subst (λ q. Maps b q value) (one_removal k x is key also) (rest.fewer key value maps))
     gone key value (inr later) maps = rest.gone key value later maps
 
-same_then : (low high : ℕ) (xs : List Told) (a b c : List SlotValue) → SameMap a b → Loses low high xs b c → Loses low high xs a c
+same_then : (low high : ℕ) (xs : List Reported) (a b c : List SlotValue) → SameMap a b → Loses low high xs b c → Loses low high xs a c
 same_then low high xs a b c same loses = record {
   fewer = λ key value maps. (same key value).0 (loses.fewer key value maps);
   gone = loses.gone;
@@ -89,8 +89,8 @@ loses_none low high a b same = record {
   others = λ key value outside maps. subst (λ (t : TableValue). Maps t.slots key value) (sym same) maps;
 }
 
-next_loses : (low high : ℕ) (telling : Telling) (xs : List Told) (a b c : List SlotValue) → TellsMap telling a b → AreRemovals low high (told_by telling ++ xs)
-    → ((at : ℕ) → AreRemovals at high xs → Loses at high xs b c) → Loses low high (told_by telling ++ xs) a c
+next_loses : (low high : ℕ) (telling : Telling) (xs : List Reported) (a b c : List SlotValue) → TellsMap telling a b → AreRemovals low high (reported_by telling ++ xs)
+    → ((at : ℕ) → AreRemovals at high xs → Loses at high xs b c) → Loses low high (reported_by telling ++ xs) a c
 next_loses low high (change number key before after) xs a b c tells are rest =
     loses_then low high are.0 (changed key before after) xs a b c are.1 are.2 are.3 (change_loses are.0 key before after a b are.1 tells) (rest (are.0 + 1) are.4)
 next_loses low high (look at key found) xs a b c tells are rest =
@@ -98,40 +98,40 @@ next_loses low high (look at key found) xs a b c tells are rest =
 next_loses low high shape xs a b c tells are rest = same_then low high xs a b c tells (rest low are)
 
 -- receipts that tell of removals
-removals_lose : (low high : ℕ) (rs : List Receipt) (a b : TableValue) → Replays a rs b → AreRemovals low high (told_in rs) → Loses low high (told_in rs) a.slots b.slots
+removals_lose : (low high : ℕ) (rs : List Receipt) (a b : TableValue) → Replays a rs b → AreRemovals low high (reported_in rs) → Loses low high (reported_in rs) a.slots b.slots
 removals_lose low high [] a b leads are = loses_none low high a b leads
 removals_lose low high (r ∷ rs) a b leads are =
-    next_loses low high (telling_of r) (told_in rs) a.slots leads.0.slots b.slots leads.1.map are (λ at more. removals_lose at high rs leads.0 b leads.2 more)
+    next_loses low high (telling_of r) (reported_in rs) a.slots leads.0.slots b.slots leads.1.map are (λ at more. removals_lose at high rs leads.0 b leads.2 more)
 
 -- what a trail reports more
-added_is : (s t added : List Receipt) (xs : List Told) → t ≡ s ++ added → told_in t ≡ told_in s ++ xs → told_in added ≡ xs
-added_is s t added xs longer more = append_cancel_left (told_in s) (told_in added) xs (sym (told_in-append s added) ∙ (sym (ap told_in longer) ∙ more))
+added_is : (s t added : List Receipt) (xs : List Reported) → t ≡ s ++ added → reported_in t ≡ reported_in s ++ xs → reported_in added ≡ xs
+added_is s t added xs longer more = append_cancel_left (reported_in s) (reported_in added) xs (sym (reported_in-append s added) ∙ (sym (ap reported_in longer) ∙ more))
 
-leads_lose : (low high : ℕ) (a b : TableValue) (s t : List Receipt) (xs : List Told) → Leads a s b t → told_in t ≡ told_in s ++ xs → AreRemovals low high xs → Loses low high xs a.slots b.slots
+leads_lose : (low high : ℕ) (a b : TableValue) (s t : List Receipt) (xs : List Reported) → Leads a s b t → reported_in t ≡ reported_in s ++ xs → AreRemovals low high xs → Loses low high xs a.slots b.slots
 leads_lose low high a b s t xs leads more are =
     let is = added_is s t leads.0 xs leads.1 more in
-    subst (λ (l : List Told). Loses low high l a.slots b.slots) is (removals_lose low high leads.0 a b leads.2 (subst (AreRemovals low high) (sym is) are))
+    subst (λ (l : List Reported). Loses low high l a.slots b.slots) is (removals_lose low high leads.0 a b leads.2 (subst (AreRemovals low high) (sym is) are))
 
-removals_after : (low high : ℕ) (xs ys : List Told) → AreRemovals low high (xs ++ ys) → AreRemovals low high ys
+removals_after : (low high : ℕ) (xs ys : List Reported) → AreRemovals low high (xs ++ ys) → AreRemovals low high ys
 removals_after low high [] ys are = are
 removals_after low high (x ∷ xs) ys are = removals_lower low (are.0 + 1) high ys (omega (arith, are.2)) (removals_after (are.0 + 1) high xs ys are.4)
 
 -- the removals since a state between are the last of them all
-removals_since : (low high : ℕ) (a m : TableValue) (s u t : List Receipt) (xs ys : List Told) → Leads a s m u → told_in t ≡ told_in s ++ xs → told_in t ≡ told_in u ++ ys → AreRemovals low high xs
+removals_since : (low high : ℕ) (a m : TableValue) (s u t : List Receipt) (xs ys : List Reported) → Leads a s m u → reported_in t ≡ reported_in s ++ xs → reported_in t ≡ reported_in u ++ ys → AreRemovals low high xs
     → AreRemovals low high ys
 removals_since low high a m s u t xs ys leads all since are =
-    let first : told_in u ≡ told_in s ++ told_in leads.0 = ap told_in leads.1 ∙ told_in-append s leads.0 in
-    let parts : told_in s ++ xs ≡ told_in s ++ (told_in leads.0 ++ ys) =
-    sym all ∙ (since ∙ (ap (λ (l : List Told). l ++ ys) first ∙ append_assoc (told_in s) (told_in leads.0) ys))
+    let first : reported_in u ≡ reported_in s ++ reported_in leads.0 = ap reported_in leads.1 ∙ reported_in-append s leads.0 in
+    let parts : reported_in s ++ xs ≡ reported_in s ++ (reported_in leads.0 ++ ys) =
+    sym all ∙ (since ∙ (ap (λ (l : List Reported). l ++ ys) first ∙ append_assoc (reported_in s) (reported_in leads.0) ys))
     in
-    removals_after low high (told_in leads.0) ys (subst (AreRemovals low high) (append_cancel_left (told_in s) xs (told_in leads.0 ++ ys) parts) are)
+    removals_after low high (reported_in leads.0) ys (subst (AreRemovals low high) (append_cancel_left (reported_in s) xs (reported_in leads.0 ++ ys) parts) are)
 
 missing : (table : TableValue) (low end key value : ℕ) (pairs : List (ℕ × ℕ)) → Shows table low end pairs → low ≤ key → key < end → at key pairs ≡ None → Maps table.slots key value → ⊥
 missing table low end key value pairs shown above below none maps = let there : at key pairs ≡ Some value = (shown.all key value above below).1 maps in cc
 
 -- a key that was swept has no value in the end
-pub swept_gone : (low high from end key value : ℕ) (pairs : List (ℕ × ℕ)) (a m b : TableValue) (s u t : List Receipt) (xs ys : List Told) → Leads a s m u → Leads m u b t → Shows m from end pairs → from ≤ key → key < end
-    → told_in t ≡ told_in s ++ xs → AreRemovals low high xs → told_in t ≡ told_in u ++ ys → (at key pairs ≡ None) ⊎ HasRemovalOf key ys → Maps b.slots key value → ⊥
+pub swept_gone : (low high from end key value : ℕ) (pairs : List (ℕ × ℕ)) (a m b : TableValue) (s u t : List Receipt) (xs ys : List Reported) → Leads a s m u → Leads m u b t → Shows m from end pairs → from ≤ key → key < end
+    → reported_in t ≡ reported_in s ++ xs → AreRemovals low high xs → reported_in t ≡ reported_in u ++ ys → (at key pairs ≡ None) ⊎ HasRemovalOf key ys → Maps b.slots key value → ⊥
 swept_gone low high from end key value pairs a m b s u t xs ys first then shown above below all are since gone maps = by_gone gone
   where
     loses : Loses low high ys m.slots b.slots
@@ -142,7 +142,7 @@ swept_gone low high from end key value pairs a m b s u t xs ys first then shown 
     by_gone (inr has) = loses.gone key value has maps
 
 -- the map after removals in a range that leave no key of it
-pub cleared_map : (low high : ℕ) (a b : TableValue) (s t : List Receipt) (xs : List Told) → Leads a s b t → told_in t ≡ told_in s ++ xs → AreRemovals low high xs
+pub cleared_map : (low high : ℕ) (a b : TableValue) (s t : List Receipt) (xs : List Reported) → Leads a s b t → reported_in t ≡ reported_in s ++ xs → AreRemovals low high xs
     → ((key value : ℕ) → low ≤ key → key < high → Maps b.slots key value → ⊥) → IsMapWithout low high a.slots b.slots
 cleared_map low high a b s t xs leads more are none = λ key value. (
   λ maps. (loses.fewer key value maps, by_low key value maps (nat_lt key low) refl),

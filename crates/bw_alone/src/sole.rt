@@ -24,7 +24,7 @@ use std::alloc::{Allocator, Global};
 ///
 /// `T` says what becomes of its receipts. A list keeps one, of some 40 bytes, for each accepted step
 /// and each look. So a worker that lives long calls [`take_trail`](Sole::take_trail) from time to
-/// time. The trails that it gets, one behind the other and with that of [`finish`](Sole::finish) as
+/// time. The trails that it gets, one after the other and with that of [`finish`](Sole::finish) as
 /// the last, are the trail that `finish` alone would have returned. An auditor wants all of them.
 #[derive(Drop)]
 pub struct Sole<A: Allocator + Copy, H: Holds<Table<A>>, T: Trail = Vec<Receipt>> {

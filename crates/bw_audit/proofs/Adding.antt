@@ -44,7 +44,7 @@ changes-snoc : (rs : List Receipt) (r : Receipt) → changes_of (rs ++ r ∷ [])
 changes-snoc [] r = refl
 changes-snoc (q ∷ rs) r = ap (add_change (change_of q)) (changes-snoc rs r) ∙ add_change-append (change_of q) (changes_of rs) (add_change (change_of r) [])
 
--- the changes before and behind the place where a worker's next one goes
+-- the changes before and after the place where a worker's next one goes
 pub record PartsAt (ts : List (List Receipt)) (worker : ℕ) : Type 0 where
   pub front : List Change
   pub back : List Change
@@ -125,9 +125,9 @@ one_more_among front back c = record {
 }
 
 pub one_more : (ts : List (List Receipt)) (worker : ℕ) (r : Receipt) (c : Change) → worker < length ts → change_of r ≡ Some c → IsOneMore (all_changes ts) (all_changes (add_receipts ts worker (r ∷ []))) c
-one_more ts worker r c inside told =
+one_more ts worker r c inside reported =
     let p = parts_at ts worker inside in
-    let new : all_changes (add_receipts ts worker (r ∷ [])) ≡ p.front ++ c ∷ p.back = p.added r ∙ ap (λ o. p.front ++ (add_change o [] ++ p.back)) told in
+    let new : all_changes (add_receipts ts worker (r ∷ [])) ≡ p.front ++ c ∷ p.back = p.added r ∙ ap (λ o. p.front ++ (add_change o [] ++ p.back)) reported in
     subst (λ cs. IsOneMore (all_changes ts) cs c) (sym new) (subst (λ cs. IsOneMore cs (p.front ++ c ∷ p.back) c) (sym p.whole) (one_more_among p.front p.back c))
 
 -- the map after fewer changes than a number stays, whatever bears the number

@@ -14,7 +14,7 @@ use Rattle.bw_keys.specs.Ranges.{key_count}
 use Rattle.bw_delta.specs.Entries.{rises}
 use Rattle.bw_chain.specs.Ascends.{IsAscending}
 use Rattle.bw_chain.proofs.Firsts.{at-before}
-use Rattle.bw_audit.specs.Changes.{add_change, all_changes, bearer, change_of, change_told, changes_of, value_at}
+use Rattle.bw_audit.specs.Changes.{add_change, all_changes, bearer, change_of, change_reported, changes_of, value_at}
 use Rattle.bw_delta.specs.Entries.{at}
 use Rattle.bw_audit.specs.Legal.{IsLegal, AllRise, IsTrueOf, IsTrueReply, position_after, rises_from, times_borne}
 use Rattle.bw_audit.specs.Verdicts.{verdict_of, changes_hold, first_bad, first_fault, is_bad, is_bad_change, is_misnumbered, leaves, pairs_hold}
@@ -134,7 +134,7 @@ all_numbered cs once =
 fine_change : (cs : List Change) (before : ℕ) (c : Change) → is_misnumbered cs before c.number ≡ false → value_at cs (c.number - 1) c.key ≡ c.before → is_bad_change cs before c ≡ false
 fine_change cs before c h e = rw (h, alike (value_at cs (c.number - 1) c.key) c.before e) refl
 
-fine_telling : (cs : List Change) (before last : ℕ) (told : Telling) → rises_from last told ≡ true → IsTrueOf cs told → IsNumbered cs before (change_told told) → is_bad cs before last told ≡ false
+fine_telling : (cs : List Change) (before last : ℕ) (reported : Telling) → rises_from last reported ≡ true → IsTrueOf cs reported → IsNumbered cs before (change_reported reported) → is_bad cs before last reported ≡ false
 fine_telling cs before last (change number key had has) up reply numbered =
     let c : Change = record { number = number; key = key; before = had; after = has } in
     rw (up, fine_change cs before c numbered reply) refl

@@ -13,7 +13,7 @@ use Rattle.bw_law.specs.Refusals.{refusal}
 use Rattle.bw_law.specs.Effects.{after, slots_after, receipt_of}
 use Rattle.bw_law.proofs.AllSteps.{step_law, IsNext, step_is_next}
 use Rattle.bw_audit.specs.declared.change.Change.{Change}
-use Rattle.bw_audit.specs.Changes.{all_changes, bearer, change_of, change_told, changed_by, value_at}
+use Rattle.bw_audit.specs.Changes.{all_changes, bearer, change_of, change_reported, changed_by, value_at}
 use Rattle.bw_audit.specs.Legal.{AllRise, IsTrueOf, position_after, rises_from, times_borne}
 use Rattle.bw_audit.specs.Explained.{IsWithin, IsFine, IsFineTrail, Explains}
 use Rattle.bw_audit.specs.Replays.{IsLookAt, add_receipts}
@@ -25,7 +25,7 @@ same_options None (Some v) h = (h v).1 refl
 same_options (Some v) p h = sym ((h v).0 refl)
 
 -- a receipt of a place not below any before it may stand at the end of a trail
-within_after : (n last : ℕ) (told : Telling) → last ≤ n → IsWithin n told → position_after last told ≤ n
+within_after : (n last : ℕ) (reported : Telling) → last ≤ n → IsWithin n reported → position_after last reported ≤ n
 within_after n last (change number key had has) below within = within
 within_after n last (look seen key found) below within = within
 within_after n last shape below within = below
@@ -38,7 +38,7 @@ rise-snoc cs last (q ∷ t) r below fine rise up =
 
 -- replies stay true where the map that they tell of stays
 module _ (old new : List Change) (more : length old ≤ length new) (same : (m key : ℕ) → m ≤ length old → value_at new m key ≡ value_at old m key) where
-  true_later : (told : Telling) → IsWithin (length old) told × IsTrueOf old told → IsWithin (length new) told × IsTrueOf new told
+  true_later : (reported : Telling) → IsWithin (length old) reported × IsTrueOf old reported → IsWithin (length new) reported × IsTrueOf new reported
   true_later (change number key had has) fine = (omega (arith, fine.0), same (number - 1) key (omega (arith, fine.0)) ∙ fine.1)
   true_later (look seen key found) fine = (omega (arith, fine.0), (omega (arith, fine.0), same seen key fine.0 ∙ fine.1.1))
   true_later shape fine = (tt, tt)
@@ -84,11 +84,11 @@ module _ (table : TableValue) (trails : List (List Receipt)) (is : Explains tabl
       → ((new : List Change) → length new ≡ suc (length (all_changes trails)) → value_at new (length (all_changes trails)) c.key ≡ value_at (all_changes trails) (length (all_changes trails)) c.key → IsFine new r)
       → ((key value : ℕ) → (changed_by (Some c) key (value_at (all_changes trails) (length (all_changes trails)) key) ≡ Some value) ↔ Maps next.slots key value)
       → Explains next (add_receipts trails worker (r ∷ []))
-  keeps_change c told numbered number fine left =
+  keeps_change c reported numbered number fine left =
       let old = all_changes trails in
       let new = all_changes (add_receipts trails worker (r ∷ [])) in
       let n = length old in
-      let m = one_more trails worker r c inside told in
+      let m = one_more trails worker r c inside reported in
       let fresh : bearer old c.number ≡ None = is.no_others c.number (omega (arith, numbered)) in
       let same_bearer : (j : ℕ) → j ≤ n → bearer new j ≡ bearer old j = λ j within. m.others j (other_number c.number j (λ e. omega (arith, e, numbered, within))) in
       let same : (j key : ℕ) → j ≤ n → value_at new j key ≡ value_at old j key = λ j key within. value_before old new n j key same_bearer within in
@@ -126,24 +126,24 @@ module _ (table : TableValue) (trails : List (List Receipt)) (is : Explains tabl
 
   -- a step that changes no pair
   shaped : (step : Proposal) → KeptBy table step → telling_of (receipt_of table step) ≡ shape → Keeps step
-  shaped step kept told =
-      keeps_silent table trails is worker inside (after table step) kept.lawful kept.booked (receipt_of table step) (λ last within. ap (rises_from last) told)
-      (ap (λ t. number_of (book_with table.book t)) told) (subst (λ t. TellsMap t table.slots (slots_after table step)) told kept.map) (ap change_told told)
-      (subst (λ t. IsWithin (length (all_changes trails)) t × IsTrueOf (all_changes trails) t) (sym told) (tt, tt))
+  shaped step kept reported =
+      keeps_silent table trails is worker inside (after table step) kept.lawful kept.booked (receipt_of table step) (λ last within. ap (rises_from last) reported)
+      (ap (λ t. number_of (book_with table.book t)) reported) (subst (λ t. TellsMap t table.slots (slots_after table step)) reported kept.map) (ap change_reported reported)
+      (subst (λ t. IsWithin (length (all_changes trails)) t × IsTrueOf (all_changes trails) t) (sym reported) (tt, tt))
 
   -- a step that changes a key
   changed : (step : Proposal) (key : ℕ) (had has : Option ℕ) → KeptBy table step → telling_of (receipt_of table step) ≡ change (suc (number_of table.book)) key had has
       → number_of (after table step).book ≡ suc (number_of table.book) → Keeps step
-  changed step key had has kept told number =
+  changed step key had has kept reported number =
       let n = length (all_changes trails) in
       let c : Change = record { number = suc (number_of table.book); key = key; before = had; after = has } in
-      let map : ChangesKey table.slots (slots_after table step) key had has = subst (λ t. TellsMap t table.slots (slots_after table step)) told kept.map in
+      let map : ChangesKey table.slots (slots_after table step) key had has = subst (λ t. TellsMap t table.slots (slots_after table step)) reported kept.map in
       let was : value_at (all_changes trails) n key ≡ had =
       same_options _ had (λ v. ((λ found. (map.had v).1 ((is.left key v).0 found)), (λ found. (is.left key v).1 ((map.had v).0 found)))) in
       let rises : (last : ℕ) → last ≤ n → nat_lt last (suc (number_of table.book)) ≡ true = λ last within. grind (arith, nat_tests, is.counted) in
       keeps_change table trails is worker inside (after table step) kept.lawful kept.booked (receipt_of table step)
-      (λ last within. ap (rises_from last) told ∙ rises last within) c (ap change_told told) (ap suc is.counted) number
-      (λ new count same. subst (λ t. IsWithin (length new) t × IsTrueOf new t) (sym told)
+      (λ last within. ap (rises_from last) reported ∙ rises last within) c (ap change_reported reported) (ap suc is.counted) number
+      (λ new count same. subst (λ t. IsWithin (length new) t × IsTrueOf new t) (sym reported)
       (omega (arith, count, is.counted), ap (λ m. value_at new m key) (omega (arith, is.counted)) ∙ same ∙ was))
       (λ k v. elim (key == k) as (λ t. (key == k) ≡ t → (cond t has (value_at (all_changes trails) n k) ≡ Some v) ↔ Maps (slots_after table step) k v) [
         | true ↦ λ own. let e : key ≡ k = grind (arith, nat_tests) in subst (λ x. (has ≡ Some v) ↔ Maps (slots_after table step) x v) e (map.has v)
@@ -160,7 +160,7 @@ module _ (table : TableValue) (trails : List (List Receipt)) (is : Explains tabl
       kept : KeptBy table step
       kept = step_law table step is.lawful is.booked accepted
 
-      by_telling : (told : Telling) → telling_of (receipt_of table step) ≡ told → IsNext table.book told → Keeps step
+      by_telling : (reported : Telling) → telling_of (receipt_of table step) ≡ reported → IsNext table.book reported → Keeps step
       by_telling (change number key had has) reports next =
           changed step key had has kept (reports ∙ ap (λ n. change n key had has) next.0) (ap (λ t. number_of (book_with table.book t)) reports ∙ next.1 ∙ next.0)
       by_telling (look at key found) reports next = absurd next
@@ -169,11 +169,11 @@ module _ (table : TableValue) (trails : List (List Receipt)) (is : Explains tabl
   -- a look sees what the changes so far leave
   pub look_keeps : (key : ℕ) (r : Receipt) → IsLookAt table key r → Explains table (add_receipts trails worker (r ∷ []))
   look_keeps key r saw =
-      let told = saw.told in
+      let reported = saw.reported in
       let seen : value_at (all_changes trails) (length (all_changes trails)) key ≡ saw.found =
       same_options _ saw.found (λ v. ((λ found. (saw.is_there v).1 ((is.left key v).0 found)), (λ found. (is.left key v).1 ((saw.is_there v).0 found)))) in
       let fine : IsFine (all_changes trails) (Looked (number_of table.book) key saw.found) =
       (omega (arith, is.counted), (omega (arith, is.counted), rw is.counted seen)) in
-      subst (λ q. Explains table (add_receipts trails worker (q ∷ []))) (sym told)
+      subst (λ q. Explains table (add_receipts trails worker (q ∷ []))) (sym reported)
       (keeps_silent table trails is worker inside table is.lawful is.booked (Looked (number_of table.book) key saw.found) (λ last within. grind (arith, nat_tests, is.counted))
       refl (λ k v. ((λ maps. maps), (λ maps. maps))) refl fine)

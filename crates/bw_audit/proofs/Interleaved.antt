@@ -62,7 +62,7 @@ pub accepted_leads : (table : TableValue) (step : Proposal) (receipt : Receipt) 
     → LeadsTo (record { table = table; trails = trails }) (record { worker = worker; deed = proposes step }) (record { table = next; trails = add_receipts trails worker (receipt ∷ []) })
 accepted_leads table step receipt next trails worker accepted takes = record {
   receipts = receipt ∷ [];
-  does = (takes.leads ∙ rw accepted refl, ap (λ r. r ∷ []) takes.told ∙ rw accepted refl);
+  does = (takes.leads ∙ rw accepted refl, ap (λ r. r ∷ []) takes.reported ∙ rw accepted refl);
   trails = refl;
 }
 
@@ -148,7 +148,7 @@ look_is table key page look lawful leaf seen =
     let same : look ≡ record { found = at key (pairs_in (slot_at table page)); at = number_of table.book } = cc (seen, answers) in
     record {
       found = look.found;
-      told = ap (λ l. Looked l.at key look.found) same;
+      reported = ap (λ l. Looked l.at key look.found) same;
       is_there = λ value.
           let decides = leaf_decides table lawful page key value leaf.in_row leaf.is_leaf leaf.spans in
           let there : look.found ≡ at key (pairs_in (slot_at table page)) = ap (λ l. l.found) same in

@@ -8,7 +8,7 @@ use Rattle.std.specs.List.{AllByRecursion}
 use Rattle.bw_audit.specs.declared.change.Change.{Change}
 use Rattle.bw_step.specs.declared.receipt.Receipt.{Receipt}
 use Rattle.bw_step.specs.Tellings.{Telling, change, look, shape, telling_of}
-use Rattle.bw_audit.specs.Changes.{add_change, all_changes, bearer, change_of, change_told, changed_by, changes_of, value_at}
+use Rattle.bw_audit.specs.Changes.{add_change, all_changes, bearer, change_of, change_reported, changed_by, changes_of, value_at}
 use Rattle.std.proofs.lemmas.List.{append-nil}
 use Rattle.std.proofs.Math.Seq.{take-append_seam}
 use Rattle.bw_audit.proofs.Counting.{each_one, total-times}
@@ -49,7 +49,7 @@ good_change cs before c e =
     let p = or_parts (is_misnumbered cs before c.number) (not (option_eq nat_eq (value_at cs (c.number - 1) c.key) c.before)) e in
     (p.0, same_option (value_at cs (c.number - 1) c.key) c.before (not_part (option_eq nat_eq (value_at cs (c.number - 1) c.key) c.before) p.1))
 
-good_telling : (cs : List Change) (before last : ℕ) (told : Telling) → is_bad cs before last told ≡ false → (rises_from last told ≡ true) × IsTrueOf cs told × IsNumbered cs before (change_told told)
+good_telling : (cs : List Change) (before last : ℕ) (reported : Telling) → is_bad cs before last reported ≡ false → (rises_from last reported ≡ true) × IsTrueOf cs reported × IsNumbered cs before (change_reported reported)
 good_telling cs before last (change number key had has) e =
     let c : Change = record { number = number; key = key; before = had; after = has } in
     let p = or_parts (not (nat_lt last number)) (is_bad_change cs before c) e in

@@ -59,7 +59,7 @@ key_at rows place = (get_or rows place (0, 0)).0
 pub record IsLeftBefore (cs : List Change) (rows : List (ℕ × ℕ)) (place : ℕ) (pairs : List (ℕ × ℕ)) : Type 0 where
   pub ascending : IsAscending pairs
   pub lower : place < length rows → rises 0 (key_at rows place) pairs ≡ true
-  pub told : (key : ℕ) → (place < length rows → key < key_at rows place) → at key pairs ≡ value_at cs (length cs) key
+  pub reported : (key : ℕ) → (place < length rows → key < key_at rows place) → at key pairs ≡ value_at cs (length cs) key
 
 module _ (cs : List Change) (rows : List (ℕ × ℕ)) (kept : IsPermutation (rows_upto cs (length cs)) rows) (up : IsSorted pair_cmp rows) where
   far : (i j : ℕ) (d : ℕ × ℕ) → i ≤ j → j < length rows → (get_or rows i d).0 ≤ (get_or rows j d).0
@@ -101,34 +101,34 @@ module _ (cs : List Change) (rows : List (ℕ × ℕ)) (kept : IsPermutation (ro
         → IsPartitionPoint (λ y. is_upto key (length cs) y ≡ true) (λ y. is_upto key (length cs) y ≡ false) rows (i + 1)
     next_parts key low high = parts_at key (i + 1) (omega (arith, inside)) (λ some. rw one_back low) high
 
-    own_told : (i + 1 < length rows → key_at rows i < key_at rows (i + 1)) → value_at cs (length cs) (key_at rows i) ≡ after_of (bearer cs (get_or rows i (0, 0)).1)
-    own_told high =
+    own_reported : (i + 1 < length rows → key_at rows i < key_at rows (i + 1)) → value_at cs (length cs) (key_at rows i) ≡ after_of (bearer cs (get_or rows i (0, 0)).1)
+    own_reported high =
         rw one_back at
         (own_last cs rows kept up (key_at rows i) (length cs) (i + 1) (omega arith) (omega (arith, inside)) (next_parts (key_at rows i) (omega arith) high) (omega arith) (0, 0) (rw one_back refl))
 
-    other_told : (key : ℕ) → key_at rows i < key → (i + 1 < length rows → key < key_at rows (i + 1)) → value_at cs (length cs) key ≡ None
-    other_told key low high =
+    other_reported : (key : ℕ) → key_at rows i < key → (i + 1 < length rows → key < key_at rows (i + 1)) → value_at cs (length cs) key ≡ None
+    other_reported key low high =
         other_last cs rows kept up key (length cs) (i + 1) (omega arith) (omega (arith, inside)) (next_parts key (omega (arith, low)) high) (omega arith) (0, 0)
         (λ same. let e : key_at rows i ≡ key = rw one_back at same in absurd (omega (arith, e, low)))
 
     -- the row is the last of its key
     module _ (pairs : List (ℕ × ℕ)) (is : IsLeftBefore cs rows i pairs) (rest : i + 1 < length rows → key_at rows i < key_at rows (i + 1)) where
-      next_told : (more : List (ℕ × ℕ)) → at (key_at rows i) more ≡ after_of (bearer cs (get_or rows i (0, 0)).1) → ((key : ℕ) → key_at rows i ≢ key → at key more ≡ at key pairs)
+      next_reported : (more : List (ℕ × ℕ)) → at (key_at rows i) more ≡ after_of (bearer cs (get_or rows i (0, 0)).1) → ((key : ℕ) → key_at rows i ≢ key → at key more ≡ at key pairs)
           → (key : ℕ) → (i + 1 < length rows → key < key_at rows (i + 1)) → at key more ≡ value_at cs (length cs) key
-      next_told more own others key high = by_less (nat_lt key (key_at rows i)) refl
+      next_reported more own others key high = by_less (nat_lt key (key_at rows i)) refl
         where
           by_more : (t : Bool) → nat_lt (key_at rows i) key ≡ t → nat_lt key (key_at rows i) ≡ false → at key more ≡ value_at cs (length cs) key
           by_more true above least =
               let past : key_at rows i < key = grind (arith, nat_tests) in
-              others key (λ e. omega (arith, e, past)) ∙ (at_past 0 (key_at rows i) key pairs (is.lower inside) (omega (arith, past)) ∙ sym (other_told key past high))
+              others key (λ e. omega (arith, e, past)) ∙ (at_past 0 (key_at rows i) key pairs (is.lower inside) (omega (arith, past)) ∙ sym (other_reported key past high))
           by_more false above least =
               let same : key_at rows i ≡ key = grind (arith, nat_tests) in
-              rw (← same) (own ∙ sym (own_told rest))
+              rw (← same) (own ∙ sym (own_reported rest))
 
           by_less : (t : Bool) → nat_lt key (key_at rows i) ≡ t → at key more ≡ value_at cs (length cs) key
           by_less true below =
               let before : key < key_at rows i = grind (arith, nat_tests) in
-              others key (λ e. omega (arith, e, before)) ∙ is.told key (λ same. before)
+              others key (λ e. omega (arith, e, before)) ∙ is.reported key (λ same. before)
           by_less false below = by_more (nat_lt (key_at rows i) key) refl below
 
       nothing_there : at (key_at rows i) pairs ≡ None
@@ -138,7 +138,7 @@ module _ (cs : List Change) (rows : List (ℕ × ℕ)) (kept : IsPermutation (ro
       with_pair value after fits = record {
         ascending = rises_more key_count (key_at rows i) value pairs (is.lower inside) fits;
         lower = λ more. rises_more (key_at rows (i + 1)) (key_at rows i) value pairs (is.lower inside) (rest more);
-        told = next_told (pairs ++ (key_at rows i, value) ∷ []) (at_more_own pairs (key_at rows i) value nothing_there ∙ sym after)
+        reported = next_reported (pairs ++ (key_at rows i, value) ∷ []) (at_more_own pairs (key_at rows i) value nothing_there ∙ sym after)
             (λ key apart. at_more_other pairs (key_at rows i) value key apart);
       }
 
@@ -146,7 +146,7 @@ module _ (cs : List Change) (rows : List (ℕ × ℕ)) (kept : IsPermutation (ro
       with_none after = record {
         ascending = is.ascending;
         lower = λ more. rises_wider 0 (key_at rows i) (key_at rows (i + 1)) pairs (omega (arith, rest more)) (is.lower inside);
-        told = next_told pairs (nothing_there ∙ sym after) (λ key apart. refl);
+        reported = next_reported pairs (nothing_there ∙ sym after) (λ key apart. refl);
       }
 
     -- or the next one is of the same key
@@ -154,7 +154,7 @@ module _ (cs : List Change) (rows : List (ℕ × ℕ)) (kept : IsPermutation (ro
     going_on pairs is more same = record {
       ascending = is.ascending;
       lower = λ again. rw same (is.lower inside);
-      told = λ key high. is.told key (λ here. rw same at (high more));
+      reported = λ key high. is.reported key (λ here. rw same at (high more));
     }
 
     ends_there : goes_on rows i ≡ false → i + 1 < length rows → key_at rows i < key_at rows (i + 1)
@@ -194,11 +194,11 @@ module _ (cs : List Change) (rows : List (ℕ × ℕ)) (kept : IsPermutation (ro
   left_first = record {
     ascending = refl;
     lower = λ some. refl;
-    told = λ key high. sym (none_first key high);
+    reported = λ key high. sym (none_first key high);
   }
 
   pub left_last : (pairs : List (ℕ × ℕ)) → IsLeftBefore cs rows (length rows) pairs → IsLeftBy cs pairs
-  left_last pairs is = record { ascending = is.ascending; told = λ key. is.told key (λ less. absurd (omega (arith, less))) }
+  left_last pairs is = record { ascending = is.ascending; reported = λ key. is.reported key (λ less. absurd (omega (arith, less))) }
 
 both_parts : (a b c d : ℕ) → (nat_eq a b && nat_eq c d) ≡ true → (a ≡ b) × (c ≡ d)
 both_parts a b c d same = (grind (arith, nat_tests), grind (arith, nat_tests))
@@ -214,10 +214,10 @@ pair_decides a b = (
 
 -- the pairs that are left are these, where the changes leave these
 pub leaves_same : (cs : List Change) (left pairs : List (ℕ × ℕ)) → IsLeftBy cs left → IsAscending pairs → left ≡ pairs → leaves cs pairs ≡ true
-leaves_same cs left pairs is up same = leaves_fine cs pairs up (λ key. sym (is.told key) ∙ ap (at key) same)
+leaves_same cs left pairs is up same = leaves_fine cs pairs up (λ key. sym (is.reported key) ∙ ap (at key) same)
 
 pub same_left : (cs : List Change) (left pairs : List (ℕ × ℕ)) → IsLeftBy cs left → IsAscending pairs → leaves cs pairs ≡ true → left ≡ pairs
-same_left cs left pairs is up holds = same_entries 0 key_count left pairs is.ascending up (λ key. is.told key ∙ left_from cs pairs holds key)
+same_left cs left pairs is up holds = same_entries 0 key_count left pairs is.ascending up (λ key. is.reported key ∙ left_from cs pairs holds key)
 
 pub leaves_decided : (cs : List Change) (left pairs : List (ℕ × ℕ)) (same : Bool) → IsLeftBy cs left → IsAscending pairs → (same ≡ true → left ≡ pairs) × (left ≡ pairs → same ≡ true) → same ≡ leaves cs pairs
 leaves_decided cs left pairs true is up decides = sym (leaves_same cs left pairs is up (decides.0 refl))

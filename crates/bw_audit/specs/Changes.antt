@@ -5,12 +5,12 @@ use Rattle.bw_step.specs.Tellings.{Telling, change, telling_of}
 use Rattle.bw_audit.specs.declared.change.Change.{Change}
 
 -- the change of a telling, if it is of one
-abbrev pub change_told : Telling → Option Change
-change_told (change number key before after) = Some (record { number = number; key = key; before = before; after = after })
-change_told told = None
+abbrev pub change_reported : Telling → Option Change
+change_reported (change number key before after) = Some (record { number = number; key = key; before = before; after = after })
+change_reported reported = None
 
 abbrev pub change_of : Receipt → Option Change
-change_of receipt = change_told (telling_of receipt)
+change_of receipt = change_reported (telling_of receipt)
 
 abbrev pub add_change : Option Change → List Change → List Change
 add_change None cs = cs

@@ -64,7 +64,7 @@ pub record Indexes (places : List (Option ℕ)) (rows : List (ℕ × ℕ)) (chan
 -- the pairs of the map after all changes
 pub record IsLeftBy (changes : List Change) (pairs : List (ℕ × ℕ)) : Type 0 where
   pub ascending : IsAscending pairs
-  pub told : (key : ℕ) → at key pairs ≡ value_at changes (length changes) key
+  pub reported : (key : ℕ) → at key pairs ≡ value_at changes (length changes) key
 
 abbrev pub pair_of : ℕ → Option ℕ → Option (ℕ × ℕ)
 pair_of key None = None

@@ -30,7 +30,7 @@ pub record Turn : Type 0 where
 -- the look's receipt: the book's number, and what the map has
 pub record IsLookAt (table : TableValue) (key : ℕ) (receipt : Receipt) : Type 0 where
   pub found : Option ℕ
-  pub told : receipt ≡ Looked (number_of table.book) key found
+  pub reported : receipt ≡ Looked (number_of table.book) key found
   pub is_there : IsValueAt table.slots key found
 
 -- an accepted step has a receipt, and a refused one has none

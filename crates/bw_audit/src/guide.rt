@@ -51,7 +51,7 @@ fn range_of(above: u64, digits: u32) -> usize {
     above.wrapping_shr(digits) as usize
 }
 
-/// Starts each range behind one without rows where that one starts.
+/// Starts each range after one without rows where that one starts.
 fn fill(starts: &mut [usize]) {
     let mut last = 0;
     for start in starts {

@@ -149,7 +149,7 @@ fn count_upto(rows: &[(Key, u64)], guess: (usize, usize), key: Key, number: u64)
     from + rows[from..to].partition_point(|row| is_upto(*row, key, number))
 }
 
-/// Returns whether all rows before a range are counted, and none behind it, by a look at its two
+/// Returns whether all rows before a range are counted, and none after it, by a look at its two
 /// neighbours.
 #[inline]
 fn is_within(rows: &[(Key, u64)], from: usize, to: usize, key: Key, number: u64) -> bool

@@ -1,7 +1,7 @@
 -- What a change in place makes of a base page: the page of the chain with the record on top.
 use Rattle.std.proofs.Common.{◌≡◌, ℕ, ◌<◌, ◌≤◌, Bool, true, false, List, [], ◌∷◌, ◌++◌, Option, refl, ap, sym, subst, ◌∙◌, arith, cond}
 use Rattle.std.proofs.lemmas.Bool.Decides.{nat_tests}
-use Rattle.std.specs.Prelude.{Some, None, IfSome, IfNone, is_some, Result, Ok, Err, OnOk, is_err}
+use Rattle.std.specs.Prelude.{Some, None, IfSome, IfNone, is_some, Result, Ok, Err, OnOk, is_err, is_ok}
 use Rattle.bw_keys.specs.declared.page.Pid.{Pid}
 use Rattle.bw_keys.specs.declared.range.Fence.TheVariants.{Key}
 use Rattle.bw_keys.specs.Ranges.{end_of}
@@ -17,7 +17,6 @@ use Rattle.bw_delta.specs.Sound.{IsSound, LiesIn, MayStandOver, page_for, page_w
 use Rattle.bw_delta.proofs.At.{at-below_in}
 use Rattle.bw_delta.proofs.Rises.{below_all, from_all, rises-append, rises-without}
 use Rattle.bw_delta.proofs.Stands.{page_for_is_page}
-use Rattle.bw_chain.specs.declared.in_place.InPlace.{InPlace}
 use Rattle.bw_keys.specs.declared.wished.Wished.{Wished}
 use Rattle.bw_keys.specs.declared.wished.Wished.TheVariants as wishes
 use Rattle.bw_chain.specs.InPlaces.{delta_for, pairs_with, chain_with, page_behind_split, IsBehindSplit, joined_chain, uncovered}
@@ -69,17 +68,17 @@ module _ (page : Page) (old : List (ℕ × ℕ)) (lists : page.listed ≡ pairs_
       ap WithListed (ap pairs_of same ∙ sym lists)
 
   -- the base with the pairs changed is a page
-  pub changed_is_page : (wished : Wished) (key : ℕ) (new : List (ℕ × ℕ)) (done : Option InPlace) → IsPage page → LiesIn key (page_fences page)
-      → IfSome done (λ d. d.had ≡ at key old) → IfSome done (λ d. d.delta ≡ delta_for wished key d.had) → IfSome done (λ d. new ≡ pairs_with d.delta old) → IfNone done (new ≡ old)
+  pub changed_is_page : (wished : Wished) (key : ℕ) (new : List (ℕ × ℕ)) (done : Option (Option ℕ)) → IsPage page → LiesIn key (page_fences page)
+      → IfSome done (λ had. had ≡ at key old) → IfSome done (λ had. new ≡ pairs_with (delta_for wished key had) old) → IfNone done (new ≡ old)
       → IsPage (with_pairs page new)
-  changed_is_page wished key new None whole within had delta changed unchanged = subst IsPage (sym (page_stays new unchanged)) whole
-  changed_is_page wished key new (Some done) whole within had delta changed unchanged = by_delta done.delta delta changed
+  changed_is_page wished key new None whole within found changed unchanged = subst IsPage (sym (page_stays new unchanged)) whole
+  changed_is_page wished key new (Some had) whole within found changed unchanged = by_delta (delta_for wished key had) refl changed
     where
-      by_delta : (d : Option Delta) → d ≡ delta_for wished key done.had → new ≡ pairs_with d old → IsPage (with_pairs page new)
+      by_delta : (d : Option Delta) → d ≡ delta_for wished key had → new ≡ pairs_with d old → IsPage (with_pairs page new)
       by_delta None is new_is = subst IsPage (sym (page_stays new new_is)) whole
       by_delta (Some d) is new_is =
-          let sound : IsSound (above d (bare page)) = record { built = (whole, may_stand wished key done.had d within had is); not_deep = omega arith } in
-          let after : page_for (above d (bare page)) ≡ with_pairs page new = page_after d (λ fence. keeps_fences wished key done.had d fence is) ∙ ap (with_pairs page) (sym new_is) in
+          let sound : IsSound (above d (bare page)) = record { built = (whole, may_stand wished key had d within found is); not_deep = omega arith } in
+          let after : page_for (above d (bare page)) ≡ with_pairs page new = page_after d (λ fence. keeps_fences wished key had d fence is) ∙ ap (with_pairs page) (sym new_is) in
           subst IsPage after (page_for_is_page (above d (bare page)) sound)
 
 -- an inner page with a new route
@@ -223,6 +222,11 @@ module _ (page : Page) (old : List (ℕ × Pid)) (lists : page.listed ≡ routes
       let Whole : Listed → Type 0 = λ l. IsPage (record page { listed = l }) in
       let own : Whole (routes_of old) = subst Whole lists whole in
       subst Whole (ap routes_of (sym is)) (grind (arith, nat_tests, own, rises-without (end_of page.high) page.low separator old))
+
+-- what a call that succeeded did
+pub done_if_ok : {T E : Type 0} {P : Type 0} (r : Result T E) → OnOk r P → is_ok r ≡ true → P
+done_if_ok (Ok x) done is = done
+done_if_ok (Err e) done is = cc
 
 -- what a call that didn't fail did
 pub done_unless_err : {T E : Type 0} {P : Type 0} (r : Result T E) → OnOk r P → is_err r ≡ false → P

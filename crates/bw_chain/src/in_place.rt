@@ -47,42 +47,59 @@ pub fn change_in_place<A: Allocator + Copy>(
     ensures shallow { IfSome result (λ done. depth chain.old ≤ 1) }
     ensures unchanged { IfNone result (chain.new ≡ chain.old) }
 {
-    match &mut chain.node {
-        Node::Bare(base) => change_on_base(base, key, wished),
-        Node::Above(_, _) => change_behind_split(chain, key, wished),
-        Node::Merged(_, _, _) => None,
+    let had = match &mut chain.node {
+        Node::Bare(base) => change_on_base(base, key, wished)?,
+        Node::Above(_, _) => change_behind_split(chain, key, wished)?,
+        Node::Merged(_, _, _) => return None,
+    };
+    let delta = delta_for(wished, key, had);
+    Some(InPlace { had, delta })
+}
+
+/// Returns the record that carries out the wish where the key has this value, or `None` if nothing
+/// has to change.
+#[inline(always)]
+fn delta_for(wished: Wished, key: Key, had: Option<u64>) -> Option<Delta>
+    ensures { result ≡ delta_for wished key had }
+{
+    match (wished, had) {
+        (Wished::Put(_), Some(_)) | (Wished::Delete, None) => None,
+        (Wished::Put(value) | Wished::Set(value), None) => Some(Delta::Insert(key, value)),
+        (Wished::Set(value), Some(_)) => Some(Delta::Modify(key, value)),
+        (Wished::Delete, Some(_)) => Some(Delta::Delete(key)),
     }
 }
 
 /// Makes the change under the record of a split, and takes that in unless nothing had to change.
+/// Returns what the key had.
 fn change_behind_split<A: Allocator + Copy>(
     chain: &mut Chain<A>,
     key: Key,
     wished: Wished,
-) -> Option<InPlace>
+) -> Option<Option<u64>>
     requires within { LiesIn key (fences chain.old) }
-    ensures had { IfSome result (λ done. done.had ≡ at key (pairs chain.old)) }
-    ensures delta { IfSome result (λ done. done.delta ≡ delta_for wished key done.had) }
-    ensures changed { IfSome result (λ done. chain.new ≡ chain_with done.delta chain.old) }
-    ensures shallow { IfSome result (λ done. depth chain.old ≤ 1) }
+    ensures had { IfSome result (λ had. had ≡ at key (pairs chain.old)) }
+    ensures changed { IfSome result
+        (λ had. chain.new ≡ chain_with (delta_for wished key had) chain.old) }
+    ensures shallow { IfSome result (λ had. depth chain.old ≤ 1) }
     ensures unchanged { IfNone result (chain.new ≡ chain.old) }
 {
-    let done = change_below_split(chain, key, wished)?;
-    if done.delta.is_some() {
+    let had = change_below_split(chain, key, wished)?;
+    if delta_for(wished, key, had).is_some() {
         uncover(chain);
     }
-    Some(done)
+    Some(had)
 }
 
 fn change_below_split<A: Allocator + Copy>(
     chain: &mut Chain<A>,
     key: Key,
     wished: Wished,
-) -> Option<InPlace>
+) -> Option<Option<u64>>
     requires within { LiesIn key (fences chain.old) }
-    ensures had { IfSome result (λ done. done.had ≡ at key (pairs chain.old)) }
-    ensures delta { IfSome result (λ done. done.delta ≡ delta_for wished key done.had) }
-    ensures changed { IfSome result (λ done. IsBehindSplit done.delta chain.old chain.new) }
+    ensures had { IfSome result (λ had. had ≡ at key (pairs chain.old)) }
+    ensures changed { IfSome result
+        (λ had. IsBehindSplit (delta_for wished key had) chain.old chain.new) }
     ensures unchanged { IfNone result (chain.new ≡ chain.old) }
 {
     match &mut chain.node {
@@ -107,23 +124,22 @@ fn change_and_cut<A: Allocator + Copy>(
     right: Pid,
     key: Key,
     wished: Wished,
-) -> Option<InPlace>
+) -> Option<Option<u64>>
     requires within { LiesIn key (fences (split_page separator right base.old)) }
     ensures had { IfSome result
-        (λ done. done.had ≡ at key (pairs (split_page separator right base.old))) }
-    ensures delta { IfSome result (λ done. done.delta ≡ delta_for wished key done.had) }
-    ensures changed { IfSome result
-        (λ done. base.new ≡ page_behind_split separator right done.delta base.old) }
+        (λ had. had ≡ at key (pairs (split_page separator right base.old))) }
+    ensures changed { IfSome result (λ had.
+        base.new ≡ page_behind_split separator right (delta_for wished key had) base.old) }
     ensures unchanged { IfNone result (base.new ≡ base.old) }
 {
     if separator <= base.low || !base.high.is_above(separator) {
         return None;
     }
-    let done = change_on_base(base, key, wished)?;
-    if done.delta.is_some() {
+    let had = change_on_base(base, key, wished)?;
+    if delta_for(wished, key, had).is_some() {
         cut_base(base, separator, right);
     }
-    Some(done)
+    Some(had)
 }
 
 /// Takes the newest record off the chain.
@@ -145,12 +161,11 @@ fn change_on_base<A: Allocator + Copy>(
     base: &mut Base<A>,
     key: Key,
     wished: Wished,
-) -> Option<InPlace>
+) -> Option<Option<u64>>
     requires within { LiesIn key (fences (bare base.old)) }
-    ensures had { IfSome result (λ done. done.had ≡ at key (pairs_listed base.old.listed)) }
-    ensures delta { IfSome result (λ done. done.delta ≡ delta_for wished key done.had) }
+    ensures had { IfSome result (λ had. had ≡ at key (pairs_listed base.old.listed)) }
     ensures changed { IfSome result
-        (λ done. bare base.new ≡ chain_with done.delta (bare base.old)) }
+        (λ had. bare base.new ≡ chain_with (delta_for wished key had) (bare base.old)) }
     ensures unchanged { IfNone result (base.new ≡ base.old) }
 {
     match &mut base.entries {
@@ -164,60 +179,43 @@ fn change_listed<A: Allocator + Copy>(
     pairs: &mut EntryList<u64, A>,
     key: Key,
     wished: Wished,
-) -> Option<InPlace>
+) -> Option<Option<u64>>
     requires ascending { IsAscending pairs.old }
-    ensures had { IfSome result (λ done. done.had ≡ at key pairs.old) }
-    ensures delta { IfSome result (λ done. done.delta ≡ delta_for wished key done.had) }
+    ensures had { IfSome result (λ had. had ≡ at key pairs.old) }
     ensures changed { IfSome result
-        (λ done. pairs.new ≡ pairs_with done.delta pairs.old) }
+        (λ had. pairs.new ≡ pairs_with (delta_for wished key had) pairs.old) }
     ensures unchanged { IfNone result (pairs.new ≡ pairs.old) }
 {
     let place = count_below_key(pairs.as_slice(), key);
     let had = entry_at(pairs.as_slice(), key, place);
     match (wished, had) {
-        (Wished::Put(_), Some(_)) | (Wished::Delete, None) => Some(InPlace { had, delta: None }),
-        (Wished::Put(value) | Wished::Set(value), None) => insert_at(pairs, place, key, value),
-        (Wished::Set(value), Some(_)) => {
-            pairs.set_value(place, value);
-            Some(InPlace {
-                had,
-                delta: Some(Delta::Modify(key, value)),
-            })
+        (Wished::Put(_), Some(_)) | (Wished::Delete, None) => {}
+        (Wished::Put(value) | Wished::Set(value), None) => {
+            if !insert_at(pairs, place, key, value) {
+                return None;
+            }
         }
-        (Wished::Delete, Some(_)) => {
-            pairs.remove(place);
-            Some(InPlace {
-                had,
-                delta: Some(Delta::Delete(key)),
-            })
-        }
+        (Wished::Set(value), Some(_)) => pairs.set_value(place, value),
+        (Wished::Delete, Some(_)) => pairs.remove(place),
     }
+    Some(had)
 }
 
-/// Inserts a new pair at its place.
+/// Inserts a new pair at its place. Returns false, and changes nothing, if memory is short.
 #[inline(always)]
 fn insert_at<A: Allocator + Copy>(
     pairs: &mut EntryList<u64, A>,
     place: usize,
     key: Key,
     value: u64,
-) -> Option<InPlace>
+) -> bool
     requires ascending { IsAscending pairs.old }
     requires place { place ≡ length (below key pairs.old) }
     requires absent { at key pairs.old ≡ None }
-    ensures had { IfSome result (λ done. done.had ≡ None) }
-    ensures delta { IfSome result (λ done. done.delta ≡ Some (deltas.Insert key value)) }
-    ensures changed { IfSome result
-        (λ done. pairs.new ≡ pairs_with done.delta pairs.old) }
-    ensures unchanged { IfNone result (pairs.new ≡ pairs.old) }
+    ensures put { result ≡ true → pairs.new ≡ put key value pairs.old }
+    ensures unchanged { result ≡ false → pairs.new ≡ pairs.old }
 {
-    match pairs.insert(place, key, value) {
-        Ok(()) => Some(InPlace {
-            had: None,
-            delta: Some(Delta::Insert(key, value)),
-        }),
-        Err(_) => None,
-    }
+    pairs.insert(place, key, value).is_ok()
 }
 
 /// Returns what stands at the key, given its place.

@@ -73,7 +73,7 @@ module _ {T : Type 0} (place : ℕ) (xs : List T) where
   lower_run : (n p at : ℕ) → place ≤ p → p ≤ at → at ≤ p + n → p + n < length xs → take p (lowered place at xs) ++ take n (drop (p + 1) xs) ++ drop (p + n) (lowered place at xs) ≡ lowered place (p + n) xs
   lower_run n p at from upto end inside = same_lists _ _ (search (rules, places)) (λ k d h. grind (arith, places))
 
-  -- the run of n items behind p is written one place down
+  -- the run of n items after p is written one place down
   pub lower_kept : (n p at : ℕ) (list run moved : List T) → list ≡ lowered place at xs → run ≡ take n (drop (p + 1) xs) → moved ≡ take p list ++ run ++ drop (p + n) list → place ≤ p → p ≤ at → at ≤ p + n → p + n < length xs → moved ≡ lowered place (p + n) xs
   lower_kept n p at list run moved before kept put from upto end inside =
       put ∙ rw (before, kept) (lower_run n p at from upto end inside)

@@ -6,6 +6,6 @@ use Rattle.std.specs.List.{remove}
 abbrev pub raised : {T : Type 0} → ℕ → List T → List T
 raised place items = take (suc place) items ++ drop place (take (length items - 1) items)
 
--- the items behind the place, up to the end, stand one place further down
+-- the items after the place, up to the end, stand one place further down
 abbrev pub lowered : {T : Type 0} → ℕ → ℕ → List T → List T
 lowered place end items = take end (remove items place) ++ drop end items

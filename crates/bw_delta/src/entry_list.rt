@@ -185,7 +185,7 @@ impl<X: Copy, A: Allocator> EntryList<X, A> {
         }
     }
 
-    /// Takes out the entries behind the first `count`.
+    /// Takes out the entries after the first `count`.
     pub fn truncate(&mut self, count: usize)
         ensures { self.new ≡ take count self.old }
     {

@@ -61,7 +61,7 @@ fn move_eights_up<X: Copy>(keys: &mut [Key], values: &mut [X], place: usize, las
     put_eight(values, place + 1, first_values);
 }
 
-/// Moves the entries behind the place one place down, over the one at the place. The last one stays
+/// Moves the entries after the place one place down, over the one at the place. The last one stays
 /// where it was as well.
 #[inline(always)]
 pub(crate) fn move_down<X: Copy>(keys: &mut [Key], values: &mut [X], place: usize)

@@ -41,7 +41,7 @@ first_here rows low high place it here more number at = record {
   first = none_in rows it.row.worker low (it.number - 1) (omega (arith, here, number));
 }
 
--- the first row from a place on, where that is another worker's, is the first one behind it
+-- the first row from a place on, where that is another worker's, is the first one after it
 first_later : (rows : List Row) (worker place high : ℕ) (it : NumberedRow) (x : Option NumberedRow) → it.number ≡ place + 1 → IsRowAt rows it.row.worker it → it.row.worker ≢ worker → IsFirst rows worker place high x → IsFirst rows worker (place + 1) high x
 first_later rows worker place high it None number at other before = none_fewer rows worker place high (place + 1) high before (omega arith) (omega arith)
 first_later rows worker place high it (Some x) number at other before =
@@ -189,7 +189,7 @@ row_at rows place row it inside at number is =
       own = refl;
     }
 
--- a worker's row behind none
+-- a worker's row after none
 pub found : (rows : List Row) (worker from place : ℕ) (it : NumberedRow) → it.number ≡ place + 1 → IsRowAt rows it.row.worker it → it.row.worker ≡ worker → from ≤ place → place < length rows → NoneOf rows worker from place
     → IsFirst rows worker from (length rows) (Some it)
 found rows worker from place it number at own low inside none = record {

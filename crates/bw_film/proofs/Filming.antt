@@ -14,10 +14,10 @@ use Rattle.bw_step.specs.Steps.{IsReceiptOf}
 use Rattle.bw_procedures.specs.declared.steps.Keep.{Keep}
 use Rattle.bw_delta.specs.declared.fault.NoMemory.{NoMemory}
 use Rattle.bw_procedures.specs.Seen.{Seen, IsAccepted, Looked as LooksAt, is_kept, trail_after_look}
-use Rattle.bw_step.specs.Tellings.{told_in}
+use Rattle.bw_step.specs.Tellings.{reported_in}
 use Rattle.bw_procedures.specs.declared.act.Act.{Act}
 use Rattle.bw_procedures.specs.declared.reply.Reply.{Reply}
-use Rattle.bw_procedures.specs.Told.{GoesWith}
+use Rattle.bw_procedures.specs.Reported.{GoesWith}
 use Rattle.bw_procedures.proofs.Receipts.{go_more, go_none}
 use Rattle.bw_texts.specs.declared.trace.row.Row.{Row}
 use Rattle.bw_film.specs.declared.film.Film.{Film}
@@ -55,20 +55,20 @@ filmed_looked film failed keep key (Err no_memory) old new seen = filmed_same fi
 
 -- the receipt of a proposal is that of a step
 step_of : (step : Proposal) (receipt : Receipt) → IsReceiptOf step receipt → is_step receipt ≡ true
-step_of step (Inserted number key value) told = refl
-step_of step (Deleted number key value) told = refl
-step_of step (Modified number key old value) told = refl
-step_of step (Shaped kind page other) told = refl
-step_of (insert a b c d) (Looked at key found) told = absurd told
-step_of (delete a b c) (Looked at key found) told = absurd told
-step_of (modify a b c d) (Looked at key found) told = absurd told
-step_of (consolidate a b c) (Looked at key found) told = absurd told
-step_of (split a b c d) (Looked at key found) told = absurd told
-step_of (term_add a b c d) (Looked at key found) told = absurd told
-step_of (grow a b c) (Looked at key found) told = absurd told
-step_of (mark a b c) (Looked at key found) told = absurd told
-step_of (merge a b c d) (Looked at key found) told = absurd told
-step_of (term_delete a b c d) (Looked at key found) told = absurd told
+step_of step (Inserted number key value) reported = refl
+step_of step (Deleted number key value) reported = refl
+step_of step (Modified number key old value) reported = refl
+step_of step (Shaped kind page other) reported = refl
+step_of (insert a b c d) (Looked at key found) reported = absurd reported
+step_of (delete a b c) (Looked at key found) reported = absurd reported
+step_of (modify a b c d) (Looked at key found) reported = absurd reported
+step_of (consolidate a b c) (Looked at key found) reported = absurd reported
+step_of (split a b c d) (Looked at key found) reported = absurd reported
+step_of (term_add a b c d) (Looked at key found) reported = absurd reported
+step_of (grow a b c) (Looked at key found) reported = absurd reported
+step_of (mark a b c) (Looked at key found) reported = absurd reported
+step_of (merge a b c d) (Looked at key found) reported = absurd reported
+step_of (term_delete a b c d) (Looked at key found) reported = absurd reported
 
 -- a step is a moment
 pub filmed_step : {a b : Film} {f g : Bool} (step : Proposal) (receipt : Receipt) (old new : Seen) → IsAccepted step receipt old new → IsSameChoice a b → (g ≡ false → f ≡ false) → (g ≡ false → b.moments ≡ one_more a.moments)
@@ -81,7 +81,7 @@ filmed_step step receipt old new accepted same failed counted row crew frames = 
   failed = failed;
   added = λ is. record {
     steps = 1;
-    longer = let one : steps_in old.trail + 1 ≡ 1 + steps_in old.trail = omega arith in ap steps_in accepted.trail ∙ steps_more old.trail receipt ∙ ap (λ (b : Bool). steps_in old.trail + cond b 1 0) (step_of step receipt accepted.told) ∙ one;
+    longer = let one : steps_in old.trail + 1 ≡ 1 + steps_in old.trail = omega arith in ap steps_in accepted.trail ∙ steps_more old.trail receipt ∙ ap (λ (b : Bool). steps_in old.trail + cond b 1 0) (step_of step receipt accepted.reported) ∙ one;
     moments = counted is;
   };
 }
@@ -99,7 +99,7 @@ frame_stays rows replies reply workers more frame same is =
       crew = subst (λ (l : List Reply). IsCrew rows l is.begun frame.crew.items) (sym kept) is.crew;
     }
 
--- a frame of the row behind those that are done
+-- a frame of the row after those that are done
 frame_now : (rows : List Row) (replies : List Reply) (reply : Reply) (place workers : ℕ) (row : List ℕ) (crew : List Standing) (frame : Frame) → length replies ≡ place → length crew ≡ workers → IsCrew rows replies (place + 1) crew → NamesRow (place + 1) row → Shows row crew frame
     → IsFrameOf rows (replies ++ reply ∷ []) workers frame
 frame_now rows replies reply place workers row crew frame many long is named shown =
@@ -132,7 +132,7 @@ films_begin rows film row crew none one empty same is frames =
     record {
       replies = [];
       many = refl;
-      told = go_none (map (λ (row : Row). row.act) rows);
+      reported = go_none (map (λ (row : Row). row.act) rows);
       moments = one;
       crew = subst (λ (l : List Standing). IsCrew rows [] 0 l) (sym same) is;
       frames = subst (λ (l : List Standing). All (IsFrameOf rows [] (length l)) film.frames.items) (sym same) (subst (λ (l : List Frame). All (IsFrameOf rows [] (length crew)) l) (sym are) first);
@@ -146,7 +146,7 @@ films_go_on rows place row reply a b c d old new inside at before begun moments 
     let acts : List Act = map (λ (r : Row). r.act) rows in
     let none : Act = row.act in
     let act : get_or acts place none ≡ row.act = get_or-map (λ (r : Row). r.act) rows place row none inside ∙ ap (λ (r : Row). r.act) at in
-    let answers : GoesWith (get_or acts place none) reply does.told.added = subst (λ (a : Act). GoesWith a reply does.told.added) (sym act) does.told.answers in
+    let answers : GoesWith (get_or acts place none) reply does.reported.added = subst (λ (a : Act). GoesWith a reply does.reported.added) (sym act) does.reported.answers in
     let room : place < length acts = omega (arith, length-map rows (λ (r : Row). r.act), inside) in
     let crew : IsCrew rows before.replies (place + 1) b.crew.items = begun.crew before.replies before.many before.crew in
     let long : length d.crew.items ≡ length b.crew.items = answered.many ∙ ap length does.crew in
@@ -155,7 +155,7 @@ films_go_on rows place row reply a b c d old new inside at before begun moments 
     record {
       replies = before.replies ++ reply ∷ [];
       many = omega (arith, length-append before.replies (reply ∷ []), before.many);
-      told = rw does.told.trail (go_more acts before.replies (told_in old) reply place none does.told.added before.many room before.told answers);
+      reported = rw does.reported.trail (go_more acts before.replies (reported_in old) reply place none does.reported.added before.many room before.reported answers);
       moments = moments_then ∙ does.moments.moments ∙ ap (moments_after does.moments.steps) (moments ∙ before.moments) ∙ after_more does.moments.steps (steps_in old) 1 ∙ ap (λ k. moments_after k 1) (sym does.moments.longer);
       crew = answered.crew before.replies before.many (subst (λ (l : List Standing). IsCrew rows before.replies (place + 1) l) (sym does.crew) crew);
       frames = subst (λ (l : List Frame). All shown l) (sym are)

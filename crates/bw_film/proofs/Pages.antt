@@ -7,7 +7,7 @@ use Rattle.std.proofs.lemmas.Bool.Decides.{nat_tests}
 use Rattle.bw_film.specs.declared.frame.Frame.{Frame}
 use Rattle.bw_film.specs.Pages.{attribute_text, attributes_text, cut_text, span_between, whole_text}
 
--- what is appended behind what was appended
+-- what is appended after what was appended
 pub behind : (p a b x y : List ℕ) → x ≡ p ++ a → y ≡ x ++ b → y ≡ p ++ (a ++ b)
 behind p a b x y first more = more ∙ ap (λ l. l ++ b) first ∙ append_assoc {A = ℕ} p a b
 
@@ -16,7 +16,7 @@ pub each_more : {X : Type 0} (f : X → List ℕ) (xs : List X) (i : ℕ) (x : X
 each_more f xs i x p q r inside at before more =
     more ∙ ap (λ l. l ++ f x) before ∙ flat_map_more f p (take i xs) x ∙ ap (λ l. p ++ flat_map f l) (ap (λ y. take i xs ++ y ∷ []) at ∙ sym (take_more xs i x inside))
 
--- the texts of a frame, one behind the other
+-- the texts of a frame, one after the other
 pub texts : (frame : Frame) (p x y z w told row note : List ℕ) → told ≡ string_bytes frame.told → row ≡ string_bytes frame.row → note ≡ string_bytes frame.note
     → x ≡ p ++ attribute_text (codes "told") told → y ≡ x ++ attribute_text (codes "proved") frame.proved.now → z ≡ y ++ attribute_text (codes "row") row → w ≡ z ++ attribute_text (codes "note") note
     → w ≡ p ++ attributes_text frame
@@ -48,10 +48,10 @@ whole first last moments to next is why =
     let after = min (last + 1) (2 ^ 64 - 1) in
     sym (not_both after moments last to (cut_text first last moments after) (whole_text first last moments) (subst (λ k. ((k < moments) × (to ≤ last)) ⊎ (moments ≤ k)) is why))
 
--- four texts, one behind the other
+-- four texts, one after the other
 pub four : (p a b c d x y z w : List ℕ) → x ≡ p ++ a → y ≡ x ++ b → z ≡ y ++ c → w ≡ z ++ d → w ≡ p ++ (((a ++ b) ++ c) ++ d)
 four p a b c d x y z w first second third fourth = behind p ((a ++ b) ++ c) d z w (behind p (a ++ b) c y z (behind p a b x y first second) third) fourth
 
--- five texts, one behind the other
+-- five texts, one after the other
 pub five : (p a b c d e x y z w v : List ℕ) → x ≡ p ++ a → y ≡ x ++ b → z ≡ y ++ c → w ≡ z ++ d → v ≡ w ++ e → v ≡ p ++ ((((a ++ b) ++ c) ++ d) ++ e)
 five p a b c d e x y z w v first second third fourth fifth = behind p (((a ++ b) ++ c) ++ d) e w v (four p a b c d x y z w first second third fourth) fifth

@@ -7,9 +7,9 @@ use Rattle.std.proofs.lemmas.List.{append-nil}
 use Rattle.std.proofs.lemmas.List.Elements.{All-append, All-nil}
 use Rattle.bw_step.specs.declared.receipt.Receipt.{Receipt}
 use Rattle.bw_step.specs.declared.receipt.Receipt.TheVariants.{Looked}
-use Rattle.bw_step.specs.Tellings.{told_in}
+use Rattle.bw_step.specs.Tellings.{reported_in}
 use Rattle.bw_procedures.specs.declared.reply.Reply.{Reply}
-use Rattle.bw_procedures.specs.Told.{AddsTold, GoWith}
+use Rattle.bw_procedures.specs.Reported.{AddsReported, GoWith}
 use Rattle.bw_scripts.specs.declared.answer.Answer.{Answer}
 use Rattle.bw_scripts.specs.declared.answer.Answer.TheVariants as answers
 use Rattle.bw_texts.specs.declared.trace.row.Row.{Row}
@@ -116,7 +116,7 @@ pub record IsFrameOf (rows : List Row) (replies : List Reply) (workers : ℕ) (f
 pub record IsFilmedUpTo (rows : List Row) (place : ℕ) (film : Film) (trail : List Receipt) : Type 0 where
   pub replies : List Reply
   pub many : length replies ≡ place
-  pub told : GoWith (map (λ row. row.act) rows) replies (told_in trail)
+  pub reported : GoWith (map (λ row. row.act) rows) replies (reported_in trail)
   pub moments : film.moments ≡ moments_after (steps_in trail) 1
   pub crew : IsCrew rows replies place film.crew.items
   pub frames : All (IsFrameOf rows replies (length film.crew.items)) film.frames.items
@@ -128,7 +128,7 @@ pub record IsFilmOf (rows : List Row) (film : Film) : Type 0 where
 
 -- a row is done: its receipts go with the reply, its steps are moments, and their frames show what the workers do meanwhile
 pub record DoesRow (it : Row) (number : ℕ) (reply : Reply) (old : Film) (old_trail : List Receipt) (new : Film) (new_trail : List Receipt) : Type 0 where
-  pub told : AddsTold it.act reply old_trail new_trail
+  pub reported : AddsReported it.act reply old_trail new_trail
   pub moments : AddsMoments old old_trail new new_trail
   pub row : NamesRow number (string_bytes new.row)
   pub crew : new.crew.items ≡ old.crew.items

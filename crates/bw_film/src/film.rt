@@ -111,7 +111,7 @@ fn note_last(frames: &mut Vec<Frame>, moment: u64, comment: &str) -> Result<(), 
     Ok(())
 }
 
-/// Adds the comment to what is said of the frame, behind a blank.
+/// Adds the comment to what is said of the frame, after a blank.
 fn add_note(frame: &mut Frame, comment: &str) -> Result<(), AllocError>
     ensures { frame.new.moment ≡ frame.old.moment }
 {

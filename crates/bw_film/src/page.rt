@@ -37,7 +37,7 @@ fn style_for<'a>(style: &'a str, crew: &[Standing]) -> &'a str
     if crew.is_empty() { "" } else { style }
 }
 
-/// Returns the texts, one behind the other.
+/// Returns the texts, one after the other.
 fn above_film(
     alloc: Global,
     head: &str,

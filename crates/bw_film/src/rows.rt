@@ -107,7 +107,7 @@ fn do_row<S: Steps<Global, Step<Global>> + Shows + Drop>(
     }
 }
 
-/// Returns the row as a trace has it, behind its number.
+/// Returns the row as a trace has it, after its number.
 fn row_text(alloc: Global, row: Row, number: usize) -> Result<String, NoMemory>
     ensures { IfOk result (λ text. NamesRow number (string_bytes text)) }
 {

@@ -12,7 +12,7 @@ use crate::fault::FilmFault;
 use crate::film::Film;
 use crate::telling::Telling;
 use bw_delta::NoMemory;
-use bw_scripts::{Answer, MOST_LINES, Player, ScriptFault};
+use bw_scripts::{Answer, Player, ScriptFault};
 use std::alloc::Global;
 use std::io;
 use std::io::{BufRead, BufReader, Read};
@@ -59,16 +59,10 @@ fn take(
     ensures within { OnOk result (player.new.lines ≤ MOST_LINES) }
     ensures fault { IfErr result (IsLineFault (one_more player.old.lines)) }
 {
-    let number = player.lines().saturating_add(1);
-    match line {
-        Err(error) => Err(FilmFault::Script(ScriptFault::of_reader(number, &error))),
-        Ok(_) if number > MOST_LINES => Err(FilmFault::Script(ScriptFault::Lines)),
-        Ok(line) => {
-            let answer = player.play(&line)?;
-            film_answer(alloc, player, film, &line, answer)?;
-            Ok(())
-        }
-    }
+    let line = player.next_line(line)?;
+    let answer = player.play(&line)?;
+    film_answer(alloc, player, film, &line, answer)?;
+    Ok(())
 }
 
 /// Films the moment after the line, if the line made the table anew or took a step.

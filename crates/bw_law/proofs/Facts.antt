@@ -3,12 +3,8 @@ use Rattle.std.proofs.Common.{◌≡◌, ◌≢◌, ◌↔◌, ℕ, zero, suc, �
 use Rattle.std.specs.Prelude.{option_map}
 use Rattle.std.proofs.lemmas.List.{length-set}
 use Rattle.std.proofs.lemmas.List.Sums.{get_or-le-sum_by}
-use Rattle.std.proofs.lemmas.Bool.Decides.{nat_tests}
-use Rattle.bw_keys.specs.declared.config.Field.TheVariants.{Fanout, Chain, Pages, Tries}
 use Rattle.bw_keys.specs.declared.page.Pid.{Pid}
 use Rattle.bw_keys.specs.declared.page.TheConstants.{MAX_DEPTH, MAX_LEVEL}
-use Rattle.bw_keys.specs.Limits.{is_out_of}
-use Rattle.bw_keys.specs.Reasons.{when}
 use Rattle.bw_keys.specs.Ranges.{key_count, end_of}
 use Rattle.bw_delta.specs.Entries.{at}
 use Rattle.bw_delta.specs.Records.{Records}
@@ -18,12 +14,13 @@ use Rattle.bw_delta.proofs.Stands.{routes_rise}
 use Rattle.bw_step.specs.declared.view.Stage.{Stage}
 use Rattle.bw_step.specs.declared.view.Stage.TheVariants.{Free, Unposted, Posted, Marked, Merged}
 use Rattle.bw_step.specs.Stages.{is_in_row, has_term, is_leaving}
+use Rattle.bw_law.specs.declared.pages.TheConstants.{MAX_PAGES}
 use Rattle.bw_law.specs.Slots.{SlotValue, free_slot, pairs_in, routes_in}
 use Rattle.bw_law.specs.Walks.{IsAmong}
 use Rattle.bw_law.specs.Tables.{TableValue, slot_at, id_of, IsPageOf, FreeList, Lawful, leaf_pairs, Booked, outlines, Maps}
 use Rattle.bw_law.specs.Refusals.{last_id}
 use Rattle.bw_law.proofs.Lists.{found_within}
-use Rattle.bw_law.proofs.Accepted.{all_none, Holds}
+use Rattle.bw_law.proofs.Accepted.{Holds}
 use Rattle.bw_law.proofs.Slots.{in_bounds, used_in_bounds}
 use Rattle.bw_law.proofs.FreeIds.{last_is_among, free_returned}
 use Rattle.bw_law.specs.Laws.{FitLaw}
@@ -55,17 +52,8 @@ module _ (table : TableValue) (law : Lawful table) where
   IsHere page = is_in_row (slot_at table page).stage ≡ true
 
   -- how many slots there are
-  pub slots_are_few : length table.slots ≤ 65536
-  slots_are_few =
-      let (fanout, (chain, (pages, (tries, _)))) =
-      all_none
-      (when (is_out_of 4 64 table.config.fanout) Fanout
-      ∷ when (is_out_of 1 32 table.config.chain) Chain
-      ∷ when (is_out_of 8 65536 table.config.pages) Pages
-      ∷ when (is_out_of 1 1000 table.config.tries) Tries
-      ∷ []) law.bounds.config
-      in
-      let slots = law.bounds.slots in grind (arith, nat_tests)
+  pub slots_are_few : length table.slots ≤ MAX_PAGES
+  slots_are_few = omega (arith, law.bounds.slots, law.bounds.config.few)
 
   -- the root is in a row, and the first there
   pub root_is_here : IsHere table.root

@@ -1,25 +1,18 @@
 -- A table with more pages keeps the law.
-use Rattle.std.proofs.Common.{◌≡◌, ◌⊎◌, ◌↔◌, ℕ, zero, suc, ◌+◌, ◌-◌, ◌<◌, ◌≤◌, ◌^◌, true, List, [], ◌∷◌, ◌++◌, length, Some, None, refl, sym, ◌∙◌, ap, subst, inl, inr, ⊎_elim, arith, length-append, append_assoc}
+use Rattle.std.proofs.Common.{◌≡◌, ◌⊎◌, ℕ, zero, suc, ◌+◌, ◌-◌, ◌<◌, ◌≤◌, ◌^◌, List, [], ◌∷◌, ◌++◌, length, refl, sym, ◌∙◌, ap, subst, inl, inr, ⊎_elim, arith, length-append}
 use Rattle.std.proofs.Math.Path.{fun_ext}
-use Rattle.std.specs.Prelude.{replicate, sum_by}
+use Rattle.std.specs.Prelude.{replicate}
 use Rattle.std.proofs.lemmas.List.{length-replicate, replicate-append-replicate, get_or_past, get_or_append_left}
 use Rattle.std.proofs.lemmas.List.Sums.{sum_by-cons}
-use Rattle.std.proofs.lemmas.Bool.{cases_lt}
-use Rattle.std.proofs.lemmas.Bool.Decides.{nat_tests}
-use Rattle.bw_keys.specs.declared.config.Config.{Config}
-use Rattle.bw_keys.specs.declared.config.Field.TheVariants.{Fanout, Chain, Pages, Tries}
-use Rattle.bw_keys.specs.Limits.{is_out_of, first_bad_field}
-use Rattle.bw_keys.specs.Reasons.{when, first_reason}
 use Rattle.bw_keys.specs.Ranges.{key_count}
 use Rattle.bw_delta.specs.Entries.{at}
 use Rattle.bw_step.specs.declared.view.Stage.TheVariants.{Free}
-use Rattle.bw_step.specs.Stages.{is_in_row}
+use Rattle.bw_law.specs.declared.pages.TheConstants.{MAX_PAGES}
 use Rattle.bw_law.specs.Slots.{SlotValue, free_slot, slot_in}
 use Rattle.bw_law.specs.Rows.{Outline, Rows}
 use Rattle.bw_law.specs.Walks.{IsAmong, RepeatsNone, IsRowOf, IsWalkFrom}
-use Rattle.bw_law.specs.Tables.{TableValue, outline, outlines, IsEmptied, FreeList, Lawful, Booked, Maps, leaf_pairs, joined_pairs, pair_count, first_slot, ids_down, new_table}
+use Rattle.bw_law.specs.Tables.{TableValue, outlines, IsEmptied, FreeList, Lawful, Booked, leaf_pairs, joined_pairs, pair_count, first_slot, ids_down}
 use Rattle.bw_law.specs.MorePages.{ids_from, more_pages, with_more_pages, KeptWithMorePages, MorePagesLaw, SameAsNewLaw}
-use Rattle.bw_law.proofs.Accepted.{all_none}
 use Rattle.bw_law.proofs.Slots.{HasPage}
 
 -- what holds of each slot, and of a free one, holds of each slot with more of them
@@ -91,14 +84,7 @@ both_repeat_none (id ∷ ids) others once others_once apart = (
   both_repeat_none ids others once.1 others_once (λ x one other. apart x (inr one) other),
 )
 
--- the configuration with more pages is good
-more_is_good : (config : Config) (more : ℕ) → first_bad_field config ≡ None → config.pages + more ≤ 65536 → first_bad_field (more_pages more config) ≡ None
-more_is_good config more good few =
-    let (fanout, (chain, (pages, (tries, _)))) = all_none (when (is_out_of 4 64 config.fanout) Fanout ∷ when (is_out_of 1 32 config.chain) Chain ∷ when (is_out_of 8 65536 config.pages) Pages ∷ when (is_out_of 1 1000 config.tries) Tries ∷ []) good in
-    let now : when (is_out_of 8 65536 (config.pages + more)) Pages ≡ None = grind (arith, nat_tests) in
-    rw (fanout, chain, now, tries) refl
-
-module _ (table : TableValue) (more : ℕ) (law : Lawful table) (booked : Booked table) (few : table.config.pages + more ≤ 65536) (fits : table.config.first_version < 2 ^ 64) where
+module _ (table : TableValue) (more : ℕ) (law : Lawful table) (booked : Booked table) (few : table.config.pages + more ≤ MAX_PAGES) (fits : table.config.first_version < 2 ^ 64) where
   abbrev version : ℕ
   version = table.config.first_version
 
@@ -141,7 +127,12 @@ module _ (table : TableValue) (more : ℕ) (law : Lawful table) (booked : Booked
       versions = each_slot_then (λ slot. slot.version < 2 ^ 64) table.slots more version fits law.bounds.versions;
       number = law.bounds.number;
       slots = all_slots;
-      config = more_is_good table.config more law.bounds.config few;
+      config = record {
+        made_with = law.bounds.config.made_with;
+        good = law.bounds.config.good;
+        no_fewer = omega (arith, law.bounds.config.no_fewer);
+        few = few;
+      };
     };
   }
 

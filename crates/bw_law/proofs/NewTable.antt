@@ -58,11 +58,11 @@ down_repeats_none zero = tt
 down_repeats_none (suc zero) = tt
 down_repeats_none (suc (suc n)) = ((λ among. let inside = among_down (suc n) (suc n) among in omega (arith, inside.1)), down_repeats_none (suc n))
 
--- a good configuration has a page
-pub some_pages : (config : Config) → first_bad_field config ≡ None → 8 ≤ config.pages
-some_pages config good =
+-- a good configuration has some pages, and fewer than there may come to be
+pub good_pages : (config : Config) → first_bad_field config ≡ None → (8 ≤ config.pages) × (config.pages ≤ 65536)
+good_pages config good =
     let (fanout, (chain, (pages, (tries, _)))) = all_none (when (is_out_of 4 64 config.fanout) Fanout ∷ when (is_out_of 1 32 config.chain) Chain ∷ when (is_out_of 8 65536 config.pages) Pages ∷ when (is_out_of 1 1000 config.tries) Tries ∷ []) good in
-    grind (arith, nat_tests)
+    (grind (arith, nat_tests), grind (arith, nat_tests))
 
 module _ (config : Config) (good : first_bad_field config ≡ None) (version : config.first_version < 2 ^ 64) where
   abbrev spare : ℕ
@@ -140,8 +140,8 @@ module _ (config : Config) (good : first_bad_field config ≡ None) (version : c
       bounds = record {
         versions = versions;
         number = omega arith;
-        slots = omega (arith, some_pages config good, length-replicate {A = SlotValue} spare (free_slot config.first_version));
-        config = good;
+        slots = omega (arith, (good_pages config good).0, length-replicate {A = SlotValue} spare (free_slot config.first_version));
+        config = record { made_with = config.pages; good = good; no_fewer = omega arith; few = omega (arith, (good_pages config good).1) };
       };
     };
     booked = omega (arith, no_sum spare config.first_version, sum_by-cons (λ slot. length (leaf_pairs slot)) (first_slot config.first_version) (replicate spare (free_slot config.first_version)));

@@ -8,38 +8,38 @@ use Rattle.bw_delta.specs.Pages.{Page, Listed, pairs_of, routes_of}
 use Rattle.bw_law.specs.Same.{is_same_number, is_same_pid, is_same_fence, is_same_link, are_same_entries, is_same_listed, is_same_page}
 
 pub same_pid : (p q : Pid) → is_same_pid p q ≡ true → p ≡ q
-same_pid p q told = λ i. record { 0 = eqb-true p.0 q.0 told i }
+same_pid p q reported = λ i. record { 0 = eqb-true p.0 q.0 reported i }
 
 pub same_fence : (a b : Fence) → is_same_fence a b ≡ true → a ≡ b
-same_fence (Key a) (Key b) told = ap Key (eqb-true a b told)
-same_fence (Key a) Top told = cc
-same_fence Top (Key b) told = cc
-same_fence Top Top told = refl
+same_fence (Key a) (Key b) reported = ap Key (eqb-true a b reported)
+same_fence (Key a) Top reported = cc
+same_fence Top (Key b) reported = cc
+same_fence Top Top reported = refl
 
 pub same_link : (a b : Option Pid) → is_same_link a b ≡ true → a ≡ b
-same_link None None told = refl
-same_link None (Some q) told = cc
-same_link (Some p) None told = cc
-same_link (Some p) (Some q) told = ap Some (same_pid p q told)
+same_link None None reported = refl
+same_link None (Some q) reported = cc
+same_link (Some p) None reported = cc
+same_link (Some p) (Some q) reported = ap Some (same_pid p q reported)
 
 pub same_entries : {X : Type 0} → (is_same : X → X → Bool) → ((x y : X) → is_same x y ≡ true → x ≡ y) → (es fs : List (ℕ × X)) → are_same_entries is_same es fs ≡ true → es ≡ fs
-same_entries is_same tells [] [] told = refl
-same_entries is_same tells [] (f ∷ fs) told = cc
-same_entries is_same tells (e ∷ es) [] told = cc
-same_entries is_same tells (e ∷ es) (f ∷ fs) told =
-    let whole = and_parts (eqb e.0 f.0 && is_same e.1 f.1) (are_same_entries is_same es fs) told in
+same_entries is_same tells [] [] reported = refl
+same_entries is_same tells [] (f ∷ fs) reported = cc
+same_entries is_same tells (e ∷ es) [] reported = cc
+same_entries is_same tells (e ∷ es) (f ∷ fs) reported =
+    let whole = and_parts (eqb e.0 f.0 && is_same e.1 f.1) (are_same_entries is_same es fs) reported in
     let head = and_parts (eqb e.0 f.0) (is_same e.1 f.1) whole.0 in
     λ i. (eqb-true e.0 f.0 head.0 i, tells e.1 f.1 head.1 i) ∷ same_entries is_same tells es fs whole.1 i
 
 pub same_listed : (a b : Listed) → is_same_listed a b ≡ true → a ≡ b
-same_listed (pairs_of es) (pairs_of fs) told = ap pairs_of (same_entries is_same_number eqb-true es fs told)
-same_listed (pairs_of es) (routes_of fs) told = cc
-same_listed (routes_of es) (pairs_of fs) told = cc
-same_listed (routes_of es) (routes_of fs) told = ap routes_of (same_entries is_same_pid same_pid es fs told)
+same_listed (pairs_of es) (pairs_of fs) reported = ap pairs_of (same_entries is_same_number eqb-true es fs reported)
+same_listed (pairs_of es) (routes_of fs) reported = cc
+same_listed (routes_of es) (pairs_of fs) reported = cc
+same_listed (routes_of es) (routes_of fs) reported = ap routes_of (same_entries is_same_pid same_pid es fs reported)
 
 pub same_page : (p q : Page) → is_same_page p q ≡ true → p ≡ q
-same_page p q told =
-    let a = and_parts (eqb p.low q.low && is_same_fence p.high q.high && is_same_link p.right q.right) (is_same_listed p.listed q.listed) told in
+same_page p q reported =
+    let a = and_parts (eqb p.low q.low && is_same_fence p.high q.high && is_same_link p.right q.right) (is_same_listed p.listed q.listed) reported in
     let b = and_parts (eqb p.low q.low && is_same_fence p.high q.high) (is_same_link p.right q.right) a.0 in
     let c = and_parts (eqb p.low q.low) (is_same_fence p.high q.high) b.0 in
     λ i. record {

@@ -4,7 +4,6 @@ use Rattle.std.proofs.Math.Path.{fun_ext}
 use Rattle.std.proofs.lemmas.List.{get_or_past, length-set}
 use Rattle.std.proofs.lemmas.Bool.{cases_eq, cases_lt, eq-eqb, ne_eqb}
 use Rattle.bw_keys.specs.declared.config.Config.{Config}
-use Rattle.bw_keys.specs.Limits.{first_bad_field}
 use Rattle.bw_keys.specs.Ranges.{key_count}
 use Rattle.bw_delta.specs.Records.{Records}
 use Rattle.bw_step.specs.declared.view.Stage.TheVariants.{Free}
@@ -12,7 +11,7 @@ use Rattle.bw_step.specs.declared.survey.Book.{Book}
 use Rattle.bw_step.specs.Stages.{is_in_row}
 use Rattle.bw_law.specs.Slots.{SlotValue, free_slot, slot_in}
 use Rattle.bw_law.specs.Rows.{Outline, Rows}
-use Rattle.bw_law.specs.Tables.{TableValue, number_of, outline, outlines, IsPageOf, Pages, IsEmptied, MergedPages, FreeList, Lawful}
+use Rattle.bw_law.specs.Tables.{TableValue, number_of, outline, outlines, IsPageOf, Pages, IsEmptied, MergedPages, FreeList, IsTableConfig, Lawful}
 use Rattle.bw_law.proofs.Outlines.{write}
 
 -- a page that isn't free is in the table
@@ -108,6 +107,6 @@ lawful_with table new law book config rows good free_list = record {
     versions = good.versions;
     number = omega (arith, law.bounds.number, ap (λ (b : Book). number_of b) book);
     slots = good.all_there ∙ ap (λ (c : Config). c.pages) (sym config);
-    config = ap first_bad_field config ∙ law.bounds.config;
+    config = subst IsTableConfig (sym config) law.bounds.config;
   };
 }

@@ -21,8 +21,8 @@ is_receipt table (mark page seen parent) = (refl, refl, refl)
 is_receipt table (merge left left_seen page page_seen) = (refl, refl, refl)
 is_receipt table (term_delete parent parent_seen child child_seen) = (refl, refl, refl)
 
-pub is_told : (old new : TableValue) (step : Proposal) (receipt : Receipt) → TakesStep old step receipt new → IsReceiptOf step receipt
-is_told old new step receipt taken = rw taken.told (is_receipt old step)
+pub is_reported : (old new : TableValue) (step : Proposal) (receipt : Receipt) → TakesStep old step receipt new → IsReceiptOf step receipt
+is_reported old new step receipt taken = rw taken.reported (is_receipt old step)
 
 -- no step changes the configuration
 pub config_kept : (old new : TableValue) (step : Proposal) (receipt : Receipt) → TakesStep old step receipt new → new.config ≡ old.config

@@ -21,18 +21,28 @@ use Rattle.bw_law.specs.Refusals.{new_id, all_but_last}
 
 -- the slot with a record more on its chain, and the count that this makes
 abbrev pub with_record : Delta → ℕ → SlotValue → SlotValue
-with_record delta count slot = record slot { version = suc slot.version; count = count; depth = suc slot.depth; chain = option_map (above delta) slot.chain }
+with_record delta count slot =
+    record slot {
+      version = suc slot.version;
+      count = count;
+      depth = suc slot.depth;
+      chain = option_map (above delta) slot.chain;
+    }
 
 abbrev pub with_stage : Stage → SlotValue → SlotValue
 with_stage stage slot = record slot { version = suc slot.version; stage = stage }
 
 -- the base alone, which lists what the chain did
 abbrev pub consolidated : Page → SlotValue → SlotValue
-consolidated base slot = record slot { version = suc slot.version; depth = 0; chain = Some (bare base) }
+consolidated base slot =
+    record slot { version = suc slot.version; depth = 0; chain = Some (bare base) }
 
--- the page that ends before the separator and links to the new one, where this many of its entries go
+-- the page that ends before the separator and links to the new
+-- one, where this many of its entries go
 abbrev pub cut_before : ℕ → Pid → ℕ → SlotValue → SlotValue
-cut_before separator new moved slot = record (with_record (Split separator new) (slot.count - moved) slot) { high = Key separator; right = Some new }
+cut_before separator new moved slot =
+    record (with_record (Split separator new) (slot.count - moved) slot)
+    { high = Key separator; right = Some new }
 
 -- the page below the separator, when the base goes to the new page
 abbrev pub lower_half : ℕ → Pid → Page → SlotValue → SlotValue
@@ -55,7 +65,12 @@ upper_half version separator base slot = record {
 -- the new root, in a slot that had the version, one level above the old one
 abbrev pub grown_root : ℕ → ℕ → Page → SlotValue
 grown_root version level base =
-    record (free_slot (suc version)) { stage = Posted; level = suc level; count = listed_length base.listed; chain = Some (bare base) }
+    record (free_slot (suc version)) {
+      stage = Posted;
+      level = suc level;
+      count = listed_length base.listed;
+      chain = Some (bare base);
+    }
 
 abbrev pub marked : SlotValue → SlotValue
 marked slot = record (with_record Remove slot.count slot) { stage = Marked }
@@ -81,7 +96,8 @@ joined into slot = record into {
 
 -- the page that was taken in keeps its low and its level, until its term is taken out
 abbrev pub taken_in : SlotValue → SlotValue
-taken_in slot = record (free_slot (suc slot.version)) { stage = Merged; low = slot.low; level = slot.level }
+taken_in slot =
+    record (free_slot (suc slot.version)) { stage = Merged; low = slot.low; level = slot.level }
 
 -- the id of a page whose version is used up isn't taken again
 abbrev pub freed : List ℕ → ℕ → ℕ → List ℕ
@@ -118,19 +134,22 @@ slots_consolidated page base slots = slice_set slots page (consolidated base (sl
 abbrev pub slots_split : ℕ → Pid → ℕ → Page → List SlotValue → List SlotValue
 slots_split page new separator base slots =
     let slot = slot_in slots page in
-    slice_set (slice_set slots page (lower_half separator new base slot)) new.0 (upper_half (slot_in slots new.0).version separator base slot)
+    slice_set (slice_set slots page (lower_half separator new base slot)) new.0
+    (upper_half (slot_in slots new.0).version separator base slot)
 
 -- the parent has a term of the child, which is posted
 abbrev pub slots_posted : ℕ → Pid → List SlotValue → List SlotValue
 slots_posted parent child slots =
     let over = slot_in slots parent in
     let under = slot_in slots child.0 in
-    slice_set (slice_set slots parent (with_record (TermAdd under.low child) (suc over.count) over)) child.0 (with_stage Posted under)
+    slice_set (slice_set slots parent (with_record (TermAdd under.low child) (suc over.count) over))
+    child.0 (with_stage Posted under)
 
 -- the child is posted, and the new page is the root, one level above the old one's
 abbrev pub slots_grown : ℕ → ℕ → ℕ → Page → List SlotValue → List SlotValue
 slots_grown child new level base slots =
-    slice_set (slice_set slots child (with_stage Posted (slot_in slots child))) new (grown_root (slot_in slots new).version level base)
+    slice_set (slice_set slots child (with_stage Posted (slot_in slots child))) new
+    (grown_root (slot_in slots new).version level base)
 
 -- the page is being removed
 abbrev pub slots_marked : ℕ → List SlotValue → List SlotValue
@@ -148,7 +167,8 @@ abbrev pub slots_unposted : ℕ → ℕ → List SlotValue → List SlotValue
 slots_unposted parent child slots =
     let over = slot_in slots parent in
     let under = slot_in slots child in
-    slice_set (slice_set slots parent (with_record (TermDelete under.low) (over.count - 1) over)) child (free_slot (suc under.version))
+    slice_set (slice_set slots parent (with_record (TermDelete under.low) (over.count - 1) over))
+    child (free_slot (suc under.version))
 
 -- the slots after an accepted step
 abbrev pub slots_after : TableValue → Proposal → List SlotValue
@@ -156,18 +176,23 @@ slots_after table (insert page seen key value) = slots_inserted page key value t
 slots_after table (delete page seen key) = slots_deleted page key table.slots
 slots_after table (modify page seen key value) = slots_modified page key value table.slots
 slots_after table (consolidate page seen base) = slots_consolidated page base table.slots
-slots_after table (split page seen separator base) = slots_split page (pid (new_id table)) separator base table.slots
-slots_after table (term_add parent parent_seen child child_seen) = slots_posted parent (pid child) table.slots
-slots_after table (grow child seen base) = slots_grown child (new_id table) (slot_at table table.root).level base table.slots
+slots_after table (split page seen separator base) =
+    slots_split page (pid (new_id table)) separator base table.slots
+slots_after table (term_add parent parent_seen child child_seen) =
+    slots_posted parent (pid child) table.slots
+slots_after table (grow child seen base) =
+    slots_grown child (new_id table) (slot_at table table.root).level base table.slots
 slots_after table (mark page seen parent) = slots_marked page table.slots
 slots_after table (merge left left_seen page page_seen) = slots_merged left page table.slots
-slots_after table (term_delete parent parent_seen child child_seen) = slots_unposted parent child table.slots
+slots_after table (term_delete parent parent_seen child child_seen) =
+    slots_unposted parent child table.slots
 
 -- a split and a grow take a free id, and the id of a page whose term is taken out is free again
 abbrev pub free_after : TableValue → Proposal → List ℕ
 free_after table (split page seen separator base) = all_but_last table.free
 free_after table (grow child seen base) = all_but_last table.free
-free_after table (term_delete parent parent_seen child child_seen) = freed table.free child (suc (slot_at table child).version)
+free_after table (term_delete parent parent_seen child child_seen) =
+    freed table.free child (suc (slot_at table child).version)
 free_after table step = table.free
 
 -- a grow makes a new root
@@ -177,18 +202,25 @@ root_after table step = table.root
 
 abbrev pub receipt_of : TableValue → Proposal → Receipt
 receipt_of table (insert page seen key value) = Inserted (suc (number_of table.book)) key value
-receipt_of table (delete page seen key) = Deleted (suc (number_of table.book)) key (unwrap_or (at key (pairs_in (slot_at table page))) 0)
+receipt_of table (delete page seen key) =
+    Deleted (suc (number_of table.book)) key (unwrap_or (at key (pairs_in (slot_at table page))) 0)
 receipt_of table (modify page seen key value) =
-    Modified (suc (number_of table.book)) key (unwrap_or (at key (pairs_in (slot_at table page))) 0) value
+    Modified (suc (number_of table.book)) key (unwrap_or (at key (pairs_in (slot_at table page))) 0)
+    value
 receipt_of table (consolidate page seen base) = Shaped kinds.Consolidate (pid page) None
-receipt_of table (split page seen separator base) = Shaped kinds.Split (pid page) (Some (pid (new_id table)))
-receipt_of table (term_add parent parent_seen child child_seen) = Shaped kinds.TermAdd (pid parent) (Some (pid child))
+receipt_of table (split page seen separator base) =
+    Shaped kinds.Split (pid page) (Some (pid (new_id table)))
+receipt_of table (term_add parent parent_seen child child_seen) =
+    Shaped kinds.TermAdd (pid parent) (Some (pid child))
 receipt_of table (grow child seen base) = Shaped kinds.Grow (pid (new_id table)) (Some (pid child))
 receipt_of table (mark page seen parent) = Shaped kinds.Mark (pid page) None
-receipt_of table (merge left left_seen page page_seen) = Shaped kinds.Merge (pid left) (Some (pid page))
-receipt_of table (term_delete parent parent_seen child child_seen) = Shaped kinds.TermDelete (pid parent) (Some (pid child))
+receipt_of table (merge left left_seen page page_seen) =
+    Shaped kinds.Merge (pid left) (Some (pid page))
+receipt_of table (term_delete parent parent_seen child child_seen) =
+    Shaped kinds.TermDelete (pid parent) (Some (pid child))
 
--- the table after an accepted step: its book counts what the receipt reports, and its configuration stays
+-- the table after an accepted step: its book counts what the
+-- receipt reports, and its configuration stays
 abbrev pub after : TableValue → Proposal → TableValue
 after table step = record {
   slots = slots_after table step;
@@ -199,6 +231,7 @@ after table step = record {
 }
 
 -- the accepted step leads from the old table to the new one, and this is its receipt
-pub record TakesStep (old : TableValue) (step : Proposal) (receipt : Receipt) (new : TableValue) : Type 0 where
+pub record TakesStep (old : TableValue) (step : Proposal) (receipt : Receipt)
+    (new : TableValue) : Type 0 where
   pub leads : new ≡ after old step
-  pub told : receipt ≡ receipt_of old step
+  pub reported : receipt ≡ receipt_of old step

@@ -47,7 +47,14 @@ posted level page = record (free_slot 0) {
 }
 
 abbrev pub table_of : List SlotValue → List ℕ → ℕ → TableValue
-table_of slots free inserted = record { slots = slots; free = free; root = 2; book = record { inserted = inserted; removed = 0; modified = 0 }; config = small_config }
+table_of slots free inserted =
+    record {
+      slots = slots;
+      free = free;
+      root = 2;
+      book = record { inserted = inserted; removed = 0; modified = 0 };
+      config = small_config;
+    }
 
 -- the keys 1 to 5 in two leaves under a root
 abbrev pub two_leaves : TableValue
@@ -75,7 +82,8 @@ three_leaves = table_of
 abbrev pub seven_pairs : List (ℕ × ℕ)
 seven_pairs = tens (1 ∷ 2 ∷ 3 ∷ 4 ∷ 5 ∷ 6 ∷ 7 ∷ [])
 
--- The page 1 of the three leaves is removed, its keys go to page 0, and that is split: the new page has the id 4.
+-- The page 1 of the three leaves is removed, its keys go to page 0, and
+-- that is split: the new page has the id 4.
 abbrev pub removal : List Proposal
 removal =
     mark 1 0 2

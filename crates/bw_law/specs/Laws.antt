@@ -10,6 +10,7 @@ use Rattle.bw_delta.specs.Pages.{Page}
 use Rattle.bw_step.specs.Stages.{has_term}
 use Rattle.bw_step.specs.Proposals.{Proposal}
 use Rattle.bw_step.specs.Tellings.{telling_of}
+use Rattle.bw_law.specs.declared.pages.TheConstants.{MAX_PAGES}
 use Rattle.bw_law.specs.Slots.{SlotValue, slot_in, pairs_in, routes_in}
 use Rattle.bw_law.specs.Rows.{Spans, InRow}
 use Rattle.bw_law.specs.Walks.{IsRow, IsRowOf, IsWalkFrom, last_of}
@@ -21,16 +22,20 @@ use Rattle.bw_law.specs.Runs.{run}
 
 -- what a step makes of the map: what its receipt reports
 abbrev pub MapAfter : TableValue → Proposal → Type 0
-MapAfter table step = TellsMap (telling_of (receipt_of table step)) table.slots (slots_after table step)
+MapAfter table step =
+    TellsMap (telling_of (receipt_of table step)) table.slots (slots_after table step)
 
--- a lawful and booked table is lawful and booked after each accepted step, and its map is as the step says
+-- a lawful and booked table is lawful and booked after each accepted
+-- step, and its map is as the step says
 pub record KeptBy (table : TableValue) (step : Proposal) : Type 0 where
   pub lawful : Lawful (after table step)
   pub booked : Booked (after table step)
   pub map : MapAfter table step
 
 abbrev pub StepLaw : Type 0
-StepLaw = (table : TableValue) (step : Proposal) → Lawful table → Booked table → refusal table step ≡ None → KeptBy table step
+StepLaw =
+    (table : TableValue) (step : Proposal) → Lawful table → Booked table → refusal table step ≡ None
+    → KeptBy table step
 
 -- the table that is made for a configuration is lawful and booked, and has no pairs
 pub record IsEmptyTable (table : TableValue) : Type 0 where
@@ -39,12 +44,16 @@ pub record IsEmptyTable (table : TableValue) : Type 0 where
   pub no_pairs : (key value : ℕ) → Maps table.slots key value → ⊥
 
 abbrev pub NewLaw : Type 0
-NewLaw = (config : Config) → first_bad_field config ≡ None → config.first_version < 2 ^ 64 → IsEmptyTable (new_table config)
+NewLaw =
+    (config : Config) → first_bad_field config ≡ None → config.first_version < 2 ^ 64
+    → IsEmptyTable (new_table config)
 
--- whatever steps are proposed to the new table, one after the other, it is lawful and booked after each
+-- whatever steps are proposed to the new table, one after the
+-- other, it is lawful and booked after each
 abbrev pub RunLaw : Type 0
 RunLaw =
-    (config : Config) → first_bad_field config ≡ None → config.first_version < 2 ^ 64 → (steps : List Proposal)
+    (config : Config) → first_bad_field config ≡ None → config.first_version < 2 ^ 64
+    → (steps : List Proposal)
     → Lawful (run (new_table config) steps) × Booked (run (new_table config) steps)
 
 -- the row of a level is there, and no other list is one
@@ -54,7 +63,9 @@ pub record HasOneRow (table : TableValue) (level : ℕ) : Type 0 where
   pub only : (other : List ℕ) → IsRow (outlines table.slots) level other → other ≡ row
 
 abbrev pub RowLaw : Type 0
-RowLaw = (table : TableValue) → Lawful table → (level : ℕ) → level ≤ (slot_at table table.root).level → HasOneRow table level
+RowLaw =
+    (table : TableValue) → Lawful table → (level : ℕ) → level ≤ (slot_at table table.root).level
+    → HasOneRow table level
 
 -- a leaf in the leaf row, whose range holds the key
 pub record IsLeafOf (table : TableValue) (key page : ℕ) : Type 0 where
@@ -62,11 +73,13 @@ pub record IsLeafOf (table : TableValue) (key page : ℕ) : Type 0 where
   pub is_leaf : (slot_at table page).level ≡ 0
   pub spans : Spans (outlines table.slots page) key
 
--- a search for the key has one walk, and it ends at the one leaf in the row whose range holds the key
+-- a search for the key has one walk, and it ends at the one
+-- leaf in the row whose range holds the key
 pub record HasOneWalk (table : TableValue) (key : ℕ) : Type 0 where
   pub rest : List ℕ
   pub is_walk : IsWalkFrom (outlines table.slots) table.root key (table.root ∷ rest)
-  pub only : (other : List ℕ) → IsWalkFrom (outlines table.slots) table.root key other → other ≡ table.root ∷ rest
+  pub only : (other : List ℕ) → IsWalkFrom (outlines table.slots) table.root key other
+      → other ≡ table.root ∷ rest
   pub ends : IsLeafOf table key (last_of table.root rest)
   pub one_leaf : (leaf : ℕ) → IsLeafOf table key leaf → leaf ≡ last_of table.root rest
 
@@ -79,12 +92,15 @@ pub record IsTheMap (table : TableValue) (joined : List (ℕ × ℕ)) : Type 0 w
   pub same : (key value : ℕ) → (at key joined ≡ Some value) ↔ Maps table.slots key value
 
 abbrev pub MapLaw : Type 0
-MapLaw = (table : TableValue) → Lawful table → (row : List ℕ) → IsRowOf (outlines table.slots) key_count 0 row → IsTheMap table (joined_pairs table.slots row)
+MapLaw =
+    (table : TableValue) → Lawful table → (row : List ℕ)
+    → IsRowOf (outlines table.slots) key_count 0 row → IsTheMap table (joined_pairs table.slots row)
 
 -- the pairs joined over the leaf row are as many as the insertions less the removals
 abbrev pub CountLaw : Type 0
 CountLaw =
-    (table : TableValue) → Lawful table → Booked table → (row : List ℕ) → IsRowOf (outlines table.slots) key_count 0 row
+    (table : TableValue) → Lawful table → Booked table → (row : List ℕ)
+    → IsRowOf (outlines table.slots) key_count 0 row
     → table.book.inserted ≡ table.book.removed + length (joined_pairs table.slots row)
 
 -- the routes of the pages of a row, one page after the other
@@ -98,15 +114,18 @@ pub record HasTermAt (table : TableValue) (level page key : ℕ) : Type 0 where
   pub on_level : (slot_at table page).level ≡ level
   pub begins : (slot_at table page).low ≡ key
 
--- the routes rise, and lead from the lows of the posted, marked and merged pages of the level to just these pages
+-- the routes rise, and lead from the lows of the posted, marked and merged
+-- pages of the level to just these pages
 pub record AreTheLows (table : TableValue) (level : ℕ) (terms : List (ℕ × Pid)) : Type 0 where
   pub rise : rises 0 key_count terms ≡ true
-  pub same : (key page : ℕ) → key < key_count → (option_map id_of (at key terms) ≡ Some page) ↔ HasTermAt table level page key
+  pub same : (key page : ℕ) → key < key_count
+      → (option_map id_of (at key terms) ≡ Some page) ↔ HasTermAt table level page key
 
 abbrev pub TermLaw : Type 0
 TermLaw =
     (table : TableValue) → Lawful table → (level : ℕ) → level < (slot_at table table.root).level
-    → (row : List ℕ) → IsRowOf (outlines table.slots) key_count (level + 1) row → AreTheLows table level (joined_routes table.slots row)
+    → (row : List ℕ) → IsRowOf (outlines table.slots) key_count (level + 1) row
+    → AreTheLows table level (joined_routes table.slots row)
 
 -- the leaf whose range holds a key has what the map has there
 abbrev pub LookLaw : Type 0
@@ -121,10 +140,11 @@ pub record PageFits (table : TableValue) (page : ℕ) : Type 0 where
   pub level : (slot_at table page).level ≤ MAX_LEVEL
   pub count : (slot_at table page).count < 2 ^ 64
   pub right : (right : Pid) → (slot_at table page).right ≡ Some right → right.0 < length table.slots
-  pub routes : (key : ℕ) (child : Pid) → at key (routes_in (slot_at table page)) ≡ Some child → child.0 < length table.slots
+  pub routes : (key : ℕ) (child : Pid) → at key (routes_in (slot_at table page)) ≡ Some child
+      → child.0 < length table.slots
 
 pub record NumbersFit (table : TableValue) : Type 0 where
-  pub slots : length table.slots ≤ 65536
+  pub slots : length table.slots ≤ MAX_PAGES
   pub free : length table.free ≤ length table.slots
   pub pages : (page : ℕ) → InRow (outlines table.slots page) → PageFits table page
 

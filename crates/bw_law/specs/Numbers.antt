@@ -40,13 +40,16 @@ AreNumbered (number ∷ numbers) (reason ∷ rest) = HasNumber number reason × 
 
 -- the reason applies to the step
 abbrev pub Applies : TableValue → Proposal → Refused → Type 0
-Applies table step reason = (place : ℕ) × (slice_get (reasons table step) place ≡ Some (Some reason))
+Applies table step reason =
+    (place : ℕ) × (slice_get (reasons table step) place ≡ Some (Some reason))
 
--- a step is refused for the reason with the least number of those that apply, and accepted where none does
+-- a step is refused for the reason with the least number of those
+-- that apply, and accepted where none does
 pub record RefusedForLeast (table : TableValue) (step : Proposal) : Type 0 where
   pub numbered : AreNumbered (refusals_of step) (reasons table step)
   pub applies : (reason : Refused) → refusal table step ≡ Some reason → Applies table step reason
-  pub least : (reason other : Refused) → refusal table step ≡ Some reason → Applies table step other → number_of_refusal reason ≤ number_of_refusal other
+  pub least : (reason other : Refused) → refusal table step ≡ Some reason → Applies table step other
+      → number_of_refusal reason ≤ number_of_refusal other
   pub none : refusal table step ≡ None → (reason : Refused) → Applies table step reason → ⊥
 
 abbrev pub RefusalLaw : Type 0

@@ -1,4 +1,5 @@
--- Why a step is refused: for each of the ten steps the reasons in the order of their numbers, each tried over all the pages that the step names.
+-- Why a step is refused: for each of the ten steps the reasons in the order of their numbers, each
+-- tried over all the pages that the step names.
 use Rattle.std.specs.Prelude.{ℕ, ◌+◌, ◌-◌, Bool, false, ◌||◌, not, ◌==◌, nat_lt, nat_le, max, is_some, is_none, if◌then◌else◌, List, [], ◌∷◌, ◌++◌, Option, Some, None, option_map, unwrap_or}
 use Rattle.std.specs.List.{list_any}
 use Rattle.bw_keys.specs.declared.page.TheConstants.{MAX_DEPTH, MAX_LEVEL}
@@ -82,11 +83,18 @@ is_bad_key slot child_leaving separator =
     || child_leaving
 
 abbrev pub is_bad_separator : List SlotValue → SlotValue → ℕ → Bool
-is_bad_separator slots slot separator = is_bad_key slot (is_leaving_at slots (at separator (routes_in slot))) separator
+is_bad_separator slots slot separator =
+    is_bad_key slot (is_leaving_at slots (at separator (routes_in slot))) separator
 
 -- the base of a new root over the old one and the child
 abbrev pub root_page : ℕ → ℕ → ℕ → Page
-root_page root low child = record { low = 0; high = Top; right = None; listed = routes_of ((0, record { 0 = root }) ∷ (low, record { 0 = child }) ∷ []) }
+root_page root low child =
+    record {
+      low = 0;
+      high = Top;
+      right = None;
+      listed = routes_of ((0, record { 0 = root }) ∷ (low, record { 0 = child }) ∷ []);
+    }
 
 -- The reasons against each step, by the slots of the pages that it names.
 
@@ -96,7 +104,9 @@ open_reasons slot seen = absent (slot ∷ []) ∷ stale ((slot, seen) ∷ []) �
 
 -- the page isn't open, or is no leaf, or its range doesn't hold the key
 abbrev pub leaf_reasons : SlotValue → ℕ → ℕ → List (Option Refused)
-leaf_reasons slot seen key = open_reasons slot seen ++ when (nat_lt 0 slot.level) WrongKind ∷ when (is_outside slot key) OutOfRange ∷ []
+leaf_reasons slot seen key =
+    open_reasons slot seen ++ when (nat_lt 0 slot.level) WrongKind
+    ∷ when (is_outside slot key) OutOfRange ∷ []
 
 -- no further record may stand on the chain, or the version or the book's number is used up
 abbrev pub change_reasons : SlotValue → ℕ → List (Option Refused)
@@ -108,72 +118,98 @@ room_reasons slot new no_room = when no_room TableFull ∷ worn (slot ∷ new �
 
 abbrev pub insert_reasons : SlotValue → ℕ → ℕ → ℕ → List (Option Refused)
 insert_reasons slot number seen key =
-    leaf_reasons slot seen key ++ option_map Present (at key (pairs_in slot)) ∷ change_reasons slot number
+    leaf_reasons slot seen key ++ option_map Present (at key (pairs_in slot))
+    ∷ change_reasons slot number
 
 -- Delete and Modify change a key that is there
 abbrev pub found_reasons : SlotValue → ℕ → ℕ → ℕ → List (Option Refused)
 found_reasons slot number seen key =
-    leaf_reasons slot seen key ++ when (is_none (at key (pairs_in slot))) NoKey ∷ change_reasons slot number
+    leaf_reasons slot seen key ++ when (is_none (at key (pairs_in slot))) NoKey
+    ∷ change_reasons slot number
 
 abbrev pub consolidate_reasons : SlotValue → ℕ → Page → List (Option Refused)
 consolidate_reasons slot seen base =
     open_reasons slot seen ++ when (is_other_kind base slot) WrongKind
     ∷ when (not (is_same_page base (page_for (chain_in slot)))) NotSame ∷ worn (slot ∷ []) ∷ []
 
--- the child routed at the separator may be leaving, the free list may be empty, and the new page takes a slot
-abbrev pub split_reasons : SlotValue → SlotValue → Bool → Bool → ℕ → ℕ → Page → List (Option Refused)
+-- the child routed at the separator may be leaving, the free list may
+-- be empty, and the new page takes a slot
+abbrev pub split_reasons : SlotValue → SlotValue → Bool → Bool → ℕ → ℕ → Page
+    → List (Option Refused)
 split_reasons slot new child_leaving no_room seen separator base =
-    open_reasons slot seen ++ when (is_other_kind base slot) WrongKind ∷ when (is_outside slot separator) OutOfRange
-    ∷ when (nat_lt 0 slot.depth) NotBare ∷ when (is_bad_key slot child_leaving separator) BadSeparator
+    open_reasons slot seen ++ when (is_other_kind base slot) WrongKind
+    ∷ when (is_outside slot separator) OutOfRange
+    ∷ when (nat_lt 0 slot.depth) NotBare
+    ∷ when (is_bad_key slot child_leaving separator) BadSeparator
     ∷ when (not (is_same_page base (upper_part separator (page_for (chain_in slot))))) NotSame
     ∷ room_reasons slot new no_room
 
 abbrev pub term_add_reasons : SlotValue → SlotValue → ℕ → ℕ → List (Option Refused)
 term_add_reasons over under parent_seen child_seen =
-    absent (over ∷ under ∷ []) ∷ stale ((over, parent_seen) ∷ (under, child_seen) ∷ []) ∷ frozen over ∷ when (not (over.level == under.level + 1)) WrongKind
-    ∷ when (not (is_unposted under.stage)) WrongStage ∷ when (is_outside over under.low) WrongParent ∷ option_map TermStands (at under.low (routes_in over))
+    absent (over ∷ under ∷ []) ∷ stale ((over, parent_seen) ∷ (under, child_seen) ∷ [])
+    ∷ frozen over ∷ when (not (over.level == under.level + 1)) WrongKind
+    ∷ when (not (is_unposted under.stage)) WrongStage ∷ when (is_outside over under.low) WrongParent
+    ∷ option_map TermStands (at under.low (routes_in over))
     ∷ when (is_full over) Deep ∷ worn (over ∷ under ∷ []) ∷ []
 
 -- the base is to be the new root's, which takes a slot
-abbrev pub grow_reasons : SlotValue → SlotValue → SlotValue → Bool → ℕ → Page → Page → List (Option Refused)
+abbrev pub grow_reasons : SlotValue → SlotValue → SlotValue → Bool → ℕ → Page → Page
+    → List (Option Refused)
 grow_reasons under root new no_room seen base wanted =
     absent (under ∷ []) ∷ stale ((under, seen) ∷ []) ∷ when (lists_pairs base.listed) WrongKind
-    ∷ when (not (is_same_page base wanted)) NotSame ∷ when (not (is_unposted under.stage)) WrongStage
-    ∷ when (not (under.level == root.level)) WrongParent ∷ when (nat_le MAX_LEVEL root.level) TooTall ∷ room_reasons under new no_room
+    ∷ when (not (is_same_page base wanted)) NotSame
+    ∷ when (not (is_unposted under.stage)) WrongStage
+    ∷ when (not (under.level == root.level)) WrongParent
+    ∷ when (nat_le MAX_LEVEL root.level) TooTall ∷ room_reasons under new no_room
 
 abbrev pub mark_reasons : SlotValue → SlotValue → ℕ → List (Option Refused)
 mark_reasons slot over seen =
-    absent (slot ∷ over ∷ []) ∷ stale ((slot, seen) ∷ []) ∷ frozen slot ∷ when (not (over.level == slot.level + 1)) WrongKind
-    ∷ when (not (is_plainly_posted slot.stage)) WrongStage ∷ when (is_outside over slot.low) WrongParent ∷ when (slot.low == over.low) Leftmost
+    absent (slot ∷ over ∷ []) ∷ stale ((slot, seen) ∷ []) ∷ frozen slot
+    ∷ when (not (over.level == slot.level + 1)) WrongKind
+    ∷ when (not (is_plainly_posted slot.stage)) WrongStage
+    ∷ when (is_outside over slot.low) WrongParent ∷ when (slot.low == over.low) Leftmost
     ∷ when (nat_lt (MAX_DEPTH - 2) slot.depth) Deep ∷ worn (slot ∷ []) ∷ []
 
 abbrev pub merge_reasons : SlotValue → SlotValue → ℕ → ℕ → ℕ → List (Option Refused)
 merge_reasons into slot left_seen page_seen page =
-    absent (into ∷ slot ∷ []) ∷ stale ((into, left_seen) ∷ (slot, page_seen) ∷ []) ∷ frozen into ∷ when (not (into.level == slot.level)) WrongKind
-    ∷ when (not (is_marked slot.stage)) WrongStage ∷ when (not (is_same_link into.right (Some (record { 0 = page })))) NotNeighbours
+    absent (into ∷ slot ∷ []) ∷ stale ((into, left_seen) ∷ (slot, page_seen) ∷ []) ∷ frozen into
+    ∷ when (not (into.level == slot.level)) WrongKind
+    ∷ when (not (is_marked slot.stage)) WrongStage
+    ∷ when (not (is_same_link into.right (Some (record { 0 = page })))) NotNeighbours
     ∷ when (nat_le MAX_DEPTH (max into.depth slot.depth)) Deep ∷ worn (into ∷ slot ∷ []) ∷ []
 
 abbrev pub term_delete_reasons : SlotValue → SlotValue → ℕ → ℕ → List (Option Refused)
 term_delete_reasons over under parent_seen child_seen =
-    when (not (is_in_row over.stage) || is_free under.stage) Absent ∷ stale ((over, parent_seen) ∷ (under, child_seen) ∷ []) ∷ frozen over
-    ∷ when (not (over.level == under.level + 1)) WrongKind ∷ when (not (is_merged under.stage)) WrongStage ∷ when (is_outside over under.low) WrongParent
+    when (not (is_in_row over.stage) || is_free under.stage) Absent
+    ∷ stale ((over, parent_seen) ∷ (under, child_seen) ∷ []) ∷ frozen over
+    ∷ when (not (over.level == under.level + 1)) WrongKind
+    ∷ when (not (is_merged under.stage)) WrongStage ∷ when (is_outside over under.low) WrongParent
     ∷ when (is_full over) Deep ∷ worn (over ∷ under ∷ []) ∷ []
 
 abbrev pub reasons : TableValue → Proposal → List (Option Refused)
-reasons table (insert page seen key value) = insert_reasons (slot_at table page) (number_of table.book) seen key
-reasons table (delete page seen key) = found_reasons (slot_at table page) (number_of table.book) seen key
-reasons table (modify page seen key value) = found_reasons (slot_at table page) (number_of table.book) seen key
+reasons table (insert page seen key value) =
+    insert_reasons (slot_at table page) (number_of table.book) seen key
+reasons table (delete page seen key) =
+    found_reasons (slot_at table page) (number_of table.book) seen key
+reasons table (modify page seen key value) =
+    found_reasons (slot_at table page) (number_of table.book) seen key
 reasons table (consolidate page seen base) = consolidate_reasons (slot_at table page) seen base
 reasons table (split page seen separator base) =
-    split_reasons (slot_at table page) (slot_at table (new_id table)) (is_leaving_at table.slots (at separator (routes_in (slot_at table page))))
+    split_reasons (slot_at table page) (slot_at table (new_id table))
+    (is_leaving_at table.slots (at separator (routes_in (slot_at table page))))
     (is_none (last_id table.free)) seen separator base
-reasons table (term_add parent parent_seen child child_seen) = term_add_reasons (slot_at table parent) (slot_at table child) parent_seen child_seen
+reasons table (term_add parent parent_seen child child_seen) =
+    term_add_reasons (slot_at table parent) (slot_at table child) parent_seen child_seen
 reasons table (grow child seen base) =
-    grow_reasons (slot_at table child) (slot_at table table.root) (slot_at table (new_id table)) (is_none (last_id table.free)) seen base
+    grow_reasons (slot_at table child) (slot_at table table.root) (slot_at table (new_id table))
+    (is_none (last_id table.free)) seen base
     (root_page table.root (slot_at table child).low child)
-reasons table (mark page seen parent) = mark_reasons (slot_at table page) (slot_at table parent) seen
-reasons table (merge left left_seen page page_seen) = merge_reasons (slot_at table left) (slot_at table page) left_seen page_seen page
-reasons table (term_delete parent parent_seen child child_seen) = term_delete_reasons (slot_at table parent) (slot_at table child) parent_seen child_seen
+reasons table (mark page seen parent) =
+    mark_reasons (slot_at table page) (slot_at table parent) seen
+reasons table (merge left left_seen page page_seen) =
+    merge_reasons (slot_at table left) (slot_at table page) left_seen page_seen page
+reasons table (term_delete parent parent_seen child child_seen) =
+    term_delete_reasons (slot_at table parent) (slot_at table child) parent_seen child_seen
 
 -- the refusals that a step can meet, by their numbers
 abbrev pub refusals_of : Proposal → List ℕ
@@ -182,11 +218,13 @@ refusals_of (delete page seen key) = 1 ∷ 2 ∷ 3 ∷ 4 ∷ 5 ∷ 6 ∷ 15 ∷ 
 refusals_of (modify page seen key value) = 1 ∷ 2 ∷ 3 ∷ 4 ∷ 5 ∷ 6 ∷ 15 ∷ 18 ∷ []
 refusals_of (consolidate page seen base) = 1 ∷ 2 ∷ 3 ∷ 4 ∷ 9 ∷ 18 ∷ []
 refusals_of (split page seen separator base) = 1 ∷ 2 ∷ 3 ∷ 4 ∷ 5 ∷ 7 ∷ 8 ∷ 9 ∷ 17 ∷ 18 ∷ []
-refusals_of (term_add parent parent_seen child child_seen) = 1 ∷ 2 ∷ 3 ∷ 4 ∷ 10 ∷ 11 ∷ 12 ∷ 15 ∷ 18 ∷ []
+refusals_of (term_add parent parent_seen child child_seen) =
+    1 ∷ 2 ∷ 3 ∷ 4 ∷ 10 ∷ 11 ∷ 12 ∷ 15 ∷ 18 ∷ []
 refusals_of (grow child seen base) = 1 ∷ 2 ∷ 4 ∷ 9 ∷ 10 ∷ 11 ∷ 16 ∷ 17 ∷ 18 ∷ []
 refusals_of (mark page seen parent) = 1 ∷ 2 ∷ 3 ∷ 4 ∷ 10 ∷ 11 ∷ 13 ∷ 15 ∷ 18 ∷ []
 refusals_of (merge left left_seen page page_seen) = 1 ∷ 2 ∷ 3 ∷ 4 ∷ 10 ∷ 14 ∷ 15 ∷ 18 ∷ []
-refusals_of (term_delete parent parent_seen child child_seen) = 1 ∷ 2 ∷ 3 ∷ 4 ∷ 10 ∷ 11 ∷ 15 ∷ 18 ∷ []
+refusals_of (term_delete parent parent_seen child child_seen) =
+    1 ∷ 2 ∷ 3 ∷ 4 ∷ 10 ∷ 11 ∷ 15 ∷ 18 ∷ []
 
 -- the first reason to refuse the step
 abbrev pub refusal : TableValue → Proposal → Option Refused

@@ -23,4 +23,6 @@ answers table (step ∷ steps) = refusal table step ∷ answers (next_table tabl
 -- the table took the steps one after the other, each with its receipt; none was refused
 abbrev pub TakesInTurn : TableValue → List (Proposal × Receipt) → TableValue → Type 0
 TakesInTurn old [] new = new ≡ old
-TakesInTurn old (taken ∷ rest) new = (between : TableValue) × (refusal old taken.0 ≡ None) × TakesStep old taken.0 taken.1 between × TakesInTurn between rest new
+TakesInTurn old (taken ∷ rest) new =
+    (between : TableValue) × (refusal old taken.0 ≡ None) × TakesStep old taken.0 taken.1 between
+    × TakesInTurn between rest new

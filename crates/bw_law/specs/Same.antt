@@ -27,7 +27,8 @@ abbrev pub are_same_entries : {X : Type 0} → (X → X → Bool) → List (ℕ 
 are_same_entries is_same [] [] = true
 are_same_entries is_same [] (f ∷ fs) = false
 are_same_entries is_same (e ∷ es) [] = false
-are_same_entries is_same (e ∷ es) (f ∷ fs) = e.0 == f.0 && is_same e.1 f.1 && are_same_entries is_same es fs
+are_same_entries is_same (e ∷ es) (f ∷ fs) =
+    e.0 == f.0 && is_same e.1 f.1 && are_same_entries is_same es fs
 
 abbrev pub is_same_listed : Listed → Listed → Bool
 is_same_listed (pairs_of es) (pairs_of fs) = are_same_entries is_same_number es fs
@@ -36,4 +37,6 @@ is_same_listed (routes_of es) (pairs_of fs) = false
 is_same_listed (routes_of es) (routes_of fs) = are_same_entries is_same_pid es fs
 
 abbrev pub is_same_page : Page → Page → Bool
-is_same_page p q = p.low == q.low && is_same_fence p.high q.high && is_same_link p.right q.right && is_same_listed p.listed q.listed
+is_same_page p q =
+    p.low == q.low && is_same_fence p.high q.high && is_same_link p.right q.right
+    && is_same_listed p.listed q.listed

@@ -23,7 +23,18 @@ pub record SlotValue : Type 0 where
 
 -- a slot of no page
 abbrev pub free_slot : ℕ → SlotValue
-free_slot version = record { version = version; stage = Free; low = 0; high = Top; right = None; level = 0; count = 0; depth = 0; chain = None }
+free_slot version =
+    record {
+      version = version;
+      stage = Free;
+      low = 0;
+      high = Top;
+      right = None;
+      level = 0;
+      count = 0;
+      depth = 0;
+      chain = None;
+    }
 
 -- the slot of a page; past the end every slot is free
 abbrev pub slot_in : List SlotValue → ℕ → SlotValue

@@ -16,11 +16,13 @@ use Rattle.bw_step.specs.declared.survey.Book.{Book}
 use Rattle.bw_step.specs.declared.view.Stage.TheVariants.{Free, Posted, Merged}
 use Rattle.bw_step.specs.Stages.{is_in_row}
 use Rattle.bw_step.specs.Tellings.{Telling, change, look, shape}
+use Rattle.bw_law.specs.declared.pages.TheConstants.{MAX_PAGES}
 use Rattle.bw_law.specs.Slots.{SlotValue, slot_in, free_slot, empty_page, pairs_in, routes_in}
 use Rattle.bw_law.specs.Rows.{Outline, Rows}
 use Rattle.bw_law.specs.Walks.{IsAmong, RepeatsNone}
 
--- the slots by their ids, the ids that are free, the last of them to be given next, the root, and the book
+-- the slots by their ids, the ids that are free, the last of them to
+-- be given next, the root, and the book
 pub record TableValue : Type 0 where
   pub slots : List SlotValue
   pub free : List ℕ
@@ -35,12 +37,14 @@ slot_at table page = slot_in table.slots page
 abbrev pub number_of : Book → ℕ
 number_of book = book.inserted + book.removed + book.modified
 
--- the book with what a receipt reports: a key that got a value was inserted, one that lost its value was removed, and one that has another was modified
+-- the book with what a receipt reports: a key that got a value was inserted, one that lost its
+-- value was removed, and one that has another was modified
 abbrev pub book_with : Book → Telling → Book
 book_with book (change number key None (Some value)) = record book { inserted = book.inserted + 1 }
 book_with book (change number key (Some value) None) = record book { removed = book.removed + 1 }
-book_with book (change number key (Some old) (Some value)) = record book { modified = book.modified + 1 }
-book_with book told = book
+book_with book (change number key (Some old) (Some value)) =
+    record book { modified = book.modified + 1 }
+book_with book reported = book
 
 abbrev pub id_of : Pid → ℕ
 id_of pid = pid.0
@@ -61,7 +65,8 @@ outlines slots page = outline (slot_in slots page)
 abbrev pub slot_fences : SlotValue → Fences
 slot_fences slot = record { low = slot.low; high = slot.high; right = slot.right }
 
--- a page in a row: its chain is sound and of the level's kind, and the slot's summary is that of the chain
+-- a page in a row: its chain is sound and of the level's kind, and
+-- the slot's summary is that of the chain
 pub record IsPageOf (slot : SlotValue) (chain : Records) : Type 0 where
   pub its_chain : slot.chain ≡ Some chain
   pub sound : IsSound chain
@@ -72,9 +77,12 @@ pub record IsPageOf (slot : SlotValue) (chain : Records) : Type 0 where
   pub not_tall : slot.level ≤ MAX_LEVEL
 
 abbrev pub Pages : List SlotValue → Type 0
-Pages slots = (page : ℕ) → is_in_row (slot_in slots page).stage ≡ true → (chain : Records) × IsPageOf (slot_in slots page) chain
+Pages slots =
+    (page : ℕ) → is_in_row (slot_in slots page).stage ≡ true
+    → (chain : Records) × IsPageOf (slot_in slots page) chain
 
--- what is kept of a page with nothing left: its range is open to the top, and it has no right link, no entries and no records
+-- what is kept of a page with nothing left: its range is open to the top, and it has no
+-- right link, no entries and no records
 pub record HasNothing (high : Fence) (right : Option Pid) (count depth : ℕ) : Type 0 where
   pub open_end : high ≡ Top
   pub no_link : right ≡ None
@@ -91,14 +99,24 @@ MergedPages slots = (page : ℕ) → IsEmptied (slot_in slots page)
 -- the free list names only free slots, none twice
 pub record FreeList (slots : List SlotValue) (free : List ℕ) : Type 0 where
   pub once : RepeatsNone free
-  pub are_free : (page : ℕ) → IsAmong free page → (page < length slots) × ((slot_in slots page).stage ≡ Free)
+  pub are_free : (page : ℕ) → IsAmong free page
+      → (page < length slots) × ((slot_in slots page).stage ≡ Free)
 
--- no version and no number of a change is past the last number, and there are as many slots as were asked for
+-- the configuration of a table: a good one, by which it was made,
+-- but for the pages that it got later
+pub record IsTableConfig (config : Config) : Type 0 where
+  pub made_with : ℕ
+  pub good : first_bad_field (record config { pages = made_with }) ≡ None
+  pub no_fewer : made_with ≤ config.pages
+  pub few : config.pages ≤ MAX_PAGES
+
+-- no version and no number of a change is past the last number, and
+-- there are as many slots as were asked for
 pub record Bounds (table : TableValue) : Type 0 where
   pub versions : (page : ℕ) → (slot_at table page).version < 2 ^ 64
   pub number : number_of table.book < 2 ^ 64
   pub slots : length table.slots ≡ table.config.pages
-  pub config : first_bad_field table.config ≡ None
+  pub config : IsTableConfig table.config
 
 -- what is true of each table, at every moment
 pub record Lawful (table : TableValue) : Type 0 where
@@ -164,7 +182,8 @@ first_slot version = record (free_slot version) { stage = Posted; chain = Some (
 -- the table with no pairs: page 0 is an empty leaf, and the root
 abbrev pub new_table : Config → TableValue
 new_table config = record {
-  slots = first_slot config.first_version ∷ replicate (config.pages - 1) (free_slot config.first_version);
+  slots = first_slot config.first_version
+      ∷ replicate (config.pages - 1) (free_slot config.first_version);
   free = ids_down config.pages;
   root = 0;
   book = record { inserted = 0; removed = 0; modified = 0 };

@@ -9,15 +9,19 @@ Linked at [] = ⊥
 Linked at (p ∷ []) = (at p).right ≡ None
 Linked at (p ∷ q ∷ rest) = ((at p).right ≡ Some q) × Linked at (q ∷ rest)
 
--- the row of a level begins with its page whose low is 0, goes on by right links, and ends at a page without one
+-- the row of a level begins with its page whose low is 0, goes on by right
+-- links, and ends at a page without one
 abbrev pub IsRow : (ℕ → Outline) → ℕ → List ℕ → Type 0
 IsRow at level [] = ⊥
-IsRow at level (p ∷ rest) = InRow (at p) × ((at p).level ≡ level) × ((at p).low ≡ 0) × Linked at (p ∷ rest)
+IsRow at level (p ∷ rest) =
+    InRow (at p) × ((at p).level ≡ level) × ((at p).low ≡ 0) × Linked at (p ∷ rest)
 
--- the ranges partition the keys from `start` to `top`: none is empty, each begins where the one before ends, and the last ends at `top`
+-- the ranges partition the keys from `start` to `top`: none is empty, each begins where the one
+-- before ends, and the last ends at `top`
 abbrev pub Partitions : (ℕ → Outline) → ℕ → ℕ → List ℕ → Type 0
 Partitions at start top [] = start ≡ top
-Partitions at start top (p ∷ rest) = ((at p).low ≡ start) × ((at p).low < (at p).high) × Partitions at (at p).high top rest
+Partitions at start top (p ∷ rest) =
+    ((at p).low ≡ start) × ((at p).low < (at p).high) × Partitions at (at p).high top rest
 
 abbrev pub IsAmong : List ℕ → ℕ → Type 0
 IsAmong [] q = ⊥
@@ -27,7 +31,8 @@ abbrev pub RepeatsNone : List ℕ → Type 0
 RepeatsNone [] = Unit {0}
 RepeatsNone (p ∷ rest) = (IsAmong rest p → ⊥) × RepeatsNone rest
 
--- the row of a level, whose ranges partition the keys, that repeats no page and has just the pages in a row of the level
+-- the row of a level, whose ranges partition the keys, that repeats no page and
+-- has just the pages in a row of the level
 pub record IsRowOf (at : ℕ → Outline) (top level : ℕ) (row : List ℕ) : Type 0 where
   pub is_row : IsRow at level row
   pub partitions : Partitions at 0 top row

@@ -3,10 +3,13 @@
 #![tactic(auto)]
 
 pub mod examples;
+mod pages;
 
 ghost use Rattle.bw_law.specs.Laws.{StepLaw, RunLaw, NewLaw, RowLaw, WalkLaw, MapLaw, CountLaw, TermLaw, LookLaw, FitLaw, SameLaw};
 ghost use Rattle.bw_law.specs.MorePages.{MorePagesLaw, SameAsNewLaw};
 ghost use Rattle.bw_law.specs.Numbers.{RefusalLaw};
+
+pub use pages::MAX_PAGES;
 
 /// A lawful and booked table stays so with each accepted step, and its map changes as the step
 /// says.

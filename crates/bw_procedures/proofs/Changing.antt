@@ -36,14 +36,14 @@ adds_without_shapes a b r is e = ap without_shapes e ∙ (without_shapes-append 
 
 pub change_accepted : (step : Proposal) (limit : ℕ) (receipt : Receipt) (a b : Seen) → (ChangesShape step → ⊥) → IsAccepted step receipt a b → Offered step limit (Ok (answers.Accepted receipt)) a b
 change_accepted (insert page seen key value) limit (Inserted n k v) a b change h =
-    (h.told, adds_without_shapes a b (Inserted n k v) refl h.trail, counts_grow a b h.counts (adds_by a.trail b.trail (Inserted n k v ∷ []) h.trail) (omega (arith, h.effort)))
+    (h.reported, adds_without_shapes a b (Inserted n k v) refl h.trail, counts_grow a b h.counts (adds_by a.trail b.trail (Inserted n k v ∷ []) h.trail) (omega (arith, h.effort)))
 change_accepted (delete page seen key) limit (Deleted n k v) a b change h =
-    (h.told, adds_without_shapes a b (Deleted n k v) refl h.trail, counts_grow a b h.counts (adds_by a.trail b.trail (Deleted n k v ∷ []) h.trail) (omega (arith, h.effort)))
+    (h.reported, adds_without_shapes a b (Deleted n k v) refl h.trail, counts_grow a b h.counts (adds_by a.trail b.trail (Deleted n k v ∷ []) h.trail) (omega (arith, h.effort)))
 change_accepted (modify page seen key value) limit (Modified n k old v) a b change h =
-    (h.told, adds_without_shapes a b (Modified n k old v) refl h.trail, counts_grow a b h.counts (adds_by a.trail b.trail (Modified n k old v ∷ []) h.trail) (omega (arith, h.effort)))
-change_accepted (insert page seen key value) limit receipt a b change h = absurd h.told
-change_accepted (delete page seen key) limit receipt a b change h = absurd h.told
-change_accepted (modify page seen key value) limit receipt a b change h = absurd h.told
+    (h.reported, adds_without_shapes a b (Modified n k old v) refl h.trail, counts_grow a b h.counts (adds_by a.trail b.trail (Modified n k old v ∷ []) h.trail) (omega (arith, h.effort)))
+change_accepted (insert page seen key value) limit receipt a b change h = absurd h.reported
+change_accepted (delete page seen key) limit receipt a b change h = absurd h.reported
+change_accepted (modify page seen key value) limit receipt a b change h = absurd h.reported
 change_accepted step limit receipt a b change h = absurd (change tt)
 
 look_adds : (kept : Bool) (key at : ℕ) (found : Option ℕ) (a b : Seen) → SameCounts a b → b.trail ≡ (if kept then a.trail ++ Looked at key found ∷ [] else a.trail) → a.effort ≤ b.effort → LookAdds kept key found a b
@@ -90,23 +90,33 @@ modification_sets page seen key value receipt h = absurd h
 
 pub ruleset setting_made = (insertion_sets, modification_sets)
 
+-- by its change a wish comes true
+pub setting_comes_true : (key value : ℕ) (receipt : Receipt) → IsSettingOf key value receipt → IsReceiptFor key (Set value) receipt
+setting_comes_true key value (Inserted n k v) h = h
+setting_comes_true key value (Modified n k old v) h = h
+setting_comes_true key value receipt h = absurd h
+
+pub deletion_comes_true : (key : ℕ) (receipt : Receipt) → IsDeletionOf key receipt → IsReceiptFor key TakeOut receipt
+deletion_comes_true key (Deleted n k v) h = h
+deletion_comes_true key receipt h = absurd h
+
 -- no wish comes true by a change of the shape alone
 shape_is_no_change : (key : ℕ) (wished : Wished) (receipt : Receipt) → without_shapes (receipt ∷ []) ≡ [] → IsChangeFor key wished receipt → ⊥
-shape_is_no_change key (Put value) (Inserted n k v) none told = cc
-shape_is_no_change key (Put value) receipt none told = told
-shape_is_no_change key (Set value) (Inserted n k v) none told = cc
-shape_is_no_change key (Set value) (Modified n k old v) none told = cc
-shape_is_no_change key (Set value) receipt none told = told
-shape_is_no_change key TakeOut (Deleted n k v) none told = cc
-shape_is_no_change key TakeOut receipt none told = told
+shape_is_no_change key (Put value) (Inserted n k v) none reported = cc
+shape_is_no_change key (Put value) receipt none reported = reported
+shape_is_no_change key (Set value) (Inserted n k v) none reported = cc
+shape_is_no_change key (Set value) (Modified n k old v) none reported = cc
+shape_is_no_change key (Set value) receipt none reported = reported
+shape_is_no_change key TakeOut (Deleted n k v) none reported = cc
+shape_is_no_change key TakeOut receipt none reported = reported
 
--- behind the receipt of a wish that came true stand only receipts of shape
+-- after the receipt of a wish that came true stand only receipts of shape
 alone_at_once : (key : ℕ) (wished : Wished) (receipt : Receipt) (behind : List Receipt) → without_shapes behind ≡ [] → IsReceiptFor key wished receipt → without_shapes (receipt ∷ behind) ≡ receipt ∷ []
-alone_at_once key wished (Inserted n k v) behind shapes told = ap (λ l. Inserted n k v ∷ l) shapes
-alone_at_once key wished (Deleted n k v) behind shapes told = ap (λ l. Deleted n k v ∷ l) shapes
-alone_at_once key wished (Modified n k old v) behind shapes told = ap (λ l. Modified n k old v ∷ l) shapes
-alone_at_once key wished (Looked at k found) behind shapes told = ap (λ l. Looked at k found ∷ l) shapes
-alone_at_once key wished (Shaped kind p other) behind shapes told = absurd (shape_is_no_change key wished (Shaped kind p other) refl told)
+alone_at_once key wished (Inserted n k v) behind shapes reported = ap (λ l. Inserted n k v ∷ l) shapes
+alone_at_once key wished (Deleted n k v) behind shapes reported = ap (λ l. Deleted n k v ∷ l) shapes
+alone_at_once key wished (Modified n k old v) behind shapes reported = ap (λ l. Modified n k old v ∷ l) shapes
+alone_at_once key wished (Looked at k found) behind shapes reported = ap (λ l. Looked at k found ∷ l) shapes
+alone_at_once key wished (Shaped kind p other) behind shapes reported = absurd (shape_is_no_change key wished (Shaped kind p other) refl reported)
 
 -- what makes a wish come true at once, one way or the other
 abbrev pub MadeBy : ℕ → Wished → Performed → Seen → Seen → Type 0
@@ -115,11 +125,11 @@ MadeBy key wished done a b = Performs (actions.Record key wished) done a b ⊎ P
 -- a wish that came true at once adds the receipt of its reply
 adds_for : {T : Type 0} → (is_of : T → Receipt → Type 0) (reply : T) (key : ℕ) (wished : Wished) (action : Action) (done : Performed) (a b : Seen) → Performs action done a b
     → IsReceiptFor key wished done.receipt → is_of reply done.receipt → AddsReceipt is_of reply a b × Grows a b
-adds_for is_of reply key wished action done a b h told goes = (
+adds_for is_of reply key wished action done a b h reported goes = (
   (
     done.receipt,
     ap without_shapes h.trail ∙ (without_shapes-append a.trail (receipts_of action done)
-        ∙ ap (λ (l : List Receipt). without_shapes a.trail ++ l) (alone_at_once key wished done.receipt (receipts_behind action done) (shapes_behind (consolidates_behind action done.receipt) done.page) told)),
+        ∙ ap (λ (l : List Receipt). without_shapes a.trail ++ l) (alone_at_once key wished done.receipt (receipts_behind action done) (shapes_behind (consolidates_behind action done.receipt) done.page) reported)),
     goes,
   ),
   performed_grows action done a b h,
@@ -127,19 +137,19 @@ adds_for is_of reply key wished action done a b h told goes = (
 
 pub adds_at_once : {T : Type 0} → (is_of : T → Receipt → Type 0) (reply : T) (key : ℕ) (wished : Wished) (done : Performed) (a b : Seen) → MadeBy key wished done a b → is_of reply done.receipt
     → AddsReceipt is_of reply a b × Grows a b
-adds_at_once is_of reply key wished done a b (inl h) goes = adds_for is_of reply key wished (actions.Record key wished) done a b h h.told goes
-adds_at_once is_of reply key wished done a b (inr h) goes = adds_for is_of reply key wished (actions.Change key wished) done a b h h.told goes
+adds_at_once is_of reply key wished done a b (inl h) goes = adds_for is_of reply key wished (actions.Record key wished) done a b h h.reported goes
+adds_at_once is_of reply key wished done a b (inr h) goes = adds_for is_of reply key wished (actions.Change key wished) done a b h h.reported goes
 
-told_at_once : (key : ℕ) (wished : Wished) (done : Performed) (a b : Seen) → MadeBy key wished done a b → IsReceiptFor key wished done.receipt
-told_at_once key wished done a b (inl h) = h.told
-told_at_once key wished done a b (inr h) = h.told
+reported_at_once : (key : ℕ) (wished : Wished) (done : Performed) (a b : Seen) → MadeBy key wished done a b → IsReceiptFor key wished done.receipt
+reported_at_once key wished done a b (inl h) = h.reported
+reported_at_once key wished done a b (inr h) = h.reported
 
 -- so does a look that finds the wish true
 pub looked_at_once : {T : Type 0} → (is_of : T → Receipt → Type 0) (reply : T) (key : ℕ) (wished : Wished) (done : Performed) (a b : Seen) → MadeBy key wished done a b
     → (at k : ℕ) (found : Option ℕ) → done.receipt ≡ Looked at k found → ((n : ℕ) → is_of reply (Looked n key found)) → AddsReceipt is_of reply a b × Grows a b
 looked_at_once is_of reply key wished done a b h at k found is goes =
-    let told : IsReceiptFor key wished (Looked at k found) = subst (IsReceiptFor key wished) is (told_at_once key wished done a b h) in
-    adds_at_once is_of reply key wished done a b h (subst (is_of reply) (sym (is ∙ ap (λ (x : ℕ). Looked at x found) told.0)) (goes at))
+    let reported : IsReceiptFor key wished (Looked at k found) = subst (IsReceiptFor key wished) is (reported_at_once key wished done a b h) in
+    adds_at_once is_of reply key wished done a b h (subst (is_of reply) (sym (is ∙ ap (λ (x : ℕ). Looked at x found) reported.0)) (goes at))
 
 -- what was performed, if it was, makes the wish come true one way or the other, and otherwise nothing was done
 module _ (key : ℕ) (wished : Wished) (a b : Seen) where

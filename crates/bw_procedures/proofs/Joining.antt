@@ -28,7 +28,7 @@ reshapes_and_costs a b c before after = (reshapes_then a b c before after.0, ome
 pub spends_then : (a b c : Seen) → OnlySpends a b → OnlyReshapes b c × RoseBy 1 b.effort c.effort → OnlyReshapes a c × RoseBy 1 a.effort c.effort
 spends_then a b c before after = reshapes_and_costs a b c (spends_reshapes a b before) after
 
--- a round behind what only reshaped
+-- a round after what only reshaped
 pub round_then : (rung : Rung) (kind limit : ℕ) (result : Result Turn Fault) (a b c : Seen) → OnlyReshapes a b → IsRound rung kind limit result b c → IsRound rung kind limit result a c
 round_then rung kind limit (Ok Over) a b c before round = (reshapes_then a b c before round.0, omega (arith, before.grows.effort, round.1), tt)
 round_then rung kind limit (Ok Idle) a b c before round = (reshapes_then a b c before round.0, tt, tt)
@@ -39,7 +39,7 @@ round_then rung kind limit (Err fault) a b c before round = (reshapes_then a b c
 pub nears : (limit : ℕ) (a b c : Seen) → limit < 2 ^ 64 → OnlyReshapes a b → b.effort < limit → RoseBy 1 b.effort c.effort → limit - c.effort < limit - a.effort
 nears limit a b c fits before within rose = omega (arith, before.grows.effort, within, rose, fits)
 
--- tending ends with a part that only reshapes, behind a step that brought the effort nearer to its limit
+-- tending ends with a part that only reshapes, after a step that brought the effort nearer to its limit
 pub tends_then : {T : Type 0} → (limit : ℕ) (result : Result (Option T) Fault) (a b c : Seen) → OnlyReshapes a b → limit - b.effort < limit - a.effort → ReshapesWithin 0 limit result b c → IsTended limit result a c
 tends_then limit (Ok None) a b c before nearer after = (reshapes_then a b c before after.0, tt)
 tends_then limit (Ok (Some next)) a b c before nearer after = (reshapes_then a b c before after.0, omega (arith, nearer, after.0.grows.effort))

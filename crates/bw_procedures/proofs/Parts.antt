@@ -33,7 +33,7 @@ pub round_fails : (rung : Rung) (kind limit : ℕ) (result : Result Turn Fault) 
 round_fails rung kind limit (Ok turn) fault a b is failed = absurd is
 round_fails rung kind limit (Err it) fault a b is failed = (failed.0, subst (λ (fault : Fault). IsEarned limit a b fault) (sym is) failed.1)
 
--- tending that begins behind what only reshaped
+-- tending that begins after what only reshaped
 pub tended_then : {T : Type 0} → (limit : ℕ) (result : Result (Option T) Fault) (a b c : Seen) → OnlyReshapes a b → IsTended limit result b c → IsTended limit result a c
 tended_then limit (Ok None) a b c before after = (reshapes_then a b c before after.0, tt)
 tended_then limit (Ok (Some next)) a b c before after = (reshapes_then a b c before after.0, omega (arith, before.grows.effort, after.1))

@@ -16,19 +16,19 @@ use Rattle.bw_step.proofs.Tellings.{without_shapes-append}
 use Rattle.bw_procedures.specs.Actions.{consolidates_behind, effort_with, most_receipts, receipts_behind, receipts_of, IsReceiptOfAction, Performs, PerformedBy, RefusedFor}
 use Rattle.bw_procedures.specs.Accounts.{after_performed}
 use Rattle.bw_procedures.specs.Calls.{OnlyReshapes, RoseBy}
-use Rattle.bw_procedures.specs.Seen.{Seen, Grows, receipt_effort, told_effort}
+use Rattle.bw_procedures.specs.Seen.{Seen, Grows, receipt_effort, reported_effort}
 use Rattle.bw_procedures.proofs.Reshaping.{counts_grow}
 use Rattle.bw_procedures.proofs.Trails.{adds_by}
 
-told_up : (told : Telling) (n : ℕ) → n ≤ told_effort told n
-told_up (change number key before after) n = omega arith
-told_up (look at key found) n = omega arith
-told_up shape n = omega arith
+reported_up : (reported : Telling) (n : ℕ) → n ≤ reported_effort reported n
+reported_up (change number key before after) n = omega arith
+reported_up (look at key found) n = omega arith
+reported_up shape n = omega arith
 
 effort_up : (receipts : List Receipt) (n : ℕ) → n ≤ effort_with receipts n
 effort_up [] n = omega arith
 effort_up (receipt ∷ rest) n =
-    let first : n ≤ receipt_effort receipt n = told_up (telling_of receipt) n in
+    let first : n ≤ receipt_effort receipt n = reported_up (telling_of receipt) n in
     let more : receipt_effort receipt n ≤ effort_with rest (receipt_effort receipt n) = effort_up rest (receipt_effort receipt n) in
     omega (arith, first, more)
 
@@ -37,7 +37,7 @@ performed_grows action done a b h =
     let up : a.effort ≤ effort_with (receipts_of action done) a.effort = effort_up (receipts_of action done) a.effort in
     counts_grow a b h.counts (adds_by a.trail b.trail (receipts_of action done) h.trail) (omega (arith, up, h.effort))
 
--- behind what was done stand only receipts of shape
+-- after what was done stand only receipts of shape
 pub shapes_behind : (is_behind : Bool) (page : Pid) → without_shapes (if is_behind then Shaped kinds.Consolidate page None ∷ [] else []) ≡ []
 shapes_behind true page = refl
 shapes_behind false page = refl
@@ -68,7 +68,7 @@ pub performed_nears : (limit : ℕ) (action : Action) (done : Performed) (a b : 
     → OnlyReshapes a b × (limit - b.effort < limit - a.effort)
 performed_nears limit action done a b fits before is h = let more = performed_reshapes action done a b is h in (more.0, omega (arith, more.1))
 
--- each action has a receipt, and where its page is consolidated behind it two
+-- each action has a receipt, and where its page is consolidated after it two
 pub one_at_least : (action : Action) → 1 ≤ most_receipts action
 one_at_least (actions.Change key wished) = omega arith
 one_at_least (actions.Record key wished) = omega arith
@@ -85,7 +85,7 @@ two_with_behind (actions.AddTerm child) receipt is = cc
 
 -- a page that was named in its parent at once costs one effort, and one that wasn't costs none
 pub posted_costs : (child : Pid) (result : Result Performed Unperformed) (a b : Seen) → PerformedBy (actions.AddTerm child) result a b → is_ok result ≡ true → OnlyReshapes a b × RoseBy 1 a.effort b.effort
-posted_costs child (Ok done) a b h is = performed_reshapes (actions.AddTerm child) done a b (ap (λ (r : Receipt). without_shapes (r ∷ [])) h.told) h
+posted_costs child (Ok done) a b h is = performed_reshapes (actions.AddTerm child) done a b (ap (λ (r : Receipt). without_shapes (r ∷ [])) h.reported) h
 posted_costs child (Err why) a b h is = absurd (cc (is))
 
 pub unposted_same : (child : Pid) (result : Result Performed Unperformed) (a b : Seen) → PerformedBy (actions.AddTerm child) result a b → is_ok result ≡ false → b ≡ a
@@ -96,7 +96,7 @@ unposted_same child (Err StepByStep) a b h is = h
 
 -- what the account makes of an action is what it leaves
 pub performs : (action : Action) (done : Performed) (a : Seen) → IsReceiptOfAction action done.page done.receipt → Performs action done a (after_performed action done a)
-performs action done a told = record { told = told; counts = record { config = refl; full = refl; tall = refl; worn = refl }; trail = refl; effort = refl }
+performs action done a reported = record { reported = reported; counts = record { config = refl; full = refl; tall = refl; worn = refl }; trail = refl; effort = refl }
 
 -- an action that wasn't performed adds no receipt
 refused_trail : (action : Action) (reason : Reason) (a b : Seen) → RefusedFor action reason a b → b.trail ≡ a.trail

@@ -3,16 +3,16 @@ use Rattle.std.proofs.Common.{◌≡◌, ◌⊎◌, inl, inr, ℕ, ◌+◌, ◌<
 use Rattle.std.specs.Prelude.{nat_lt, is_some}
 use Rattle.std.proofs.lemmas.Bool.Decides.{nat_tests}
 use Rattle.bw_delta.specs.Entries.{at, rises}
-use Rattle.bw_step.specs.Tellings.{Told, changed, told_in, without_shapes}
+use Rattle.bw_step.specs.Tellings.{Reported, changed, reported_in, without_shapes}
 use Rattle.bw_procedures.specs.declared.reply.Del.{Del}
 use Rattle.bw_procedures.specs.declared.reply.Del.TheVariants.{Removed, NoKey}
 use Rattle.bw_procedures.specs.declared.fault.Fault.{Fault}
 use Rattle.bw_procedures.specs.Seen.{Seen, Grows}
 use Rattle.bw_procedures.specs.Calls.{OnlySpends}
-use Rattle.bw_procedures.specs.Told.{told_of_delete}
+use Rattle.bw_procedures.specs.Reported.{reported_of_delete}
 use Rattle.bw_procedures.specs.Writing.{AddsReceipt, IsReceiptOfDelete}
 use Rattle.bw_procedures.specs.Clearing.{IsRemovalOf, AreRemovals, removal_in, removals_in, AddsRemovals, HasRemovalOf, IsSwept, AreRemovalsOf, LieBelow, StartFrom, RemovesFirst, RemovesBelow, RemovesOne, RemovesKey}
-use Rattle.bw_procedures.proofs.Receipts.{adds, delete_told, none_told}
+use Rattle.bw_procedures.proofs.Receipts.{adds, delete_reported, none_reported}
 use Rattle.bw_procedures.proofs.Trails.{adds_nothing, adds_then}
 
 pub grow_then : (a b c : Seen) → Grows a b → Grows b c → Grows a c
@@ -22,26 +22,26 @@ pub spent_grows : (a b : Seen) → OnlySpends a b → Grows a b
 spent_grows a b p = record { config = p.same.config; trail = adds_nothing a.trail b.trail p.same.trail; effort = p.effort; full = omega (arith, p.same.full); tall = omega (arith, p.same.tall); worn = omega (arith, p.same.worn) }
 
 -- removals in a range are removals in a wider one
-pub removals_lower : (low at high : ℕ) (xs : List Told) → low ≤ at → AreRemovals at high xs → AreRemovals low high xs
+pub removals_lower : (low at high : ℕ) (xs : List Reported) → low ≤ at → AreRemovals at high xs → AreRemovals low high xs
 removals_lower low at high [] le are = tt
 removals_lower low at high (x ∷ xs) le are = (are.0, are.1, omega (arith, le, are.2), are.3, are.4)
 
-removals_upper : (low high end : ℕ) (xs : List Told) → high ≤ end → AreRemovals low high xs → AreRemovals low end xs
+removals_upper : (low high end : ℕ) (xs : List Reported) → high ≤ end → AreRemovals low high xs → AreRemovals low end xs
 removals_upper low high end [] le are = tt
 removals_upper low high end (x ∷ xs) le are = (are.0, are.1, are.2, omega (arith, le, are.3), removals_upper (are.0 + 1) high end xs le are.4)
 
-removals_append : (low middle at high : ℕ) (xs ys : List Told) → low ≤ at → middle ≤ at → middle ≤ high → AreRemovals low middle xs → AreRemovals at high ys → AreRemovals low high (xs ++ ys)
+removals_append : (low middle at high : ℕ) (xs ys : List Reported) → low ≤ at → middle ≤ at → middle ≤ high → AreRemovals low middle xs → AreRemovals at high ys → AreRemovals low high (xs ++ ys)
 removals_append low middle at high [] ys le before within first then = removals_lower low at high ys le then
 removals_append low middle at high (x ∷ xs) ys le before within first then =
     (first.0, first.1, first.2, omega (arith, within, first.3), removals_append (first.0 + 1) middle at high xs ys (omega (arith, before, first.3)) before within first.4 then)
 
-removals_in_append : (xs ys : List Told) → removals_in (xs ++ ys) ≡ removals_in xs + removals_in ys
+removals_in_append : (xs ys : List Reported) → removals_in (xs ++ ys) ≡ removals_in xs + removals_in ys
 removals_in_append [] ys = omega arith
 removals_in_append (x ∷ xs) ys = omega (arith, removals_in_append xs ys)
 
 -- what two parts added, one after the other
-added_then : (a b c : Seen) (xs ys : List Told) → told_in b.trail ≡ told_in a.trail ++ xs → told_in c.trail ≡ told_in b.trail ++ ys → told_in c.trail ≡ told_in a.trail ++ (xs ++ ys)
-added_then a b c xs ys first then = then ∙ (ap (λ (l : List Told). l ++ ys) first ∙ append_assoc (told_in a.trail) xs ys)
+added_then : (a b c : Seen) (xs ys : List Reported) → reported_in b.trail ≡ reported_in a.trail ++ xs → reported_in c.trail ≡ reported_in b.trail ++ ys → reported_in c.trail ≡ reported_in a.trail ++ (xs ++ ys)
+added_then a b c xs ys first then = then ∙ (ap (λ (l : List Reported). l ++ ys) first ∙ append_assoc (reported_in a.trail) xs ys)
 
 adds_within : (low high end n : ℕ) (a b : Seen) → high ≤ end → AddsRemovals low high n a b → AddsRemovals low end n a b
 adds_within low high end n a b le more = record { added = more.added; trail = more.trail; removals = removals_upper low high end more.added le more.removals; count = more.count }
@@ -55,9 +55,9 @@ adds_both low middle at high n m a b c le before within first then = record {
 }
 
 -- a part that adds nothing comes first
-adds_after : (low high n : ℕ) (a b c : Seen) → told_in b.trail ≡ told_in a.trail → AddsRemovals low high n b c → AddsRemovals low high n a c
+adds_after : (low high n : ℕ) (a b c : Seen) → reported_in b.trail ≡ reported_in a.trail → AddsRemovals low high n b c → AddsRemovals low high n a c
 adds_after low high n a b c same more =
-    record { added = more.added; trail = more.trail ∙ ap (λ (l : List Told). l ++ more.added) same; removals = more.removals; count = more.count }
+    record { added = more.added; trail = more.trail ∙ ap (λ (l : List Reported). l ++ more.added) same; removals = more.removals; count = more.count }
 
 -- a call that no fault ended has none
 pub no_fault : (fault : Option Fault) → is_some fault ≡ false → fault ≡ None
@@ -72,13 +72,13 @@ adds_leaf low at next high n m a b c le rise first then = adds_both low (min at 
 pub adds_spent : (low at high n : ℕ) (a b c : Seen) → AddsRemovals low (min at high) n a b → OnlySpends b c → AddsRemovals low high n a c
 adds_spent low at high n a b c more spends = record {
   added = more.added;
-  trail = ap told_in spends.same.trail ∙ more.trail;
+  trail = ap reported_in spends.same.trail ∙ more.trail;
   removals = removals_upper low (min at high) high more.added (omega arith) more.removals;
   count = more.count;
 }
 
 -- a delete takes out no more than one key
-one_upto : (x : Told) → removal_in x ≤ 1
+one_upto : (x : Reported) → removal_in x ≤ 1
 one_upto (changed key (Some value) None) = omega arith
 one_upto x = omega arith
 
@@ -87,18 +87,18 @@ abbrev taken_in : Del → ℕ
 taken_in (Removed value) = 1
 taken_in NoKey = 0
 
-removal_of_delete : (key : ℕ) (reply : Del) → IsRemovalOf key (told_of_delete key reply)
+removal_of_delete : (key : ℕ) (reply : Del) → IsRemovalOf key (reported_of_delete key reply)
 removal_of_delete key (Removed value) = refl
 removal_of_delete key NoKey = refl
 
-count_of_delete : (key : ℕ) (reply : Del) → removal_in (told_of_delete key reply) ≡ taken_in reply
+count_of_delete : (key : ℕ) (reply : Del) → removal_in (reported_of_delete key reply) ≡ taken_in reply
 count_of_delete key (Removed value) = refl
 count_of_delete key NoKey = refl
 
 removes_one : (key : ℕ) (reply : Del) (a b : Seen) → AddsReceipt (IsReceiptOfDelete key) reply a b → RemovesOne key (taken_in reply) a b
 removes_one key reply a b more = record {
-  told = told_of_delete key reply;
-  trail = adds a.trail b.trail more.0 (told_of_delete key reply) more.1 (delete_told key reply more.0 more.2);
+  reported = reported_of_delete key reply;
+  trail = adds a.trail b.trail more.0 (reported_of_delete key reply) more.1 (delete_reported key reply more.0 more.2);
   removal = removal_of_delete key reply;
   count = count_of_delete key reply;
 }
@@ -110,10 +110,10 @@ pub key_missing : (key : ℕ) (fault : Option Fault) (a b : Seen) → AddsReceip
 key_missing key fault a b more = inl (removes_one key NoKey a b more)
 
 pub key_kept : (key : ℕ) (fault : Fault) (a b : Seen) → without_shapes b.trail ≡ without_shapes a.trail → RemovesKey key 0 (Some fault) a b
-key_kept key fault a b same = inr (none_told a.trail b.trail same, refl, λ none. cc)
+key_kept key fault a b same = inr (none_reported a.trail b.trail same, refl, λ none. cc)
 
 -- one more of the pairs is taken out
-removals_of_more : (pairs : List (ℕ × ℕ)) (xs : List Told) (pair : ℕ × ℕ) (x : Told) → AreRemovalsOf pairs xs → IsRemovalOf pair.0 x → AreRemovalsOf (pairs ++ pair ∷ []) (xs ++ x ∷ [])
+removals_of_more : (pairs : List (ℕ × ℕ)) (xs : List Reported) (pair : ℕ × ℕ) (x : Reported) → AreRemovalsOf pairs xs → IsRemovalOf pair.0 x → AreRemovalsOf (pairs ++ pair ∷ []) (xs ++ x ∷ [])
 removals_of_more [] [] pair x are is = (is, tt)
 removals_of_more [] (y ∷ xs) pair x are is = absurd are
 removals_of_more (p ∷ pairs) [] pair x are is = absurd are
@@ -124,26 +124,26 @@ lie_more end [] pair lie below = (below, tt)
 lie_more end (p ∷ pairs) pair lie below = (lie.0, lie_more end pairs pair lie.1 below)
 
 pub removes_none : (end : ℕ) (pairs : List (ℕ × ℕ)) (a : Seen) → RemovesFirst end pairs [] pairs 0 a a
-removes_none end pairs a = record { parts = refl; below_end = tt; added = []; trail = sym (append-nil (told_in a.trail)); removals = tt; count = refl }
+removes_none end pairs a = record { parts = refl; below_end = tt; added = []; trail = sym (append-nil (reported_in a.trail)); removals = tt; count = refl }
 
 removes_more : (end : ℕ) (pairs done left : List (ℕ × ℕ)) (pair : ℕ × ℕ) (n m : ℕ) (a b c : Seen) → RemovesFirst end pairs done (pair ∷ left) n a b → pair.0 < end → RemovesOne pair.0 m b c
     → RemovesFirst end pairs (done ++ pair ∷ []) left (n + m) a c
 removes_more end pairs done left pair n m a b c first below one = record {
   parts = first.parts ∙ sym (append_assoc done (pair ∷ []) left);
   below_end = lie_more end done pair first.below_end below;
-  added = first.added ++ one.told ∷ [];
-  trail = added_then a b c first.added (one.told ∷ []) first.trail one.trail;
-  removals = removals_of_more done first.added pair one.told first.removals one.removal;
-  count = omega (arith, removals_in_append first.added (one.told ∷ []), first.count, one.count);
+  added = first.added ++ one.reported ∷ [];
+  trail = added_then a b c first.added (one.reported ∷ []) first.trail one.trail;
+  removals = removals_of_more done first.added pair one.reported first.removals one.removal;
+  count = omega (arith, removals_in_append first.added (one.reported ∷ []), first.count, one.count);
 }
 
-removes_same : (end : ℕ) (pairs done left : List (ℕ × ℕ)) (n m : ℕ) (a b c : Seen) → RemovesFirst end pairs done left n a b → told_in c.trail ≡ told_in b.trail → m ≡ 0
+removes_same : (end : ℕ) (pairs done left : List (ℕ × ℕ)) (n m : ℕ) (a b c : Seen) → RemovesFirst end pairs done left n a b → reported_in c.trail ≡ reported_in b.trail → m ≡ 0
     → RemovesFirst end pairs done left (n + m) a c
 removes_same end pairs done left n m a b c first same zero =
     record { parts = first.parts; below_end = first.below_end; added = first.added; trail = same ∙ first.trail; removals = first.removals; count = omega (arith, zero, first.count) }
 
 pub key_upto : (key n : ℕ) (fault : Option Fault) (a b : Seen) → RemovesKey key n fault a b → n ≤ 1
-key_upto key n fault a b (inl one) = omega (arith, one_upto one.told, one.count)
+key_upto key n fault a b (inl one) = omega (arith, one_upto one.reported, one.count)
 key_upto key n fault a b (inr none) = omega (arith, none.1)
 
 -- the next pair was deleted
@@ -161,7 +161,7 @@ removes_last end pairs done left pair n m (Some fault) a b c first below (inl on
 removes_last end pairs done left pair n m (Some fault) a b c first below (inr none) some = (done, pair ∷ left, removes_same end pairs done (pair ∷ left) n m a b c first none.0 none.1, λ none. cc)
 
 -- keys of pairs that rise are removed in rising order
-removals_rise : (low end high : ℕ) (done left : List (ℕ × ℕ)) (xs : List Told) → rises low end (done ++ left) ≡ true → LieBelow high done → AreRemovalsOf done xs → AreRemovals low (min end high) xs
+removals_rise : (low end high : ℕ) (done left : List (ℕ × ℕ)) (xs : List Reported) → rises low end (done ++ left) ≡ true → LieBelow high done → AreRemovalsOf done xs → AreRemovals low (min end high) xs
 removals_rise low end high [] left [] rise lie are = tt
 removals_rise low end high [] left (x ∷ xs) rise lie are = absurd are
 removals_rise low end high (p ∷ done) left [] rise lie are = absurd are
@@ -182,7 +182,7 @@ removes_adds low end high pairs done left n a b rise first =
 
 -- a leaf was read, and its pairs were taken out
 leaf_adds : (at end high n : ℕ) (pairs : List (ℕ × ℕ)) (fault : Option Fault) (a b c : Seen) → OnlySpends a b → rises at end pairs ≡ true → RemovesBelow high pairs n fault b c → AddsRemovals at (min end high) n a c
-leaf_adds at end high n pairs fault a b c spends rise removes = adds_after at (min end high) n a b c (ap told_in spends.same.trail) (removes_adds at end high pairs removes.0 removes.1 n b c rise removes.2)
+leaf_adds at end high n pairs fault a b c spends rise removes = adds_after at (min end high) n a b c (ap reported_in spends.same.trail) (removes_adds at end high pairs removes.0 removes.1 n b c rise removes.2)
 
 -- one more leaf was read, and its pairs were taken out
 pub adds_read : (low at next high n m : ℕ) (pairs : List (ℕ × ℕ)) (fault : Option Fault) (a b c d : Seen) → low ≤ at → at < next → AddsRemovals low (min at high) n a b → OnlySpends b c → rises at next pairs ≡ true
@@ -205,7 +205,7 @@ not_left low end high key [] rise starts less = refl
 not_left low end high key (e ∷ es) rise starts less = grind (arith, nat_tests, not_below (e.0 + 1) end key es)
 
 -- each key below the end of those that were taken out isn't among the pairs, or its removal is there
-gone_below : (low end high key : ℕ) (done left : List (ℕ × ℕ)) (xs : List Told) → rises low end (done ++ left) ≡ true → AreRemovalsOf done xs → StartFrom high left → key < high
+gone_below : (low end high key : ℕ) (done left : List (ℕ × ℕ)) (xs : List Reported) → rises low end (done ++ left) ≡ true → AreRemovalsOf done xs → StartFrom high left → key < high
     → (at key (done ++ left) ≡ None) ⊎ HasRemovalOf key xs
 gone_below low end high key [] left [] rise are starts less = inl (not_left low end high key left rise starts less)
 gone_below low end high key [] left (x ∷ xs) rise are starts less = absurd are
@@ -220,12 +220,12 @@ gone_below low end high key (p ∷ done) left (x ∷ xs) rise are starts less = 
     by_test true same rest = let is : p.0 ≡ key = grind (arith, nat_tests, same) in inr (inl (subst (λ k. IsRemovalOf k x) is are.0))
     by_test false other rest = later rest other
 
-has_more : (key : ℕ) (xs ys : List Told) → HasRemovalOf key xs → HasRemovalOf key (xs ++ ys)
+has_more : (key : ℕ) (xs ys : List Reported) → HasRemovalOf key xs → HasRemovalOf key (xs ++ ys)
 has_more key [] ys has = absurd has
 has_more key (x ∷ xs) ys (inl is) = inl is
 has_more key (x ∷ xs) ys (inr has) = inr (has_more key xs ys has)
 
-gone_more : (key : ℕ) (pairs : List (ℕ × ℕ)) (xs ys : List Told) → (at key pairs ≡ None) ⊎ HasRemovalOf key xs → (at key pairs ≡ None) ⊎ HasRemovalOf key (xs ++ ys)
+gone_more : (key : ℕ) (pairs : List (ℕ × ℕ)) (xs ys : List Reported) → (at key pairs ≡ None) ⊎ HasRemovalOf key xs → (at key pairs ≡ None) ⊎ HasRemovalOf key (xs ++ ys)
 gone_more key pairs xs ys (inl none) = inl none
 gone_more key pairs xs ys (inr has) = inr (has_more key xs ys has)
 

@@ -27,7 +27,7 @@ shape_accepted step (Shaped kind page other) a b shape h = (
   },
   omega (arith, h.effort),
 )
-shape_accepted step receipt a b shape h = absurd h.told
+shape_accepted step receipt a b shape h = absurd h.reported
 
 -- the parts of what a call that only reshapes leaves
 pub within_reshapes : {T : Type 0} → (cost limit : ℕ) (result : Result T Fault) (a b : Seen) → ReshapesWithin cost limit result a b → OnlyReshapes a b

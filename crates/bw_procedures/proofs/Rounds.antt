@@ -35,7 +35,7 @@ earned_then limit faults.TableFull a b c grows is = omega (arith, grows.full, is
 earned_then limit faults.TooTall a b c grows is = omega (arith, grows.tall, is)
 earned_then limit faults.Worn a b c grows is = omega (arith, grows.worn, is)
 
--- a page is consolidated behind a refusal, and the round is over
+-- a page is consolidated after a refusal, and the round is over
 round_over : (rung : Rung) (kind limit : ℕ) (turn : Turn) (a c : Seen) → turn ≡ Over → OnlyReshapes a c → RoseBy 1 a.effort c.effort → IsRound rung kind limit (Ok turn) a c
 round_over rung kind limit turn a c is reshapes cost =
     let Round : Turn → Type 0 = λ it. IsRound rung kind limit (Ok it) a c in

@@ -53,7 +53,7 @@ module _ {T : Type 0} (is_of : T → Receipt → Type 0) (limit : ℕ) (a b : Se
     kept = from_the_limit kept c (kept_later limit kept a b c earned done.1);
   }
 
-  -- the page is tended behind it
+  -- the page is tended after it
   pub tended_writes : (ended : Done T) (reply : T) (kept : Option Fault) (c d : Seen) → ended.reply ≡ reply → KeptIsEarned limit a b kept → AddsReceipt is_of reply b c × Grows b c → OnlyReshapes c d
       → EndsEarned limit kept ended.fault c d → Writes is_of (Ok ended) a d
   tended_writes ended reply kept c d is earned done tended ends =

@@ -22,13 +22,13 @@ IsReceiptOfAction (actions.Consolidate at seen) page receipt = receipt ≡ Shape
 IsReceiptOfAction (actions.Halve at seen) page receipt = (new : Pid) × (receipt ≡ Shaped kinds.Split at (Some new))
 IsReceiptOfAction (actions.AddTerm child) page receipt = receipt ≡ Shaped kinds.TermAdd page (Some child)
 
--- whether the page is consolidated behind what this is the receipt of: a change in its place is, and a look isn't
+-- whether the page is consolidated after what this is the receipt of: a change in its place is, and a look isn't
 abbrev pub consolidates_behind : Action → Receipt → Bool
 consolidates_behind (actions.Change key wished) (Looked at k found) = false
 consolidates_behind (actions.Change key wished) receipt = true
 consolidates_behind action receipt = false
 
--- the receipt of the consolidation behind it, if there is one
+-- the receipt of the consolidation after it, if there is one
 abbrev pub receipts_behind : Action → Performed → List Receipt
 receipts_behind action done = if consolidates_behind action done.receipt then Shaped kinds.Consolidate done.page None ∷ [] else []
 
@@ -48,7 +48,7 @@ effort_with (receipt ∷ rest) n = effort_with rest (receipt_effort receipt n)
 
 -- an action that was performed adds its receipts to the trail, and no other
 pub record Performs (action : Action) (done : Performed) (old new : Seen) : Type 0 where
-  pub told : IsReceiptOfAction action done.page done.receipt
+  pub reported : IsReceiptOfAction action done.page done.receipt
   pub counts : SameCounts old new
   pub trail : new.trail ≡ old.trail ++ receipts_of action done
   pub effort : new.effort ≡ effort_with (receipts_of action done) old.effort

@@ -1,41 +1,41 @@
 -- The removal of the keys of a range: a list of single deletes.
 use Rattle.std.specs.Prelude.{◌≡◌, ◌⊎◌, ℕ, ◌+◌, ◌<◌, ◌≤◌, List, [], ◌∷◌, ◌++◌, Option, Some, None}
 use Rattle.bw_delta.specs.Entries.{at}
-use Rattle.bw_step.specs.Tellings.{Told, changed, looked, told_in}
+use Rattle.bw_step.specs.Tellings.{Reported, changed, looked, reported_in}
 use Rattle.bw_procedures.specs.declared.fault.Fault.{Fault}
 use Rattle.bw_procedures.specs.Seen.{Seen}
 
 -- what the receipt of a delete reports, whatever it replied: the key was deleted, or had no value
-abbrev pub IsRemovalOf : ℕ → Told → Type 0
+abbrev pub IsRemovalOf : ℕ → Reported → Type 0
 IsRemovalOf key (changed k (Some value) None) = k ≡ key
 IsRemovalOf key (looked k None) = k ≡ key
-IsRemovalOf key told = ⊥
+IsRemovalOf key reported = ⊥
 
 -- deletes of strictly rising keys, from the low on and below the high
-abbrev pub AreRemovals : ℕ → ℕ → List Told → Type 0
+abbrev pub AreRemovals : ℕ → ℕ → List Reported → Type 0
 AreRemovals low high [] = Unit {0}
-AreRemovals low high (told ∷ rest) = (key : ℕ) × IsRemovalOf key told × (low ≤ key) × (key < high) × AreRemovals (key + 1) high rest
+AreRemovals low high (reported ∷ rest) = (key : ℕ) × IsRemovalOf key reported × (low ≤ key) × (key < high) × AreRemovals (key + 1) high rest
 
 -- one where a key was deleted
-abbrev pub removal_in : Told → ℕ
+abbrev pub removal_in : Reported → ℕ
 removal_in (changed key (Some value) None) = 1
-removal_in told = 0
+removal_in reported = 0
 
 -- how many of the deletes had a key to delete
-abbrev pub removals_in : List Told → ℕ
+abbrev pub removals_in : List Reported → ℕ
 removals_in [] = 0
-removals_in (told ∷ rest) = removal_in told + removals_in rest
+removals_in (reported ∷ rest) = removal_in reported + removals_in rest
 
 -- what was added reports deletes in the range, `removed` of which had a key to delete
 pub record AddsRemovals (low high removed : ℕ) (old new : Seen) : Type 0 where
-  pub added : List Told
-  pub trail : told_in new.trail ≡ told_in old.trail ++ added
+  pub added : List Reported
+  pub trail : reported_in new.trail ≡ reported_in old.trail ++ added
   pub removals : AreRemovals low high added
   pub count : removals_in added ≡ removed
 
-abbrev pub HasRemovalOf : ℕ → List Told → Type 0
+abbrev pub HasRemovalOf : ℕ → List Reported → Type 0
 HasRemovalOf key [] = ⊥
-HasRemovalOf key (told ∷ rest) = IsRemovalOf key told ⊎ HasRemovalOf key rest
+HasRemovalOf key (reported ∷ rest) = IsRemovalOf key reported ⊎ HasRemovalOf key rest
 
 -- Between the two states there was one in which these were all pairs of a range that holds the key, and the key wasn't among them, or its
 -- removal is reported since.
@@ -49,14 +49,14 @@ pub record IsSwept {S : Type 0} (seen : S → Seen) (follows : S → S → Type 
   pub shown : shows between low end pairs
   pub from_low : low ≤ key
   pub below_end : key < end
-  pub added : List Told
-  pub since : told_in (seen new).trail ≡ told_in (seen between).trail ++ added
+  pub added : List Reported
+  pub since : reported_in (seen new).trail ≡ reported_in (seen between).trail ++ added
   pub gone : (at key pairs ≡ None) ⊎ HasRemovalOf key added
 
 -- of each of the pairs the removal of its key is reported
-abbrev pub AreRemovalsOf : List (ℕ × ℕ) → List Told → Type 0
+abbrev pub AreRemovalsOf : List (ℕ × ℕ) → List Reported → Type 0
 AreRemovalsOf [] [] = Unit {0}
-AreRemovalsOf (pair ∷ pairs) (told ∷ rest) = IsRemovalOf pair.0 told × AreRemovalsOf pairs rest
+AreRemovalsOf (pair ∷ pairs) (reported ∷ rest) = IsRemovalOf pair.0 reported × AreRemovalsOf pairs rest
 AreRemovalsOf pairs tellings = ⊥
 
 -- the keys of the pairs lie below the end
@@ -73,8 +73,8 @@ StartFrom end (pair ∷ pairs) = end ≤ pair.0
 pub record RemovesFirst (end : ℕ) (pairs done left : List (ℕ × ℕ)) (removed : ℕ) (old new : Seen) : Type 0 where
   pub parts : pairs ≡ done ++ left
   pub below_end : LieBelow end done
-  pub added : List Told
-  pub trail : told_in new.trail ≡ told_in old.trail ++ added
+  pub added : List Reported
+  pub trail : reported_in new.trail ≡ reported_in old.trail ++ added
   pub removals : AreRemovalsOf done added
   pub count : removals_in added ≡ removed
 
@@ -85,13 +85,13 @@ RemovesBelow end pairs removed fault old new =
 
 -- the delete of one key was reported, and whether it had a key to delete
 pub record RemovesOne (key removed : ℕ) (old new : Seen) : Type 0 where
-  pub told : Told
-  pub trail : told_in new.trail ≡ told_in old.trail ++ told ∷ []
-  pub removal : IsRemovalOf key told
-  pub count : removal_in told ≡ removed
+  pub reported : Reported
+  pub trail : reported_in new.trail ≡ reported_in old.trail ++ reported ∷ []
+  pub removal : IsRemovalOf key reported
+  pub count : removal_in reported ≡ removed
 
 -- one key was deleted, or nothing was done, by a fault
 abbrev pub RemovesKey : ℕ → ℕ → Option Fault → Seen → Seen → Type 0
 RemovesKey key removed fault old new =
     RemovesOne key removed old new
-    ⊎ ((told_in new.trail ≡ told_in old.trail) × (removed ≡ 0) × (fault ≡ None → ⊥))
+    ⊎ ((reported_in new.trail ≡ reported_in old.trail) × (removed ≡ 0) × (fault ≡ None → ⊥))

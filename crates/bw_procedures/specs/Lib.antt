@@ -9,5 +9,5 @@ pub mod Writes
 pub mod Actions
 pub mod Accounts
 pub mod Clearing
-pub mod Told
+pub mod Reported
 pub mod Texts

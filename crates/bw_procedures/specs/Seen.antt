@@ -52,7 +52,7 @@ pub record SameCounts (old new : Seen) : Type 0 where
   pub tall : new.tall ≡ old.tall
   pub worn : new.worn ≡ old.worn
 
--- receipts were only added: the new trail is the old one, and what was added behind it
+-- receipts were only added: the new trail is the old one, and what was added after it
 pub record OnlyAdds (old new : List Receipt) : Type 0 where
   pub added : List Receipt
   pub trail : new ≡ old ++ added
@@ -115,17 +115,17 @@ copy_effort (Err copy_faults.NoMemory) n = n
 abbrev pub Copied : {C : Type 0} → Result C CopyFault → Seen → Seen → Type 0
 Copied result old new = SameButEffort old new × (new.effort ≡ copy_effort result old.effort)
 
-abbrev pub told_effort : Telling → ℕ → ℕ
-told_effort shape n = one_more n
-told_effort told n = n
+abbrev pub reported_effort : Telling → ℕ → ℕ
+reported_effort shape n = one_more n
+reported_effort reported n = n
 
 -- an accepted step costs effort where it changes the tree's shape
 abbrev pub receipt_effort : Receipt → ℕ → ℕ
-receipt_effort receipt n = told_effort (telling_of receipt) n
+receipt_effort receipt n = reported_effort (telling_of receipt) n
 
 -- an accepted step adds its own receipt to the trail
 pub record IsAccepted (step : Proposal) (receipt : Receipt) (old new : Seen) : Type 0 where
-  pub told : IsReceiptOf step receipt
+  pub reported : IsReceiptOf step receipt
   pub counts : SameCounts old new
   pub trail : new.trail ≡ old.trail ++ receipt ∷ []
   pub effort : new.effort ≡ receipt_effort receipt old.effort

@@ -132,7 +132,7 @@ impl<T: Trail> Account<T> {
     }
 
     /// Returns the receipts since the last `take_trail`, and goes on with an empty trail in the
-    /// same memory region. The trails returned, one behind the other and with that of
+    /// same memory region. The trails returned, one after the other and with that of
     /// [`into_trail`](Account::into_trail) as the last, are the trail that `into_trail` alone would
     /// have returned.
     pub fn take_trail(&mut self) -> T
@@ -204,7 +204,7 @@ impl<T: Trail> Account<T> {
         }
     }
 
-    /// Reports an action that was performed: adds the receipt of its look or step, and behind a
+    /// Reports an action that was performed: adds the receipt of its look or step, and after a
     /// change in its place that of the page's consolidation. A step that changes the tree's shape
     /// costs effort.
     #[inline(always)]
@@ -369,7 +369,7 @@ impl<T: Trail> Account<T> {
     }
 }
 
-/// Whether the page is consolidated behind what this is the receipt of, as it is behind a change in
+/// Whether the page is consolidated after what this is the receipt of, as it is after a change in
 /// its place.
 #[inline(always)]
 pub fn is_consolidated_behind(action: Action, receipt: Receipt) -> bool

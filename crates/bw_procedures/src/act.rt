@@ -3,8 +3,8 @@
 ghost use Rattle.std.specs.Prelude.{◌≡◌, IfOk, IfErr, OnErr};
 ghost use Rattle.bw_procedures.specs.Seen.{Grows};
 ghost use Rattle.bw_procedures.specs.Calls.{Earned};
-ghost use Rattle.bw_step.specs.Tellings.{told_in};
-ghost use Rattle.bw_procedures.specs.Told.{AddsTold};
+ghost use Rattle.bw_step.specs.Tellings.{reported_in};
+ghost use Rattle.bw_procedures.specs.Reported.{AddsReported};
 
 use crate::calls::Calls;
 use crate::fault::Fault;
@@ -35,7 +35,7 @@ pub enum Act {
 /// # Errors
 ///
 /// Those of the act's call.
-#[tactic(auto, using(crate::proofs::Receipts::none_told))]
+#[tactic(auto, using(crate::proofs::Receipts::none_reported))]
 pub fn do_act<A: Allocator + Copy, S: Steps<A, Step<A>>>(
     steps: &mut S,
     machine: Global,
@@ -43,9 +43,9 @@ pub fn do_act<A: Allocator + Copy, S: Steps<A, Step<A>>>(
 ) -> Result<Reply, Fault>
     ensures follows { S.follows steps.old steps.new }
     ensures grows { Grows (S.seen steps.old) (S.seen steps.new) }
-    ensures told { IfOk result
-        (λ reply. AddsTold act reply (S.seen steps.old).trail (S.seen steps.new).trail) }
-    ensures nothing { OnErr result (told_in (S.seen steps.new).trail ≡ told_in
+    ensures reported { IfOk result
+        (λ reply. AddsReported act reply (S.seen steps.old).trail (S.seen steps.new).trail) }
+    ensures nothing { OnErr result (reported_in (S.seen steps.new).trail ≡ reported_in
         (S.seen steps.old).trail) }
     ensures fault { IfErr result (Earned (S.seen steps.old) (S.seen steps.new)) }
 {

@@ -67,11 +67,9 @@ impl Wish for Deletion {
         })
     }
 
+    #[tactic(auto, using(crate::proofs::Changing::deletion_comes_true))]
     #[inline(always)]
     fn reply(self, receipt: Receipt) -> Del {
-        match receipt {
-            Receipt::Deleted { value, .. } => Del::Removed(value),
-            _ => unreachable!(),
-        }
+        Del::of(receipt)
     }
 }

@@ -3,7 +3,7 @@
 
 ghost use Rattle.std.specs.Prelude.{◌≡◌, List, [], ◌∷◌, ◌++◌};
 ghost use Rattle.std.specs.Borrow.{ftrue};
-ghost use Rattle.bw_step.specs.declared.receipt.Receipt.{Receipt as Told};
+ghost use Rattle.bw_step.specs.declared.receipt.Receipt.{Receipt as Reported};
 
 use bw_step::Receipt;
 use std::marker::Model;
@@ -11,7 +11,7 @@ use std::marker::Model;
 /// The receipts of steps that were taken, none of which is kept.
 #[derive(Drop)]
 pub struct Past {
-    pub ghost receipts: { List Told },
+    pub ghost receipts: { List Reported },
 }
 
 impl Model for Past {
@@ -32,7 +32,7 @@ impl Past {
         Past {}
     }
 
-    /// Returns the list with one more receipt behind the others.
+    /// Returns the list with one more receipt after the others.
     #[inline(always)]
     pub(crate) fn with(_before: &Past, _receipt: &Receipt) -> Past
         ensures { result.receipts ≡ _before.now.receipts ++ _receipt.now ∷ [] }

@@ -1,8 +1,11 @@
-ghost use Rattle.std.specs.Prelude.{◌≡◌, [], None, Some, IfOk, IfErr};
+ghost use Rattle.std.specs.Prelude.{◌≡◌, ℕ, [], None, Some, IfOk, IfErr};
+ghost use Rattle.bw_keys.specs.declared.wished.Wished.TheVariants as wishes;
 ghost use Rattle.bw_procedures.specs.Texts.{delete_text, put_text, reply_text, set_text, text_without};
+ghost use Rattle.bw_procedures.specs.Writing.{IsReceiptFor, IsReceiptOfSet, IsReceiptOfDelete};
 
 use crate::fault::Fault;
 use bw_keys::Key;
+use bw_step::Receipt;
 use std::fmt;
 
 /// What a put replies.
@@ -23,6 +26,20 @@ pub enum Set {
     Replaced(u64),
 }
 
+impl Set {
+    /// Returns what a set replies whose receipt this is.
+    #[inline(always)]
+    pub fn of(receipt: Receipt) -> Set
+        ensures { (key value : ℕ) → IsReceiptFor key (wishes.Set value) receipt
+            → IsReceiptOfSet key value result receipt }
+    {
+        match receipt {
+            Receipt::Modified { old, .. } => Set::Replaced(old),
+            _ => Set::Inserted,
+        }
+    }
+}
+
 /// What a delete replies.
 #[derive(Clone, Copy, Debug, PartialEq, Eq, Hash)]
 pub enum Del {
@@ -30,6 +47,20 @@ pub enum Del {
     Removed(u64),
     /// The key had no value.
     NoKey,
+}
+
+impl Del {
+    /// Returns what a delete replies whose receipt this is.
+    #[inline(always)]
+    pub fn of(receipt: Receipt) -> Del
+        ensures { (key : ℕ) → IsReceiptFor key wishes.Delete receipt
+            → IsReceiptOfDelete key result receipt }
+    {
+        match receipt {
+            Receipt::Deleted { value, .. } => Del::Removed(value),
+            _ => Del::NoKey,
+        }
+    }
 }
 
 /// A reply that stands, and what ended helping or tending, if a fault did.
@@ -83,7 +114,7 @@ pub enum Reply {
     Clear(Cleared),
 }
 
-/// Writes the answer in a word, with its value; behind it, in brackets, what ended helping or
+/// Writes the answer in a word, with its value; after it, in brackets, what ended helping or
 /// tending, if a fault did.
 impl fmt::Display for Reply {
     ghost output = { λ reply. reply_text reply };

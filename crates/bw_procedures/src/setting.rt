@@ -73,11 +73,9 @@ impl Wish for Setting {
         }
     }
 
+    #[tactic(auto, using(crate::proofs::Changing::setting_comes_true))]
     #[inline(always)]
     fn reply(self, receipt: Receipt) -> Set {
-        match receipt {
-            Receipt::Modified { old, .. } => Set::Replaced(old),
-            _ => Set::Inserted,
-        }
+        Set::of(receipt)
     }
 }

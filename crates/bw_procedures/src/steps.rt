@@ -58,7 +58,7 @@ pub struct Ends {
 /// `P` is the step over `A`.
 pub trait Steps<A: Allocator + Copy, P: Proposes> {
     ghost use Rattle.std.specs.Prelude.{◌≡◌, ◌≤◌, ℕ, List, None, Ok, IfOk, IfSome};
-    ghost use Rattle.bw_step.specs.declared.receipt.Receipt.{Receipt as Told};
+    ghost use Rattle.bw_step.specs.declared.receipt.Receipt.{Receipt as Reported};
     ghost use Rattle.bw_delta.specs.Records.{bare};
     ghost use Rattle.bw_delta.specs.Entries.{from};
     ghost use Rattle.bw_delta.specs.Sound.{IsSound};
@@ -75,7 +75,7 @@ pub trait Steps<A: Allocator + Copy, P: Proposes> {
     ghost seen: { Self → Seen };
 
     // which receipts of its trail the worker keeps: all of them, or none
-    ghost kept: { List Told → List Told } = { λ trail. trail };
+    ghost kept: { List Reported → List Reported } = { λ trail. trail };
 
     // the receipts by which the second's trail is longer lead from one state to another
     ghost follows: { Self → Self → Type 0 };
@@ -129,7 +129,7 @@ pub trait Steps<A: Allocator + Copy, P: Proposes> {
     }
 
     /// Performs the action, where the worker can do that in one step: the receipt of its look or of
-    /// its step is added to the trail, and behind a change in its place that of the page's
+    /// its step is added to the trail, and after a change in its place that of the page's
     /// consolidation. Each step that changes the tree's shape costs effort. So does the refusal of a
     /// page that the action names; where it isn't performed otherwise, nothing was done.
     fn perform(&mut self, _action: Action) -> Result<Performed, Unperformed>

@@ -21,7 +21,7 @@ use bw_step::{
 };
 use std::alloc::Allocator;
 
-/// What a split, the term of its page and the two consolidations behind them cost.
+/// What a split, the term of its page and the two consolidations after them cost.
 const SPLIT_COST: u64 = 4;
 
 /// What all steps of a merge and the two consolidations among them cost.

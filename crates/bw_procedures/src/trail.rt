@@ -12,13 +12,13 @@ use std::mem;
 /// [`GivenUp`] none. What contracts say of a worker's receipts is the same for both.
 pub trait Trail: Drop {
     ghost use Rattle.std.specs.Prelude.{◌≡◌, ◌+◌, ◌<◌, ◌≤◌, ℕ, List, [], ◌∷◌, ◌++◌, OnOk, length};
-    ghost use Rattle.bw_step.specs.declared.receipt.Receipt.{Receipt as Told};
+    ghost use Rattle.bw_step.specs.declared.receipt.Receipt.{Receipt as Reported};
 
     // all receipts that were added, in their order
-    ghost added: { Self → List Told };
+    ghost added: { Self → List Reported };
 
     // which receipts of such a list are kept: all of them, or none
-    ghost kept: { List Told → List Told };
+    ghost kept: { List Reported → List Reported };
 
     // how many receipts there is room for
     ghost room: { Self → ℕ };

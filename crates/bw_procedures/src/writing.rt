@@ -36,7 +36,7 @@ enum Arrival {
 /// What one attempt of a call came to.
 #[derive(Clone, Copy)]
 enum Tried<T> {
-    /// The reply, from a look, or from a change behind which no page is to be tended.
+    /// The reply, from a look, or from a change after which no page is to be tended.
     Reply(T),
     /// The reply, from an accepted change of the page, which is to be tended.
     Tend(T, Pid),
@@ -77,7 +77,7 @@ pub(crate) fn write<A: Allocator + Copy, S: Steps<A, Step<A>>, W: Wish>(
 }
 
 /// Carries out a wish in one step of a worker that can, where the effort that is left covers the
-/// consolidation behind the change. A leaf whose count stays fair needs no tending.
+/// consolidation after the change. A leaf whose count stays fair needs no tending.
 #[inline(always)]
 fn write_at_once<A: Allocator + Copy, S: Steps<A, Step<A>>, W: Wish>(
     steps: &mut S,
@@ -110,7 +110,7 @@ fn write_at_once<A: Allocator + Copy, S: Steps<A, Step<A>>, W: Wish>(
 }
 
 /// Carries out a wish in one step of a worker that can: by a record on the leaf, or with the
-/// consolidation of the leaf behind the change.
+/// consolidation of the leaf after the change.
 #[tactic(auto, using(crate::proofs::Changing::made_at_once))]
 #[inline(always)]
 fn make_at_once<A: Allocator + Copy, S: Steps<A, Step<A>>>(

@@ -31,7 +31,7 @@ own_step worker done row merged reply replies left same taken =
     ap (λ (l : List Reply). l ++ left) (own_snoc worker done row merged reply same)
     ∙ (own_first (row.worker == worker) (replies_to worker done merged) reply left ∙ ap (λ (l : List Reply). replies_to worker done merged ++ l) (sym taken))
 
--- behind the last row none are left, and the worker's own replies are all of them
+-- after the last row none are left, and the worker's own replies are all of them
 pub own_end : (worker : ℕ) (rows : List Row) (place : ℕ) (merged left all : List Reply) → length rows ≤ place → length left ≡ length (acts_of worker (drop place rows))
     → replies_to worker (take place rows) merged ++ left ≡ all → replies_to worker rows merged ≡ all
 own_end worker rows place merged left all past full is =

@@ -26,7 +26,7 @@ acts_snoc worker (before ∷ done) row =
       acts_snoc worker done row,
     )
 
--- the row at a place is before the next place, and not behind it
+-- the row at a place is before the next place, and not after it
 pub record IsPassed (worker : ℕ) (rows : List Row) (place count : ℕ) : Type 0 where
   pub before : length (acts_of worker (take (place + 1) rows)) ≡ length (acts_of worker (take place rows)) + count
   pub behind : length (acts_of worker (drop place rows)) ≡ count + length (acts_of worker (drop (place + 1) rows))

@@ -1,8 +1,7 @@
 -- How readers are handed out.
-use Rattle.std.proofs.Common.{◌≡◌, ℕ, zero, suc, ◌<◌, List, [], ◌∷◌, ◌++◌, map, Option, None, Some, refl, ap, ◌∙◌, append_assoc, arith}
+use Rattle.std.proofs.Common.{◌≡◌, ℕ, zero, suc, ◌<◌, List, [], ◌∷◌, ◌++◌, Option, None, Some, refl, arith}
 use Rattle.std.specs.Prelude.{◌↔◌, IsSome}
 use Rattle.std.specs.Option.{option_to_list}
-use Rattle.std.proofs.lemmas.List.{map-append}
 use Rattle.bw_run.specs.Reads.{handed_out}
 
 -- nothing is left where nothing was taken
@@ -21,7 +20,3 @@ handed_next n (Some reader) (r ∷ before) after taken none =
     let first : r ≡ reader = cc taken in
     let rest : before ≡ after = cc taken in
     rw (first, rest) refl
-
--- what one more item has stood first in the rest
-pub one_more_has : {X Z : Type 0} → (has : X → Z) (xs : List X) (x : X) (rest all : List Z) → map has xs ++ has x ∷ rest ≡ all → map has (xs ++ x ∷ []) ++ rest ≡ all
-one_more_has has xs x rest all so_far = ap (λ (l : List _). l ++ rest) (map-append has xs (x ∷ [])) ∙ (append_assoc (map has xs) (has x ∷ []) rest ∙ so_far)

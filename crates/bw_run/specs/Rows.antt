@@ -21,7 +21,7 @@ pub record IsRowOf (rows : List Row) (worker number : ℕ) : Type 0 where
   pub within : number ≤ length rows
   pub own : (d : Row) → (slice_index_or rows (number - 1) d).worker ≡ worker
 
--- the worker of the row has its act behind its other acts, and the others have the same
+-- the worker of the row has its act after its other acts, and the others have the same
 abbrev pub AddsAct : List (List Act) → Row → List (List Act) → Type 0
 AddsAct plan row more = (worker : ℕ) → slice_index_or more worker [] ≡ slice_index_or plan worker [] ++ (if row.worker == worker then row.act ∷ [] else [])
 

@@ -1,11 +1,11 @@
 -- What a run that came to its end leaves.
 use Rattle.std.specs.Prelude.{◌≡◌, ℕ, ◌<◌, List, [], length, slice_index_or}
-use Rattle.bw_step.specs.Tellings.{told_in}
+use Rattle.bw_step.specs.Tellings.{reported_in}
 use Rattle.bw_step.specs.Trails.{lists_of}
 use Rattle.bw_table.specs.Views.{ArePairsOf}
 use Rattle.bw_tree.specs.Trees.{IsTree, CountsPairs}
 use Rattle.bw_audit.specs.Legal.{IsLegal}
-use Rattle.bw_procedures.specs.Told.{GoWith}
+use Rattle.bw_procedures.specs.Reported.{GoWith}
 use Rattle.bw_texts.specs.declared.trace.row.Row.{Row}
 use Rattle.nifforan_shared.specs.Workers.{changes_in}
 use Rattle.bw_run.specs.declared.ending.Finished.{Finished}
@@ -14,7 +14,7 @@ use Rattle.bw_run.specs.Rows.{acts_of, replies_to}
 -- each worker's trail reports what goes with its rows and the replies to them
 abbrev pub TellsItsReplies : ℕ → List Row → Finished → Type 0
 TellsItsReplies workers rows finished =
-    (worker : ℕ) → worker < workers → GoWith (acts_of worker rows) (replies_to worker rows finished.replies.items) (told_in (slice_index_or (lists_of finished.trails.items) worker []))
+    (worker : ℕ) → worker < workers → GoWith (acts_of worker rows) (replies_to worker rows finished.replies.items) (reported_in (slice_index_or (lists_of finished.trails.items) worker []))
 
 -- the trails are a legal history with the pairs that the table has
 abbrev pub IsLegalRun : Finished → Type 0
@@ -24,7 +24,7 @@ IsLegalRun finished = (pairs : List (ℕ × ℕ)) → ArePairsOf finished.table 
 pub record IsRunOf (workers : ℕ) (rows : List Row) (finished : Finished) : Type 0 where
   pub replied : length finished.replies.items ≡ length rows
   pub trailed : length finished.trails.items ≡ workers
-  pub told : TellsItsReplies workers rows finished
+  pub reported : TellsItsReplies workers rows finished
   pub tree : IsTree finished.table
   pub legal : IsLegalRun finished
   pub count : CountsPairs finished.table (changes_in (lists_of finished.trails.items))

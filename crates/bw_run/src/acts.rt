@@ -2,8 +2,8 @@
 
 ghost use Rattle.std.specs.Prelude.{◌≡◌, ◌≤◌, ◌<◌, [], IfOk, IfErr, OnOk, OnErr, length};
 ghost use Rattle.std.specs.Prelude.{vec_capacity};
-ghost use Rattle.bw_step.specs.Tellings.{told_in};
-ghost use Rattle.bw_procedures.specs.Told.{AddsTold, GoWith};
+ghost use Rattle.bw_step.specs.Tellings.{reported_in};
+ghost use Rattle.bw_procedures.specs.Reported.{AddsReported, GoWith};
 ghost use Rattle.bw_run.specs.Reads.{IsReadBy, IsReadByOwn};
 ghost use Rattle.bw_run.specs.Stops.{MayStop};
 
@@ -29,7 +29,7 @@ pub(crate) fn do_acts<W: Notes, L: Looks>(
     requires new { (W.seen hand.old).trail ≡ [] }
     requires empty { replies.old.items ≡ [] }
     requires room { length acts.now ≤ vec_capacity replies.old }
-    ensures told { GoWith acts.now replies.new.items (told_in (W.seen hand.new).trail) }
+    ensures reported { GoWith acts.now replies.new.items (reported_in (W.seen hand.new).trail) }
     ensures all { OnOk result (length replies.new.items ≡ length acts.now) }
     ensures stopped { OnErr result (length replies.new.items < length acts.now) }
     ensures stop { IfErr result (MayStop L.may_close) }
@@ -44,10 +44,10 @@ pub(crate) fn do_acts<W: Notes, L: Looks>(
 
 /// Does a row: a look by the reader, if there is one, and all else by the hand.
 fn do_row<W: Notes, L: Looks>(hand: &mut W, reader: &mut Option<L>, act: Act) -> Result<Reply, Stop>
-    ensures told { IfOk result (λ reply.
-        AddsTold act reply (W.seen hand.old).trail (W.seen hand.new).trail) }
+    ensures reported { IfOk result (λ reply.
+        AddsReported act reply (W.seen hand.old).trail (W.seen hand.new).trail) }
     ensures nothing { OnErr result
-        (told_in (W.seen hand.new).trail ≡ told_in (W.seen hand.old).trail) }
+        (reported_in (W.seen hand.new).trail ≡ reported_in (W.seen hand.old).trail) }
     ensures read { IfOk result
         (IsReadByOwn L.finds reader.new act (W.seen hand.old).trail (W.seen hand.new).trail) }
     ensures stop { IfErr result (MayStop L.may_close) }

@@ -43,7 +43,7 @@ impl<'r, L: Looks + Drop> Task<Kit<L>> for Rows<'r> {
 
     ghost given = { λ task worker kit. kit.acts.items ≡ acts_of worker task.rows.now };
 
-    ghost told = { λ task worker answers trail.
+    ghost promised = { λ task worker answers trail.
         AreAnswersTo L.may_close (acts_of worker task.rows.now) answers trail };
 
     fn run<W: Notes>(&self, _worker: u32, hand: &mut W, kit: Kit<L>) -> Answers {

@@ -47,7 +47,7 @@ pub fn run<R: Threads + Wait + Sync + Send + Copy, G: Gate + Sync>(
     requires { AllByRecursion (λ row. row.worker < workers) rows.now }
     ensures replies { IfOk result (λ finished. length finished.replies.items ≡ length rows.now) }
     ensures trails { IfOk result (λ finished. length finished.trails.items ≡ workers) }
-    ensures told { IfOk result (TellsItsReplies workers rows.now) }
+    ensures reported { IfOk result (TellsItsReplies workers rows.now) }
     ensures tree { IfOk result (λ finished. IsTree finished.table) }
     ensures config { IfOk result (λ finished. finished.table.config ≡ config) }
     ensures legal { IfOk result IsLegalRun }

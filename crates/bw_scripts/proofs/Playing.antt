@@ -9,7 +9,7 @@ use Rattle.bw_law.specs.Runs.{next_table, run}
 use Rattle.bw_law.specs.Tables.{TableValue, new_table}
 use Rattle.bw_scripts.specs.declared.answer.Answer.{Answer}
 use Rattle.bw_scripts.specs.declared.answer.Answer.TheVariants as answers
-use Rattle.bw_scripts.specs.Answers.{IsTold, IsToldOf, IsAnswer, IsAnswered}
+use Rattle.bw_scripts.specs.Answers.{IsReported, IsReportedOf, IsAnswer, IsAnswered}
 use Rattle.bw_scripts.specs.Played.{IsPlayed}
 
 run_one_more : (table : TableValue) (steps : List Proposal) (step : Proposal) → run table (steps ++ step ∷ []) ≡ next_table (run table steps) step
@@ -22,24 +22,24 @@ taken table step accepted = ap (λ (reason : Option Refused). if is_none reason 
 stays : (old new : TableValue) → new ≡ old → IsPlayed old → IsPlayed new
 stays old new same played = subst (λ (table : TableValue). IsPlayed table) (sym same) played
 
-told : (old new : TableValue) (answer : Answer) → IsTold old answer new → IsPlayed old → IsPlayed new
-told old new answers.Made t played = absurd t
-told old new (answers.BadConfig bad) t played = absurd t
-told old new answers.BadEntries t played = absurd t
-told old new (answers.RefusalForetold reason receipt) t played = absurd t
-told old new (answers.OtherForetold reason) t played = absurd t
-told old new (answers.Accepted receipt) t played = (
+reported : (old new : TableValue) (answer : Answer) → IsReported old answer new → IsPlayed old → IsPlayed new
+reported old new answers.Made t played = absurd t
+reported old new (answers.BadConfig bad) t played = absurd t
+reported old new answers.BadEntries t played = absurd t
+reported old new (answers.RefusalForetold reason receipt) t played = absurd t
+reported old new (answers.OtherForetold reason) t played = absurd t
+reported old new (answers.Accepted receipt) t played = (
   played.0,
   played.1 ++ t.0 ∷ [],
   played.2,
   run_one_more (new_table played.0) played.1 t.0 ∙ ap (λ (table : TableValue). next_table table t.0) played.3 ∙ taken old t.0 t.1 ∙ sym t.2.leads,
 )
-told old new answer t played = stays old new t.0 played
+reported old new answer t played = stays old new t.0 played
 
-told_of : (old new : Option TableValue) (answer : Answer) → IsToldOf old answer new → IfSome old IsPlayed → IfSome new IsPlayed
-told_of (Some old) (Some new) answer t played = told old new answer t played
-told_of (Some old) None answer t played = absurd t
-told_of None new answer t played = absurd t
+reported_of : (old new : Option TableValue) (answer : Answer) → IsReportedOf old answer new → IfSome old IsPlayed → IfSome new IsPlayed
+reported_of (Some old) (Some new) answer t played = reported old new answer t played
+reported_of (Some old) None answer t played = absurd t
+reported_of None new answer t played = absurd t
 
 same : (old new : Option TableValue) → new ≡ old → IfSome old IsPlayed → IfSome new IsPlayed
 same old new is played = subst (λ (table : Option TableValue). IfSome table IsPlayed) (sym is) played
@@ -48,7 +48,7 @@ answered : (old new : Option TableValue) (answer : Answer) → IsAnswer old answ
 answered old new answers.Made t played = subst (λ (table : Option TableValue). IfSome table IsPlayed) (sym t.2) (t.0, [], t.1, refl)
 answered old new (answers.BadConfig bad) t played = same old new t.0 played
 answered old new answers.BadEntries t played = same old new t played
-answered old new answer t played = told_of old new answer t played
+answered old new answer t played = reported_of old new answer t played
 
 -- what a line is answered leaves a table that steps have made of a new one
 pub stays_played : (old new : Option TableValue) (answer : Option Answer) → IsAnswered old answer new → IfSome old IsPlayed → IfSome new IsPlayed

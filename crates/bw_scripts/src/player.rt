@@ -1,10 +1,11 @@
 //! Playing of scripts, line by line.
 
-ghost use Rattle.std.specs.Prelude.{◌≡◌, ◌↔◌, ℕ, IsTrue, None, Some, Ok, IfOk, IfErr, OnErr, option_copied};
+ghost use Rattle.std.specs.Prelude.{◌≡◌, ◌↔◌, ◌<◌, ◌≤◌, ℕ, IsTrue, None, Some, Ok, IsOk, IfOk, IfErr};
+ghost use Rattle.std.specs.Prelude.{OnErr, option_copied};
 ghost use Rattle.bw_step.specs.ProposalView.{proposal_of};
 ghost use Rattle.bw_law.specs.Refusals.{refusal};
-ghost use Rattle.bw_scripts.specs.Answers.{IsAnswer, IsAnswered, IsTold};
-ghost use Rattle.bw_scripts.specs.Faults.{IsFaultAt};
+ghost use Rattle.bw_scripts.specs.Answers.{IsAnswer, IsAnswered, IsReported};
+ghost use Rattle.bw_scripts.specs.Faults.{IsFaultAt, IsLineFault};
 ghost use Rattle.bw_scripts.specs.Lines.{asks_for_nothing};
 ghost use Rattle.bw_scripts.specs.Played.{one_more};
 
@@ -16,6 +17,7 @@ use bw_keys::{Config, Key, Pid};
 use bw_step::{Refused, Step, Survey, View};
 use bw_table::{NewFault, Table};
 use std::alloc::Global;
+use std::io;
 
 /// The most lines of a script that is read from a reader.
 pub const MOST_LINES: u64 = 1_000_000;
@@ -58,7 +60,7 @@ fn refuse(
     foretold: Refused,
 ) -> Result<Answer, NoMemory>
     requires { refusal table.old (proposal_of step) ≡ Some foretold }
-    ensures told { IfOk result (λ answer. IsTold table.old answer table.new) }
+    ensures reported { IfOk result (λ answer. IsReported table.old answer table.new) }
     ensures unchanged { table.new ≡ table.old }
 {
     let before = Picture::of(alloc, table)?;
@@ -73,7 +75,7 @@ fn refuse(
 /// Checks a step, and proposes it.
 #[tactic(auto, using(crate::proofs::Foretelling::is_fine, crate::proofs::Foretelling::is_foretold))]
 fn propose(alloc: Global, table: &mut Table<Global>, step: Step<Global>) -> Result<Answer, NoMemory>
-    ensures told { IfOk result (λ answer. IsTold table.old answer table.new) }
+    ensures reported { IfOk result (λ answer. IsReported table.old answer table.new) }
     ensures unchanged { OnErr result (table.new ≡ table.old) }
 {
     match table.check(&step) {
@@ -86,7 +88,7 @@ fn propose(alloc: Global, table: &mut Table<Global>, step: Step<Global>) -> Resu
 }
 
 fn ask(alloc: Global, table: &Table<Global>, question: Question) -> Result<Answer, NoMemory>
-    ensures { IfOk result (λ answer. IsTold table.now answer table.now) }
+    ensures { IfOk result (λ answer. IsReported table.now answer table.now) }
 {
     Ok(match question {
         Question::Peek(pid) => Answer::Page(table.peek(pid)),
@@ -142,6 +144,27 @@ impl Player {
         ensures { result ≡ self.table }
     {
         self.table
+    }
+
+    /// Returns the next line of a script, as its reader gave it.
+    ///
+    /// # Errors
+    ///
+    /// Fails with the line if the reader failed at it, and with too many lines if it is one more than
+    /// [`MOST_LINES`].
+    pub fn next_line(&self, read: io::Result<String>) -> Result<String, ScriptFault>
+        ensures line { IfOk result (λ line. read ≡ Ok line) }
+        ensures within { IsOk result → one_more self.now.lines ≤ MOST_LINES }
+        ensures many { IfErr result (λ fault. IsOk read
+            → (fault ≡ ScriptFault.Lines) × (MOST_LINES < one_more self.now.lines)) }
+        ensures fault { IfErr result (IsLineFault (one_more self.now.lines)) }
+    {
+        let number = self.lines.saturating_add(1);
+        match read {
+            Err(error) => Err(ScriptFault::of_reader(number, &error)),
+            Ok(_) if number > MOST_LINES => Err(ScriptFault::Lines),
+            Ok(line) => Ok(line),
+        }
     }
 
     /// Plays the next line, and returns its answer, or None if it asks for nothing.

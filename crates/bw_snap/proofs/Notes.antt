@@ -1,5 +1,5 @@
 -- Steps one after the other, and what the published copies absorb.
-use Rattle.std.proofs.Common.{◌≡◌, List, [], ◌∷◌, ◌++◌, refl, ap, sym, ◌∙◌, subst, append_assoc, append-nil, None, Some, fold, Option}
+use Rattle.std.proofs.Common.{◌≡◌, List, [], ◌∷◌, ◌++◌, refl, ap, sym, ◌∙◌, subst, append_assoc, append-nil, None, fold, Option}
 use Rattle.std.specs.Prelude.{is_none, if◌then◌else◌}
 use Rattle.logbook.specs.Pages.{Book}
 use Rattle.bw_keys.specs.declared.config.Config.{Config}
@@ -10,13 +10,15 @@ use Rattle.bw_law.specs.Refusals.{refusal}
 use Rattle.bw_law.specs.Effects.{after}
 use Rattle.bw_law.specs.Runs.{next_table, run}
 use Rattle.bw_law.specs.Tables.{TableValue, new_table}
-use Rattle.bw_snap.specs.declared.note.Change.{Change as Held}
+use Rattle.bw_keys.specs.declared.page.Pid.{Pid}
+use Rattle.bw_step.specs.declared.action.Action.{Action as Held}
 use Rattle.bw_snap.specs.declared.note.Note.{Note}
-use Rattle.bw_snap.specs.declared.note.Note.TheVariants.{Step, Change, Mark}
+use Rattle.bw_snap.specs.declared.note.Note.TheVariants.{Step, Action, Mark}
 use Rattle.bw_snap.specs.Ends.{IsBehind}
 use Rattle.bw_snap.specs.Fronts.{Announced}
 use Rattle.bw_snap.specs.Snapshots.{LeadTo, IsSnapshot, BeginsWith}
-use Rattle.bw_snap.specs.Notes.{noted, noted_steps, steps_of, steps_for, table_with, held_notes}
+use Rattle.bw_table.specs.Actions.{steps_for}
+use Rattle.bw_snap.specs.Notes.{noted, noted_steps, steps_of, table_with, held_notes}
 use Rattle.bw_snap.proofs.Beginnings.{begins_and_goes_on, begins_itself}
 
 pub leads_on : (a b c : TableValue) (xs ys : List Proposal) → LeadTo a xs b → LeadTo b ys c → LeadTo a (xs ++ ys) c
@@ -48,14 +50,10 @@ steps_of-append a b (note ∷ notes) more r =
     let rest = steps_of (run a steps) notes in
     ap (λ (l : List Proposal). steps ++ l) (steps_of-append (run a steps) b notes more (leads_from a b steps rest r)) ∙ sym (append_assoc steps rest (steps_of b more))
 
--- one more note stands behind all, where nothing is held back
-pub noted_behind : (log next since : List Note) (held : Option Held) (note : Note) → log ≡ since → held ≡ None → next ≡ log ++ note ∷ [] → next ++ held_notes held ≡ since ++ note ∷ []
+-- one more note stands after all, where nothing is held back
+pub noted_behind : (log next since : List Note) (held : Option (Pid × Held)) (note : Note) → log ≡ since → held ≡ None → next ≡ log ++ note ∷ [] → next ++ held_notes held ≡ since ++ note ∷ []
 noted_behind log next since held note all none is =
-    ap (λ (h : Option Held). next ++ held_notes h) none ∙ (append-nil next ∙ (is ∙ ap (λ (l : List Note). l ++ note ∷ []) all))
-
--- a change that is held back alone stands for its steps
-pub held_alone : (table : TableValue) (change : Held) → steps_of table (held_notes (Some change)) ≡ steps_for table change
-held_alone table change = append-nil (steps_for table change)
+    ap (λ (h : Option (Pid × Held)). next ++ held_notes h) none ∙ (append-nil next ∙ (is ∙ ap (λ (l : List Note). l ++ note ∷ []) all))
 
 -- a mark is no step
 pub steps_of-mark : (a b : TableValue) (notes : List Note) (front : Announced) → LeadTo a (steps_of a notes) b → steps_of a (notes ++ Mark front ∷ []) ≡ steps_of a notes
@@ -67,9 +65,9 @@ marked table end from front [] r = ap (λ (t : TableValue). (t, front)) (sym r)
 marked table end from front (Step step ∷ notes) r =
     let next = next_table table (proposal_of step) in
     marked next end from front notes (leads_from table end (proposal_of step ∷ []) (steps_of next notes) r)
-marked table end from front (Change change ∷ notes) r =
-    let next = table_with table change in
-    marked next end from front notes (leads_from table end (steps_for table change) (steps_of next notes) r)
+marked table end from front (Action page action ∷ notes) r =
+    let next = table_with table page action in
+    marked next end from front notes (leads_from table end (steps_for table page.0 action) (steps_of next notes) r)
 marked table end from front (Mark other ∷ notes) r = marked table end other front notes r
 
 -- where what is pending ends with a mark of all of it, the copies end as the table where their list leads
@@ -86,7 +84,7 @@ pub begins_with_more : (xs ys more : List Proposal) (seen : List Proposal) → B
 begins_with_more xs ys more seen s = subst (λ (steps : List Proposal). BeginsWith steps seen) (append_assoc xs ys more) (begins_and_goes_on (xs ++ ys) more seen s)
 
 module _ {config : Config} {announcements : Book} {published table : TableValue} {front announced : Announced} {seen : List Proposal} {notes : List Note} (behind : IsBehind config announcements published front seen notes table announced) where
-  -- where more notes stand for these steps, these are pending behind the others
+  -- where more notes stand for these steps, these are pending after the others
   pub pending_on : (more : List Note) (steps : List Proposal) → steps_of table more ≡ steps → steps_of published (notes ++ more) ≡ steps_of published notes ++ steps
   pending_on more steps stand = steps_of-append published table notes more behind.leads ∙ ap (λ (l : List Proposal). steps_of published notes ++ l) stand
 

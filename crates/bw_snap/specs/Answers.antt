@@ -24,22 +24,29 @@ AreMapAt table = AllZip (IsMapAt table)
 
 -- what was found is the first pair at the key or past it, or none where there is no such pair
 abbrev pub IsFirstFrom : TableValue → ℕ → Option (ℕ × ℕ) → Type 0
-IsFirstFrom table key found = MatchOption found (HasNoKeyWithin table key key_count) (IsNextAt table key)
+IsFirstFrom table key found =
+    MatchOption found (HasNoKeyWithin table key key_count) (IsNextAt table key)
 
 -- what was found is the last pair at the key or before it, or none where there is no such pair
 abbrev pub IsLastUpTo : TableValue → ℕ → Option (ℕ × ℕ) → Type 0
-IsLastUpTo table key found = MatchOption found (HasNoKeyWithin table 0 (key + 1)) (IsPreviousAt table key)
+IsLastUpTo table key found =
+    MatchOption found (HasNoKeyWithin table 0 (key + 1)) (IsPreviousAt table key)
 
--- the list has the first pairs of the range, no more than the limit, or is as it was where memory was refused
+-- the list has the first pairs of the range, no more than the limit, or
+-- is as it was where memory was refused
 abbrev pub Lists : TableValue → Listing → Listed → Type 0
 Lists table question listed =
-    MatchResult listed.done (λ _. IsListing table question.low (end_of question.high) question.limit listed.list.items) (λ _. listed.list ≡ question.list)
+    MatchResult listed.done
+    (λ _. IsListing table question.low (end_of question.high) question.limit listed.list.items)
+    (λ _. listed.list ≡ question.list)
 
 -- What a reader answers.
 
 -- the answer is one that the table has where these steps lead
-abbrev pub IsAnswerIn : {A : Type 0} → Config → (TableValue → A → Type 0) → List Proposal → A → Type 0
-IsAnswerIn config answers steps answer = (table : TableValue) × IsSnapshot config steps table × answers table answer
+abbrev pub IsAnswerIn : {A : Type 0} → Config → (TableValue → A → Type 0) → List Proposal → A
+    → Type 0
+IsAnswerIn config answers steps answer =
+    (table : TableValue) × IsSnapshot config steps table × answers table answer
 
 -- what was found is the value that the map has at the key after these steps
 abbrev pub IsFoundIn : Config → ℕ → List Proposal → Option ℕ → Type 0
@@ -49,15 +56,18 @@ IsFoundIn config key = IsAnswerIn config (λ table. IsMapAt table key)
 abbrev pub AreFoundIn : Config → List ℕ → List Proposal → List (Option ℕ) → Type 0
 AreFoundIn config keys = IsAnswerIn config (λ table. AreMapAt table keys)
 
--- what was found is the value at the key after these steps, and this number of changes of the map is among them
+-- what was found is the value at the key after these steps, and this
+-- number of changes of the map is among them
 abbrev pub IsLookIn : Config → ℕ → List Proposal → Look → Type 0
 IsLookIn config key = IsAnswerIn config (λ table. IsLookAt table key)
 
--- what was found is the first pair of the map at the key or past it after these steps, if there is one
+-- what was found is the first pair of the map at the key or past
+-- it after these steps, if there is one
 abbrev pub IsNextIn : Config → ℕ → List Proposal → Option (ℕ × ℕ) → Type 0
 IsNextIn config key = IsAnswerIn config (λ table. IsFirstFrom table key)
 
--- what was found is the last pair of the map at the key or before it after these steps, if there is one
+-- what was found is the last pair of the map at the key or before
+-- it after these steps, if there is one
 abbrev pub IsPreviousIn : Config → ℕ → List Proposal → Option (ℕ × ℕ) → Type 0
 IsPreviousIn config key = IsAnswerIn config (λ table. IsLastUpTo table key)
 
@@ -77,10 +87,12 @@ IsLenIn config = IsAnswerIn config HasPairs
 abbrev pub IsNumberIn : Config → List Proposal → ℕ → Type 0
 IsNumberIn config = IsAnswerIn config (λ table number. number ≡ number_of table.book)
 
--- these are the first pairs of the map from the low on and below the end after these steps, and no more than the limit
+-- these are the first pairs of the map from the low on and below the end after
+-- these steps, and no more than the limit
 abbrev pub IsRangeIn : Config → ℕ → ℕ → ℕ → List Proposal → List (ℕ × ℕ) → Type 0
 IsRangeIn config low end limit = IsAnswerIn config (λ table. IsListing table low end limit)
 
--- these are the first pairs of the map from the key on after these steps, and no more than the limit
+-- these are the first pairs of the map from the key on after
+-- these steps, and no more than the limit
 abbrev pub IsListedIn : Config → ℕ → ℕ → List Proposal → List (ℕ × ℕ) → Type 0
 IsListedIn config low limit = IsRangeIn config low key_count limit

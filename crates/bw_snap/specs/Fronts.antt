@@ -28,5 +28,7 @@ abbrev pub head_of : Book → Named
 head_of announcements = record { tracked = true; key = 0; book = announcements }
 
 -- the list was added to all that had been seen, or more lists were there
-abbrev pub Adds : Step (List Proposal) → View (List Proposal) ℕ → ℕ → View (List Proposal) ℕ → Type 0
-Adds step seen found then = MatchBool (found == step.old) (then.0 ≡ seen.0 ++ step.ask ∷ []) (Unit {0})
+abbrev pub Adds : Step (List Proposal) → View (List Proposal) ℕ → ℕ → View (List Proposal) ℕ
+    → Type 0
+Adds step seen found then =
+    MatchBool (found == step.old) (then.0 ≡ seen.0 ++ step.ask ∷ []) (Unit {0})

@@ -25,7 +25,8 @@ pub record PublishedValue : Type 0 where
 abbrev pub published_as_it_is : TableValue → PublishedValue
 published_as_it_is table = record { table = table; published = table; pending = []; list = [] }
 
--- the pending steps lead from the published table to the table, and the published list to the published one
+-- the pending steps lead from the published table to the table, and
+-- the published list to the published one
 pub record IsPublished (config : Config) (value : PublishedValue) : Type 0 where
   pub pending : LeadTo value.published value.pending value.table
   pub snapshot : IsSnapshot config value.list value.published
@@ -33,7 +34,8 @@ pub record IsPublished (config : Config) (value : PublishedValue) : Type 0 where
 -- why an action isn't performed, unless memory is wanting before it is looked at
 abbrev pub IsWhyNotUnlessWant : TableValue → Action → Unperformed → Type 0
 IsWhyNotUnlessWant table action (undone.Denied denials.NoMemory) = Unit {0}
-IsWhyNotUnlessWant table action (undone.Denied (denials.Refused reason)) = IsWhyNot table action (undone.Denied (denials.Refused reason))
+IsWhyNotUnlessWant table action (undone.Denied (denials.Refused reason)) =
+    IsWhyNot table action (undone.Denied (denials.Refused reason))
 IsWhyNotUnlessWant table action undone.StepByStep = IsWhyNot table action undone.StepByStep
 
 -- there are no readers, or too many
@@ -47,8 +49,10 @@ MayBeRead config workers readers = MayBeMade config workers × (is_bad_reader_nu
 -- the first fault that applies
 abbrev pub IsSnapFault : Config → ℕ → ℕ → SnapFault → Type 0
 IsSnapFault config workers readers (BadConfig bad) = first_bad_field config ≡ Some bad.0
-IsSnapFault config workers readers BadWorkers = (first_bad_field config ≡ None) × (is_bad_number workers ≡ true)
-IsSnapFault config workers readers BadReaders = MayBeMade config workers × (is_bad_reader_number readers ≡ true)
+IsSnapFault config workers readers BadWorkers =
+    (first_bad_field config ≡ None) × (is_bad_number workers ≡ true)
+IsSnapFault config workers readers BadReaders =
+    MayBeMade config workers × (is_bad_reader_number readers ≡ true)
 IsSnapFault config workers readers NoMemory = MayBeRead config workers readers
 IsSnapFault config workers readers NoReader = MayBeRead config workers readers
 

@@ -10,7 +10,7 @@ use crate::proposed::List;
 use logbook::{Offer, Plain};
 use std::sync::Wait;
 
-/// The step asks for the published list with what is pending behind it.
+/// The step asks for the published list with what is pending after it.
 impl<N: Naming> Plain<WritingEnd<N>, List, u64> for Add {
     ghost use Rattle.std.specs.Prelude.{None};
     ghost use Rattle.bw_snap.specs.Ends.{next_list};

@@ -80,10 +80,10 @@ pub fn ask<N: Naming, Q: Question>(
     asked: (Q, bool, PhantomData<Q::Answer>),
 ) -> (ReadingEnd<N>, Result<Answered<Q::Answer>, Q>)
     ensures answer { IfOk result.1
-        (λ told. IsAnswerIn N.config (Q.answers asked.0) told.front.list told.answer) }
-    ensures announced { IfOk result.1 (λ told. told.front.announcements ≡ N.announcements) }
+        (λ answered. IsAnswerIn N.config (Q.answers asked.0) answered.front.list answered.answer) }
+    ensures announced { IfOk result.1 (λ answered. answered.front.announcements ≡ N.announcements) }
     ensures seen { BeginsWith (view result.0.place) (view reader.place) }
-    ensures list { IfOk result.1 (λ told. told.front.list ≡ view result.0.place) }
+    ensures list { IfOk result.1 (λ answered. answered.front.list ≡ view result.0.place) }
     ensures timely { OnOk result.1 (asked.1 ≡ false) }
     ensures closed { OnErr result.1 (view result.0.place ≡ view reader.place) }
     ensures back { IfErr result.1 (λ question. question ≡ asked.0) }
@@ -103,7 +103,7 @@ pub fn ask<N: Naming, Q: Question>(
     }
 }
 
-/// Puts a note behind what is pending.
+/// Puts a note after what is pending.
 pub fn append<N: Naming>(writer: &mut WritingEnd<N>, note: Note) -> Result<(), NoMemory>
     ensures desk { writer.new.desk ≡ writer.old.desk }
     ensures pending { Appends note (unpublished writer.old) (unpublished writer.new) result }
@@ -152,9 +152,9 @@ pub fn comes_late<N: Naming>(reader: ReadingEnd<N>, front: &Front) -> (ReadingEn
     requires { front.now.announcements ≡ N.announcements }
     ensures { result.1 ≡ false → BeginsWith (view result.0.place) front.now.list }
 {
-    let (reader, told) = ask(reader, (Number, false, PhantomData));
-    if let Ok(told) = told {
-        if told.front.goes_on(front) {
+    let (reader, answered) = ask(reader, (Number, false, PhantomData));
+    if let Ok(answered) = answered {
+        if answered.front.goes_on(front) {
             return (reader, false);
         }
     }
@@ -163,11 +163,11 @@ pub fn comes_late<N: Naming>(reader: ReadingEnd<N>, front: &Front) -> (ReadingEn
 
 /// Returns a new reader that has learnt all that the writing end has seen, where there is a place for
 /// one.
-pub fn told<N: Naming>(writer: &mut WritingEnd<N>) -> Option<ReadingEnd<N>>
+pub fn caught_up<N: Naming>(writer: &mut WritingEnd<N>) -> Option<ReadingEnd<N>>
     ensures desk { writer.new.desk.shown ≡ writer.old.desk.shown }
     ensures log { (writer.new.log ≡ writer.old.log) × (writer.new.behind ≡ writer.old.behind) }
     ensures seen { view writer.new.desk.place ≡ view writer.old.desk.place }
-    ensures told { IfSome result (λ reader. view reader.place ≡ view writer.old.desk.place) }
+    ensures caught_up { IfSome result (λ reader. view reader.place ≡ view writer.old.desk.place) }
 {
     let Ok(mut reader) = writer.factory().reader() else {
         return None;

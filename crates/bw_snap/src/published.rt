@@ -13,17 +13,17 @@ ghost use Rattle.bw_tree.specs.Shares.{no_changes, CountsIn, CountsPerformed, Re
 ghost use Rattle.bw_tree.specs.Trees.{IsTree, IsClosed, Leads, OpensFor};
 ghost use Rattle.bw_snap.specs.declared.note.Note.TheVariants as notes;
 ghost use Rattle.bw_snap.specs.Ends.{Appends, unpublished, noted_since};
-ghost use Rattle.bw_snap.specs.Notes.{held_note, held_record};
+ghost use Rattle.bw_snap.specs.Notes.{held_note};
 ghost use Rattle.bw_snap.specs.Trees.{IsPublished, IsWhyNotUnlessWant, IsSnapFault, MayBeRead, is_bad_reader_number, published_as_it_is};
 
-use crate::ends::{WritingEnd, advance, append, begin, newcomer, told};
+use crate::ends::{WritingEnd, advance, append, begin, caught_up, newcomer};
 use crate::fault::SnapFault;
 use crate::front::{Announcements, Front, Head, Naming};
-use crate::note::{Change, Note, Record};
+use crate::note::Note;
 use crate::reader::Reader;
 use crate::stamp::Stamp;
 use bw_delta::{NoMemory, Spare};
-use bw_keys::{Config, Pid};
+use bw_keys::{Config, Pid, Wished};
 use bw_step::{Action, Denied, Performed, Receipt, Step, Unperformed};
 use bw_table::Table;
 use bw_tree::{Blanks, Booked, MadeBy, MissingShare, NewFault, Share};
@@ -41,7 +41,7 @@ pub const MAX_READERS: u32 = 16;
 pub struct Published<R: Wait + Drop, N: Naming, D: Ledger> {
     booked: Booked<Global, N, D>,
     writer: WritingEnd<N>,
-    held: Option<Change>,
+    held: Option<(Pid, Action)>,
     head: Head<N>,
     announced: Front,
     rt: R,
@@ -155,7 +155,7 @@ impl<R: Wait + Drop, N: Naming, D: Ledger> Published<R, N, D> {
         requires { proposal_of twin ≡ proposal_of step }
         ensures accepted { OnOk result (refusal self.old.table (proposal_of step) ≡ None) }
         ensures taken { IfOk result (Leads self.old.table (proposal_of step) self.new.table) }
-        ensures told { IfOk result (IsReceiptOf (proposal_of step)) }
+        ensures reported { IfOk result (IsReceiptOf (proposal_of step)) }
         ensures map { OnOk result (MapAfter self.old.table (proposal_of step)) }
         ensures steps { OnOk result (self.new.pending ≡ self.old.pending ++ proposal_of step ∷ []) }
         ensures published { OnOk result (self.new.published ≡ self.old.published) }
@@ -226,7 +226,7 @@ impl<R: Wait + Drop, N: Naming, D: Ledger> Published<R, N, D> {
             Ok(()) => {}
             Err(_) => return Err(NoMemory),
         }
-        let inner = told(&mut self.writer);
+        let inner = caught_up(&mut self.writer);
         Ok(Stamp::over(inner, self.writer.published().front.again()))
     }
 
@@ -267,28 +267,31 @@ impl<R: Wait + Drop, N: Naming, D: Ledger> Published<R, N, D> {
     }
 }
 
-/// Puts the note that is held back behind the others.
+/// Puts the note that is held back after the others.
 #[inline(always)]
-fn settle<N: Naming>(writer: &mut WritingEnd<N>, held: &mut Option<Change>) -> Result<(), NoMemory>
+fn settle<N: Naming>(
+    writer: &mut WritingEnd<N>,
+    held: &mut Option<(Pid, Action)>,
+) -> Result<(), NoMemory>
     ensures desk { writer.new.desk ≡ writer.old.desk }
     ensures notes { noted_since writer.new held.new ≡ noted_since writer.old held.old }
     ensures settled { OnOk result (held.new ≡ None) }
     ensures all { OnOk result (unpublished writer.new ≡ noted_since writer.old held.old) }
 {
-    let Some(change) = *held else {
+    let Some((page, action)) = *held else {
         return Ok(());
     };
-    append(writer, Note::Change(change))?;
+    append(writer, Note::Action(page, action))?;
     *held = None;
     Ok(())
 }
 
-/// Puts the twin of a step that the table takes behind all notes.
+/// Puts the twin of a step that the table takes after all notes.
 #[inline(always)]
 fn note_step<N: Naming>(
     table: &Table<Global>,
     writer: &mut WritingEnd<N>,
-    held: &mut Option<Change>,
+    held: &mut Option<(Pid, Action)>,
     step: &Step<Global>,
     twin: Step<Global>,
 ) -> Result<(), Denied>
@@ -308,11 +311,11 @@ fn note_step<N: Naming>(
     }
 }
 
-/// Puts the note behind the others, with the one that is held back before it.
+/// Puts the note after the others, with the one that is held back before it.
 #[inline(always)]
 fn note<N: Naming>(
     writer: &mut WritingEnd<N>,
-    held: &mut Option<Change>,
+    held: &mut Option<(Pid, Action)>,
     note: Note,
 ) -> Result<(), NoMemory>
     ensures desk { writer.new.desk ≡ writer.old.desk }
@@ -323,45 +326,20 @@ fn note<N: Naming>(
     append(writer, note)
 }
 
-/// Returns the note of what was performed. A look has none.
+/// Returns the action as the copies carry it out, with the page that it found. A look is no note. A
+/// record that inserted is that of a put, so that no copy has to look what a set did.
 #[inline(always)]
-fn note_of(action: Action, done: Performed) -> Option<Change>
-    ensures { result ≡ held_note action done }
+fn note_of(action: Action, done: Performed) -> Option<(Pid, Action)>
+    ensures { result ≡ held_note done.page done.receipt action }
 {
-    match action {
-        Action::Change { key, wished } => match done.receipt {
-            Receipt::Looked { .. } => None,
-            Receipt::Inserted { .. }
-            | Receipt::Deleted { .. }
-            | Receipt::Modified { .. }
-            | Receipt::Shaped { .. } => Some(Change::Write {
-                page: done.page,
-                key,
-                wished,
-            }),
-        },
-        Action::Record { .. } => record_of(done.page, done.receipt),
-        Action::Consolidate { page, seen } => Some(Change::Consolidation { page, seen }),
-        Action::Halve { page, seen } => Some(Change::Half { page, seen }),
-        Action::AddTerm { child } => Some(Change::Record(Record::TermAdd {
-            parent: done.page,
-            child,
-        })),
+    match (done.receipt, action) {
+        (Receipt::Looked { .. }, _) => None,
+        (Receipt::Inserted { value, .. }, Action::Record { key, .. }) => {
+            let wished = Wished::Put(value);
+            Some((done.page, Action::Record { key, wished }))
+        }
+        _ => Some((done.page, action)),
     }
-}
-
-/// Returns the note of the record that was put on the page at once. A look has none.
-#[inline(always)]
-fn record_of(page: Pid, receipt: Receipt) -> Option<Change>
-    ensures { result ≡ held_record page receipt }
-{
-    let recorded = match receipt {
-        Receipt::Looked { .. } | Receipt::Shaped { .. } => return None,
-        Receipt::Inserted { key, value, .. } => Record::Insert { page, key, value },
-        Receipt::Modified { key, value, .. } => Record::Modify { page, key, value },
-        Receipt::Deleted { key, .. } => Record::Delete { page, key },
-    };
-    Some(Change::Record(recorded))
 }
 
 /// Returns the booked table of a tree with `readers` readers. Want of memory is reported only where

@@ -3,15 +3,16 @@
 ghost use Rattle.std.specs.Prelude.{◌≡◌, true, false};
 ghost use Rattle.bw_step.specs.ProposalView.{proposal_of};
 ghost use Rattle.bw_law.specs.Runs.{next_table};
-ghost use Rattle.bw_snap.specs.Notes.{step_of, table_with};
+ghost use Rattle.bw_snap.specs.Notes.{table_with};
 
 use crate::front::{Front, Naming};
-use crate::note::{Change, Note, Record};
+use crate::note::{Note, record_of};
 use crate::proposed::List;
 use atomic_table::{Join, Split};
 use bw_delta::Spare;
-use bw_step::Step;
-use bw_table::{Action, Table};
+use bw_keys::Pid;
+use bw_step::{Action, Step};
+use bw_table::Table;
 use crossbeam_utils::rule::{Outcome, Protocol};
 use left_right::Absorb;
 use std::alloc::{AllocError, Global};
@@ -55,8 +56,8 @@ impl Absorb<Note> for Shown {
                 };
                 take(&mut self.table, twin);
             }
-            Note::Change(change) => {
-                if !carry_out(self.machine, &mut self.table, *change) {
+            Note::Action(page, action) => {
+                if !carry_out(self.machine, &mut self.table, *page, *action) {
                     return Err(AllocError);
                 }
             }
@@ -65,14 +66,14 @@ impl Absorb<Note> for Shown {
         Ok(())
     }
 
-    /// Takes the note itself, so a step needs no memory here. A change comes back where there is none
-    /// for it.
+    /// Takes the note itself, so a step needs no memory here. An action comes back where there is
+    /// none for it.
     fn absorb_second(&mut self, note: Note, _other: &Shown) -> Result<(), Note> {
         match note {
             Note::Step(step) => take(&mut self.table, step),
-            Note::Change(change) => {
-                if !carry_out(self.machine, &mut self.table, change) {
-                    return Err(Note::Change(change));
+            Note::Action(page, action) => {
+                if !carry_out(self.machine, &mut self.table, page, action) {
+                    return Err(Note::Action(page, action));
                 }
             }
             Note::Mark(front) => self.front = front,
@@ -90,37 +91,31 @@ fn take(table: &mut Table<Global>, step: Step<Global>)
 
 /// Does what the locked table did. Returns whether it was done: a copy that is where the locked table
 /// was is short of nothing but memory.
-fn carry_out(machine: Global, table: &mut Table<Global>, change: Change) -> bool
-    ensures done { result ≡ true → table.new ≡ table_with table.old change }
+fn carry_out(machine: Global, table: &mut Table<Global>, page: Pid, action: Action) -> bool
+    ensures done { result ≡ true → table.new ≡ table_with table.old page action }
     ensures unchanged { result ≡ false → table.new ≡ table.old }
 {
-    match change {
-        Change::Write { page, key, wished } => table.change_leaf(page, key, wished).is_some(),
-        Change::Record(recorded) => put(machine, table, recorded),
-        Change::Consolidation { page, seen } => {
-            let consolidation = Action::Consolidate { page, seen };
-            table.perform(machine, consolidation, None).is_ok()
-        }
-        Change::Half { page, seen } => {
-            let halving = Action::Halve { page, seen };
-            table.perform(machine, halving, None).is_ok()
+    match action {
+        Action::Change { key, wished } => table.change_leaf(page, key, wished).is_some(),
+        Action::Record { .. } | Action::AddTerm { .. } => put(machine, table, page, action),
+        Action::Consolidate { .. } | Action::Halve { .. } => {
+            table.perform(machine, action, None).is_ok()
         }
     }
 }
 
-/// Puts the record on its page. Returns whether there was memory for it.
-fn put(machine: Global, table: &mut Table<Global>, recorded: Record) -> bool
-    ensures done { result ≡ true → table.new ≡ next_table table.old (step_of table.old recorded) }
+/// Puts the action's record on its page. Returns whether there was memory for it.
+fn put(machine: Global, table: &mut Table<Global>, page: Pid, action: Action) -> bool
+    ensures done { result ≡ true → table.new ≡ table_with table.old page action }
     ensures unchanged { result ≡ false → table.new ≡ table.old }
 {
     let Ok(spare) = Spare::new(machine) else {
         return false;
     };
-    let Some(step) = recorded.step(table, spare) else {
+    let Some(step) = record_of(table, page, action, spare) else {
         return false;
     };
-    take(table, step);
-    true
+    table.install(step).is_ok()
 }
 
 /// The rule of what is published, over what readers, stamps and the writing end have seen. Each of

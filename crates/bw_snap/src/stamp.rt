@@ -17,7 +17,7 @@ impl<N: Naming> Model for Stamp<N> {
     ghost use Rattle.std.specs.Prelude.{◌≡◌, List, IfSome};
     ghost use Rattle.bw_step.specs.Proposals.{Proposal};
     ghost use Rattle.bw_snap.specs.Codes.{steps_code};
-    ghost use Rattle.left_right.specs.Sides.{view as told_to};
+    ghost use Rattle.left_right.specs.Sides.{view as learnt_by};
 
     ghost Value = { List Proposal };
 
@@ -26,7 +26,7 @@ impl<N: Naming> Model for Stamp<N> {
     ghost view = { λ s. s.front.list };
 
     ghost invariant = { λ s. (s.front.announcements ≡ N.announcements)
-        × IfSome s.inner (λ end. told_to end.place ≡ s.front.list) };
+        × IfSome s.inner (λ end. learnt_by end.place ≡ s.front.list) };
 }
 
 impl<N: Naming> Stamp<N> {

@@ -23,11 +23,14 @@ pub record IsViewAt (place : Place) (key goal : ℕ) (view : View) : Type 0 wher
   pub low_upto : view.low ≤ key
   pub below_high : key < end_of view.high
 
--- right leads to a greater key on the same level, down leads one level lower, and the page that is found is on the goal's level
+-- right leads to a greater key on the same level, down leads one level lower, and the
+-- page that is found is on the goal's level
 abbrev pub IsNext : Place → ℕ → ℕ → Go → Type 0
 IsNext place key goal Gone = Unit {0}
-IsNext place key goal (Right next) = (next.level ≡ place.level) × (place.from < next.from) × (next.from ≤ key)
-IsNext place key goal (Down next) = (next.level + 1 ≡ place.level) × (goal ≤ next.level) × (next.from ≤ key)
+IsNext place key goal (Right next) =
+    (next.level ≡ place.level) × (place.from < next.from) × (next.from ≤ key)
+IsNext place key goal (Down next) =
+    (next.level + 1 ≡ place.level) × (goal ≤ next.level) × (next.from ≤ key)
 IsNext place key goal (Here view) = IsViewAt place key goal view
 
 -- the step changes the tree's shape, and no pair
@@ -48,13 +51,20 @@ abbrev pub IsReceiptOf : Proposal → Receipt → Type 0
 IsReceiptOf (insert page seen key value) (Inserted number k v) = (k ≡ key) × (v ≡ value)
 IsReceiptOf (delete page seen key) (Deleted number k v) = k ≡ key
 IsReceiptOf (modify page seen key value) (Modified number k old v) = (k ≡ key) × (v ≡ value)
-IsReceiptOf (consolidate page seen base) (Shaped kind at other) = (kind ≡ kinds.Consolidate) × (at.0 ≡ page) × (other ≡ None)
-IsReceiptOf (split page seen separator base) (Shaped kind at other) = (kind ≡ kinds.Split) × (at.0 ≡ page) × (new : Pid) × (other ≡ Some new)
-IsReceiptOf (term_add parent parent_seen child child_seen) (Shaped kind at other) = (kind ≡ kinds.TermAdd) × (at.0 ≡ parent) × (other ≡ Some (record { 0 = child }))
-IsReceiptOf (grow child seen base) (Shaped kind at other) = (kind ≡ kinds.Grow) × (other ≡ Some (record { 0 = child }))
-IsReceiptOf (mark page seen parent) (Shaped kind at other) = (kind ≡ kinds.Mark) × (at.0 ≡ page) × (other ≡ None)
-IsReceiptOf (merge left left_seen page page_seen) (Shaped kind at other) = (kind ≡ kinds.Merge) × (at.0 ≡ left) × (other ≡ Some (record { 0 = page }))
-IsReceiptOf (term_delete parent parent_seen child child_seen) (Shaped kind at other) = (kind ≡ kinds.TermDelete) × (at.0 ≡ parent) × (other ≡ Some (record { 0 = child }))
+IsReceiptOf (consolidate page seen base) (Shaped kind at other) =
+    (kind ≡ kinds.Consolidate) × (at.0 ≡ page) × (other ≡ None)
+IsReceiptOf (split page seen separator base) (Shaped kind at other) =
+    (kind ≡ kinds.Split) × (at.0 ≡ page) × (new : Pid) × (other ≡ Some new)
+IsReceiptOf (term_add parent parent_seen child child_seen) (Shaped kind at other) =
+    (kind ≡ kinds.TermAdd) × (at.0 ≡ parent) × (other ≡ Some (record { 0 = child }))
+IsReceiptOf (grow child seen base) (Shaped kind at other) =
+    (kind ≡ kinds.Grow) × (other ≡ Some (record { 0 = child }))
+IsReceiptOf (mark page seen parent) (Shaped kind at other) =
+    (kind ≡ kinds.Mark) × (at.0 ≡ page) × (other ≡ None)
+IsReceiptOf (merge left left_seen page page_seen) (Shaped kind at other) =
+    (kind ≡ kinds.Merge) × (at.0 ≡ left) × (other ≡ Some (record { 0 = page }))
+IsReceiptOf (term_delete parent parent_seen child child_seen) (Shaped kind at other) =
+    (kind ≡ kinds.TermDelete) × (at.0 ≡ parent) × (other ≡ Some (record { 0 = child }))
 IsReceiptOf _ _ = ⊥
 
 -- the table refused, and nothing else was wanting

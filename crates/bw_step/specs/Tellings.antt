@@ -3,8 +3,9 @@ use Rattle.std.specs.Prelude.{ℕ, List, [], ◌∷◌, ◌++◌, Option, Some, 
 use Rattle.bw_step.specs.declared.receipt.Receipt.{Receipt}
 use Rattle.bw_step.specs.declared.receipt.Receipt.TheVariants.{Inserted, Deleted, Modified, Looked, Shaped}
 
--- A receipt reports the change of a key, with its number and with what the key had before it and has after it; or a look, with the number
--- of the changes that it saw and with what it found; or a step of the tree's shape.
+-- A receipt reports the change of a key, with its number and with what the key had before it
+-- and has after it; or a look, with the number of the changes that it saw and with what it
+-- found; or a step of the tree's shape.
 pub data Telling : Type 0 where
   change : (number key : ℕ) (before after : Option ℕ) → Telling
   look : (at key : ℕ) (found : Option ℕ) → Telling
@@ -18,20 +19,20 @@ telling_of (Looked at key found) = look at key found
 telling_of (Shaped kind page other) = shape
 
 -- what is reported to a caller: how a key changed, or what it was found to have
-pub data Told : Type 0 where
-  changed : (key : ℕ) (before after : Option ℕ) → Told
-  looked : (key : ℕ) (value : Option ℕ) → Told
+pub data Reported : Type 0 where
+  changed : (key : ℕ) (before after : Option ℕ) → Reported
+  looked : (key : ℕ) (value : Option ℕ) → Reported
 
 -- a change of the shape is reported to no caller
-abbrev pub told_by : Telling → List Told
-told_by (change number key before after) = changed key before after ∷ []
-told_by (look at key found) = looked key found ∷ []
-told_by shape = []
+abbrev pub reported_by : Telling → List Reported
+reported_by (change number key before after) = changed key before after ∷ []
+reported_by (look at key found) = looked key found ∷ []
+reported_by shape = []
 
 -- what the receipts report to callers, in their order
-abbrev pub told_in : List Receipt → List Told
-told_in [] = []
-told_in (receipt ∷ rest) = told_by (telling_of receipt) ++ told_in rest
+abbrev pub reported_in : List Receipt → List Reported
+reported_in [] = []
+reported_in (receipt ∷ rest) = reported_by (telling_of receipt) ++ reported_in rest
 
 -- the receipt, unless it is of a change of the shape
 abbrev pub unless_shape : Receipt → Telling → List Receipt

@@ -43,16 +43,16 @@ module _ (old new : TableValue) (it : Performed) where
   -- a wish that was carried out on a page
   pub changed : (wished : Wished) (page : Pid) (key : ℕ) (receipt : Receipt) → it.page ≡ page → it.key ≡ key → it.receipt ≡ receipt → IsDoneAtOnce old page.0 key wished receipt new
       → Takes old it new (steps_for old it.page.0 (actions.Change key wished))
-  changed wished page key receipt page_is key_is told done =
+  changed wished page key receipt page_is key_is reported done =
       let there : IsDoneAtOnce old it.page.0 key wished receipt new = subst (λ (p : Pid). IsDoneAtOnce old p.0 key wished receipt new) (sym page_is) done in
       let found : IsDoneAtOnce old it.page.0 it.key wished receipt new = subst (λ (k : ℕ). IsDoneAtOnce old it.page.0 k wished receipt new) (sym key_is) there in
-      let whole : IsDoneAtOnce old it.page.0 it.key wished it.receipt new = subst (λ (r : Receipt). IsDoneAtOnce old it.page.0 it.key wished r new) (sym told) found in
+      let whole : IsDoneAtOnce old it.page.0 it.key wished it.receipt new = subst (λ (r : Receipt). IsDoneAtOnce old it.page.0 it.key wished r new) (sym reported) found in
       subst (λ (k : ℕ). Takes old it new (steps_for old it.page.0 (actions.Change k wished))) key_is (change_takes (wished_step old it.page.0 it.key wished) whole)
 
   -- a consolidation that was taken is that of the page as it was
   pub consolidated : (page seen : ℕ) (base : Page) (receipt : Receipt) → it.receipt ≡ receipt → refusal old (consolidate page seen base) ≡ None → TakesStep old (consolidate page seen base) receipt new
       → Takes old it new (consolidating old page seen ∷ [])
-  consolidated page seen base receipt told accepted taken =
-      let taken_so : TakesStep old (consolidate page seen base) it.receipt new = subst (λ (r : Receipt). TakesStep old (consolidate page seen base) r new) (sym told) taken in
+  consolidated page seen base receipt reported accepted taken =
+      let taken_so : TakesStep old (consolidate page seen base) it.receipt new = subst (λ (r : Receipt). TakesStep old (consolidate page seen base) r new) (sym reported) taken in
       let turn : TakesInTurn old ((consolidate page seen base, it.receipt) ∷ []) new = (new, accepted, taken_so, refl) in
       subst (λ (b : Page). TakesInTurn old ((consolidate page seen b, it.receipt) ∷ []) new) (consolidate_accepted old page seen base accepted).same turn

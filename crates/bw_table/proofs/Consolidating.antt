@@ -73,12 +73,12 @@ module _ (table : TableValue) (page seen : ℕ) (law : Lawful table) where
 
   -- a page that is refused so is for the reason that was looked at first
   pub anew_is_refused : (reason : Refused) → Err reason ≡ fine_unless (first_reason (open_reasons its seen ++ worn (its ∷ []) ∷ [])) → first_reason (consolidate_reasons its seen (page_for (chain_in its))) ≡ Some reason
-  anew_is_refused reason told =
+  anew_is_refused reason reported =
       some_between (open_reasons its seen) _ _ (worn (its ∷ [])) reason
       (λ none.
       let kind : is_other_kind (page_for (chain_in its)) its ≡ false = kind_of_page table page law (not_absent (is_in_row its.stage) _ none) in
       (rw kind refl, rw (same_page_tells (page_for (chain_in its)) (page_for (chain_in its)) refl) refl))
-      (the_reason reason _ told)
+      (the_reason reason _ reported)
 
   -- and is accepted as it is, otherwise
   pub as_it_is_accepted : Ok _ ≡ fine_unless (first_reason (open_reasons its seen ++ worn (its ∷ []) ∷ [])) → first_reason (consolidate_reasons its seen (page_for (chain_in its))) ≡ None

@@ -69,7 +69,7 @@ module _ (table : TableValue) (page seen : ℕ) (law : Lawful table) where
 
   -- a page that isn't open is refused for that reason
   pub not_open : (reason : Refused) → Err reason ≡ fine_unless (first_reason (open_reasons its seen)) → first_reason (half_reasons table page seen) ≡ Some reason
-  not_open reason told = first_stays (open_reasons its seen) _ reason (the_reason reason _ told)
+  not_open reason reported = first_stays (open_reasons its seen) _ reason (the_reason reason _ reported)
 
   module _ (opens : Ok _ ≡ fine_unless (first_reason (open_reasons its seen))) where
     chain_there : (chain : Records) × IsPageOf its chain

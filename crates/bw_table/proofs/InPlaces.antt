@@ -1,4 +1,4 @@
--- A change made in place is a step and the consolidation behind it.
+-- A change made in place is a step and the consolidation after it.
 use Rattle.std.proofs.Common.{◌≡◌, ◌≢◌, ℕ, suc, ◌+◌, ◌<◌, ◌≤◌, ◌^◌, Bool, true, false, eqb, cond, List, [], ◌∷◌, length, set, refl, ap, sym, subst, ◌∙◌, arith}
 use Rattle.std.specs.Prelude.{Option, Some, None, unwrap_or, nat_lt, nat_le}
 use Rattle.std.proofs.lemmas.Bool.{eq-eqb}
@@ -40,7 +40,7 @@ use Rattle.bw_law.proofs.AllSteps.{step_law}
 use Rattle.bw_table.proofs.Writes.{set-swap}
 use Rattle.bw_table.proofs.Whole.{whole_after, found_is_mapped}
 
--- a step and the consolidation behind it, with the table between
+-- a step and the consolidation after it, with the table between
 pub record TakesTwo (old : TableValue) (step : Proposal) (receipt : Receipt) (page : ℕ) (new : TableValue) : Type 0 where
   pub between : TableValue
   pub seen : ℕ
@@ -66,9 +66,9 @@ first_of old step receipt rest new turn = record { next = turn.0; accepted = tur
 opened : (old : TableValue) (step : Proposal) (receipt : Receipt) (page : ℕ) (new : TableValue) → TakesBoth old step receipt page new → TakesTwo old step receipt page new
 opened old step receipt page new both =
     let consolidation : Proposal = consolidate page both.seen both.base in
-    let told : Receipt = Shaped kinds.Consolidate (pid page) None in
-    let first = first_of old step receipt ((consolidation, told) ∷ []) new both.takes in
-    let second = first_of first.next consolidation told [] new first.others in
+    let reported : Receipt = Shaped kinds.Consolidate (pid page) None in
+    let first = first_of old step receipt ((consolidation, reported) ∷ []) new both.takes in
+    let second = first_of first.next consolidation reported [] new first.others in
     record {
       between = first.next;
       seen = both.seen;
@@ -76,7 +76,7 @@ opened old step receipt page new both =
       accepted = first.accepted;
       changed = first.taken;
       still_accepted = second.accepted;
-      consolidated = subst (TakesStep first.next consolidation told) (sym second.others) second.taken;
+      consolidated = subst (TakesStep first.next consolidation reported) (sym second.others) second.taken;
     }
 
 not_full : (depth : ℕ) → depth ≤ 1 → nat_le MAX_DEPTH depth ≡ false
@@ -159,10 +159,10 @@ module _ {table : TableValue} {room : ℕ} (whole : IsWhole table room) {page ke
       let leaf : is_leaf (chain_in (slot_at table page)) ≡ true = ap is_leaf chain_is ∙ chain_of.1.kind ∙ rw may.leaf.leaf refl in
       rw leaf refl
 
-  -- a step that puts the record on the page, and the consolidation behind it
+  -- a step that puts the record on the page, and the consolidation after it
   both : (step : Proposal) (delta : Delta) (receipt : Receipt) → refusal table step ≡ None → receipt ≡ receipt_of table step → after table step ≡ noted (set table.slots page (raised delta)) receipt
       → TakesBoth table step receipt page (noted (set table.slots page (slot_with (Some delta) (slot_at table page))) receipt)
-  both step delta receipt accepted told goes =
+  both step delta receipt accepted reported goes =
       let written : slot_in (set table.slots page (raised delta)) page ≡ raised delta = slot_written table.slots page (raised delta) leaf_is_inside in
       let base : Page = base_with delta in
       let seen : ℕ = suc (slot_at table page).version in
@@ -178,14 +178,14 @@ module _ {table : TableValue} {room : ℕ} (whole : IsWhole table room) {page ke
         seen = seen;
         base = base;
         accepted = accepted;
-        changed = record { leads = refl; told = told };
+        changed = record { leads = refl; reported = reported };
         still_accepted = subst Fine (sym goes) (subst Accepts (sym written) accepts);
         consolidated = record {
           leads =
               ap (λ (slots : List SlotValue). noted slots receipt)
               (sym (ap (λ (s : SlotValue). set (set table.slots page (raised delta)) page (consolidated base s)) written ∙ set-set table.slots page (raised delta) (consolidated base (raised delta))))
               ∙ ap (λ (t : TableValue). after t (consolidate page seen base)) (sym goes);
-          told = refl;
+          reported = refl;
         };
       })
 
@@ -193,17 +193,17 @@ module _ {table : TableValue} {room : ℕ} (whole : IsWhole table room) {page ke
   nothing_noted : (number : ℕ) (had : Option ℕ) → noted (set table.slots page (slot_at table page)) (Looked number key had) ≡ table
   nothing_noted number had = ap (λ (slots : List SlotValue). noted slots (Looked number key had)) (set-get_or table.slots page (free_slot 0))
 
-  abbrev told : Option ℕ → Option Delta → Receipt
-  told had delta = receipt_for (number_of table.book) key had delta
+  abbrev reported : Option ℕ → Option Delta → Receipt
+  reported had delta = receipt_for (number_of table.book) key had delta
 
   abbrev ComesTrue : Wished → Option ℕ → Option Delta → Type 0
   ComesTrue wished had delta =
-      LooksOrTakes table page (Looked (number_of table.book) key had) (told had delta) (noted (set table.slots page (slot_with delta (slot_at table page))) (told had delta))
+      LooksOrTakes table page (Looked (number_of table.book) key had) (reported had delta) (noted (set table.slots page (slot_with delta (slot_at table page))) (reported had delta))
       (step_for page (slot_at table page).version key wished had)
 
-  inserts : (value : ℕ) → (slot_at table page).depth ≤ 1 → None ≡ at key (pairs_in (slot_at table page)) → TakesBoth table (insert page (slot_at table page).version key value) (told None (Some (deltas.Insert key value))) page (noted (set table.slots page (slot_with (Some (deltas.Insert key value)) (slot_at table page))) (told None (Some (deltas.Insert key value))))
+  inserts : (value : ℕ) → (slot_at table page).depth ≤ 1 → None ≡ at key (pairs_in (slot_at table page)) → TakesBoth table (insert page (slot_at table page).version key value) (reported None (Some (deltas.Insert key value))) page (noted (set table.slots page (slot_with (Some (deltas.Insert key value)) (slot_at table page))) (reported None (Some (deltas.Insert key value))))
   inserts value shallow none =
-      both (insert page (slot_at table page).version key value) (deltas.Insert key value) (told None (Some (deltas.Insert key value)))
+      both (insert page (slot_at table page).version key value) (deltas.Insert key value) (reported None (Some (deltas.Insert key value)))
       (insert_is_accepted (slot_at table page) (number_of table.book) key may.leaf may.version shallow may.number (sym none)) refl refl
 
   comes_true : (wished : Wished) (had : Option ℕ) → (slot_at table page).depth ≤ 1 → had ≡ at key (pairs_in (slot_at table page)) → ComesTrue wished had (delta_for wished key had)
@@ -211,18 +211,18 @@ module _ {table : TableValue} {room : ℕ} (whole : IsWhole table room) {page ke
   comes_true (wishes.Put value) (Some had) shallow found = (refl, nothing_noted (number_of table.book) (Some had))
   comes_true (wishes.Set value) None shallow found = inserts value shallow found
   comes_true (wishes.Set value) (Some had) shallow found =
-      both (modify page (slot_at table page).version key value) (deltas.Modify key value) (told (Some had) (Some (deltas.Modify key value)))
+      both (modify page (slot_at table page).version key value) (deltas.Modify key value) (reported (Some had) (Some (deltas.Modify key value)))
       (found_is_accepted (slot_at table page) (number_of table.book) key had may.leaf may.version shallow may.number (sym found))
       (ap (λ (o : Option ℕ). Modified (suc (number_of table.book)) key (unwrap_or o 0) value) found) refl
   comes_true wishes.Delete None shallow found = (refl, nothing_noted (number_of table.book) None)
   comes_true wishes.Delete (Some had) shallow found =
-      both (delete page (slot_at table page).version key) (deltas.Delete key) (told (Some had) (Some (deltas.Delete key)))
+      both (delete page (slot_at table page).version key) (deltas.Delete key) (reported (Some had) (Some (deltas.Delete key)))
       (found_is_accepted (slot_at table page) (number_of table.book) key had may.leaf may.version shallow may.number (sym found))
       (ap (λ (o : Option ℕ). Deleted (suc (number_of table.book)) key (unwrap_or o 0)) found) refl
 
   -- what the code did is what was wished
   pub done_at_once : (wished : Wished) {had : Option ℕ} {delta : Option Delta} {slots : List SlotValue} {receipt : Receipt}
-      → depth (chain_in (slot_at table page)) ≤ 1 → had ≡ at key (pairs_in (slot_at table page)) → delta ≡ delta_for wished key had → slots ≡ set table.slots page (slot_with delta (slot_at table page)) → receipt ≡ told had delta
+      → depth (chain_in (slot_at table page)) ≤ 1 → had ≡ at key (pairs_in (slot_at table page)) → delta ≡ delta_for wished key had → slots ≡ set table.slots page (slot_with delta (slot_at table page)) → receipt ≡ reported had delta
       → IsDoneAtOnce table page key wished receipt (noted slots receipt)
   done_at_once wished {had} {delta} {slots} {receipt} shallow found is slots_are receipt_is =
       let ByDelta : Option Delta → Type 0 = λ d. ComesTrue wished had d in
@@ -249,7 +249,7 @@ whole_at_once table room page seen receipt new None whole looks = let Whole : Ta
 whole_at_once table room page seen receipt new (Some step) whole takes = whole_both table room page receipt new step whole takes
 
 -- what is reported of two maps holds of the second's like
-tells_then_same : (told : Telling) (old between new : List SlotValue) → TellsMap told old between → SameMap between new → TellsMap told old new
+tells_then_same : (reported : Telling) (old between new : List SlotValue) → TellsMap reported old between → SameMap between new → TellsMap reported old new
 tells_then_same (change number key before after) old between new tells same = record {
   had = tells.had;
   has = λ value. (λ is. (same key value).1 ((tells.has value).0 is), λ maps. (tells.has value).1 ((same key value).0 maps));
@@ -275,24 +275,24 @@ tells_at_once table room page key number receipt new (Some step) whole leaf both
     let between : IsWhole takes.between room = subst Whole (sym takes.changed.leads) (whole_after table step room whole takes.accepted) in
     let second = step_law takes.between (consolidate page takes.seen takes.base) between.lawful between.booked takes.still_accepted in
     let First : Receipt → TableValue → Type 0 = λ r t. TellsMap (telling_of r) table.slots t.slots in
-    let told : First receipt takes.between = subst (λ (r : Receipt). First r takes.between) (sym takes.changed.told) (subst (λ (t : TableValue). First (receipt_of table step) t) (sym takes.changed.leads) first.map) in
+    let reported : First receipt takes.between = subst (λ (r : Receipt). First r takes.between) (sym takes.changed.reported) (subst (λ (t : TableValue). First (receipt_of table step) t) (sym takes.changed.leads) first.map) in
     let same : SameMap takes.between.slots new.slots = subst (λ (t : TableValue). SameMap takes.between.slots t.slots) (sym takes.consolidated.leads) second.map in
-    tells_then_same (telling_of receipt) table.slots takes.between.slots new.slots told same
+    tells_then_same (telling_of receipt) table.slots takes.between.slots new.slots reported same
 
 -- a step, and the consolidation of a page that it raised
 two_steps : (table mid new : TableValue) (step : Proposal) (receipt : Receipt) (page : ℕ) (raised : SlotValue) (base : Page)
     → refusal table step ≡ None → receipt ≡ receipt_of table step → after table step ≡ mid → slot_at mid page ≡ raised → first_reason (consolidate_reasons raised raised.version base) ≡ None
     → new ≡ record mid { slots = set mid.slots page (consolidated base raised) } → TakesBoth table step receipt page new
-two_steps table mid new step receipt page raised base accepted told goes written accepts new_is =
+two_steps table mid new step receipt page raised base accepted reported goes written accepts new_is =
     let Accepts : SlotValue → Type 0 = λ s. first_reason (consolidate_reasons s raised.version base) ≡ None in
     closed table step receipt page new (record {
       between = mid;
       seen = raised.version;
       base = base;
       accepted = accepted;
-      changed = record { leads = sym goes; told = told };
+      changed = record { leads = sym goes; reported = reported };
       still_accepted = subst Accepts (sym written) accepts;
-      consolidated = record { leads = new_is ∙ ap (λ (s : SlotValue). record mid { slots = set mid.slots page (consolidated base s) }) (sym written); told = refl };
+      consolidated = record { leads = new_is ∙ ap (λ (s : SlotValue). record mid { slots = set mid.slots page (consolidated base s) }) (sym written); reported = refl };
     })
 
 -- nothing speaks against the term that a bare page takes

@@ -328,20 +328,20 @@ module _ {table : TableValue} {room : ℕ} (whole : IsWhole table room) (parent 
   all_steps = (
     with_slots first,
     first_accepted,
-    record { leads = refl; told = refl },
+    record { leads = refl; reported = refl },
     (
       with_slots second,
       second_accepted,
-      record { leads = ap with_slots to_second; told = refl },
+      record { leads = ap with_slots to_second; reported = refl },
       (
         with_slots third,
         third_accepted,
-        record { leads = ap with_slots to_third; told = refl },
+        record { leads = ap with_slots to_third; reported = refl },
         (
           with_both fourth,
           fourth_accepted,
-          record { leads = ap with_both to_fourth ∙ ap (λ (free : List ℕ). record table { slots = slots_unposted parent page third; free = free }) to_freed; told = refl },
-          (with_both fifth, fifth_accepted, record { leads = ap with_both to_fifth; told = refl }, refl),
+          record { leads = ap with_both to_fourth ∙ ap (λ (free : List ℕ). record table { slots = slots_unposted parent page third; free = free }) to_freed; reported = refl },
+          (with_both fifth, fifth_accepted, record { leads = ap with_both to_fifth; reported = refl }, refl),
         ),
       ),
     ),

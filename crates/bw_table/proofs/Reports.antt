@@ -45,7 +45,7 @@ module _ (old new : TableValue) (it : Performed) (wished : Wished) where
   of_steps : (step : Option Proposal) (steps : Option Proposal → List Proposal) → steps None ≡ [] → ((it : Proposal) → (behind : List Proposal) × (steps (Some it) ≡ it ∷ behind)) → Takes old it new (steps step)
       → IsOf old new it.page.0 it.key seen it.receipt step (look_at old it.page.0 it.key)
   of_steps None steps none some done = (subst (Takes old it new) none done).0
-  of_steps (Some step) steps none some done = let turn = subst (Takes old it new) (some step).1 done in turn.2.told
+  of_steps (Some step) steps none some done = let turn = subst (Takes old it new) (some step).1 done in turn.2.reported
 
   of_wish : IsOf old new it.page.0 it.key seen it.receipt (wished_step old it.page.0 it.key wished) (look_at old it.page.0 it.key) → IsReportOf old it.page.0 it.key wished it.receipt
   of_wish of = of_record old new it.page.0 it.key seen it.receipt wished (at it.key (pairs_in (slot_at old it.page.0))) refl of

@@ -7,6 +7,7 @@ use Rattle.bw_keys.specs.Limits.{first_bad_field}
 use Rattle.bw_keys.specs.Ranges.{is_within}
 use Rattle.bw_delta.specs.Entries.{at}
 use Rattle.bw_step.specs.Proposals.{Proposal}
+use Rattle.bw_law.specs.declared.pages.TheConstants.{MAX_PAGES}
 use Rattle.bw_law.specs.Tables.{TableValue, slot_at, is_leaf_in_row, Lawful, IsValueAt, new_table}
 use Rattle.bw_law.specs.Slots.{SlotValue, pairs_in}
 use Rattle.bw_law.specs.Refusals.{refusal, new_id, last_id}
@@ -35,8 +36,8 @@ pub by_new_slot : {X : Type 0} (table : TableValue) (new : Option SlotValue) (an
     → new ≡ option_map (slot_at table) (last_id table.free)
     → ((other : SlotValue) → answer ≡ by_slot (unwrap_or new other) (is_none new))
     → answer ≡ by_slot (slot_at table (new_id table)) (is_none (last_id table.free))
-by_new_slot {X} table new answer by_slot is told =
-    told (slot_at table (new_id table)) ∙ ap (λ (n : Option SlotValue). by_slot (unwrap_or n (slot_at table (new_id table))) (is_none n)) is ∙ stands (last_id table.free)
+by_new_slot {X} table new answer by_slot is reported =
+    reported (slot_at table (new_id table)) ∙ ap (λ (n : Option SlotValue). by_slot (unwrap_or n (slot_at table (new_id table))) (is_none n)) is ∙ stands (last_id table.free)
   where
     stands : (last : Option ℕ)
         → by_slot (unwrap_or (option_map (slot_at table) last) (slot_at table (unwrap_or last 0))) (is_none (option_map (slot_at table) last))
@@ -59,7 +60,7 @@ whole_new config room fine fits enough =
     let empty = new_law config fine fits in record { lawful = empty.lawful; booked = empty.booked; free_room = omega (arith, empty.lawful.bounds.slots) }
 
 -- the table with more pages
-pub whole_with_more : (table : TableValue) (more room wider : ℕ) → IsWhole table room → table.config.pages + more ≤ 65536 → table.config.first_version < 2 ^ 64 → table.config.pages + more ≤ wider → IsWhole (with_more_pages more table) wider
+pub whole_with_more : (table : TableValue) (more room wider : ℕ) → IsWhole table room → table.config.pages + more ≤ MAX_PAGES → table.config.first_version < 2 ^ 64 → table.config.pages + more ≤ wider → IsWhole (with_more_pages more table) wider
 whole_with_more table more room wider whole few fits enough =
     let kept = more_pages_law table more whole.lawful whole.booked few fits in
     record { lawful = kept.lawful; booked = kept.booked; free_room = omega (arith, kept.lawful.bounds.slots, enough) }

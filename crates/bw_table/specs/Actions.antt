@@ -28,7 +28,7 @@ use Rattle.bw_step.specs.declared.action.Unperformed.TheVariants.{Denied, StepBy
 abbrev pub consolidation_of : TableValue → ℕ → Proposal
 consolidation_of table page = consolidating table page (slot_at table page).version
 
--- a step, and behind it the consolidation of a page; nothing where there is no step
+-- a step, and after it the consolidation of a page; nothing where there is no step
 abbrev pub consolidated_behind : TableValue → ℕ → Option Proposal → List Proposal
 consolidated_behind table page None = []
 consolidated_behind table page (Some step) = step ∷ consolidation_of (after table step) page ∷ []
@@ -39,20 +39,25 @@ had_at table page key = at key (pairs_in (slot_at table page))
 
 -- the step that carries out the wish for the key on the page as it is, if there is anything to do
 abbrev pub wished_step : TableValue → ℕ → ℕ → Wished → Option Proposal
-wished_step table page key wished = step_for page (slot_at table page).version key wished (had_at table page key)
+wished_step table page key wished =
+    step_for page (slot_at table page).version key wished (had_at table page key)
 
 -- the key of the page's middle entry, or 0, where no page can be split, if it has no two entries
 abbrev pub middle_of : TableValue → ℕ → ℕ
-middle_of table page = unwrap_or (listed_middle_key (page_for (chain_in (slot_at table page))).listed) 0
+middle_of table page =
+    unwrap_or (listed_middle_key (page_for (chain_in (slot_at table page))).listed) 0
 
 -- the term of the child in the parent, as both are in the table
 abbrev pub term_of : TableValue → ℕ → ℕ → Proposal
-term_of table parent child = term_add parent (slot_at table parent).version child (slot_at table child).version
+term_of table parent child =
+    term_add parent (slot_at table parent).version child (slot_at table child).version
 
 -- the steps that the action stands for, where this is the page that it finds
 abbrev pub steps_for : TableValue → ℕ → Action → List Proposal
-steps_for table page (actions.Change key wished) = consolidated_behind table page (wished_step table page key wished)
-steps_for table page (actions.Record key wished) = option_to_list (wished_step table page key wished)
+steps_for table page (actions.Change key wished) =
+    consolidated_behind table page (wished_step table page key wished)
+steps_for table page (actions.Record key wished) =
+    option_to_list (wished_step table page key wished)
 steps_for table page (actions.Consolidate at seen) = consolidating table at.0 seen.0 ∷ []
 steps_for table page (actions.Halve at seen) = halving table at.0 seen.0 (middle_of table at.0) ∷ []
 steps_for table page (actions.AddTerm child) = term_of table page child.0 ∷ []
@@ -61,7 +66,8 @@ steps_for table page (actions.AddTerm child) = term_of table page child.0 ∷ []
 abbrev pub Finds : TableValue → Action → Pid → ℕ → Type 0
 Finds table (actions.Change key wished) page found = IsLeafOf table key page.0 × (found ≡ key)
 Finds table (actions.Record key wished) page found = IsLeafOf table key page.0 × (found ≡ key)
-Finds table (actions.Consolidate at seen) page found = (page ≡ at) × (found ≡ (slot_at table at.0).low)
+Finds table (actions.Consolidate at seen) page found =
+    (page ≡ at) × (found ≡ (slot_at table at.0).low)
 Finds table (actions.Halve at seen) page found = (page ≡ at) × (found ≡ middle_of table at.0)
 Finds table (actions.AddTerm child) page found = found ≡ (slot_at table child.0).low
 
@@ -73,30 +79,36 @@ look_at table page key = Looked (number_of table.book) key (had_at table page ke
 abbrev pub with_receipts : Pid → List Proposal → List (Proposal × Receipt)
 with_receipts page steps = map (λ step. (step, Shaped kinds.Consolidate page None)) steps
 
--- the steps were taken, the first with this receipt; or, where there are none, the receipt is that of a look
+-- the steps were taken, the first with this receipt; or, where there
+-- are none, the receipt is that of a look
 abbrev pub Takes : TableValue → Performed → TableValue → List Proposal → Type 0
 Takes old it new [] = (it.receipt ≡ look_at old it.page.0 it.key) × (new ≡ old)
-Takes old it new (step ∷ behind) = TakesInTurn old ((step, it.receipt) ∷ with_receipts it.page behind) new
+Takes old it new (step ∷ behind) =
+    TakesInTurn old ((step, it.receipt) ∷ with_receipts it.page behind) new
 
 -- the action was performed, and this is what it came to
-pub record IsPerformed (old : TableValue) (action : Action) (new : TableValue) (it : Performed) : Type 0 where
+pub record IsPerformed (old : TableValue) (action : Action) (new : TableValue)
+    (it : Performed) : Type 0 where
   pub finds : Finds old action it.page it.key
   pub takes : Takes old it new (steps_for old it.page.0 action)
   pub count : it.count ≡ (slot_at new it.page.0).count
   pub depth : it.depth ≡ (slot_at new it.page.0).depth
 
--- Why it isn't performed: a page that is named is consolidated or split unless the step is refused or memory is short, and the
--- others need not be done at once.
+-- Why it isn't performed: a page that is named is consolidated or split unless the step is refused
+-- or memory is short, and the others need not be done at once.
 abbrev pub IsWhyNot : TableValue → Action → Unperformed → Type 0
-IsWhyNot table (actions.Consolidate page seen) (Denied denied) = IsDenialFor (refusal table (consolidating table page.0 seen.0)) denied
-IsWhyNot table (actions.Halve page seen) (Denied denied) = IsDenialFor (first_reason (half_reasons table page.0 seen.0)) denied
+IsWhyNot table (actions.Consolidate page seen) (Denied denied) =
+    IsDenialFor (refusal table (consolidating table page.0 seen.0)) denied
+IsWhyNot table (actions.Halve page seen) (Denied denied) =
+    IsDenialFor (first_reason (half_reasons table page.0 seen.0)) denied
 IsWhyNot table action (Denied denied) = ⊥
 IsWhyNot table (actions.Consolidate page seen) StepByStep = ⊥
 IsWhyNot table (actions.Halve page seen) StepByStep = ⊥
 IsWhyNot table action StepByStep = Unit {0}
 
 -- the action was performed, or this is why not, and then the table is as it was
-pub record Performs (action : Action) (old : TableValue) (answer : Result Performed Unperformed) (new : TableValue) : Type 0 where
+pub record Performs (action : Action) (old : TableValue) (answer : Result Performed Unperformed)
+    (new : TableValue) : Type 0 where
   pub done : IfOk answer (IsPerformed old action new)
   pub why : IfErr answer (IsWhyNot old action)
   pub unchanged : OnErr answer (new ≡ old)

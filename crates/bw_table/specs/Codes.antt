@@ -22,9 +22,11 @@ SlotParts = ℕ × (Stage × (ℕ × (Fence × (Option Pid × (ℕ × (ℕ × (�
 abbrev pub slot_code : Coded SlotValue
 slot_code =
     code_by SlotParts
-    (coded× coded_ℕ (coded× stage.the_row.coded (coded× coded_ℕ (coded× fence.the_row.coded (coded× (coded_option pid.the_row.coded)
+    (coded× coded_ℕ (coded× stage.the_row.coded (coded× coded_ℕ (coded× fence.the_row.coded
+    (coded× (coded_option pid.the_row.coded)
     (coded× coded_ℕ (coded× coded_ℕ (coded× coded_ℕ (coded_option records_code)))))))))
-    (λ s. (s.version, (s.stage, (s.low, (s.high, (s.right, (s.level, (s.count, (s.depth, s.chain)))))))))
+    (λ s.
+    (s.version, (s.stage, (s.low, (s.high, (s.right, (s.level, (s.count, (s.depth, s.chain)))))))))
     (λ p. record {
       version = p.0;
       stage = p.1.0;
@@ -41,7 +43,14 @@ slot_code =
 abbrev pub table_code : Coded TableValue
 table_code =
     code_by (List SlotValue × (List ℕ × (ℕ × (Book × Config))))
-    (coded× (coded_list slot_code) (coded× (coded_list coded_ℕ) (coded× coded_ℕ (coded× book.the_row.coded config.the_row.coded))))
+    (coded× (coded_list slot_code)
+    (coded× (coded_list coded_ℕ) (coded× coded_ℕ (coded× book.the_row.coded config.the_row.coded))))
     (λ t. (t.slots, (t.free, (t.root, (t.book, t.config)))))
-    (λ p. record { slots = p.0; free = p.1.0; root = p.1.1.0; book = p.1.1.1.0; config = p.1.1.1.1 })
+    (λ p. record {
+      slots = p.0;
+      free = p.1.0;
+      root = p.1.1.0;
+      book = p.1.1.1.0;
+      config = p.1.1.1.1;
+    })
     (λ _. refl)

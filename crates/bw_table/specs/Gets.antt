@@ -13,14 +13,16 @@ use Rattle.bw_table.specs.Visits.{live_routes}
 abbrev pub IsMapAt : TableValue → ℕ → Option ℕ → Type 0
 IsMapAt table key found = (value : ℕ) → (found ≡ Some value) ↔ Maps table.slots key value
 
--- the first pairs of the map from the low on and below the end, in the order of their keys, and no more than the limit
+-- the first pairs of the map from the low on and below the end, in the order of
+-- their keys, and no more than the limit
 pub record IsListing (table : TableValue) (low end limit : ℕ) (listed : List (ℕ × ℕ)) : Type 0 where
   pub pairs : List (ℕ × ℕ)
   pub map : IsTheMap table pairs
   pub first : listed ≡ take limit (below end (from low pairs))
 
 -- these pairs, and perhaps others at the end or past it, in the order of their keys
-pub record HasListing (table : TableValue) (low end limit : ℕ) (listed : List (ℕ × ℕ)) : Type 0 where
+pub record HasListing (table : TableValue) (low end limit : ℕ)
+    (listed : List (ℕ × ℕ)) : Type 0 where
   pub rise : rises 0 key_count listed ≡ true
   pub listing : IsListing table low end limit (below end listed)
 
@@ -42,7 +44,9 @@ live_child slots slot key = option_map page_of (last_upto key (live_routes slots
 
 -- the next page of a search for the key: none after a leaf whose range holds it
 abbrev pub next_page : List SlotValue → SlotValue → ℕ → Option Pid
-next_page slots slot key = if nat_le (end_of slot.high) key then slot.right else (if slot.level == 0 then None else live_child slots slot key)
+next_page slots slot key =
+    if nat_le (end_of slot.high) key then slot.right
+    else (if slot.level == 0 then None else live_child slots slot key)
 
 -- how far it may be to the leaf: levels first, and keys within a level
 abbrev pub way_left : TableValue → ℕ → ℕ

@@ -1,4 +1,4 @@
--- A change of a key and the consolidation of its page, one behind the other, as one call does them.
+-- A change of a key and the consolidation of its page, one after the other, as one call does them.
 use Rattle.std.specs.Prelude.{◌≡◌, ℕ, suc, ◌+◌, ◌-◌, ◌<◌, ◌≤◌, ◌^◌, nat_lt, Bool, true, false, List, [], ◌∷◌, ◌++◌, slice_set, length, ◌≢◌, Option, Some, None, is_none, is_some, unwrap_or}
 use Rattle.bw_keys.specs.declared.page.Pid.{Pid}
 use Rattle.bw_keys.specs.declared.range.Fence.TheVariants.{Key}
@@ -46,7 +46,8 @@ pub record TakesInPlace (slot : SlotValue) (key : ℕ) : Type 0 where
   pub count : slot.count + 1 < 2 ^ 64
   pub within : LiesIn key (fences (chain_in slot))
 
--- a posted inner page without records takes the term of a page below it that has none yet; the versions can rise
+-- a posted inner page without records takes the term of a page below it
+-- that has none yet; the versions can rise
 pub record MayPostAtOnce (over under : SlotValue) : Type 0 where
   pub over_posted : over.stage ≡ Posted
   pub unposted : under.stage ≡ Unposted
@@ -62,7 +63,8 @@ TakesTerm slots parent child = TakesInPlace (slot_in slots parent) (slot_in slot
 
 -- no term of the parent begins where the child does
 abbrev pub HasNoTerm : List SlotValue → ℕ → ℕ → Type 0
-HasNoTerm slots parent child = at (slot_in slots child).low (routes_in (slot_in slots parent)) ≡ None
+HasNoTerm slots parent child =
+    at (slot_in slots child).low (routes_in (slot_in slots parent)) ≡ None
 
 -- a posted page without records has the separator as a later key, and its version can rise twice
 pub record MayCut (slot : SlotValue) (separator : ℕ) : Type 0 where
@@ -79,7 +81,8 @@ pub record TakesCut (slot : SlotValue) (separator : ℕ) : Type 0 where
   pub within : LiesIn separator (fences (chain_in slot))
   pub after_low : (fences (chain_in slot)).low < separator
 
--- a posted page without records may be split at the separator, and there is a slot for the new page; the versions can rise
+-- a posted page without records may be split at the separator, and there is a slot
+-- for the new page; the versions can rise
 pub record MaySplitAtOnce (table : TableValue) (page separator : ℕ) : Type 0 where
   pub cut : MayCut (slot_at table page) separator
   pub staying : is_leaving_at table.slots (at separator (routes_in (slot_at table page))) ≡ false
@@ -99,20 +102,24 @@ count_after (deltas.TermDelete separator) count = count - 1
 -- the page with a record more, consolidated; the page as it is where there is no record
 abbrev pub slot_with : Option Delta → SlotValue → SlotValue
 slot_with None slot = slot
-slot_with (Some delta) slot = consolidated (page_for (above delta (chain_in slot))) (with_record delta (count_after delta slot.count) slot)
+slot_with (Some delta) slot =
+    consolidated (page_for (above delta (chain_in slot)))
+    (with_record delta (count_after delta slot.count) slot)
 
 -- the receipt of a record on a page after n changes, and of a look where there is no record
 abbrev pub receipt_for : ℕ → ℕ → Option ℕ → Option Delta → Receipt
 receipt_for number key had None = Looked number key had
 receipt_for number key had (Some (deltas.Insert k value)) = Inserted (suc number) k value
-receipt_for number key had (Some (deltas.Modify k value)) = Modified (suc number) k (unwrap_or had 0) value
+receipt_for number key had (Some (deltas.Modify k value)) =
+    Modified (suc number) k (unwrap_or had 0) value
 receipt_for number key had (Some (deltas.Delete k)) = Deleted (suc number) k (unwrap_or had 0)
 receipt_for number key had (Some (deltas.Split separator right)) = Looked number key had
 receipt_for number key had (Some deltas.Remove) = Looked number key had
 receipt_for number key had (Some (deltas.TermAdd separator child)) = Looked number key had
 receipt_for number key had (Some (deltas.TermDelete separator)) = Looked number key had
 
--- the step that carries out the wish on a page of the version, for a key that had the value, or none: no step where there is nothing to do
+-- the step that carries out the wish on a page of the version, for a key that had the value, or
+-- none: no step where there is nothing to do
 abbrev pub step_for : ℕ → ℕ → ℕ → Wished → Option ℕ → Option Proposal
 step_for page seen key (wishes.Put value) None = Some (insert page seen key value)
 step_for page seen key (wishes.Put value) (Some had) = None
@@ -121,12 +128,14 @@ step_for page seen key (wishes.Set value) (Some had) = Some (modify page seen ke
 step_for page seen key wishes.Delete None = None
 step_for page seen key wishes.Delete (Some had) = Some (delete page seen key)
 
--- a step with its receipt, and behind it the consolidation of a page
+-- a step with its receipt, and after it the consolidation of a page
 abbrev pub both_steps : Proposal → Receipt → ℕ → ℕ → Page → List (Proposal × Receipt)
-both_steps step receipt page seen base = (step, receipt) ∷ (consolidate page seen base, Shaped kinds.Consolidate (pid page) None) ∷ []
+both_steps step receipt page seen base =
+    (step, receipt) ∷ (consolidate page seen base, Shaped kinds.Consolidate (pid page) None) ∷ []
 
 -- the table took the step, and then the consolidation of the page; neither was refused
-pub record TakesBoth (old : TableValue) (step : Proposal) (receipt : Receipt) (page : ℕ) (new : TableValue) : Type 0 where
+pub record TakesBoth (old : TableValue) (step : Proposal) (receipt : Receipt) (page : ℕ)
+    (new : TableValue) : Type 0 where
   pub seen : ℕ
   pub base : Page
   pub takes : TakesInTurn old (both_steps step receipt page seen base) new
@@ -141,7 +150,8 @@ abbrev pub IsDoneAtOnce : TableValue → ℕ → ℕ → Wished → Receipt → 
 IsDoneAtOnce old page key wished receipt new =
     let slot = slot_at old page in
     let had = at key (pairs_in slot) in
-    LooksOrTakes old page (Looked (number_of old.book) key had) receipt new (step_for page slot.version key wished had)
+    LooksOrTakes old page (Looked (number_of old.book) key had) receipt new
+    (step_for page slot.version key wished had)
 
 -- the consolidation of a page as it is
 abbrev pub consolidating : TableValue → ℕ → ℕ → Proposal
@@ -149,7 +159,8 @@ consolidating table page seen = consolidate page seen (page_for (chain_in (slot_
 
 -- the split of a page at a separator: the new page takes the page's entries from there on
 abbrev pub halving : TableValue → ℕ → ℕ → ℕ → Proposal
-halving table page seen separator = split page seen separator (upper_part separator (page_for (chain_in (slot_at table page))))
+halving table page seen separator =
+    split page seen separator (upper_part separator (page_for (chain_in (slot_at table page))))
 
 -- the reasons not to split an open page at a separator, but for those of a wrong base
 abbrev pub halving_reasons : SlotValue → SlotValue → Bool → Bool → ℕ → List (Option Refused)
@@ -157,19 +168,25 @@ halving_reasons slot new child_leaving no_room separator =
     when (is_outside slot separator) OutOfRange ∷ when (nat_lt 0 slot.depth) NotBare
     ∷ when (is_bad_key slot child_leaving separator) BadSeparator ∷ room_reasons slot new no_room
 
--- the reasons not to split a page in half where it lies: at the key of its middle entry, if it has two entries
+-- the reasons not to split a page in half where it lies: at the key of
+-- its middle entry, if it has two entries
 abbrev pub half_reasons : TableValue → ℕ → ℕ → List (Option Refused)
 half_reasons table page seen =
     let slot = slot_at table page in
     let listed = (page_for (chain_in slot)).listed in
     let separator = unwrap_or (listed_middle_key listed) 0 in
-    open_reasons slot seen ++ when (nat_lt 0 slot.depth) NotBare ∷ when (nat_lt (listed_length listed) 2) BadSeparator
-    ∷ halving_reasons slot (slot_at table (new_id table)) (is_leaving_at table.slots (at separator (routes_in slot))) (is_none (last_id table.free)) separator
+    open_reasons slot seen ++ when (nat_lt 0 slot.depth) NotBare
+    ∷ when (nat_lt (listed_length listed) 2) BadSeparator
+    ∷ halving_reasons slot (slot_at table (new_id table))
+    (is_leaving_at table.slots (at separator (routes_in slot))) (is_none (last_id table.free))
+    separator
 
--- the page that ends before the separator, consolidated, where this many of its entries go to the new page
+-- the page that ends before the separator, consolidated, where this
+-- many of its entries go to the new page
 abbrev pub slot_cut : ℕ → Pid → ℕ → SlotValue → SlotValue
 slot_cut separator new count slot =
-    consolidated (page_for (above (deltas.Split separator new) (chain_in slot))) (cut_before separator new count slot)
+    consolidated (page_for (above (deltas.Split separator new) (chain_in slot)))
+    (cut_before separator new count slot)
 
 -- the page has taken in a record, if there is one
 abbrev pub slots_with : ℕ → Option Delta → List SlotValue → List SlotValue
@@ -180,29 +197,37 @@ abbrev pub slots_posted_at_once : ℕ → Pid → List SlotValue → List SlotVa
 slots_posted_at_once parent child slots =
     let over = slot_in slots parent in
     let under = slot_in slots child.0 in
-    slice_set (slice_set slots parent (slot_with (Some (deltas.TermAdd under.low child)) over)) child.0 (with_stage Posted under)
+    slice_set (slice_set slots parent (slot_with (Some (deltas.TermAdd under.low child)) over))
+    child.0 (with_stage Posted under)
 
 -- the page ends before the separator and is consolidated, and the new one has the rest
 abbrev pub slots_split_at_once : ℕ → Pid → ℕ → Page → List SlotValue → List SlotValue
 slots_split_at_once page new separator base slots =
     let slot = slot_in slots page in
-    slice_set (slice_set slots page (slot_cut separator new (listed_length base.listed) slot)) new.0 (upper_half (slot_in slots new.0).version separator base slot)
+    slice_set (slice_set slots page (slot_cut separator new (listed_length base.listed) slot)) new.0
+    (upper_half (slot_in slots new.0).version separator base slot)
 
 -- the page was split at the key of its entry with the number, counted from 0, and then consolidated
-pub record IsSplitAtOnce (old : TableValue) (page number : ℕ) (receipt : Receipt) (new : TableValue) : Type 0 where
+pub record IsSplitAtOnce (old : TableValue) (page number : ℕ) (receipt : Receipt)
+    (new : TableValue) : Type 0 where
   pub separator : ℕ
   pub base : Page
-  pub its_key : listed_key_at number (page_for (chain_in (slot_at old page))).listed ≡ Some separator
+  pub its_key : listed_key_at number (page_for (chain_in (slot_at old page))).listed
+      ≡ Some separator
   pub takes : TakesBoth old (split page (slot_at old page).version separator base) receipt page new
 
 -- both steps that name the new page in the parent, or nothing
 abbrev pub IsPosted : TableValue → ℕ → Pid → Bool → TableValue → Type 0
 IsPosted old parent new_page true new =
-    TakesBoth old (term_add parent (slot_at old parent).version new_page.0 (slot_at old new_page.0).version) (Shaped kinds.TermAdd (pid parent) (Some new_page)) parent new
+    TakesBoth old
+    (term_add parent (slot_at old parent).version new_page.0 (slot_at old new_page.0).version)
+    (Shaped kinds.TermAdd (pid parent) (Some new_page)) parent new
 IsPosted old parent new_page false new = new ≡ old
 
--- The page was split and consolidated, and then the new page was named in the parent, which was consolidated, or wasn't.
-pub record IsSplitUnder (old : TableValue) (parent page number : ℕ) (new_page : Pid) (posted : Bool) (new : TableValue) : Type 0 where
+-- The page was split and consolidated, and then the new page was named in the
+-- parent, which was consolidated, or wasn't.
+pub record IsSplitUnder (old : TableValue) (parent page number : ℕ) (new_page : Pid) (posted : Bool)
+    (new : TableValue) : Type 0 where
   pub between : TableValue
   pub split : IsSplitAtOnce old page number (Shaped kinds.Split (pid page) (Some new_page)) between
   pub post : IsPosted between parent new_page posted new
@@ -237,7 +262,8 @@ pub record MayMerge (over into slot : SlotValue) (page most : ℕ) : Type 0 wher
 
 abbrev pub MayMergeUnder : TableValue → ℕ → ℕ → ℕ → Type 0
 MayMergeUnder table parent left page =
-    MayMerge (slot_at table parent) (slot_at table left) (slot_at table page) page table.config.fanout
+    MayMerge (slot_at table parent) (slot_at table left) (slot_at table page) page
+    table.config.fanout
 
 -- the numbers of the slot can rise, and its chain ends where the right one begins
 pub record Meets (into right : SlotValue) : Type 0 where
@@ -278,15 +304,17 @@ slot_joined into slot = record into {
 abbrev pub slots_merged_at_once : ℕ → ℕ → ℕ → List SlotValue → List SlotValue
 slots_merged_at_once parent left page slots =
     let slot = slot_in slots page in
-    slice_set (slice_set (slice_set slots page (free_slot (slot.version + 3))) left (slot_joined (slot_in slots left) slot)) parent
+    slice_set (slice_set (slice_set slots page (free_slot (slot.version + 3))) left
+    (slot_joined (slot_in slots left) slot)) parent
     (slot_with (Some (deltas.TermDelete slot.low)) (slot_in slots parent))
 
 -- the entries of both pages aren't more than a page may have
 abbrev pub FitsInto : TableValue → ℕ → ℕ → Type 0
-FitsInto table left page = (slot_at table left).count + (slot_at table page).count ≤ table.config.fanout
+FitsInto table left page =
+    (slot_at table left).count + (slot_at table page).count ≤ table.config.fanout
 
--- the steps that take a page out, with their receipts: it is marked, and its left neighbour takes it in and is consolidated; then
--- the parent loses its term and is consolidated
+-- the steps that take a page out, with their receipts: it is marked, and its left neighbour takes
+-- it in and is consolidated; then the parent loses its term and is consolidated
 abbrev pub merging_steps : TableValue → ℕ → ℕ → ℕ → Page → Page → List (Proposal × Receipt)
 merging_steps table parent left page base over =
     let seen = (slot_at table page).version in
@@ -295,12 +323,16 @@ merging_steps table parent left page base over =
     (mark page seen parent, Shaped kinds.Mark (pid page) None)
     ∷ (merge left left_seen page (suc seen), Shaped kinds.Merge (pid left) (Some (pid page)))
     ∷ (consolidate left (suc left_seen) base, Shaped kinds.Consolidate (pid left) None)
-    ∷ (term_delete parent parent_seen page (suc (suc seen)), Shaped kinds.TermDelete (pid parent) (Some (pid page)))
+    ∷ (
+      term_delete parent parent_seen page (suc (suc seen)),
+      Shaped kinds.TermDelete (pid parent) (Some (pid page)),
+    )
     ∷ (consolidate parent (suc parent_seen) over, Shaped kinds.Consolidate (pid parent) None)
     ∷ []
 
 -- The page was taken in to the left page under the parent, by all five steps; none was refused.
-pub record IsMergedUnder (old : TableValue) (parent page : ℕ) (left : Pid) (new : TableValue) : Type 0 where
+pub record IsMergedUnder (old : TableValue) (parent page : ℕ) (left : Pid)
+    (new : TableValue) : Type 0 where
   pub base : Page
   pub over : Page
   pub takes : TakesInTurn old (merging_steps old parent left.0 page base over) new

@@ -13,7 +13,8 @@ use Rattle.bw_law.specs.Tables.{TableValue, Maps, slot_at}
 
 -- no key of the map lies from the low on and below the end
 abbrev pub HasNoKeyWithin : TableValue → ℕ → ℕ → Type 0
-HasNoKeyWithin table low end = (key value : ℕ) → low ≤ key → key < end → Maps table.slots key value → ⊥
+HasNoKeyWithin table low end =
+    (key value : ℕ) → low ≤ key → key < end → Maps table.slots key value → ⊥
 
 -- the first pair of the map at the key or past it
 pub record IsNextAt (table : TableValue) (key : ℕ) (pair : ℕ × ℕ) : Type 0 where
@@ -33,7 +34,8 @@ last_key = key_count - 1
 -- just the pairs of the map from the low on and below the end, in the order of their keys
 pub record ArePairsWithin (table : TableValue) (low end : ℕ) (pairs : List (ℕ × ℕ)) : Type 0 where
   pub rise : rises low end pairs ≡ true
-  pub same : (key value : ℕ) → low ≤ key → key < end → (at key pairs ≡ Some value) ↔ Maps table.slots key value
+  pub same : (key value : ℕ) → low ≤ key → key < end
+      → (at key pairs ≡ Some value) ↔ Maps table.slots key value
 
 -- the list that is the map has n pairs
 abbrev pub HasPairs : TableValue → ℕ → Type 0
@@ -55,7 +57,8 @@ leaf_at table page =
 abbrev pub leaf_code : Coded LeafValue
 leaf_code =
     code_by (Pid × (ℕ × (Fence × List (ℕ × ℕ))))
-    (coded× pid.the_row.coded (coded× coded_ℕ (coded× fence.the_row.coded (coded_list (coded× coded_ℕ coded_ℕ)))))
+    (coded× pid.the_row.coded
+    (coded× coded_ℕ (coded× fence.the_row.coded (coded_list (coded× coded_ℕ coded_ℕ)))))
     (λ l. (l.pid, (l.low, (l.high, l.pairs))))
     (λ p. record { pid = p.0; low = p.1.0; high = p.1.1.0; pairs = p.1.1.1 })
     (λ _. refl)

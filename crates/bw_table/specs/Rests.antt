@@ -21,8 +21,8 @@ is_unfinished Merged = true
 abbrev pub HasUnfinished : TableValue → Type 0
 HasUnfinished table = (page : ℕ) × (is_unfinished (slot_at table page).stage ≡ true)
 
--- the next page of a search for the key by the page's own routes, of which one may lead to a page that was taken in: none after a
--- leaf whose range holds it
+-- the next page of a search for the key by the page's own routes, of which one may lead to a page
+-- that was taken in: none after a leaf whose range holds it
 abbrev pub next_by_routes : SlotValue → ℕ → Option Pid
 next_by_routes slot key =
     if nat_le (end_of slot.high) key then slot.right

@@ -13,7 +13,8 @@ use Rattle.bw_law.specs.Slots.{SlotValue, pairs_in, routes_in}
 
 -- a page in a row has a sound chain
 abbrev pub HasSoundChain : SlotValue → Type 0
-HasSoundChain slot = is_in_row slot.stage ≡ true → (chain : Records) × (slot.chain ≡ Some chain) × IsSound chain
+HasSoundChain slot =
+    is_in_row slot.stage ≡ true → (chain : Records) × (slot.chain ≡ Some chain) × IsSound chain
 
 -- the version can rise, and a record more may stand on the chain
 pub record MayGrowDeeper (slot : SlotValue) : Type 0 where
@@ -29,15 +30,32 @@ joined_with into given chain = record into {
   right = given.right;
   count = into.count + given.count;
   depth = suc (max into.depth given.depth);
-  chain = merged_chains (record { separator = given.low; high = given.high; right = given.right }) into.chain chain;
+  chain = merged_chains (record { separator = given.low; high = given.high; right = given.right })
+      into.chain chain;
 }
 
 abbrev pub summary_of : SlotValue → Summary
-summary_of slot = record { low = slot.low; high = slot.high; right = slot.right; level = slot.level; count = slot.count; depth = slot.depth }
+summary_of slot =
+    record {
+      low = slot.low;
+      high = slot.high;
+      right = slot.right;
+      level = slot.level;
+      count = slot.count;
+      depth = slot.depth;
+    }
 
 -- the summary of the part from the separator on, which has this many entries
 abbrev pub upper_summary : ℕ → ℕ → SlotValue → Summary
-upper_summary separator count slot = record { low = separator; high = slot.high; right = slot.right; level = slot.level; count = count; depth = 0 }
+upper_summary separator count slot =
+    record {
+      low = separator;
+      high = slot.high;
+      right = slot.right;
+      level = slot.level;
+      count = count;
+      depth = 0;
+    }
 
 -- the slot that has taken up a page of this stage, summary and base
 abbrev pub holding : Stage → Summary → Page → SlotValue → SlotValue

@@ -30,11 +30,13 @@ view_of pid slot = record {
 
 -- the page of a slot that isn't free
 abbrev pub view_at : TableValue → Pid → Option View
-view_at table pid = let slot = slot_at table pid.0 in if is_free slot.stage then None else Some (view_of pid slot)
+view_at table pid =
+    let slot = slot_at table pid.0 in if is_free slot.stage then None else Some (view_of pid slot)
 
 -- what is kept of it beside its chain
 abbrev pub summary_at : TableValue → Pid → Option Summary
-summary_at table pid = let slot = slot_at table pid.0 in if is_free slot.stage then None else Some (summary_of slot)
+summary_at table pid =
+    let slot = slot_at table pid.0 in if is_free slot.stage then None else Some (summary_of slot)
 
 -- the page is in no row
 abbrev pub IsAbsent : TableValue → Pid → Type 0
@@ -42,11 +44,13 @@ IsAbsent table pid = is_in_row (slot_at table pid.0).stage ≡ false
 
 -- the page is in a row, and has another version than was seen
 abbrev pub IsStale : TableValue → Pid → ℕ → Type 0
-IsStale table pid seen = (is_in_row (slot_at table pid.0).stage ≡ true) × ((slot_at table pid.0).version ≢ seen)
+IsStale table pid seen =
+    (is_in_row (slot_at table pid.0).stage ≡ true) × ((slot_at table pid.0).version ≢ seen)
 
 -- where every search begins
 abbrev pub root_place : TableValue → Place
-root_place table = record { pid = record { 0 = table.root }; level = (slot_at table table.root).level; from = 0 }
+root_place table =
+    record { pid = record { 0 = table.root }; level = (slot_at table table.root).level; from = 0 }
 
 -- the value at the key and the book's number, in a leaf in its row whose range holds the key
 abbrev pub look_at : TableValue → ℕ → ℕ → Option Look
@@ -57,7 +61,13 @@ look_at table page key =
     else None
 
 abbrev pub leaf_of : Pid → SlotValue → Leaf
-leaf_of pid slot = record { pid = pid; range = record { low = slot.low; high = slot.high }; count = slot.count; stage = slot.stage }
+leaf_of pid slot =
+    record {
+      pid = pid;
+      range = record { low = slot.low; high = slot.high };
+      count = slot.count;
+      stage = slot.stage;
+    }
 
 abbrev pub leaf_at : List SlotValue → ℕ → Leaf
 leaf_at slots page = leaf_of (record { 0 = page }) (slot_in slots page)

@@ -7,7 +7,8 @@ use Rattle.bw_law.specs.Tables.{TableValue, Lawful, Booked}
 
 -- the table with these parts
 abbrev pub table_of : List SlotValue → List ℕ → ℕ → Book → Config → TableValue
-table_of slots free root book config = record { slots = slots; free = free; root = root; book = book; config = config }
+table_of slots free root book config =
+    record { slots = slots; free = free; root = root; book = book; config = config }
 
 -- the table is lawful and booked, and its free list has room for every id
 pub record IsWhole (table : TableValue) (room : ℕ) : Type 0 where

@@ -39,7 +39,7 @@ impl FreeList {
         Ok(FreeList { ids })
     }
 
-    /// These ids behind that many others from the first on, the greatest first, with room for every
+    /// These ids after that many others from the first on, the greatest first, with room for every
     /// id.
     #[tactic(auto, using(crate::proofs::FreeIds::more_ids))]
     pub(crate) fn behind(&self, first: u32, more: u32) -> Result<FreeList, AllocError>

@@ -95,7 +95,7 @@ impl<'t, A: Allocator + Copy> LeafRef<'t, A> {
     }
 
     /// Returns pairs of the leaf up to the key, as they lie side by side: all of them, unless a
-    /// record of the leaf names one of their keys; then those behind the greatest such key, which may
+    /// record of the leaf names one of their keys; then those after the greatest such key, which may
     /// be none. It takes no memory.
     #[inline(always)]
     pub fn pairs_upto(&self, key: Key) -> EntrySlice<'t, u64>

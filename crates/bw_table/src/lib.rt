@@ -21,6 +21,7 @@ mod table;
 mod visit;
 
 pub use bw_keys::Wished;
+pub use bw_law::MAX_PAGES;
 pub use bw_step::{
     Action, Book, Consolidate, CopyFault, Delete, Go, Grow, Insert, Kind, Leaf, Look, Mark, Merge,
     Modify, Next, Performed, Place, Receipt, Refused, Split, Stage, Step, Summary, Survey, TermAdd,

@@ -46,7 +46,7 @@ impl<A: Allocator + Copy> Table<A> {
     }
 
     /// The list, which is empty and has room for them, with the pairs, and perhaps with others of the
-    /// last leaf behind them.
+    /// last leaf after them.
     fn fill(&self, low: Key, high: Fence, limit: usize, list: Vec<(Key, u64)>) -> Vec<(Key, u64)>
         requires empty { list.items ≡ [] }
         requires room { min (pair_count self.now.slots) limit ≤ vec_capacity list }
@@ -108,7 +108,7 @@ impl<A: Allocator + Copy> Slot<A> {
         }
     }
 
-    /// The list, and behind its pairs those of the page from the key on, as many as the limit leaves.
+    /// The list, and after its pairs those of the page from the key on, as many as the limit leaves.
     fn list_from(&self, low: Key, limit: usize, list: Vec<(Key, u64)>) -> Vec<(Key, u64)>
         requires in_row { is_in_row self.now.stage ≡ true }
         requires sound { HasSoundChain self.now }

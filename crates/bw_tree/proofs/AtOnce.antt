@@ -1,4 +1,4 @@
--- What a table performs keeps its book, as the steps do, one behind the other, and reports itself.
+-- What a table performs keeps its book, as the steps do, one after the other, and reports itself.
 use Rattle.std.proofs.Common.{◌≡◌, ℕ, List, [], ◌∷◌, fold, refl, sym, ap, subst, ◌∙◌}
 use Rattle.bw_keys.specs.declared.wished.Wished.{Wished}
 use Rattle.bw_keys.specs.declared.config.Config.{Config}
@@ -59,6 +59,6 @@ module _ (old new : TableValue) (it : Performed) where
   performed_reports (actions.Record key wished) done =
       let takes = subst (λ (k : ℕ). Takes old it new (steps_for old it.page.0 (actions.Record k wished))) (sym done.finds.1) done.takes in
       (done.finds.1, for_the_key key wished done.finds.1 (put_reports old new it wished takes))
-  performed_reports (actions.Consolidate page seen) done = (done.finds.0, done.takes.2.told)
-  performed_reports (actions.Halve page seen) done = (done.finds.0, pid (new_id old), done.takes.2.told)
-  performed_reports (actions.AddTerm child) done = done.takes.2.told
+  performed_reports (actions.Consolidate page seen) done = (done.finds.0, done.takes.2.reported)
+  performed_reports (actions.Halve page seen) done = (done.finds.0, pid (new_id old), done.takes.2.reported)
+  performed_reports (actions.AddTerm child) done = done.takes.2.reported

@@ -47,7 +47,7 @@ pub begun_book : (table : TableValue) (totals : ShareValue) → Lawful table →
 begun_book table totals lawful booked begun = record { lawful = lawful; booked = booked; book = sym begun }
 
 -- what is counted in a book is counted so in what the shares hold of it
-shares_count : (book : Book) (told : Telling) → shared_in (book_with book told) ≡ share_with (shared_in book) told
+shares_count : (book : Book) (reported : Telling) → shared_in (book_with book reported) ≡ share_with (shared_in book) reported
 shares_count book (change number key None None) = refl
 shares_count book (change number key None (Some value)) = refl
 shares_count book (change number key (Some value) None) = refl
@@ -61,7 +61,7 @@ pub book_kept : (old new : TableValue) (step : Proposal) (receipt : Receipt) (to
 book_kept old new step receipt totals more kept none taken is =
     let law = step_law old step kept.lawful kept.booked none in
     let same : shared_in (after old step).book ≡ more =
-    shares_count old.book (telling_of (receipt_of old step)) ∙ ap (counted (shared_in old.book)) (sym taken.told) ∙ ap (λ share. counted share receipt) kept.book ∙ sym is in
+    shares_count old.book (telling_of (receipt_of old step)) ∙ ap (counted (shared_in old.book)) (sym taken.reported) ∙ ap (λ share. counted share receipt) kept.book ∙ sym is in
     rw taken.leads (record { lawful = law.lawful; booked = law.booked; book = same })
 
 -- what an accepted step makes of the map

@@ -22,7 +22,9 @@ pub record ShareValue : Type 0 where
 
 -- how the logic distinguishes shares
 abbrev pub share_code : Coded ShareValue
-share_code = code_by (ℕ × ℕ) (coded× coded_ℕ coded_ℕ) (λ s. (s.inserted, s.removed)) (λ p. record { inserted = p.0; removed = p.1 }) (λ _. refl)
+share_code =
+    code_by (ℕ × ℕ) (coded× coded_ℕ coded_ℕ) (λ s. (s.inserted, s.removed))
+    (λ p. record { inserted = p.0; removed = p.1 }) (λ _. refl)
 
 abbrev pub share_of : ℕ → ℕ → ShareValue
 share_of inserted removed = record { inserted = inserted; removed = removed }
@@ -35,11 +37,14 @@ shared_in book = share_of book.inserted book.removed
 abbrev pub no_changes : ShareValue
 no_changes = share_of 0 0
 
--- the share with what a receipt reports: a key that got a value was inserted, and one that lost its value was removed
+-- the share with what a receipt reports: a key that got a value was inserted,
+-- and one that lost its value was removed
 abbrev pub share_with : ShareValue → Telling → ShareValue
-share_with share (change number key None (Some value)) = record share { inserted = share.inserted + 1 }
-share_with share (change number key (Some value) None) = record share { removed = share.removed + 1 }
-share_with share told = share
+share_with share (change number key None (Some value)) =
+    record share { inserted = share.inserted + 1 }
+share_with share (change number key (Some value) None) =
+    record share { removed = share.removed + 1 }
+share_with share reported = share
 
 -- the share after an accepted step with this receipt
 abbrev pub counted : ShareValue → Receipt → ShareValue
@@ -51,23 +56,31 @@ CountsIn old new result = MatchResult result (λ receipt. new ≡ counted old re
 
 -- an action that was performed is counted in the share, and one that wasn't leaves it as it was
 abbrev pub CountsPerformed : {E : Type 0} → ShareValue → ShareValue → Result Performed E → Type 0
-CountsPerformed old new result = MatchResult result (λ it. new ≡ counted old it.receipt) (λ _. new ≡ old)
+CountsPerformed old new result =
+    MatchResult result (λ it. new ≡ counted old it.receipt) (λ _. new ≡ old)
 
 -- the receipt of what was done for the wish, for a key that had a value, or none
 abbrev pub IsReceiptAtOnce : ℕ → Wished → Receipt → Type 0
-IsReceiptAtOnce key wished receipt = (number : ℕ) × (had : Option ℕ) × (receipt ≡ receipt_for number key had (delta_for wished key had))
+IsReceiptAtOnce key wished receipt =
+    (number : ℕ) × (had : Option ℕ)
+    × (receipt ≡ receipt_for number key had (delta_for wished key had))
 
--- what was performed is reported, whatever the table was: the key that was wished of, the page that was named, and the parent of the child
+-- what was performed is reported, whatever the table was: the key that was wished of, the page that
+-- was named, and the parent of the child
 abbrev pub Reports : Action → Performed → Type 0
 Reports (actions.Change key wished) it = (it.key ≡ key) × IsReceiptAtOnce key wished it.receipt
 Reports (actions.Record key wished) it = (it.key ≡ key) × IsReceiptAtOnce key wished it.receipt
-Reports (actions.Consolidate page seen) it = (it.page ≡ page) × (it.receipt ≡ Shaped kinds.Consolidate page None)
-Reports (actions.Halve page seen) it = (it.page ≡ page) × (new : Pid) × (it.receipt ≡ Shaped kinds.Split page (Some new))
+Reports (actions.Consolidate page seen) it =
+    (it.page ≡ page) × (it.receipt ≡ Shaped kinds.Consolidate page None)
+Reports (actions.Halve page seen) it =
+    (it.page ≡ page) × (new : Pid) × (it.receipt ≡ Shaped kinds.Split page (Some new))
 Reports (actions.AddTerm child) it = it.receipt ≡ Shaped kinds.TermAdd it.page (Some child)
 
 -- all insertions and all removals of the shares
 abbrev pub sum_of : List ShareValue → ShareValue
-sum_of shares = share_of (sum_by (λ (share : ShareValue). share.inserted) shares) (sum_by (λ (share : ShareValue). share.removed) shares)
+sum_of shares =
+    share_of (sum_by (λ (share : ShareValue). share.inserted) shares)
+    (sum_by (λ (share : ShareValue). share.removed) shares)
 
 -- what two shares have together
 abbrev pub together : ShareValue → ShareValue → ShareValue

@@ -18,10 +18,12 @@ use Rattle.bw_tree.specs.declared.share.Blanks.{Blanks}
 -- the leaf row's pairs are as many as the insertions less the removals
 abbrev pub CountsPairs : TableValue → ShareValue → Type 0
 CountsPairs table share =
-    (row : List ℕ) → IsRowOf (outlines table.slots) key_count 0 row → share.inserted ≡ share.removed + length (joined_pairs table.slots row)
+    (row : List ℕ) → IsRowOf (outlines table.slots) key_count 0 row
+    → share.inserted ≡ share.removed + length (joined_pairs table.slots row)
 
--- The table is lawful. So its leaves, along the side links, partition the keys; each search from the root ends at the one leaf whose range
--- holds its key; and the leaves' pairs are the map, and as many as the book says.
+-- The table is lawful. So its leaves, along the side links, partition the keys; each search
+-- from the root ends at the one leaf whose range holds its key; and the leaves' pairs are
+-- the map, and as many as the book says.
 pub record IsTree (table : TableValue) : Type 0 where
   pub lawful : Lawful table
   pub booked : Booked table
@@ -58,11 +60,14 @@ MayBeMade config workers = (first_bad_field config ≡ None) × (is_bad_number w
 -- the first bad field; bad workers where there is none; want of memory where neither is
 abbrev pub IsNewFault : Config → ℕ → NewFault → Type 0
 IsNewFault config workers (BadConfig bad) = first_bad_field config ≡ Some bad.0
-IsNewFault config workers BadWorkers = (first_bad_field config ≡ None) × (is_bad_number workers ≡ true)
+IsNewFault config workers BadWorkers =
+    (first_bad_field config ≡ None) × (is_bad_number workers ≡ true)
 IsNewFault config workers NoMemory = MayBeMade config workers
 
--- two types may stand for the blank ledgers of a tree, and the first of them names the configuration that it is made by
-pub record OpensFor {I D : Type 0} (insertions : Ledger I) (named : Config) (removals : Ledger D) (config : Config) (blanks : Blanks) : Type 0 where
+-- two types may stand for the blank ledgers of a tree, and the first of them
+-- names the configuration that it is made by
+pub record OpensFor {I D : Type 0} (insertions : Ledger I) (named : Config) (removals : Ledger D)
+    (config : Config) (blanks : Blanks) : Type 0 where
   pub inserted : Opens insertions.name insertions.parts blanks.insertions
   pub removed : Opens removals.name removals.parts blanks.removals
   pub made : named ≡ config

@@ -137,7 +137,7 @@ impl<A: Allocator + Copy, I: MadeBy, D: Ledger> Booked<A, I, D> {
     pub fn install(&mut self, share: &mut Share<I, D>, step: Step<A>) -> Result<Receipt, Refused>
         ensures accepted { IsOk result ↔ (refusal self.old (proposal_of step) ≡ None) }
         ensures taken { IfOk result (Leads self.old (proposal_of step) self.new) }
-        ensures told { IfOk result (IsReceiptOf (proposal_of step)) }
+        ensures reported { IfOk result (IsReceiptOf (proposal_of step)) }
         ensures map { OnOk result (MapAfter self.old (proposal_of step)) }
         ensures refused { IfErr result (λ why. refusal self.old (proposal_of step) ≡ Some why) }
         ensures unchanged { OnErr result (self.new ≡ self.old) }

@@ -35,12 +35,12 @@ performed_sums action done trail share later is =
     (receipts_of action done, refl, is ∙ sym (behind_sums (consolidates_behind action done.receipt) done.page (counted share done.receipt)))
 
 -- what is reported of it is what the worker keeps
-pub performed_told : (action : Action) (done : Performed) → Reports action done → IsReceiptOfAction action done.page done.receipt
-performed_told (actions.Change key wished) done report = subst (IsReceiptFor key wished) (sym report.1.2) (is_receipt_for report.1.0 key wished report.1.1)
-performed_told (actions.Record key wished) done report = subst (IsReceiptFor key wished) (sym report.1.2) (is_receipt_for report.1.0 key wished report.1.1)
-performed_told (actions.Consolidate page seen) done report = report.1
-performed_told (actions.Halve page seen) done report = (report.1, report.2)
-performed_told (actions.AddTerm child) done report = report
+pub performed_reported : (action : Action) (done : Performed) → Reports action done → IsReceiptOfAction action done.page done.receipt
+performed_reported (actions.Change key wished) done report = subst (IsReceiptFor key wished) (sym report.1.2) (is_receipt_for report.1.0 key wished report.1.1)
+performed_reported (actions.Record key wished) done report = subst (IsReceiptFor key wished) (sym report.1.2) (is_receipt_for report.1.0 key wished report.1.1)
+performed_reported (actions.Consolidate page seen) done report = report.1
+performed_reported (actions.Halve page seen) done report = (report.1, report.2)
+performed_reported (actions.AddTerm child) done report = report
 
 -- what wasn't performed raises no share
 pub unperformed_sums : (action : Action) (why : Unperformed) (a b : Seen) (share later : ShareValue) → PerformedBy action (Err why) a b → later ≡ share → Sums a.trail share b.trail later

@@ -21,7 +21,7 @@ use std::alloc::{Allocator, Global};
 ///
 /// Its trail keeps a receipt, of some 40 bytes, for each accepted step and each look. So a worker
 /// that lives long calls [`take_trail`](Hand::take_trail) from time to time. The trails that it
-/// gets, one behind the other and with that of [`finish`](Hand::finish) as the last, are the trail
+/// gets, one after the other and with that of [`finish`](Hand::finish) as the last, are the trail
 /// that `finish` alone would have returned. An auditor wants all of them. Where nobody will ask for
 /// the receipts, a worker [with a trail](Hand::with_trail) of [`GivenUp`](crate::GivenUp)
 /// takes the same steps and asks for no memory for them.
@@ -305,7 +305,7 @@ fn pass<G: Gate>(gate: &G, worker: u32, receipt: Receipt) {
     }
 }
 
-/// Calls the gate so for what was performed, and then for the consolidation of the page behind it, if
+/// Calls the gate so for what was performed, and then for the consolidation of the page after it, if
 /// there was one.
 #[inline(always)]
 fn pass_performed<G: Gate>(gate: &G, worker: u32, action: Action, receipt: Receipt) {

@@ -68,7 +68,7 @@ impl<R: Read, W: Write> Read for Hinted<R, W> {
 }
 
 /// Carries out the words, and returns the exit status. The first read of the input writes the hint
-/// behind it, if there is one. Where somebody watches the faults, notes are written there too, and
+/// after it, if there is one. Where somebody watches the faults, notes are written there too, and
 /// the rows of a run are counted.
 pub(crate) fn answer<
     T: Threads + Wait + Sync + Send + Copy,

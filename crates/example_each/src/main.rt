@@ -1,5 +1,5 @@
 //! Two kinds of workers on one map. It is shared twice: the second time it has pairs already, which
-//! one worker reads page by page while another puts more behind them.
+//! one worker reads page by page while another puts more after them.
 #![tactic(auto)]
 
 use anyhow::Result;

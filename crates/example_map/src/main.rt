@@ -2,7 +2,7 @@
 #![tactic(auto)]
 
 use anyhow::Result;
-use nifforan::{Config, Fence, Map};
+use nifforan::{Fence, Map, usual_config};
 use std::alloc::Global;
 
 fn change_and_read(rt: HostRuntime, map: &mut Map<Global>) -> Result<()> {
@@ -22,6 +22,6 @@ fn change_and_read(rt: HostRuntime, map: &mut Map<Global>) -> Result<()> {
 }
 
 fn main(rt: HostRuntime) -> Result<()> {
-    let mut map = Map::new(rt.alloc(), rt.alloc(), Config::default())?;
+    let mut map = Map::new(rt.alloc(), rt.alloc(), usual_config())?;
     change_and_read(rt, &mut map)
 }

@@ -1,10 +1,11 @@
-//! Four threads fill one map, each with keys of its own. Four with readers fill another, and look
-//! at what they put without the lock.
+//! Four threads fill one map, each with keys of its own. Four with readers fill another, and scan
+//! what they put without the lock.
 #![tactic(auto)]
 
 use anyhow::Result;
 use nifforan_shared::{
-    Calls, Config, Fault, GivenUp, Job, ReadingJob, Reads, Worker, share, share_with_readers,
+    Calls, Config, Fault, GivenUp, Job, Key, ReadingJob, Reads, Steps, Worker, share,
+    share_with_readers,
 };
 
 /// Puts a thousand keys by each worker. Nobody will ask for the receipts.
@@ -24,9 +25,9 @@ impl Job for Fill {
     }
 }
 
-/// Does the same, and returns what each worker's reader finds at the first of its keys.
+/// Does the same, and returns the first two of the worker's pairs, which its reader scans.
 impl ReadingJob for Fill {
-    type Output = Result<Option<u64>, Fault>;
+    type Output = Result<Vec<(Key, u64)>, Fault>;
 
     type Trail = GivenUp;
 
@@ -35,11 +36,17 @@ impl ReadingJob for Fill {
         worker: u32,
         hand: &mut W,
         reader: &mut R,
-    ) -> Result<Option<u64>, Fault> {
+    ) -> Result<Vec<(Key, u64)>, Fault> {
         Job::work(self, worker, hand)?;
         reader.publish()?;
-        let first = 1000 * u64::from(worker);
-        Ok(reader.get(first).unwrap_or(None))
+        let mut pairs = Vec::new(hand.alloc());
+        if reader
+            .scan(1000 * u64::from(worker), 2, &mut pairs)
+            .is_err()
+        {
+            return Err(Fault::NoMemory);
+        }
+        Ok(pairs)
     }
 }
 

@@ -102,7 +102,7 @@ pub record IsSearchBack (table : TableValue) (leaf : LeafValue) (key upto : ℕ)
   pub none : HasNoKeyWithin table (upto + 1) (key + 1)
   pub held : IsLeafUnder table leaf (upto + 1)
 
--- how many keys are left, each twice, and one more where the leaf begins behind the last of them
+-- how many keys are left, each twice, and one more where the leaf begins after the last of them
 abbrev pub back_left : LeafValue → ℕ → ℕ
 back_left leaf upto = upto * 2 + cond (ltb upto leaf.low) 1 0
 
@@ -167,7 +167,7 @@ module _ (table : TableValue) (law : Lawful table) where
       by_test true here = within_last_in 0 key_count start end pair es rise (sym is) (grind (arith, nat_tests, here))
       by_test false out = (within_last_out 0 key_count start end pair es rise (sym is) (grind (arith, nat_tests, out)), within_none start 0 es (omega arith))
 
-  -- so a range goes on from behind
+  -- so a range goes on from the back
   pub steps_back : (start end upto less : ℕ) (found taken : Option (ℕ × ℕ)) (left : PairList) → upto + 1 ≡ end → within start end (pairs_of table.slots) ≡ left
       → IfSome found (IsPreviousAt table upto) → IfNone found (HasNoKeyWithin table 0 (upto + 1)) → taken ≡ from_start start found → less ≡ end_before taken
       → YieldsLast (λ (left : PairList). left) left taken (within start less (pairs_of table.slots))

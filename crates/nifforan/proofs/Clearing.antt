@@ -5,8 +5,8 @@ use Rattle.std.proofs.lemmas.List.{append_cancel_left}
 use Rattle.bw_delta.specs.Entries.{at}
 use Rattle.bw_step.specs.declared.receipt.Receipt.{Receipt}
 use Rattle.bw_step.specs.declared.survey.Book.{Book}
-use Rattle.bw_step.specs.Tellings.{Telling, change, look, shape, telling_of, Told, changed, looked, told_by, told_in}
-use Rattle.bw_step.proofs.Tellings.{told_in-append}
+use Rattle.bw_step.specs.Tellings.{Telling, change, look, shape, telling_of, Reported, changed, looked, reported_by, reported_in}
+use Rattle.bw_step.proofs.Tellings.{reported_in-append}
 use Rattle.bw_law.specs.Tables.{TableValue, Maps, IsValueAt, SameMap, ChangesKey, TellsMap, book_with, Lawful, Booked}
 use Rattle.bw_procedures.specs.Clearing.{IsRemovalOf, AreRemovals, AddsRemovals, removal_in, removals_in}
 use Rattle.bw_procedures.specs.Seen.{Seen}
@@ -77,8 +77,8 @@ shape_then low high more a b c same book rest = record {
   no_more = rest.no_more ∙ ap (λ (b : Book). b.inserted) book;
 }
 
-next_loses : (low high : ℕ) (telling : Telling) (xs : List Told) (a b c : TableValue) → TellsMap telling a.slots b.slots → b.book ≡ book_with a.book telling → AreRemovals low high (told_by telling ++ xs)
-    → ((from : ℕ) → AreRemovals from high xs → Loses from high (removals_in xs) b c) → Loses low high (removals_in (told_by telling ++ xs)) a c
+next_loses : (low high : ℕ) (telling : Telling) (xs : List Reported) (a b c : TableValue) → TellsMap telling a.slots b.slots → b.book ≡ book_with a.book telling → AreRemovals low high (reported_by telling ++ xs)
+    → ((from : ℕ) → AreRemovals from high xs → Loses from high (removals_in xs) b c) → Loses low high (removals_in (reported_by telling ++ xs)) a c
 next_loses low high (change number key before after) xs a b c tells book are rest =
     loses_then low high are.0 (removal_in (changed key before after)) (removals_in xs) a b c are.2 are.3 (change_loses are.0 number key before after a b are.1 tells book) (rest (are.0 + 1) are.4)
 next_loses low high (look from key found) xs a b c tells book are rest =
@@ -93,16 +93,16 @@ none_loses low high a b same = subst (λ (t : TableValue). Loses low high 0 a t)
   no_more = refl;
 })
 
-removals_lose : (low high : ℕ) (rs : List Receipt) (a b : TableValue) → Replays a rs b → AreRemovals low high (told_in rs) → Loses low high (removals_in (told_in rs)) a b
+removals_lose : (low high : ℕ) (rs : List Receipt) (a b : TableValue) → Replays a rs b → AreRemovals low high (reported_in rs) → Loses low high (removals_in (reported_in rs)) a b
 removals_lose low high [] a b leads are = none_loses low high a b leads
 removals_lose low high (r ∷ rs) a b leads are =
-    next_loses low high (telling_of r) (told_in rs) a leads.0 b leads.1.map leads.1.book are (λ from more. removals_lose from high rs leads.0 b leads.2 more)
+    next_loses low high (telling_of r) (reported_in rs) a leads.0 b leads.1.map leads.1.book are (λ from more. removals_lose from high rs leads.0 b leads.2 more)
 
 -- what a worker's receipts of removals leave of the map
 pub receipts_lose : (low high removed : ℕ) (old new : Seen) (a b : TableValue) → Leads a old.trail b new.trail → AddsRemovals low high removed old new → Loses low high removed a b
 receipts_lose low high removed old new a b leads adds =
-    let is : told_in leads.0 ≡ adds.added =
-    append_cancel_left (told_in old.trail) (told_in leads.0) adds.added (sym (told_in-append old.trail leads.0) ∙ (sym (ap told_in leads.1) ∙ adds.trail))
+    let is : reported_in leads.0 ≡ adds.added =
+    append_cancel_left (reported_in old.trail) (reported_in leads.0) adds.added (sym (reported_in-append old.trail leads.0) ∙ (sym (ap reported_in leads.1) ∙ adds.trail))
     in
     subst (λ n. Loses low high n a b) (ap removals_in is ∙ adds.count) (removals_lose low high leads.0 a b leads.2 (subst (AreRemovals low high) (sym is) adds.removals))
 

@@ -1,6 +1,6 @@
 -- Pairs set one after the other.
 use Rattle.std.proofs.Common.{◌≡◌, ℕ, ◌+◌, ◌≤◌, true, [], ◌∷◌, ◌++◌, Option, None, Result, Ok, Err, refl, sym, ◌∙◌, ap, append_assoc, append-nil, arith}
-use Rattle.std.specs.Iterator.{Yields, YieldsFirst}
+use Rattle.std.specs.Iterator.{Yields, YieldsFirst, Drains}
 use Rattle.std.proofs.lemmas.Bool.Decides.{nat_tests}
 use Rattle.bw_delta.specs.Entries.{put, rises}
 use Rattle.nifforan.specs.Filling.{IsMadeOf}
@@ -11,17 +11,17 @@ pub set_all-append : (pair : ℕ × ℕ) (pairs old : PairList) → set_all (pai
 set_all-append pair [] old = refl
 set_all-append pair (p ∷ pairs) old = set_all-append pair pairs (put p.0 p.1 old)
 
--- Pairs behind all others stay in their order.
+-- Pairs after all others stay in their order.
 
-rises_further : (low end more : ℕ) (es : PairList) → end ≤ more → rises low end es ≡ true → rises low more es ≡ true
+pub rises_further : (low end more : ℕ) (es : PairList) → end ≤ more → rises low end es ≡ true → rises low more es ≡ true
 rises_further low end more [] le rise = refl
 rises_further low end more (e ∷ es) le rise = grind (arith, nat_tests, rises_further (e.0 + 1) end more es)
 
-put_behind : (low key value : ℕ) (front : PairList) → rises low key front ≡ true → put key value front ≡ front ++ (key, value) ∷ []
+pub put_behind : (low key value : ℕ) (front : PairList) → rises low key front ≡ true → put key value front ≡ front ++ (key, value) ∷ []
 put_behind low key value [] rise = refl
 put_behind low key value (e ∷ es) rise = grind (arith, nat_tests, put_behind (e.0 + 1) key value es)
 
-rises_with : (low key value : ℕ) (front : PairList) → low ≤ key → rises low key front ≡ true → rises low (key + 1) (front ++ (key, value) ∷ []) ≡ true
+pub rises_with : (low key value : ℕ) (front : PairList) → low ≤ key → rises low key front ≡ true → rises low (key + 1) (front ++ (key, value) ∷ []) ≡ true
 rises_with low key value [] le rise = grind (arith, nat_tests)
 rises_with low key value (e ∷ es) le rise = grind (arith, nat_tests, rises_with (e.0 + 1) key value es)
 
@@ -52,8 +52,14 @@ made_of_all end pairs made rise of =
     let all : of.1 ≡ pairs = yields_all of.0 of.1 of.3.1.0 of.3.0 of.3.1.1 of.3.1.2 ∙ of.2 in
     of.4 ∙ (ap (λ (items : PairList). set_all items []) all ∙ set_all_same end pairs rise)
 
+-- all pairs of a map, set in one without pairs, are its list
+pub set_of_all : (end : ℕ) (pairs empty made it items : PairList) → rises 0 end pairs ≡ true → it ≡ pairs → empty ≡ [] → made ≡ set_all items empty
+    → Drains (YieldsFirst (λ (left : PairList). left)) it items → made ≡ pairs
+set_of_all end pairs empty made it items rise is none set drains =
+    made_of_all end pairs made rise (it, items, is, drains, set ∙ ap (λ (old : PairList). set_all items old) none)
+
 -- what is set in a map without pairs is what it is made of
 pub is_made : {U T R E : Type 0} (becomes : U → T → Type 0) (steps : T → Option (ℕ × ℕ) → T → Type 0) (pairs : U) (reply : R) (result : Result R E) (old new : PairList)
     → result ≡ Ok reply → old ≡ [] → SetsAll becomes steps pairs result old new → IsMadeOf becomes steps pairs new
-is_made becomes steps pairs reply (Ok it) old new is empty sets = (sets.0, sets.1, sets.2, sets.4, sets.3 ∙ ap (set_all sets.1) empty)
+is_made becomes steps pairs reply (Ok it) old new is empty sets = (sets.0, sets.2.0, sets.1, sets.2.2, sets.2.1 ∙ ap (set_all sets.2.0) empty)
 is_made becomes steps pairs reply (Err fault) old new is empty sets = absurd (cc is)

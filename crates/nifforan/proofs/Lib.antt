@@ -1,11 +1,16 @@
 pub mod Behind
 pub mod Changes
 pub mod Clearing
+pub mod Edges
 pub mod Fills
 pub mod Neighbours
 pub mod Listing
 pub mod Pops
 pub mod Reading
 pub mod Replies
+pub mod Runs
 pub mod Retains
+pub mod Rooms
 pub mod Growing
+pub mod Settings
+pub mod Appending

@@ -23,11 +23,11 @@ module _ (low end key : ℕ) (es : List (ℕ × ℕ)) (rise : rises low end es �
   begins_rest : (listed : List (ℕ × ℕ)) → BeginsWith (pair ∷ listed) (pair ∷ rest) → BeginsWith listed rest
   begins_rest listed begins = ap (drop 1) begins
 
-  lent_is_first : BeginsWith (from key es) (pair ∷ rest) → first_from key es ≡ Some pair
+  pub lent_is_first : BeginsWith (from key es) (pair ∷ rest) → first_from key es ≡ Some pair
   lent_is_first begins = begins_first (from key es) begins
 
-  -- the others lie behind it
-  rest_is_lent : BeginsWith (from key es) (pair ∷ rest) → BeginsWith (from (pair.0 + 1) es) rest
+  -- the others lie after it
+  pub rest_is_lent : BeginsWith (from key es) (pair ∷ rest) → BeginsWith (from (pair.0 + 1) es) rest
   rest_is_lent begins =
       begins_rest (from (pair.0 + 1) es) (subst (λ (listed : List (ℕ × ℕ)). BeginsWith listed (pair ∷ rest)) (from_step low end key pair es rise (lent_is_first begins)) begins)
 
@@ -69,7 +69,7 @@ less_left leaf other from next is_key next_is_key is inside = ⊎_elim
 pub at_once : (table : TableValue) (leaf : LeafValue) (key : ℕ) → key < key_count → IsLeafFor table leaf key → IsSearch table leaf key key
 at_once table leaf key is_key held = record { later = omega arith; is_key = is_key; none = λ k value above below maps. absurd (omega (arith, above, below)); held = held }
 
--- the first pair that is lent is the next one, the leaf serves for those behind it, and they are lent
+-- the first pair that is lent is the next one, the leaf serves for those after it, and they are lent
 module _ (table : TableValue) (leaf : LeafValue) (key from_key : ℕ) (search : IsSearch table leaf key from_key) (pair : ℕ × ℕ) (rest : List (ℕ × ℕ)) (lent : BeginsWith (from from_key leaf.pairs) (pair ∷ rest)) where
   lent_first : first_from from_key leaf.pairs ≡ Some pair
   lent_first = lent_is_first leaf.low (end_of leaf.high) from_key leaf.pairs search.held.pairs.rise pair rest lent

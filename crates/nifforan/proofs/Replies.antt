@@ -29,8 +29,8 @@ value_after : (a b : List SlotValue) (key : ℕ) (found : Option ℕ) → SameMa
 value_after a b key found same is = λ value. ((λ e. (same key value).1 ((is value).0 e)), (λ maps. (is value).1 ((same key value).0 maps)))
 
 -- the map was the same before what is reported
-told_after : (telling : Telling) (a b c : List SlotValue) → SameMap a b → TellsMap telling b c → TellsMap telling a c
-told_after (change number key before after) a b c same tells = record {
+reported_after : (telling : Telling) (a b c : List SlotValue) → SameMap a b → TellsMap telling b c → TellsMap telling a c
+reported_after (change number key before after) a b c same tells = record {
   had = value_before a b key before same tells.had;
   has = tells.has;
   others = λ k value other. (
@@ -38,12 +38,12 @@ told_after (change number key before after) a b c same tells = record {
     (λ maps. (tells.others k value other).1 ((same k value).1 maps)),
   );
 }
-told_after (look at key found) a b c same tells = (value_before a b key found same tells.0, same_then a b c same tells.1)
-told_after shape a b c same tells = same_then a b c same tells
+reported_after (look at key found) a b c same tells = (value_before a b key found same tells.0, same_then a b c same tells.1)
+reported_after shape a b c same tells = same_then a b c same tells
 
 -- the map is the same after what is reported
-told_before : (telling : Telling) (a b c : List SlotValue) → TellsMap telling a b → SameMap b c → TellsMap telling a c
-told_before (change number key before after) a b c tells same = record {
+reported_before : (telling : Telling) (a b c : List SlotValue) → TellsMap telling a b → SameMap b c → TellsMap telling a c
+reported_before (change number key before after) a b c tells same = record {
   had = tells.had;
   has = value_after b c key after same tells.has;
   others = λ k value other. (
@@ -51,8 +51,8 @@ told_before (change number key before after) a b c tells same = record {
     (λ maps. (same k value).1 ((tells.others k value other).1 maps)),
   );
 }
-told_before (look at key found) a b c tells same = (tells.0, same_then a b c tells.1 same)
-told_before shape a b c tells same = same_then a b c tells same
+reported_before (look at key found) a b c tells same = (tells.0, same_then a b c tells.1 same)
+reported_before shape a b c tells same = same_then a b c tells same
 
 not_one : (r : Receipt) (rs : List Receipt) → r ∷ rs ≡ [] → ⊥
 not_one r rs bad = cc bad
@@ -63,10 +63,10 @@ none_next x (look at key found) xs a b c tells rest none = absurd (not_one x (wi
 none_next x shape xs a b c tells rest none = same_then a b c tells (rest none)
 
 -- receipts of the tree's shape alone leave the map as it is
-none_told : (rs : List Receipt) (a b : TableValue) → Replays a rs b → without_shapes rs ≡ [] → SameMap a.slots b.slots
-none_told [] a b leads none = subst (λ (t : TableValue). SameMap a.slots t.slots) (sym leads) (λ key value. ((λ maps. maps), (λ maps. maps)))
-none_told (r ∷ rs) a b leads none =
-    none_next r (telling_of r) rs a.slots leads.0.slots b.slots leads.1.map (λ more. none_told rs leads.0 b leads.2 more) none
+none_reported : (rs : List Receipt) (a b : TableValue) → Replays a rs b → without_shapes rs ≡ [] → SameMap a.slots b.slots
+none_reported [] a b leads none = subst (λ (t : TableValue). SameMap a.slots t.slots) (sym leads) (λ key value. ((λ maps. maps), (λ maps. maps)))
+none_reported (r ∷ rs) a b leads none =
+    none_next r (telling_of r) rs a.slots leads.0.slots b.slots leads.1.map (λ more. none_reported rs leads.0 b leads.2 more) none
 
 head_is : (x r : Receipt) (xs : List Receipt) → x ∷ xs ≡ r ∷ [] → x ≡ r
 head_is x r xs same = cc same
@@ -77,28 +77,28 @@ tail_is x r xs same = cc same
 one_here : (x r : Receipt) (telling : Telling) (xs : List Receipt) (a b c : List SlotValue) → telling_of x ≡ telling → TellsMap telling a b → (without_shapes xs ≡ [] → SameMap b c)
     → x ∷ without_shapes xs ≡ r ∷ [] → TellsMap (telling_of r) a c
 one_here x r telling xs a b c is tells none one =
-    let told : TellsMap telling a c = told_before telling a b c tells (none (tail_is x r (without_shapes xs) one)) in
-    subst (λ (q : Receipt). TellsMap (telling_of q) a c) (head_is x r (without_shapes xs) one) (subst (λ t. TellsMap t a c) (sym is) told)
+    let reported : TellsMap telling a c = reported_before telling a b c tells (none (tail_is x r (without_shapes xs) one)) in
+    subst (λ (q : Receipt). TellsMap (telling_of q) a c) (head_is x r (without_shapes xs) one) (subst (λ t. TellsMap t a c) (sym is) reported)
 
 one_next : (x r : Receipt) (telling : Telling) (xs : List Receipt) (a b c : List SlotValue) → telling_of x ≡ telling → TellsMap telling a b → (without_shapes xs ≡ [] → SameMap b c)
     → (without_shapes xs ≡ r ∷ [] → TellsMap (telling_of r) b c) → unless_shape x telling ++ without_shapes xs ≡ r ∷ [] → TellsMap (telling_of r) a c
 one_next x r (change number key before after) xs a b c is tells none rest one = one_here x r (change number key before after) xs a b c is tells none one
 one_next x r (look at key found) xs a b c is tells none rest one = one_here x r (look at key found) xs a b c is tells none one
-one_next x r shape xs a b c is tells none rest one = told_after (telling_of r) a b c tells (rest one)
+one_next x r shape xs a b c is tells none rest one = reported_after (telling_of r) a b c tells (rest one)
 
 -- where one receipt is not of the tree's shape, the map changed as it reports
-one_told : (rs : List Receipt) (r : Receipt) (a b : TableValue) → Replays a rs b → without_shapes rs ≡ r ∷ [] → TellsMap (telling_of r) a.slots b.slots
-one_told [] r a b leads one = absurd (not_one r [] (sym one))
-one_told (x ∷ xs) r a b leads one =
-    one_next x r (telling_of x) xs a.slots leads.0.slots b.slots refl leads.1.map (λ more. none_told xs leads.0 b leads.2 more) (λ more. one_told xs r leads.0 b leads.2 more) one
+one_reported : (rs : List Receipt) (r : Receipt) (a b : TableValue) → Replays a rs b → without_shapes rs ≡ r ∷ [] → TellsMap (telling_of r) a.slots b.slots
+one_reported [] r a b leads one = absurd (not_one r [] (sym one))
+one_reported (x ∷ xs) r a b leads one =
+    one_next x r (telling_of x) xs a.slots leads.0.slots b.slots refl leads.1.map (λ more. none_reported xs leads.0 b leads.2 more) (λ more. one_reported xs r leads.0 b leads.2 more) one
 
 -- a trail that was empty has all receipts that were added
 all_lead : (a b : TableValue) (s t : List Receipt) → s ≡ [] → Leads a s b t → Replays a t b
 all_lead a b s t empty leads = subst (λ (l : List Receipt). Replays a l b) (sym (leads.1 ∙ ap (λ (l : List Receipt). l ++ leads.0) empty)) leads.2
 
 -- what is reported of the map is true still where only the tree's shape changed since
-pub still_told : (telling : Telling) (a b c : TableValue) (s t : List Receipt) → TellsMap telling a.slots b.slots → s ≡ [] → Leads b s c t → without_shapes t ≡ without_shapes s → TellsMap telling a.slots c.slots
-still_told telling a b c s t tells empty leads shapes = told_before telling a.slots b.slots c.slots tells (none_told t b c (all_lead b c s t empty leads) (shapes ∙ ap without_shapes empty))
+pub still_reported : (telling : Telling) (a b c : TableValue) (s t : List Receipt) → TellsMap telling a.slots b.slots → s ≡ [] → Leads b s c t → without_shapes t ≡ without_shapes s → TellsMap telling a.slots c.slots
+still_reported telling a b c s t tells empty leads shapes = reported_before telling a.slots b.slots c.slots tells (none_reported t b c (all_lead b c s t empty leads) (shapes ∙ ap without_shapes empty))
 
 -- a look changes the key from what it has to just that
 look_changes : (key k : ℕ) (found there : Option ℕ) (a b : List SlotValue) → k ≡ key → found ≡ there → IsValueAt a k found → SameMap a b → ChangesKey a b key there there
@@ -131,7 +131,7 @@ changes : {T : Type 0} (key : ℕ) (before after : T → Option ℕ) (is_of : T 
     → old.trail ≡ [] → Leads a old.trail b new.trail → IfOk result (λ done. AddsReceipt is_of done.reply old new) → Changes key before after result a b
 changes key before after is_of (Err fault) old new a b tells empty leads adds = tt
 changes key before after is_of (Ok done) old new a b tells empty leads adds =
-    tells done.reply adds.0 a.slots b.slots adds.2 (one_told new.trail adds.0 a b (all_lead a b old.trail new.trail empty leads) (adds.1 ∙ ap (λ (l : List Receipt). without_shapes l ++ adds.0 ∷ []) empty))
+    tells done.reply adds.0 a.slots b.slots adds.2 (one_reported new.trail adds.0 a b (all_lead a b old.trail new.trail empty leads) (adds.1 ∙ ap (λ (l : List Receipt). without_shapes l ++ adds.0 ∷ []) empty))
 
 pub put_is : (key value : ℕ) (result : Result (Done Put) Fault) (old new : Seen) (a b : TableValue) → old.trail ≡ [] → Leads a old.trail b new.trail
     → IfOk result (λ done. AddsReceipt (IsReceiptOfPut key value) done.reply old new) → Changes key before_put (λ reply. Some (value_after_put value reply)) result a b
@@ -149,4 +149,4 @@ delete_is key result old new a b empty leads adds = changes key before_delete (�
 pub fault_keeps : {T : Type 0} (result : Result (Done T) Fault) (old new : Seen) (a b : TableValue) → old.trail ≡ [] → Leads a old.trail b new.trail
     → OnErr result (without_shapes new.trail ≡ without_shapes old.trail) → OnErr result (SameMap a.slots b.slots)
 fault_keeps (Ok done) old new a b empty leads none = tt
-fault_keeps (Err fault) old new a b empty leads none = none_told new.trail a b (all_lead a b old.trail new.trail empty leads) (none ∙ ap without_shapes empty)
+fault_keeps (Err fault) old new a b empty leads none = none_reported new.trail a b (all_lead a b old.trail new.trail empty leads) (none ∙ ap without_shapes empty)

@@ -44,19 +44,19 @@ module _ {F : Type 0} (test : F → ℕ × ℕ → Bool → F → Type 0) where
   filters_more : (f g h : F) (tested kept more stay : PairList) → Filters f tested kept g → Filters g more stay h → Filters f (tested ++ more) (kept ++ stay) h
   filters_more f g h [] kept more stay first then =
       subst (λ (l : PairList). Filters f more (l ++ stay) h) (sym first.0) (subst (λ (s : F). Filters s more stay h) (sym first.1) then)
-  filters_more f g h (pair ∷ tested) kept more stay (true, mid, rest, told, those, is) then =
-      (true, mid, rest ++ stay, told, filters_more mid g h tested rest more stay those then, ap (λ (l : PairList). l ++ stay) is)
-  filters_more f g h (pair ∷ tested) kept more stay (false, mid, rest, told, those, is) then =
-      (false, mid, rest ++ stay, told, filters_more mid g h tested rest more stay those then, ap (λ (l : PairList). l ++ stay) is)
+  filters_more f g h (pair ∷ tested) kept more stay (true, mid, rest, reported, those, is) then =
+      (true, mid, rest ++ stay, reported, filters_more mid g h tested rest more stay those then, ap (λ (l : PairList). l ++ stay) is)
+  filters_more f g h (pair ∷ tested) kept more stay (false, mid, rest, reported, those, is) then =
+      (false, mid, rest ++ stay, reported, filters_more mid g h tested rest more stay those then, ap (λ (l : PairList). l ++ stay) is)
 
   is_filtered : (f g : F) (tested kept : PairList) → Filters f tested kept g → IsFiltered test f tested kept
   is_filtered f g [] kept of = ([], f, refl, refl, of.0)
-  is_filtered f g (pair ∷ tested) kept (true, mid, rest, told, those, is) =
+  is_filtered f g (pair ∷ tested) kept (true, mid, rest, reported, those, is) =
       let of = is_filtered mid g tested rest those in
-      (true ∷ of.0, of.1, omega (arith, of.2), (mid, told, of.3), is ∙ ap (λ (l : PairList). pair ∷ l) of.4)
-  is_filtered f g (pair ∷ tested) kept (false, mid, rest, told, those, is) =
+      (true ∷ of.0, of.1, omega (arith, of.2), (mid, reported, of.3), is ∙ ap (λ (l : PairList). pair ∷ l) of.4)
+  is_filtered f g (pair ∷ tested) kept (false, mid, rest, reported, those, is) =
       let of = is_filtered mid g tested rest those in
-      (false ∷ of.0, of.1, omega (arith, of.2), (mid, told, of.3), is ∙ of.4)
+      (false ∷ of.0, of.1, omega (arith, of.2), (mid, reported, of.3), is ∙ of.4)
 
   -- the test said true of the first pairs, and false of the one with the key
   pub record IsRefused (key : ℕ) (f : F) (pairs : PairList) (g : F) : Type 0 where
@@ -66,21 +66,21 @@ module _ {F : Type 0} (test : F → ℕ × ℕ → Bool → F → Type 0) where
     pub mid : F
     pub is : pairs ≡ front ++ (key, value) ∷ rest
     pub before : Filters f front front mid
-    pub told : test mid (key, value) false g
+    pub reported : test mid (key, value) false g
 
   pub refused : (key : ℕ) (f g : F) (pairs : PairList) → Refuses test (Some key) f pairs g → IsRefused key f pairs g
   refused key f g [] of = absurd (cc (of.0))
-  refused key f g (pair ∷ pairs) (true, mid, told, those) =
+  refused key f g (pair ∷ pairs) (true, mid, reported, those) =
       let then = refused key mid g pairs those in record {
         front = pair ∷ then.front;
         value = then.value;
         rest = then.rest;
         mid = then.mid;
         is = ap (λ (l : PairList). pair ∷ l) then.is;
-        before = (true, mid, then.front, told, then.before, refl);
-        told = then.told;
+        before = (true, mid, then.front, reported, then.before, refl);
+        reported = then.reported;
       }
-  refused key f g (pair ∷ pairs) (false, mid, told, those) =
+  refused key f g (pair ∷ pairs) (false, mid, reported, those) =
       let its : pair.0 ≡ key = cc (those.0) in record {
         front = [];
         value = pair.1;
@@ -88,13 +88,13 @@ module _ {F : Type 0} (test : F → ℕ × ℕ → Bool → F → Type 0) where
         mid = f;
         is = ap (λ (k : ℕ). (k, pair.1) ∷ pairs) its;
         before = (refl, refl);
-        told = subst (λ (k : ℕ). test f (k, pair.1) false g) its (subst (λ (s : F). test f pair false s) those.1 told);
+        reported = subst (λ (k : ℕ). test f (k, pair.1) false g) its (subst (λ (s : F). test f pair false s) those.1 reported);
       }
 
   none_refused : (f g : F) (pairs : PairList) → Refuses test None f pairs g → Filters f pairs pairs g
   none_refused f g [] of = (refl, of.1)
-  none_refused f g (pair ∷ pairs) (true, mid, told, those) = (true, mid, pairs, told, none_refused mid g pairs those, refl)
-  none_refused f g (pair ∷ pairs) (false, mid, told, those) = absurd (cc (those.0))
+  none_refused f g (pair ∷ pairs) (true, mid, reported, those) = (true, mid, pairs, reported, none_refused mid g pairs those, refl)
+  none_refused f g (pair ∷ pairs) (false, mid, reported, those) = absurd (cc (those.0))
 
   -- how far it went: the test is f now, and the pairs are those kept, and those from the low on, of which it wasn't asked
   pub record IsRetained (start f : F) (low : ℕ) (old pairs : PairList) : Type 0 where
@@ -135,7 +135,7 @@ module _ {F : Type 0} (test : F → ℕ × ℕ → Bool → F → Type 0) where
       before_it : Filters start (so.tested ++ past.front) (so.kept ++ past.front) past.mid
       before_it = filters_more start f past.mid so.tested so.kept past.front past.front so.filters past.before
 
-      -- the pair at the key, and those behind it, are left
+      -- the pair at the key, and those after it, are left
       pub ends_at : (Whole : Type 0) → (Whole → ⊥) → Leaves test start Whole old pairs
       ends_at Whole not_whole = record {
         tested = so.tested ++ past.front;
@@ -149,7 +149,7 @@ module _ {F : Type 0} (test : F → ℕ × ℕ → Bool → F → Type 0) where
 
       with_it : Filters start ((so.tested ++ past.front) ++ (key, past.value) ∷ []) (so.kept ++ past.front) g
       with_it =
-          let one : Filters past.mid ((key, past.value) ∷ []) [] g = (false, g, [], past.told, (refl, refl), refl) in
+          let one : Filters past.mid ((key, past.value) ∷ []) [] g = (false, g, [], past.reported, (refl, refl), refl) in
           subst (λ (l : PairList). Filters start ((so.tested ++ past.front) ++ (key, past.value) ∷ []) l g) (append-nil (so.kept ++ past.front))
           (filters_more start past.mid g (so.tested ++ past.front) (so.kept ++ past.front) ((key, past.value) ∷ []) [] before_it one)
 
@@ -169,7 +169,7 @@ module _ {F : Type 0} (test : F → ℕ × ℕ → Bool → F → Type 0) where
         pub less : length new < length pairs
         less = omega (arith, ap length its, ap length all, length-append (so.kept ++ past.front) past.rest, length-append (so.kept ++ past.front) ((key, past.value) ∷ past.rest))
 
-        -- it goes on behind the key
+        -- it goes on after the key
         pub goes_on : IsRetained start g next old new
         goes_on = record {
           tested = (so.tested ++ past.front) ++ (key, past.value) ∷ [];

@@ -47,13 +47,17 @@ abbrev pub with_value : ℕ → Option ℕ → PairList → PairList
 with_value key None pairs = without key pairs
 with_value key (Some value) pairs = put key value pairs
 
--- the key had what was expected and has the new value, or none; or it had another, or none, and keeps that
+-- the key had what was expected and has the new value, or none; or
+-- it had another, or none, and keeps that
 abbrev pub ComparesAndSets : ℕ → Option ℕ → Option ℕ → CompareAndSet → PairList → PairList → Type 0
-ComparesAndSets key expected value Set old new = (at key old ≡ expected) × (new ≡ with_value key value old)
-ComparesAndSets key expected value (Differs had) old new = (had ≡ at key old) × (had ≢ expected) × (new ≡ old)
+ComparesAndSets key expected value Set old new =
+    (at key old ≡ expected) × (new ≡ with_value key value old)
+ComparesAndSets key expected value (Differs had) old new =
+    (had ≡ at key old) × (had ≢ expected) × (new ≡ old)
 
 -- the key had the reply's old value, and then it has the new one, which the function made of that
-pub record Upserts (makes : Option ℕ → ℕ → Type 0) (key : ℕ) (reply : Upsert) (old new : PairList) : Type 0 where
+pub record Upserts (makes : Option ℕ → ℕ → Type 0) (key : ℕ) (reply : Upsert)
+    (old new : PairList) : Type 0 where
   pub had : reply.old ≡ at key old
   pub made : makes reply.old reply.new
   pub has : new ≡ put key reply.new old
@@ -63,10 +67,19 @@ abbrev pub set_all : PairList → PairList → PairList
 set_all [] old = old
 set_all (pair ∷ pairs) old = set_all pairs (put pair.0 pair.1 old)
 
--- items of the iterator were set, in their order: all of them, or, with a fault in the reply's place, the first ones
-abbrev pub SetsAll : {U T R E : Type 0} → (U → T → Type 0) → (T → Option (ℕ × ℕ) → T → Type 0) → U → Result R E → PairList → PairList → Type 0
-SetsAll {U} {T} becomes steps pairs result old new = (it : T) × (items : PairList) × becomes pairs it × (new ≡ set_all items old)
+-- items that the iterator yields were set, in their order: all of them, or, with a
+-- fault in the reply's place, the first ones
+abbrev pub SetsEach : {T R E : Type 0} → (T → Option (ℕ × ℕ) → T → Type 0) → T → Result R E
+    → PairList → PairList → Type 0
+SetsEach {T} steps it result old new =
+    (items : PairList) × (new ≡ set_all items old)
     × MatchResult result (λ _. Drains steps it items) (λ _. (t : T) × Yields steps it items t)
+
+-- the same of what is made an iterator
+abbrev pub SetsAll : {U T R E : Type 0} → (U → T → Type 0) → (T → Option (ℕ × ℕ) → T → Type 0) → U
+    → Result R E → PairList → PairList → Type 0
+SetsAll {U} {T} becomes steps pairs result old new =
+    (it : T) × becomes pairs it × SetsEach steps it result old new
 
 -- n keys from the low on and below the end were removed: all of them, unless the call ended before
 pub record Clears (low end n : ℕ) (Whole : Type 0) (old new : PairList) : Type 0 where

@@ -1,6 +1,9 @@
 pub mod Calls
 pub mod Clearing
 pub mod Filling
+pub mod Growing
 pub mod Maps
 pub mod Reading
 pub mod Retaining
+pub mod Settings
+pub mod Rising

@@ -9,6 +9,7 @@ use Rattle.bw_keys.specs.declared.config.Config.{Config}
 use Rattle.bw_keys.specs.contracts.config.Config as config
 use Rattle.bw_delta.specs.Entries.{put}
 use Rattle.bw_step.specs.declared.receipt.Receipt.{Receipt}
+use Rattle.bw_law.specs.declared.pages.TheConstants.{MAX_PAGES}
 use Rattle.bw_law.specs.Slots.{SlotValue}
 use Rattle.bw_law.specs.Tables.{TableValue, Lawful, Booked, ChangesKey, leaf_pairs}
 use Rattle.bw_procedures.specs.declared.fault.Fault.{Fault}
@@ -23,18 +24,21 @@ use Rattle.bw_procedures.specs.declared.reply.Set.TheVariants as sets
 abbrev pub PairList : Type 0
 PairList = List (ℕ × ℕ)
 
--- a map: its configuration, its pairs in the order of their keys, and how many pages more it has room for
+-- a map: its configuration, which has the most pages that it may have, its pairs in the
+-- order of their keys, how many pages it has memory for, and how many pages more it has room for
 pub record MapValue : Type 0 where
   pub config : Config
   pub pairs : PairList
+  pub pages : ℕ
   pub free : ℕ
 
 abbrev pub map_code : Coded MapValue
 map_code =
-    code_by (Config × (PairList × ℕ))
-    (coded× config.the_row.coded (coded× (coded_list (coded× coded_ℕ coded_ℕ)) coded_ℕ))
-    (λ m. (m.config, (m.pairs, m.free)))
-    (λ p. record { config = p.0; pairs = p.1.0; free = p.1.1 })
+    code_by (Config × (PairList × (ℕ × ℕ)))
+    (coded× config.the_row.coded
+    (coded× (coded_list (coded× coded_ℕ coded_ℕ)) (coded× coded_ℕ coded_ℕ)))
+    (λ m. (m.config, (m.pairs, (m.pages, m.free))))
+    (λ p. record { config = p.0; pairs = p.1.0; pages = p.1.1.0; free = p.1.1.1 })
     (λ _. refl)
 
 -- pairs put into a list, each at its place
@@ -49,13 +53,20 @@ pairs_of (slot ∷ slots) = put_all (leaf_pairs slot) (pairs_of slots)
 
 -- the map that a table has
 abbrev pub map_of : TableValue → MapValue
-map_of table = record { config = table.config; pairs = pairs_of table.slots; free = length table.free }
+map_of table =
+    record {
+      config = table.config;
+      pairs = pairs_of table.slots;
+      pages = table.config.pages;
+      free = length table.free;
+    }
 
 -- the map that it is, where it may come to have that many pages
 abbrev pub map_upto : ℕ → TableValue → MapValue
 map_upto most table = record {
   config = record table.config { pages = most };
   pairs = pairs_of table.slots;
+  pages = table.config.pages;
   free = (most - table.config.pages) + length table.free;
 }
 
@@ -71,7 +82,7 @@ pub record IsReadyUpto (most : ℕ) (table : TableValue) (trail : List Receipt) 
   pub booked : Booked table
   pub no_receipts : trail ≡ []
   pub pages : table.config.pages ≤ most
-  pub few : most ≤ 65536
+  pub few : most ≤ MAX_PAGES
 
 -- the key lies from the low on and below the end
 abbrev pub is_inside : ℕ → ℕ → ℕ × ℕ → Bool
@@ -111,5 +122,7 @@ value_after_put value Inserted = value
 value_after_put value (Present there) = there
 
 -- with a reply the key changed by it: from the value before it to the one after
-abbrev pub Changes : {T : Type 0} → ℕ → (T → Option ℕ) → (T → Option ℕ) → Result (Done T) Fault → TableValue → TableValue → Type 0
-Changes key before after result old new = IfOk result (λ done. ChangesKey old.slots new.slots key (before done.reply) (after done.reply))
+abbrev pub Changes : {T : Type 0} → ℕ → (T → Option ℕ) → (T → Option ℕ) → Result (Done T) Fault
+    → TableValue → TableValue → Type 0
+Changes key before after result old new =
+    IfOk result (λ done. ChangesKey old.slots new.slots key (before done.reply) (after done.reply))

@@ -28,7 +28,7 @@ abbrev pub end_past : Option (ℕ × ℕ) → ℕ
 end_past None = key_count
 end_past (Some pair) = pair.0 + 1
 
--- the leaf is one of the table's, and none of its keys is needed that lies behind it
+-- the leaf is one of the table's, and none of its keys is needed that lies after it
 pub record IsLeafUnder (table : TableValue) (leaf : LeafValue) (end : ℕ) : Type 0 where
   pub pairs : ArePairsWithin table leaf.low (end_of leaf.high) leaf.pairs
   pub ends : end ≤ end_of leaf.high
@@ -37,9 +37,10 @@ pub record IsLeafUnder (table : TableValue) (leaf : LeafValue) (end : ℕ) : Typ
 abbrev pub AreLentUnder : LeafValue → ℕ → List (ℕ × ℕ) → Type 0
 AreLentUnder leaf end lent = 0 < end → EndsWith (below end leaf.pairs) lent
 
--- a leaf is held from behind, for the keys below the end, and has lent its last pairs
+-- a leaf is held from the back, for the keys below the end, and has lent its last pairs
 abbrev pub HoldsUnder : {A : Type 0} → TableValue → ℕ → Back A → Type 0
-HoldsUnder table end back = IsLeafUnder table back.leaf end × AreLentUnder back.leaf end (list_of back.lent)
+HoldsUnder table end back =
+    IsLeafUnder table back.leaf end × AreLentUnder back.leaf end (list_of back.lent)
 
 -- the pair, if its key lies at the start or past it
 abbrev pub from_start : ℕ → Option (ℕ × ℕ) → Option (ℕ × ℕ)

@@ -29,7 +29,7 @@ pub(crate) fn end_fence(end: Bound<&Key>) -> Fence
     }
 }
 
-/// Returns the fence behind the key.
+/// Returns the fence after the key.
 #[inline(always)]
 pub(crate) fn fence_behind(key: Key) -> Fence
     ensures { end_of result ≡ key + 1 }

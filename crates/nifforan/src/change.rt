@@ -1,8 +1,10 @@
 //! Changes of a key by what it has.
 
-ghost use Rattle.std.specs.Prelude.{◌≡◌, IfOk, OnErr};
+ghost use Rattle.std.specs.Prelude.{◌≡◌, ◌≤◌, Some, IfOk, OnErr};
 ghost use Rattle.bw_delta.specs.Entries.{at};
+ghost use Rattle.bw_procedures.specs.declared.fault.Fault.TheVariants as faults;
 ghost use Rattle.nifforan.specs.Calls.{ComparesAndSets, Upserts, Sets, Deletes};
+ghost use Rattle.nifforan.specs.Growing.{HasAllPages, fault_reported};
 ghost use Rattle.nifforan.specs.Maps.{before_set, before_delete};
 
 use crate::in_place::Found;
@@ -41,6 +43,8 @@ impl<A: Allocator + Copy> Map<A> {
         ensures sets { IfOk result (λ done.
             ComparesAndSets key expected new done.reply self.old.pairs self.new.pairs) }
         ensures unchanged { OnErr result (self.new.pairs ≡ self.old.pairs) }
+        ensures full { fault_reported result ≡ Some faults.TableFull → HasAllPages self.new }
+        ensures pages { self.old.pages ≤ self.new.pages }
         ensures config { self.new.config ≡ self.old.config }
     {
         let found = self.find(key);
@@ -70,6 +74,8 @@ impl<A: Allocator + Copy> Map<A> {
         ensures upserts { IfOk result (λ done.
             Upserts (F.post new) key done.reply self.old.pairs self.new.pairs) }
         ensures unchanged { OnErr result (self.new.pairs ≡ self.old.pairs) }
+        ensures full { fault_reported result ≡ Some faults.TableFull → HasAllPages self.new }
+        ensures pages { self.old.pages ≤ self.new.pages }
         ensures config { self.new.config ≡ self.old.config }
     {
         let found = self.find(key);
@@ -95,10 +101,13 @@ impl<A: Allocator + Copy> Map<A> {
         ensures sets { IfOk result (λ done.
             Sets key value (before_set done.reply) self.old.pairs self.new.pairs) }
         ensures unchanged { OnErr result (self.new.pairs ≡ self.old.pairs) }
+        ensures full { fault_reported result ≡ Some faults.TableFull → HasAllPages self.new }
+        ensures pages { self.old.pages ≤ self.new.pages }
         ensures config { self.new.config ≡ self.old.config }
     {
         self.make_room();
-        self.set_found_in_room(found, key, value)
+        let answer = self.set_found_in_room(found, key, value);
+        self.reported(answer)
     }
 
     /// Deletes the key, which was looked up.
@@ -107,8 +116,12 @@ impl<A: Allocator + Copy> Map<A> {
         ensures deletes { IfOk result (λ done.
             Deletes key (before_delete done.reply) self.old.pairs self.new.pairs) }
         ensures unchanged { OnErr result (self.new.pairs ≡ self.old.pairs) }
+        ensures full { fault_reported result ≡ Some faults.TableFull → HasAllPages self.new }
+        ensures pages { self.old.pages ≤ self.new.pages }
         ensures config { self.new.config ≡ self.old.config }
     {
-        self.worker.delete_found(found, key)
+        self.make_room();
+        let answer = self.delete_found_in_room(found, key);
+        self.reported(answer)
     }
 }

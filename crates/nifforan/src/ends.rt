@@ -1,7 +1,9 @@
 //! The first pair and the last one, taken out.
 
-ghost use Rattle.std.specs.Prelude.{◌≡◌, IfOk, OnErr};
+ghost use Rattle.std.specs.Prelude.{◌≡◌, ◌≤◌, Some, IfOk, OnErr};
+ghost use Rattle.bw_procedures.specs.declared.fault.Fault.TheVariants as faults;
 ghost use Rattle.nifforan.specs.Calls.{PopsFirst, PopsLast, TakesOut};
+ghost use Rattle.nifforan.specs.Growing.{HasAllPages, fault_reported};
 
 use crate::map::Map;
 use bw_keys::Key;
@@ -13,6 +15,8 @@ impl<A: Allocator + Copy> Map<A> {
     pub fn pop_first(&mut self) -> Result<Done<Option<(Key, u64)>>, Fault>
         ensures pops { IfOk result (λ done. PopsFirst done.reply self.old.pairs self.new.pairs) }
         ensures unchanged { OnErr result (self.new.pairs ≡ self.old.pairs) }
+        ensures full { fault_reported result ≡ Some faults.TableFull → HasAllPages self.new }
+        ensures pages { self.old.pages ≤ self.new.pages }
         ensures config { self.new.config ≡ self.old.config }
     {
         self.law();
@@ -24,6 +28,8 @@ impl<A: Allocator + Copy> Map<A> {
     pub fn pop_last(&mut self) -> Result<Done<Option<(Key, u64)>>, Fault>
         ensures pops { IfOk result (λ done. PopsLast done.reply self.old.pairs self.new.pairs) }
         ensures unchanged { OnErr result (self.new.pairs ≡ self.old.pairs) }
+        ensures full { fault_reported result ≡ Some faults.TableFull → HasAllPages self.new }
+        ensures pages { self.old.pages ≤ self.new.pages }
         ensures config { self.new.config ≡ self.old.config }
     {
         self.law();
@@ -36,6 +42,8 @@ impl<A: Allocator + Copy> Map<A> {
         ensures takes { IfOk result (λ done.
             TakesOut pair done.reply self.old.pairs self.new.pairs) }
         ensures unchanged { OnErr result (self.new.pairs ≡ self.old.pairs) }
+        ensures full { fault_reported result ≡ Some faults.TableFull → HasAllPages self.new }
+        ensures pages { self.old.pages ≤ self.new.pages }
         ensures config { self.new.config ≡ self.old.config }
     {
         let Some((key, _)) = pair else {

@@ -1,10 +1,12 @@
 //! Many pairs, set one after the other.
 
-ghost use Rattle.std.specs.Prelude.{◌≡◌, None, IfOk, IfErr, OnOk};
-ghost use Rattle.std.specs.Iterator.{IsFiniteIterable};
-ghost use Rattle.bw_keys.specs.Limits.{first_bad_field};
-ghost use Rattle.nifforan.specs.Calls.{SetsAll};
+ghost use Rattle.std.specs.Prelude.{◌≡◌, ◌≤◌, None, Some, IfOk, IfErr, OnOk};
+ghost use Rattle.std.specs.Iterator.{IsFinite, IsFiniteIterable};
+ghost use Rattle.bw_procedures.specs.declared.fault.Fault.TheVariants as faults;
+ghost use Rattle.nifforan.specs.Calls.{SetsAll, SetsEach};
 ghost use Rattle.nifforan.specs.Filling.{IsFillFault, IsMadeOf};
+ghost use Rattle.nifforan.specs.Growing.{HasAllPages, fault_reported};
+ghost use Rattle.nifforan.specs.Settings.{first_bad_setting};
 
 use crate::map::Map;
 use bw_keys::{Config, Key};
@@ -36,10 +38,31 @@ impl<A: Allocator + Copy> Map<A> {
             pairs }
         ensures sets { SetsAll U.into_iter_gives U.IntoIter.next_gives pairs result
             self.old.pairs self.new.pairs }
+        ensures full { fault_reported result ≡ Some faults.TableFull → HasAllPages self.new }
+        ensures pages { self.old.pages ≤ self.new.pages }
+        ensures config { self.new.config ≡ self.old.config }
+    {
+        let left = pairs.into_iter();
+        let hint = left.size_hint().0 as u64;
+        // Keys of a map that has some may be among them. Without this memory pages come by and by.
+        let new = if self.is_empty() { hint } else { hint / 2 };
+        let _ahead = self.reserve(new);
+        self.set_each(left)
+    }
+
+    /// Sets the key of each pair that the iterator yields to its value.
+    pub(crate) fn set_each<I: Iterator<Item = (Key, u64)>>(
+        &mut self,
+        mut left: I,
+    ) -> Result<Done<()>, Fault>
+        requires next { I.can_next left }
+        requires finite { IsFinite (I.remaining left) }
+        ensures sets { SetsEach I.next_gives left result self.old.pairs self.new.pairs }
+        ensures full { fault_reported result ≡ Some faults.TableFull → HasAllPages self.new }
+        ensures pages { self.old.pages ≤ self.new.pages }
         ensures config { self.new.config ≡ self.old.config }
     {
         let mut fault = None;
-        let mut left = pairs.into_iter();
         while let Some((key, value)) = left.next() {
             let done = self.set(key, value)?;
             fault = fault.or(done.fault);
@@ -59,7 +82,7 @@ impl<A: Allocator + Copy> Map<A> {
         ensures pairs { IfOk result (λ map.
             IsMadeOf U.into_iter_gives U.IntoIter.next_gives pairs map.pairs) }
         ensures config { IfOk result (λ map. map.config ≡ config) }
-        ensures fine { OnOk result (first_bad_field config ≡ None) }
+        ensures fine { OnOk result (first_bad_setting config ≡ None) }
         ensures fault { IfErr result (IsFillFault config) }
     {
         let mut map = match Map::new(machine, alloc, config) {

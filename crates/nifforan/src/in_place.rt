@@ -1,10 +1,9 @@
 //! A key that is looked up and then changed, in one search.
 
 ghost use Rattle.std.specs.Prelude.{◌≡◌, [], Some, None, IfSome, IfNone, OnErr};
-ghost use Rattle.bw_keys.specs.declared.wished.Wished.TheVariants as wishes;
 ghost use Rattle.bw_step.specs.Tellings.{telling_of};
 ghost use Rattle.bw_law.specs.Tables.{IsValueAt, SameMap, TellsMap};
-ghost use Rattle.bw_procedures.specs.Writing.{IsReceiptFor, IsReceiptOfSet, IsReceiptOfDelete};
+ghost use Rattle.bw_procedures.specs.Writing.{IsReceiptFor};
 ghost use Rattle.nifforan.specs.Maps.{IsReady, Changes, before_set, before_delete};
 
 use crate::worker::Worker;
@@ -69,7 +68,7 @@ impl<A: Allocator + Copy> Worker<A> {
     {
         match self.change_found(found, key, Wished::Set(value)) {
             Some(made) => Ok(Done {
-                reply: reply_of_set(key, value, made.receipt),
+                reply: Set::of(made.receipt),
                 fault: made.fault,
             }),
             None => self.set(key, value),
@@ -88,7 +87,7 @@ impl<A: Allocator + Copy> Worker<A> {
     {
         match self.change_found(found, key, Wished::Delete) {
             Some(made) => Ok(Done {
-                reply: reply_of_delete(key, made.receipt),
+                reply: Del::of(made.receipt),
                 fault: made.fault,
             }),
             None => self.delete(key),
@@ -98,7 +97,7 @@ impl<A: Allocator + Copy> Worker<A> {
     /// Carries out the wish on the leaf, if it was found and takes the change at once, and tends it.
     fn change_found(&mut self, found: Found, key: Key, wished: Wished) -> Option<Made>
         requires { self.old.owner.account.seen.trail ≡ [] }
-        ensures told { IfSome result (λ made. IsReceiptFor key wished made.receipt) }
+        ensures reported { IfSome result (λ made. IsReceiptFor key wished made.receipt) }
         ensures map { IfSome result (λ made. TellsMap (telling_of made.receipt)
             self.old.owner.table.value.slots self.new.owner.table.value.slots) }
         ensures ready { IfSome result (λ made.
@@ -111,27 +110,5 @@ impl<A: Allocator + Copy> Worker<A> {
         let fault = self.owner.tend(leaf).err();
         self.owner.forget();
         Some(Made { receipt, fault })
-    }
-}
-
-/// The reply that goes with the receipt.
-fn reply_of_set(key: Key, value: u64, receipt: Receipt) -> Set
-    requires { IsReceiptFor key (wishes.Set value) receipt }
-    ensures { IsReceiptOfSet key value result receipt }
-{
-    match receipt {
-        Receipt::Modified { old, .. } => Set::Replaced(old),
-        _ => Set::Inserted,
-    }
-}
-
-/// The reply that goes with the receipt.
-fn reply_of_delete(key: Key, receipt: Receipt) -> Del
-    requires { IsReceiptFor key wishes.Delete receipt }
-    ensures { IsReceiptOfDelete key result receipt }
-{
-    match receipt {
-        Receipt::Deleted { value, .. } => Del::Removed(value),
-        _ => Del::NoKey,
     }
 }

@@ -1,13 +1,14 @@
-ghost use Rattle.std.specs.Prelude.{◌≡◌, ◌↔◌, ◌-◌, ◌≤◌, [], None, length, map, true};
+ghost use Rattle.std.specs.Prelude.{◌≡◌, ◌↔◌, ◌-◌, ◌≤◌, [], None, Some, length, map, true};
 ghost use Rattle.std.specs.Prelude.{IsTrue, IsSome, IsOk, IfOk, IfErr, OnErr};
-ghost use Rattle.bw_keys.specs.Limits.{first_bad_field};
 ghost use Rattle.bw_keys.specs.Ranges.{end_of, key_count};
 ghost use Rattle.bw_delta.specs.Entries.{at, rises};
 ghost use Rattle.bw_delta.specs.Entries.{first_entry, last_entry, first_from, last_upto};
-ghost use Rattle.bw_table.specs.Answers.{IsNewFault};
+ghost use Rattle.bw_procedures.specs.declared.fault.Fault.TheVariants as faults;
 ghost use Rattle.nifforan.specs.Calls.{Puts, Sets, Deletes, Clears};
+ghost use Rattle.nifforan.specs.Growing.{HasAllPages, fault_reported};
 ghost use Rattle.nifforan.specs.Maps.{map_of, map_upto, pairs_of, between, within};
 ghost use Rattle.nifforan.specs.Maps.{before_put, before_set, before_delete};
+ghost use Rattle.nifforan.specs.Settings.{first_bad_setting, first_pages, IsMapFault};
 
 use crate::bounds::{end_fence, first_key, start_fence};
 use crate::iter::Iter;
@@ -16,17 +17,18 @@ use crate::worker::Worker;
 use bw_delta::EntrySlice;
 use bw_keys::{Config, Fence, Key};
 use bw_procedures::{Cleared, Del, Done, Fault, Put, Set};
-use bw_table::{NewFault, Table};
+use bw_table::{MAX_PAGES, NewFault, Table};
 use std::alloc::{Allocator, Global};
 use std::marker::Model;
 use std::ops::RangeBounds;
 
 /// An ordered map from u64 keys to u64 values, for one thread.
 ///
-/// A call that changes it may end with a fault: `NoMemory`, `TableFull` if no slot is free for a
-/// new page, `TooTall` if the tree has its greatest height, `Worn` if a page's version or the
-/// number of changes is used up, and `Contended` if the call used the effort that the configuration
-/// allows it. A fault in place of a reply leaves the pairs unchanged. One beside a reply, in
+/// A call that changes it may end with a fault: `NoMemory`, also if a new page was needed and memory
+/// for more pages was refused, `TableFull` if the map has all pages that it may have and none was
+/// free, `TooTall` if the tree has its greatest height, `Worn` if a page's version or the number of
+/// changes is used up, and `Contended` if the call used the effort that the configuration allows
+/// it. A fault in place of a reply leaves the pairs unchanged. One beside a reply, in
 /// `Done::fault`, only cuts short the care for the pages, which a later call resumes.
 #[derive(Drop)]
 pub struct Map<A: Allocator + Copy> {
@@ -50,20 +52,19 @@ impl<A: Allocator + Copy> Model for Map<A> {
 
 impl<A: Allocator + Copy> Map<A> {
     /// Creates a map without pairs. The pairs will lie in `alloc`, all else in the machine's
-    /// memory. It begins with a few pages, and doubles them as it grows, up to `config.pages`. Fails
-    /// if a field of the configuration is out of its range, or memory is short.
+    /// memory. It begins with a few pages, and doubles them as it grows, up to `config.pages`, which
+    /// may be [`MAX_PAGES`]. Fails if a field of the configuration is out of its range, or memory is
+    /// short.
     pub fn new(machine: Global, alloc: A, config: Config) -> Result<Map<A>, NewFault>
         ensures config { IfOk result (λ map. map.config ≡ config) }
         ensures empty { IfOk result (λ map. map.pairs ≡ []) }
+        ensures pages { IfOk result (λ map. map.pages ≡ 8) }
         ensures free { IfOk result (λ map. map.free ≡ config.pages - 1) }
-        ensures fine { IsOk result → first_bad_field config ≡ None }
-        ensures fault { IfErr result (IsNewFault config) }
+        ensures fine { IsOk result → first_bad_setting config ≡ None }
+        ensures fault { IfErr result (IsMapFault config) }
     {
-        if let Err(bad) = config.check() {
-            return Err(NewFault::BadConfig(bad));
-        }
         let first = Config {
-            pages: config.pages.min(FIRST_PAGES),
+            pages: first_pages(config.pages),
             ..config
         };
         let table = Table::new(machine, alloc, first)?;
@@ -110,11 +111,12 @@ impl<A: Allocator + Copy> Map<A> {
         }
     }
 
-    /// Does nothing. The contract states that the keys of the pairs rise, for a caller whose proof
-    /// needs it.
+    /// Does nothing. The contract states that the keys of the pairs rise, and that the map has no
+    /// more pages than it may have, for a caller whose proof needs it.
     #[inline(always)]
     pub fn law(&self)
-        ensures { rises 0 key_count self.now.pairs ≡ true }
+        ensures rise { rises 0 key_count self.now.pairs ≡ true }
+        ensures pages { self.now.pages ≤ self.now.config.pages }
     {
         // Reading the worker yields the law of its table.
         let _worker = &self.worker;
@@ -133,6 +135,14 @@ impl<A: Allocator + Copy> Map<A> {
         ensures { IsTrue result ↔ (self.now.pairs ≡ []) }
     {
         self.len() == 0
+    }
+
+    /// Returns how many pages the map has memory for, in constant time. It takes more as it grows, up
+    /// to `Config::pages`, or ahead, by `reserve`.
+    pub fn pages(&self) -> usize
+        ensures { result ≡ self.now.pages }
+    {
+        self.worker.owner.table.value.config().pages as usize
     }
 
     /// Returns how many pages more the map has room for, in constant time.
@@ -248,10 +258,13 @@ impl<A: Allocator + Copy> Map<A> {
         ensures puts { IfOk result (λ done.
             Puts key value (before_put done.reply) self.old.pairs self.new.pairs) }
         ensures unchanged { OnErr result (self.new.pairs ≡ self.old.pairs) }
+        ensures full { fault_reported result ≡ Some faults.TableFull → HasAllPages self.new }
+        ensures pages { self.old.pages ≤ self.new.pages }
         ensures config { self.new.config ≡ self.old.config }
     {
         self.make_room();
-        self.put_in_room(key, value)
+        let answer = self.put_in_room(key, value);
+        self.reported(answer)
     }
 
     /// Sets the key to the value. The reply has the value before it, if there was one.
@@ -259,10 +272,13 @@ impl<A: Allocator + Copy> Map<A> {
         ensures sets { IfOk result (λ done.
             Sets key value (before_set done.reply) self.old.pairs self.new.pairs) }
         ensures unchanged { OnErr result (self.new.pairs ≡ self.old.pairs) }
+        ensures full { fault_reported result ≡ Some faults.TableFull → HasAllPages self.new }
+        ensures pages { self.old.pages ≤ self.new.pages }
         ensures config { self.new.config ≡ self.old.config }
     {
         self.make_room();
-        self.set_in_room(key, value)
+        let answer = self.set_in_room(key, value);
+        self.reported(answer)
     }
 
     /// Deletes the key, if it has a value. The reply has that value.
@@ -270,9 +286,13 @@ impl<A: Allocator + Copy> Map<A> {
         ensures deletes { IfOk result (λ done.
             Deletes key (before_delete done.reply) self.old.pairs self.new.pairs) }
         ensures unchanged { OnErr result (self.new.pairs ≡ self.old.pairs) }
+        ensures full { fault_reported result ≡ Some faults.TableFull → HasAllPages self.new }
+        ensures pages { self.old.pages ≤ self.new.pages }
         ensures config { self.new.config ≡ self.old.config }
     {
-        self.worker.delete(key)
+        self.make_room();
+        let answer = self.delete_in_room(key);
+        self.reported(answer)
     }
 
     /// Deletes the keys from the low on and below the high, and returns how many it deleted. If a
@@ -280,13 +300,31 @@ impl<A: Allocator + Copy> Map<A> {
     pub fn clear(&mut self, low: Key, high: Fence) -> Cleared
         ensures clears { Clears low (end_of high) result.removed (result.fault ≡ None)
             self.old.pairs self.new.pairs }
+        ensures full { result.fault ≡ Some faults.TableFull → HasAllPages self.new }
+        ensures pages { self.old.pages ≤ self.new.pages }
         ensures config { self.new.config ≡ self.old.config }
     {
-        self.worker.clear(low, high)
+        self.make_room();
+        let cleared = self.clear_in_room(low, high);
+        Cleared {
+            removed: cleared.removed,
+            fault: self.cause(cleared.fault),
+        }
     }
 }
 
-/// How many pages a new map's table has.
+/// How many pages the table of a new map has that may have so many. A number that is out of a map's
+/// range stays out of a table's.
+fn first_pages(most: u32) -> u32
+    ensures { result ≡ first_pages most }
+{
+    if most <= MAX_PAGES {
+        most.min(FIRST_PAGES)
+    } else {
+        0
+    }
+}
+
 const FIRST_PAGES: u32 = 8;
 
 impl<'m, A: Allocator + Copy> IntoIterator for &'m Map<A> {

@@ -1,6 +1,6 @@
 //! The pairs of a map in a range of keys, one after the other, from either end.
 
-ghost use Rattle.std.specs.Prelude.{◌≡◌, ◌+◌, [], ◌∷◌, IfSome, IfNone};
+ghost use Rattle.std.specs.Prelude.{◌≡◌, ◌+◌, ◌≤◌, [], ◌∷◌, ◌++◌, IfSome, IfNone, length};
 ghost use Rattle.bw_keys.specs.Ranges.{end_of, key_count};
 ghost use Rattle.bw_delta.specs.Slices.{list_of};
 ghost use Rattle.bw_table.specs.Orders.{HasNoKeyWithin, IsNextAt};
@@ -51,6 +51,44 @@ impl<'m, A: Allocator + Copy> Model for Pairs<'m, A> {
     ghost invariant = { λ r. IsLeafFor r.table.now r.leaf (end_of r.next)
         × AreLent r.leaf (end_of r.next) (list_of r.lent)
         × IfSome r.back (HoldsUnder r.table.now (end_of r.high)) };
+}
+
+impl<'m, A: Allocator + Copy> Pairs<'m, A> {
+    /// Takes pairs from the front that lie side by side in the leaf that is held, at most so many.
+    /// They may be none while some are left: then [`Pairs::next`] finds the next one.
+    #[inline(always)]
+    pub fn take_run(&mut self, most: usize) -> EntrySlice<'m, u64>
+        ensures taken { self.old ≡ list_of result ++ self.new }
+        ensures few { length (list_of result) ≤ most }
+    {
+        if self.next.is_above(Key::MAX) {
+            return EntrySlice::empty();
+        }
+        let (run, rest) = self.lent.split_at(count_under(self.high, self.lent, most));
+        let Some(last) = run.last() else {
+            return EntrySlice::empty();
+        };
+        if !self.high.is_above(last.0) {
+            return EntrySlice::empty();
+        }
+        self.lent = rest;
+        self.next = fence_behind(last.0);
+        run
+    }
+}
+
+/// Returns how many of the pairs are taken at once: at most so many. Where not all of them lie below
+/// the fence, it halves their number until the last one does.
+#[inline(always)]
+fn count_under(high: Fence, lent: EntrySlice<'_, u64>, most: usize) -> usize
+    ensures inside { result ≤ length (list_of lent.entry) }
+    ensures few { result ≤ most }
+{
+    let mut count = most.min(lent.len());
+    'halves: while count > 0 && !high.is_above(lent.key(count - 1)) {
+        count /= 2;
+    }
+    count
 }
 
 impl<'m, A: Allocator + Copy> Iterator for Pairs<'m, A> {
@@ -185,7 +223,7 @@ fn take_first<'m>(lent: &mut EntrySlice<'m, u64>) -> Option<(Key, u64)>
 }
 
 /// Searches leaf by leaf for the table's pair with the least key at or above the key, and returns
-/// it. The leaf that has it is held then, and lends the pairs behind it.
+/// it. The leaf that has it is held then, and lends the pairs after it.
 fn searched_from<'m, A: Allocator + Copy>(
     table: &'m Table<A>,
     leaf: &mut LeafRef<'m, A>,

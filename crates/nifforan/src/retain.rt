@@ -1,6 +1,8 @@
 //! The pairs of which a function says so, kept.
 
-ghost use Rattle.std.specs.Prelude.{◌≡◌, ◌≤◌, None, length};
+ghost use Rattle.std.specs.Prelude.{◌≡◌, ◌≤◌, None, Some, length};
+ghost use Rattle.bw_procedures.specs.declared.fault.Fault.TheVariants as faults;
+ghost use Rattle.nifforan.specs.Growing.{HasAllPages};
 ghost use Rattle.nifforan.specs.Retaining.{Leaves, Refuses, Retains};
 
 use crate::bounds::fence_behind;
@@ -13,12 +15,14 @@ use std::alloc::Allocator;
 impl<A: Allocator + Copy> Map<A> {
     /// Keeps the pairs of which the function returns true, removes the others, and returns how many
     /// it removed. The function is called once with each pair, in the order of the keys. A fault in
-    /// place of a removal ends the call: that pair and those behind it stay. One beside a removal
+    /// place of a removal ends the call: that pair and those after it stay. One beside a removal
     /// doesn't, and the first of these is returned.
     pub fn retain<F: FnMut(Key, u64) -> bool>(&mut self, keep: F) -> Cleared
         requires { F.IsAlwaysCallable keep }
         ensures retains { Retains (λ f pair stays g. F.step f pair.0 pair.1 stays g) keep
             result.removed (result.fault ≡ None) self.old.pairs self.new.pairs }
+        ensures full { result.fault ≡ Some faults.TableFull → HasAllPages self.new }
+        ensures pages { self.old.pages ≤ self.new.pages }
         ensures config { self.new.config ≡ self.old.config }
     {
         let count = self.len();
@@ -36,6 +40,8 @@ impl<A: Allocator + Copy> Map<A> {
         ensures leaves { Leaves (λ f pair stays g. F.step f pair.0 pair.1 stays g) keep
             (result ≡ None) self.old.pairs self.new.pairs }
         ensures fewer { length self.new.pairs ≤ length self.old.pairs }
+        ensures full { result ≡ Some faults.TableFull → HasAllPages self.new }
+        ensures pages { self.old.pages ≤ self.new.pages }
         ensures config { self.new.config ≡ self.old.config }
     {
         self.law();

@@ -1,13 +1,17 @@
-//! Pages for a map whose table has too few.
+//! Pages for a map whose table has too few, and the changes in it once they are there.
 
-ghost use Rattle.std.specs.Prelude.{◌≡◌, IfOk, OnErr};
-ghost use Rattle.nifforan.specs.Calls.{Puts, Sets};
-ghost use Rattle.nifforan.specs.Maps.{before_put, before_set};
+ghost use Rattle.std.specs.Prelude.{◌≡◌, ◌↔◌, ◌≤◌, min, Some, None, IfOk, OnOk, OnErr};
+ghost use Rattle.bw_keys.specs.Ranges.{end_of};
+ghost use Rattle.bw_procedures.specs.declared.fault.Fault.TheVariants as faults;
+ghost use Rattle.nifforan.specs.Calls.{Puts, Sets, Deletes, Clears};
+ghost use Rattle.nifforan.specs.Growing.{HasGrown, HasAllPages, SameReply, fault_reported};
+ghost use Rattle.nifforan.specs.Maps.{before_put, before_set, before_delete};
 
 use crate::in_place::Found;
 use crate::map::Map;
-use bw_keys::Key;
-use bw_procedures::{Done, Fault, Put, Set};
+use bw_delta::NoMemory;
+use bw_keys::{Fence, Key};
+use bw_procedures::{Cleared, Del, Done, Fault, Put, Set};
 use std::alloc::Allocator;
 
 impl<A: Allocator + Copy> Map<A> {
@@ -16,7 +20,7 @@ impl<A: Allocator + Copy> Map<A> {
     /// are there.
     #[inline(always)]
     pub(crate) fn make_room(&mut self)
-        ensures { self.new ≡ self.old }
+        ensures { HasGrown self.old self.new }
     {
         let table = &self.worker.owner.table.value;
         if table.free_pages() <= table.root().level as usize + 1 {
@@ -28,13 +32,66 @@ impl<A: Allocator + Copy> Map<A> {
     #[cold]
     #[inline(never)]
     fn add_pages(&mut self)
-        ensures { self.new ≡ self.old }
+        ensures { HasGrown self.old self.new }
     {
         let pages = self.worker.owner.table.value.config().pages;
-        let more = pages.min(self.most - pages);
-        if more > 0 {
-            let _added = self.worker.owner.table.value.add_pages(more);
+        let _grown = self.grow_to(pages.saturating_add(1));
+    }
+
+    /// Sees to it that the table has that many pages, or the most that the map may have. It at least
+    /// doubles them then, so that growth by small steps costs no more. If memory is refused, all
+    /// stays as it was.
+    pub(crate) fn grow_to(&mut self, pages: u32) -> Result<(), NoMemory>
+        ensures kept { HasGrown self.old self.new }
+        ensures pages { OnOk result (min pages self.old.config.pages ≤ self.new.pages) }
+        ensures unchanged { OnErr result (self.new ≡ self.old) }
+    {
+        let there = self.worker.owner.table.value.config().pages;
+        let wanted = pages.min(self.most);
+        if wanted <= there {
+            return Ok(());
         }
+        let more = wanted.max(there.saturating_mul(2)).min(self.most) - there;
+        self.worker.owner.table.value.add_pages(more)
+    }
+
+    /// Returns what a call answers that ended so. A split that found no page free tells `TableFull`
+    /// only if the map has all pages that it may have: otherwise memory was refused for more.
+    #[inline(always)]
+    pub(crate) fn reported<T: Drop>(&self, answer: Result<Done<T>, Fault>) -> Result<Done<T>, Fault>
+        ensures reply { SameReply answer result }
+        ensures full { fault_reported result ≡ Some faults.TableFull → HasAllPages self.now }
+    {
+        match answer {
+            Ok(Done { reply, fault }) => Ok(Done {
+                reply,
+                fault: self.cause(fault),
+            }),
+            Err(fault) => Err(self.cause_of(fault)),
+        }
+    }
+
+    /// Returns the fault that is reported for this one, if there is one.
+    #[inline(always)]
+    pub(crate) fn cause(&self, fault: Option<Fault>) -> Option<Fault>
+        ensures none { (fault ≡ None) ↔ (result ≡ None) }
+        ensures full { result ≡ Some faults.TableFull → HasAllPages self.now }
+    {
+        match fault {
+            Some(fault) => Some(self.cause_of(fault)),
+            None => None,
+        }
+    }
+
+    #[inline(always)]
+    fn cause_of(&self, fault: Fault) -> Fault
+        ensures { result ≡ faults.TableFull → HasAllPages self.now }
+    {
+        let pages = self.worker.owner.table.value.config().pages;
+        if fault == Fault::TableFull && pages < self.most {
+            return Fault::NoMemory;
+        }
+        fault
     }
 
     /// Inserts the pair, unless the key has a value, with the pages that are there.
@@ -43,6 +100,7 @@ impl<A: Allocator + Copy> Map<A> {
         ensures puts { IfOk result (λ done.
             Puts key value (before_put done.reply) self.old.pairs self.new.pairs) }
         ensures unchanged { OnErr result (self.new.pairs ≡ self.old.pairs) }
+        ensures pages { self.new.pages ≡ self.old.pages }
         ensures config { self.new.config ≡ self.old.config }
     {
         self.worker.put(key, value)
@@ -54,6 +112,7 @@ impl<A: Allocator + Copy> Map<A> {
         ensures sets { IfOk result (λ done.
             Sets key value (before_set done.reply) self.old.pairs self.new.pairs) }
         ensures unchanged { OnErr result (self.new.pairs ≡ self.old.pairs) }
+        ensures pages { self.new.pages ≡ self.old.pages }
         ensures config { self.new.config ≡ self.old.config }
     {
         self.worker.set(key, value)
@@ -70,8 +129,48 @@ impl<A: Allocator + Copy> Map<A> {
         ensures sets { IfOk result (λ done.
             Sets key value (before_set done.reply) self.old.pairs self.new.pairs) }
         ensures unchanged { OnErr result (self.new.pairs ≡ self.old.pairs) }
+        ensures pages { self.new.pages ≡ self.old.pages }
         ensures config { self.new.config ≡ self.old.config }
     {
         self.worker.set_found(found, key, value)
+    }
+
+    /// Deletes the key, with the pages that are there: a leaf that grew long for want of them is
+    /// split then.
+    #[inline(always)]
+    pub(crate) fn delete_in_room(&mut self, key: Key) -> Result<Done<Del>, Fault>
+        ensures deletes { IfOk result (λ done.
+            Deletes key (before_delete done.reply) self.old.pairs self.new.pairs) }
+        ensures unchanged { OnErr result (self.new.pairs ≡ self.old.pairs) }
+        ensures pages { self.new.pages ≡ self.old.pages }
+        ensures config { self.new.config ≡ self.old.config }
+    {
+        self.worker.delete(key)
+    }
+
+    /// Deletes the key, which was looked up, with the pages that are there.
+    #[inline(always)]
+    pub(crate) fn delete_found_in_room(
+        &mut self,
+        found: Found,
+        key: Key,
+    ) -> Result<Done<Del>, Fault>
+        ensures deletes { IfOk result (λ done.
+            Deletes key (before_delete done.reply) self.old.pairs self.new.pairs) }
+        ensures unchanged { OnErr result (self.new.pairs ≡ self.old.pairs) }
+        ensures pages { self.new.pages ≡ self.old.pages }
+        ensures config { self.new.config ≡ self.old.config }
+    {
+        self.worker.delete_found(found, key)
+    }
+
+    /// Deletes the keys from the low on and below the high, with the pages that are there.
+    pub(crate) fn clear_in_room(&mut self, low: Key, high: Fence) -> Cleared
+        ensures clears { Clears low (end_of high) result.removed (result.fault ≡ None)
+            self.old.pairs self.new.pairs }
+        ensures pages { self.new.pages ≡ self.old.pages }
+        ensures config { self.new.config ≡ self.old.config }
+    {
+        self.worker.clear(low, high)
     }
 }

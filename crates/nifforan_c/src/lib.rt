@@ -7,7 +7,8 @@ ghost use Rattle.std.specs.Prelude.{◌≡◌, ◌≢◌, ◌↔◌, None, lengt
 ghost use Rattle.bw_delta.specs.Entries.{at, first_entry, last_entry, first_from, last_upto};
 ghost use Rattle.nifforan.specs.Calls.{Puts, Sets, Deletes};
 ghost use Rattle.nifforan_handle.specs.Answers.{had, IsZeroWithout};
-ghost use Rattle.nifforan_handle.specs.Calls.{Creates, Writes, ClearsHeld, Finds, ReadsInto};
+ghost use Rattle.nifforan_handle.specs.Calls.{Creates, Writes, ClearsHeld, Reserves, Shrinks};
+ghost use Rattle.nifforan_handle.specs.Calls.{Finds, ReadsInto};
 ghost use Rattle.nifforan_handle.specs.Frozen.{Freezes, Shares, Thaws};
 ghost use Rattle.nifforan_handle.specs.Held.{end_at, map_in, pairs_in, pairs_between};
 ghost use Rattle.nifforan_handle.specs.declared.held.Held.TheVariants.{Closed};
@@ -175,6 +176,24 @@ pub extern "C" fn nifforan_clear(alloc: Global, map: &mut Handle, low: u64, high
     ensures { ClearsHeld low (end_at high) result map.old.held map.new.held }
 {
     map.clear(alloc, low, high)
+}
+
+/// Takes memory ahead for pages enough for that many pairs more, or for as many pages as the map may
+/// have. With any status but `OK` all stays as it is: `CLOSED`, `FROZEN` or `NO_MEMORY`.
+#[unsafe(no_mangle)]
+pub extern "C" fn nifforan_reserve(alloc: Global, map: &mut Handle, pairs: u64) -> u32
+    ensures { Reserves pairs result map.old.held map.new.held }
+{
+    map.reserve(alloc, pairs)
+}
+
+/// Makes the map anew, with no more pages than its pairs want. With any status but `OK` all stays as
+/// it is: `CLOSED`, `FROZEN`, or a fault.
+#[unsafe(no_mangle)]
+pub extern "C" fn nifforan_shrink(alloc: Global, map: &mut Handle) -> u32
+    ensures { Shrinks result map.old.held map.new.held }
+{
+    map.shrink(alloc)
 }
 
 /// Freezes the map: from now on no call changes it, and `nifforan_share` opens more handles on it.

@@ -1,8 +1,9 @@
 -- What the calls on a handle do to what it holds.
-use Rattle.std.specs.Prelude.{◌≡◌, ◌≢◌, ◌↔◌, ℕ, false, List, Option, None, IfSome, length, take, drop, min}
-use Rattle.bw_keys.specs.Limits.{first_bad_field}
+use Rattle.std.specs.Prelude.{◌≡◌, ◌≢◌, ◌↔◌, ℕ, ◌+◌, ◌≤◌, false, List, Option, None, IfSome, length, take, drop, min}
 use Rattle.nifforan.specs.Calls.{Clears}
+use Rattle.nifforan.specs.Growing.{HasAllPages, HasPagesFor}
 use Rattle.nifforan.specs.Maps.{PairList}
+use Rattle.nifforan.specs.Settings.{first_bad_setting}
 use Rattle.nifforan_handle.specs.declared.answer.Cleared.{Cleared}
 use Rattle.nifforan_handle.specs.declared.answer.Found.{Found}
 use Rattle.nifforan_handle.specs.declared.answer.Pair.{Pair}
@@ -12,9 +13,9 @@ use Rattle.nifforan_handle.specs.declared.held.Held.{Held}
 use Rattle.nifforan_handle.specs.declared.held.Held.TheVariants.{Own}
 use Rattle.nifforan_handle.specs.declared.settings.Settings.{Settings}
 use Rattle.nifforan_handle.specs.declared.settings.TheConstants.{SETTINGS_SIZE}
-use Rattle.nifforan_handle.specs.declared.status.TheConstants.{BAD_SIZE, CLOSED, FROZEN, NO_MEMORY, OK, OPEN}
+use Rattle.nifforan_handle.specs.declared.status.TheConstants.{BAD_SIZE, CLOSED, FROZEN, NO_MEMORY, OK, OPEN, TABLE_FULL}
 use Rattle.nifforan_handle.specs.Answers.{had, next_key, pair_of, IsCare, IsZeroWithout, IsZeroAtEnd, IsZeroWithoutPair}
-use Rattle.nifforan_handle.specs.Held.{map_in, pairs_in, config_in, empty_map, is_own, IsOwn, IsFrozen}
+use Rattle.nifforan_handle.specs.Held.{map_in, pairs_in, pages_in, free_in, config_in, empty_map, is_own, IsOwn, IsFrozen}
 use Rattle.nifforan_handle.specs.Reading.{are_pairs, first_key}
 use Rattle.nifforan_handle.specs.Statuses.{config_of, status_of_field, IsStatus}
 
@@ -22,8 +23,8 @@ use Rattle.nifforan_handle.specs.Statuses.{config_of, status_of_field, IsStatus}
 pub record Creates (settings : Settings) (status : ℕ) (old new : Held) : Type 0 where
   pub already : (map_in old ≢ None) ↔ (status ≡ OPEN)
   pub size : map_in old ≡ None → (settings.size ≢ SETTINGS_SIZE) ↔ (status ≡ BAD_SIZE)
-  pub setting : map_in old ≡ None → settings.size ≡ SETTINGS_SIZE → IfSome (first_bad_field (config_of settings)) (λ field. status ≡ status_of_field field)
-  pub memory : map_in old ≡ None → settings.size ≡ SETTINGS_SIZE → first_bad_field (config_of settings) ≡ None → status ≢ OK → status ≡ NO_MEMORY
+  pub setting : map_in old ≡ None → settings.size ≡ SETTINGS_SIZE → IfSome (first_bad_setting (config_of settings)) (λ field. status ≡ status_of_field field)
+  pub memory : map_in old ≡ None → settings.size ≡ SETTINGS_SIZE → first_bad_setting (config_of settings) ≡ None → status ≢ OK → status ≡ NO_MEMORY
   pub opened : status ≡ OK → new ≡ Own (empty_map (config_of settings))
   pub unchanged : status ≢ OK → new ≡ old
 
@@ -37,6 +38,9 @@ pub record Writes (Does : Option ℕ → PairList → PairList → Type 0) (it :
   pub nothing : it.status ≢ OK → had it ≡ None
   pub zero : IsZeroWithout it
   pub care : IsCare it
+  -- no page is free: only a map that has as many as it may have says so
+  pub full : it.status ≡ TABLE_FULL → IfSome (map_in new) HasAllPages
+  pub full_care : it.care ≡ TABLE_FULL → IfSome (map_in new) HasAllPages
   pub unchanged : it.status ≢ OK → pairs_in new ≡ pairs_in old
   pub config : config_in new ≡ config_in old
   -- a map of the handle's own stays its own, and anything else stays as it was
@@ -49,7 +53,31 @@ pub record ClearsHeld (low end : ℕ) (it : Cleared) (old new : Held) : Type 0 w
   pub frozen : IsFrozen old ↔ (it.status ≡ FROZEN)
   pub status : IsStatus it.status
   pub clears : Clears low end it.removed (it.status ≡ OK) (pairs_in old) (pairs_in new)
+  pub full : it.status ≡ TABLE_FULL → IfSome (map_in new) HasAllPages
   pub config : config_in new ≡ config_in old
+
+-- the map has pages enough for that many pairs more, or as many as it may have
+pub record Reserves (more status : ℕ) (old new : Held) : Type 0 where
+  pub closed : (map_in old ≡ None) ↔ (status ≡ CLOSED)
+  pub frozen : IsFrozen old ↔ (status ≡ FROZEN)
+  pub memory : IsOwn old → status ≢ OK → status ≡ NO_MEMORY
+  pub room : status ≡ OK → IfSome (map_in new) (HasPagesFor (length (pairs_in old) + more))
+  pub pairs : pairs_in new ≡ pairs_in old
+  pub config : config_in new ≡ config_in old
+  pub free : free_in new ≡ free_in old
+  pub own : IsOwn old → IsOwn new
+  pub unchanged : status ≢ OK → new ≡ old
+
+-- the map is made anew, and has no more pages than it had
+pub record Shrinks (status : ℕ) (old new : Held) : Type 0 where
+  pub closed : (map_in old ≡ None) ↔ (status ≡ CLOSED)
+  pub frozen : IsFrozen old ↔ (status ≡ FROZEN)
+  pub reported : IsStatus status
+  pub pairs : pairs_in new ≡ pairs_in old
+  pub config : config_in new ≡ config_in old
+  pub pages : pages_in new ≤ pages_in old
+  pub own : IsOwn old → IsOwn new
+  pub unchanged : status ≢ OK → new ≡ old
 
 -- the pair that is asked for, if there is one
 pub record Finds (wanted : Option (ℕ × ℕ)) (it : Found) (held : Held) : Type 0 where

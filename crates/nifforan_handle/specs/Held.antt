@@ -22,6 +22,10 @@ abbrev pub config_of_map : Option MapValue → Option Config
 config_of_map None = None
 config_of_map (Some map) = Some map.config
 
+abbrev pages_of_map : Option MapValue → ℕ
+pages_of_map None = 0
+pages_of_map (Some map) = map.pages
+
 abbrev free_of_map : Option MapValue → ℕ
 free_of_map None = 0
 free_of_map (Some map) = map.free
@@ -29,6 +33,10 @@ free_of_map (Some map) = map.free
 -- the pairs of the map; where none is held, there are none
 abbrev pub pairs_in : Held → PairList
 pairs_in held = pairs_of_map (map_in held)
+
+-- how many pages the map has memory for; where none is held, there are none
+abbrev pub pages_in : Held → ℕ
+pages_in held = pages_of_map (map_in held)
 
 -- how many pages more the map has room for; where none is held, there are none
 abbrev pub free_in : Held → ℕ
@@ -64,5 +72,6 @@ end_at high = if high.is_top then key_count else high.key
 abbrev pub pairs_between : ℕ → High → Held → PairList
 pairs_between low high held = within low (end_at high) (pairs_in held)
 
+-- a new map, which begins with memory for eight pages
 abbrev pub empty_map : Config → MapValue
-empty_map config = record { config = config; pairs = []; free = config.pages - 1 }
+empty_map config = record { config = config; pairs = []; pages = 8; free = config.pages - 1 }

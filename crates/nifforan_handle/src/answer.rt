@@ -1,14 +1,65 @@
 //! The answers to calls.
 ghost use Rattle.std.specs.Prelude.{◌≡◌, None, Some, IfOk, IfErr, IfSome};
-ghost use Rattle.nifforan.specs.Maps.{before_put, before_set, before_delete};
+ghost use Rattle.bw_procedures.specs.declared.fault.Fault.TheVariants as faults;
+ghost use Rattle.nifforan.specs.Growing.{fault_reported};
 ghost use Rattle.nifforan_handle.specs.Answers.{had, next_key, pair_of};
 ghost use Rattle.nifforan_handle.specs.Answers.{RepliesWith, IsCare, IsZeroWithout, IsZeroAtEnd};
 ghost use Rattle.nifforan_handle.specs.Answers.{IsZeroWithoutPair};
 ghost use Rattle.nifforan_handle.specs.Statuses.{status_of_fault, status_of, IsStatus};
-ghost use Rattle.nifforan_handle.specs.declared.status.TheConstants.{CLOSED, OK};
+ghost use Rattle.nifforan_handle.specs.declared.status.TheConstants.{CLOSED, OK, TABLE_FULL};
 
 use crate::status::{self, CLOSED, OK};
 use nifforan::{Del, Done, Fault, Put, Set};
+
+/// What a call on one key replies: it says what the key had before.
+pub(crate) trait Before {
+    ghost use Rattle.std.specs.Prelude.{◌≡◌, ℕ, Option};
+
+    // the value that the key had before the call, if it had one
+    ghost before: { Self → Option ℕ };
+
+    fn before(self) -> Option<u64>
+        ensures { result ≡ before self };
+}
+
+impl Before for Put {
+    ghost use Rattle.nifforan.specs.Maps.{before_put};
+
+    ghost before = { before_put };
+
+    fn before(self) -> Option<u64> {
+        match self {
+            Put::Inserted => None,
+            Put::Present(there) => Some(there),
+        }
+    }
+}
+
+impl Before for Set {
+    ghost use Rattle.nifforan.specs.Maps.{before_set};
+
+    ghost before = { before_set };
+
+    fn before(self) -> Option<u64> {
+        match self {
+            Set::Inserted => None,
+            Set::Replaced(old) => Some(old),
+        }
+    }
+}
+
+impl Before for Del {
+    ghost use Rattle.nifforan.specs.Maps.{before_delete};
+
+    ghost before = { before_delete };
+
+    fn before(self) -> Option<u64> {
+        match self {
+            Del::Removed(old) => Some(old),
+            Del::NoKey => None,
+        }
+    }
+}
 
 /// The answer to a call on one key.
 #[repr(C)]
@@ -43,7 +94,8 @@ impl Reply {
         ensures status { result.status ≡ OK }
         ensures had { had result ≡ before }
         ensures care { result.care ≡ status_of fault }
-        ensures told { IsCare result }
+        ensures full { result.care ≡ TABLE_FULL → fault ≡ Some faults.TableFull }
+        ensures reported { IsCare result }
         ensures zero { IsZeroWithout result }
     {
         Reply {
@@ -54,64 +106,22 @@ impl Reply {
         }
     }
 
-    pub(crate) fn of_put(answer: Result<Done<Put>, Fault>) -> Reply
-        ensures reply { IfOk answer (λ done. RepliesWith (before_put done.reply) result) }
+    pub(crate) fn of<T: Before>(answer: Result<Done<T>, Fault>) -> Reply
+        ensures reply { IfOk answer (λ done. RepliesWith (T.before done.reply) result) }
         ensures care { IfOk answer (λ done. result.care ≡ status_of done.fault) }
         ensures fault { IfErr answer (λ fault. result.status ≡ status_of_fault fault) }
         ensures nothing { IfErr answer (λ fault. had result ≡ None) }
+        ensures full { result.status ≡ TABLE_FULL → fault_reported answer ≡ Some faults.TableFull }
+        ensures full_care { result.care ≡ TABLE_FULL
+            → fault_reported answer ≡ Some faults.TableFull }
         ensures status { IsStatus result.status }
-        ensures told { IsCare result }
+        ensures reported { IsCare result }
         ensures zero { IsZeroWithout result }
     {
-        let done = match answer {
-            Ok(done) => done,
-            Err(fault) => return Reply::without(status::of_fault(fault)),
-        };
-        let before = match done.reply {
-            Put::Inserted => None,
-            Put::Present(there) => Some(there),
-        };
-        Reply::found(before, done.fault)
-    }
-
-    pub(crate) fn of_set(answer: Result<Done<Set>, Fault>) -> Reply
-        ensures reply { IfOk answer (λ done. RepliesWith (before_set done.reply) result) }
-        ensures care { IfOk answer (λ done. result.care ≡ status_of done.fault) }
-        ensures fault { IfErr answer (λ fault. result.status ≡ status_of_fault fault) }
-        ensures nothing { IfErr answer (λ fault. had result ≡ None) }
-        ensures status { IsStatus result.status }
-        ensures told { IsCare result }
-        ensures zero { IsZeroWithout result }
-    {
-        let done = match answer {
-            Ok(done) => done,
-            Err(fault) => return Reply::without(status::of_fault(fault)),
-        };
-        let before = match done.reply {
-            Set::Inserted => None,
-            Set::Replaced(old) => Some(old),
-        };
-        Reply::found(before, done.fault)
-    }
-
-    pub(crate) fn of_delete(answer: Result<Done<Del>, Fault>) -> Reply
-        ensures reply { IfOk answer (λ done. RepliesWith (before_delete done.reply) result) }
-        ensures care { IfOk answer (λ done. result.care ≡ status_of done.fault) }
-        ensures fault { IfErr answer (λ fault. result.status ≡ status_of_fault fault) }
-        ensures nothing { IfErr answer (λ fault. had result ≡ None) }
-        ensures status { IsStatus result.status }
-        ensures told { IsCare result }
-        ensures zero { IsZeroWithout result }
-    {
-        let done = match answer {
-            Ok(done) => done,
-            Err(fault) => return Reply::without(status::of_fault(fault)),
-        };
-        let before = match done.reply {
-            Del::Removed(old) => Some(old),
-            Del::NoKey => None,
-        };
-        Reply::found(before, done.fault)
+        match answer {
+            Ok(done) => Reply::found(done.reply.before(), done.fault),
+            Err(fault) => Reply::without(status::of_fault(fault)),
+        }
     }
 }
 
@@ -171,7 +181,8 @@ impl Cleared {
 
     pub(crate) fn of(cleared: nifforan::Cleared) -> Cleared
         ensures status { result.status ≡ status_of cleared.fault }
-        ensures told { IsStatus result.status }
+        ensures full { result.status ≡ TABLE_FULL → cleared.fault ≡ Some faults.TableFull }
+        ensures reported { IsStatus result.status }
         ensures removed { result.removed ≡ cleared.removed }
     {
         Cleared {

@@ -2,7 +2,7 @@
 
 ghost use Rattle.std.specs.Prelude.{◌≡◌, ◌≢◌, ◌↔◌, None, IsTrue};
 ghost use Rattle.nifforan.specs.Calls.{Puts, Sets, Deletes};
-ghost use Rattle.nifforan_handle.specs.Calls.{Creates, Writes, ClearsHeld};
+ghost use Rattle.nifforan_handle.specs.Calls.{Creates, Writes, ClearsHeld, Reserves, Shrinks};
 ghost use Rattle.nifforan_handle.specs.Frozen.{Freezes, Shares, Thaws};
 ghost use Rattle.nifforan_handle.specs.Held.{end_at, map_in};
 ghost use Rattle.nifforan_handle.specs.declared.held.Held.TheVariants.{Closed};
@@ -113,6 +113,32 @@ impl Handle {
         let cleared = held.clear(low, high.fence());
         self.hold(alloc, held);
         cleared
+    }
+
+    /// Takes memory ahead for pages enough for that many pairs more, or for as many pages as the map
+    /// may have. With any status but `OK` all stays as it is: `CLOSED`, `FROZEN` or `NO_MEMORY`.
+    pub fn reserve(&mut self, alloc: Global, pairs: u64) -> u32
+        ensures { Reserves pairs result self.old.held self.new.held }
+    {
+        let Some(mut held) = self.take(alloc) else {
+            return CLOSED;
+        };
+        let status = held.reserve(pairs);
+        self.hold(alloc, held);
+        status
+    }
+
+    /// Makes the map anew, with no more pages than its pairs want. With any status but `OK` all
+    /// stays as it is: `CLOSED`, `FROZEN`, or a fault.
+    pub fn shrink(&mut self, alloc: Global) -> u32
+        ensures { Shrinks result self.old.held self.new.held }
+    {
+        let Some(mut held) = self.take(alloc) else {
+            return CLOSED;
+        };
+        let status = held.shrink();
+        self.hold(alloc, held);
+        status
     }
 
     /// Freezes the map: from now on no call changes it, and `share` opens more handles on it. With

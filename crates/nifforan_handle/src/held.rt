@@ -4,11 +4,11 @@ ghost use Rattle.std.specs.Prelude.{◌≡◌, None, Some};
 ghost use Rattle.std.specs.Option.{MatchOption};
 ghost use Rattle.bw_keys.specs.Ranges.{end_of};
 ghost use Rattle.nifforan.specs.Calls.{Puts, Sets, Deletes};
-ghost use Rattle.nifforan_handle.specs.Calls.{Writes, ClearsHeld};
+ghost use Rattle.nifforan_handle.specs.Calls.{Writes, ClearsHeld, Reserves, Shrinks};
 ghost use Rattle.nifforan_handle.specs.Held.{map_in};
 
 use crate::answer::{Cleared, Reply};
-use crate::status::{CLOSED, FROZEN};
+use crate::status::{self, CLOSED, FROZEN, NO_MEMORY, OK};
 use bw_keys::{Fence, Key};
 use nifforan::Map;
 use std::alloc::Global;
@@ -43,7 +43,7 @@ impl Held {
     {
         match self {
             Held::Closed => Reply::without(CLOSED),
-            Held::Own(map) => Reply::of_put(map.put(key, value)),
+            Held::Own(map) => Reply::of(map.put(key, value)),
             Held::Frozen(_) => Reply::without(FROZEN),
         }
     }
@@ -53,7 +53,7 @@ impl Held {
     {
         match self {
             Held::Closed => Reply::without(CLOSED),
-            Held::Own(map) => Reply::of_set(map.set(key, value)),
+            Held::Own(map) => Reply::of(map.set(key, value)),
             Held::Frozen(_) => Reply::without(FROZEN),
         }
     }
@@ -63,7 +63,7 @@ impl Held {
     {
         match self {
             Held::Closed => Reply::without(CLOSED),
-            Held::Own(map) => Reply::of_delete(map.delete(key)),
+            Held::Own(map) => Reply::of(map.delete(key)),
             Held::Frozen(_) => Reply::without(FROZEN),
         }
     }
@@ -75,6 +75,32 @@ impl Held {
             Held::Closed => Cleared::without(CLOSED),
             Held::Own(map) => Cleared::of(map.clear(low, high)),
             Held::Frozen(_) => Cleared::without(FROZEN),
+        }
+    }
+
+    pub(crate) fn reserve(&mut self, pairs: u64) -> u32
+        ensures { Reserves pairs result self.old self.new }
+    {
+        match self {
+            Held::Closed => CLOSED,
+            Held::Own(map) => match map.reserve(pairs) {
+                Ok(()) => OK,
+                Err(_) => NO_MEMORY,
+            },
+            Held::Frozen(_) => FROZEN,
+        }
+    }
+
+    pub(crate) fn shrink(&mut self) -> u32
+        ensures { Shrinks result self.old self.new }
+    {
+        match self {
+            Held::Closed => CLOSED,
+            Held::Own(map) => match map.shrink_to_fit() {
+                Ok(()) => OK,
+                Err(fault) => status::of_fault(fault),
+            },
+            Held::Frozen(_) => FROZEN,
         }
     }
 }

@@ -1,6 +1,7 @@
 //! Pairs read into C's array, by rising or falling keys.
 
-ghost use Rattle.std.specs.Prelude.{◌≡◌, length, take, drop, min, reverse};
+ghost use Rattle.std.specs.Prelude.{◌≡◌, ◌+◌, ◌≤◌, ◌++◌, length, take, drop, min, reverse};
+ghost use Rattle.bw_delta.specs.Slices.{list_of};
 ghost use Rattle.bw_keys.specs.Ranges.{end_of};
 ghost use Rattle.nifforan.specs.Maps.{within};
 ghost use Rattle.nifforan_handle.specs.Calls.{ReadsInto};
@@ -8,6 +9,7 @@ ghost use Rattle.nifforan_handle.specs.Reading.{are_pairs};
 ghost use Rattle.nifforan_handle.specs.declared.status.TheConstants.{OK};
 
 use crate::answer::{Pair, Read};
+use bw_delta::EntrySlice;
 use bw_keys::{Fence, Key};
 use nifforan::{Map, Pairs};
 use std::alloc::Global;
@@ -65,8 +67,25 @@ fn fill(left: &mut Pairs<'_, Global>, places: &mut [Pair]) -> usize
         };
         places[count] = Pair { key, value };
         count += 1;
+        let run = left.take_run(places.len() - count);
+        write_run(run, places, count);
+        count += run.len();
     }
     count
+}
+
+/// Writes the pairs to the places from the one with the number on.
+fn write_run(run: EntrySlice<'_, u64>, places: &mut [Pair], first: usize)
+    requires room { first + length (list_of run) ≤ length places.old }
+    ensures written { are_pairs (take (first + length (list_of run.entry)) places.new)
+        ≡ are_pairs (take first places.old) ++ list_of run.entry }
+    ensures rest { drop (first + length (list_of run.entry)) places.new
+        ≡ drop (first + length (list_of run.entry)) places.old }
+{
+    for number in 0..run.len() {
+        let (key, value) = run.entry(number);
+        places[first + number] = Pair { key, value };
+    }
 }
 
 /// Does the same from the back: the last of the pairs comes first.

@@ -17,7 +17,7 @@ pub struct Settings {
     pub fanout: u32,
     /// The most changes that a page carries before it is written anew, 1 to 32.
     pub chain: u32,
-    /// The number of pages that there is room for, 8 to 65,536.
+    /// The most pages that the map may have, 8 to 16,777,216.
     pub pages: u32,
     /// The most attempts of one call, 1 to 1,000.
     pub tries: u32,

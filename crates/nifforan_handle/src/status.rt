@@ -1,7 +1,8 @@
 //! The outcomes of calls, as numbers for C.
-ghost use Rattle.std.specs.Prelude.{◌≡◌, ◌≢◌, ◌<◌, ◌^◌};
+ghost use Rattle.std.specs.Prelude.{◌≡◌, ◌≢◌, ◌<◌, ◌^◌, Some};
+ghost use Rattle.bw_procedures.specs.declared.fault.Fault.TheVariants as faults;
 ghost use Rattle.nifforan_handle.specs.Statuses.{status_of, status_of_fault, status_of_field, TellsFault};
-ghost use Rattle.nifforan_handle.specs.declared.status.TheConstants.{OK};
+ghost use Rattle.nifforan_handle.specs.declared.status.TheConstants.{OK, TABLE_FULL};
 
 use bw_keys::Field;
 use nifforan::Fault;
@@ -21,16 +22,16 @@ pub const BAD_FANOUT: u32 = 3;
 /// The chain isn't from 1 to 32.
 pub const BAD_CHAIN: u32 = 4;
 
-/// The pages aren't from 8 to 65,536.
+/// The pages aren't from 8 to 16,777,216.
 pub const BAD_PAGES: u32 = 5;
 
 /// The tries aren't from 1 to 1,000.
 pub const BAD_TRIES: u32 = 6;
 
-/// Memory is short.
+/// Memory is short, be it for more pages.
 pub const NO_MEMORY: u32 = 7;
 
-/// No page is free.
+/// No page is free, and the map has as many as it may have.
 pub const TABLE_FULL: u32 = 8;
 
 /// The tree has its greatest height.
@@ -56,7 +57,8 @@ pub const SHARED: u32 = 15;
 
 pub(crate) fn of(fault: Option<Fault>) -> u16
     ensures status { result ≡ status_of fault }
-    ensures told { result ≢ OK → TellsFault result }
+    ensures full { result ≡ TABLE_FULL → fault ≡ Some faults.TableFull }
+    ensures reported { result ≢ OK → TellsFault result }
 {
     match fault {
         Some(fault) => of_fault(fault) as u16,
@@ -66,7 +68,8 @@ pub(crate) fn of(fault: Option<Fault>) -> u16
 
 pub(crate) fn of_fault(fault: Fault) -> u32
     ensures status { result ≡ status_of_fault fault }
-    ensures told { TellsFault result }
+    ensures full { result ≡ TABLE_FULL → fault ≡ faults.TableFull }
+    ensures reported { TellsFault result }
     ensures short { result < 2 ^ 16 }
 {
     match fault {

@@ -37,7 +37,7 @@ fn meaning(status: u32) -> &'static str {
         status::OPEN => "the handle is open",
         status::BAD_FANOUT => "the fanout is not from 4 to 64",
         status::BAD_CHAIN => "the chain is not from 1 to 32",
-        status::BAD_PAGES => "the pages are not from 8 to 65536",
+        status::BAD_PAGES => "the pages are not from 8 to 16777216",
         status::BAD_TRIES => "the tries are not from 1 to 1000",
         status::NO_MEMORY => "no memory",
         status::TABLE_FULL => "no page is free",

@@ -1,11 +1,11 @@
--- Workers by their numbers, and one more of them behind the others.
+-- Workers by their numbers, and one more of them after the others.
 use Rattle.std.proofs.Common.{◌≡◌, ℕ, ◌+◌, ◌≤◌, List, [], ◌∷◌, ◌++◌, length, map, false, ap, sym, subst, ◌∙◌, append_assoc, arith}
 use Rattle.std.proofs.lemmas.Bool.Decides.{nat_tests}
 use Rattle.std.proofs.lemmas.List.{map-append}
 use Rattle.bw_keys.specs.Limits.{is_out_of}
 use Rattle.bw_step.specs.declared.receipt.Receipt.{Receipt}
 use Rattle.bw_tree.specs.Shares.{ShareValue}
-use Rattle.nifforan_shared.specs.Workers.{Promised, AllTold, AreNumbered, AreTold, ByNumber, share_by}
+use Rattle.nifforan_shared.specs.Workers.{Promised, AllAsPromised, AreNumbered, AreAsPromised, ByNumber, share_by}
 
 pub few_workers : (most workers n : ℕ) → is_out_of 1 most workers ≡ false → n ≡ workers → most ≤ 64 → n ≤ 64
 few_workers most workers n fine many few = grind (arith, nat_tests)
@@ -37,16 +37,16 @@ by_number_map fact has first (x ∷ xs) all = (all.0, by_number_map fact has (fi
 pub by_number_of : {S K : Type 0} → (fact : ℕ → K → Type 0) (has : S → K) (first : ℕ) (xs : List S) (ys : List K) → map has xs ≡ ys → ByNumber fact first ys → ByNumber (λ worker x. fact worker (has x)) first xs
 by_number_of fact has first xs ys same all = by_number_map fact has first xs (subst (ByNumber fact first) (sym same) all)
 
-told_each : {X O L : Type 0} → (added : L → List Receipt) (told : Promised O) (output : X → O) (trail : X → L) (first : ℕ) (xs : List X) → ByNumber (λ worker x. told worker (output x) (added (trail x))) first xs
-    → AreTold told first (map output xs) (map added (map trail xs))
-told_each added told output trail first [] all = tt
-told_each added told output trail first (x ∷ xs) all = (all.0, told_each added told output trail (first + 1) xs all.1)
+promised_each : {X O L : Type 0} → (added : L → List Receipt) (promised : Promised O) (output : X → O) (trail : X → L) (first : ℕ) (xs : List X) → ByNumber (λ worker x. promised worker (output x) (added (trail x))) first xs
+    → AreAsPromised promised first (map output xs) (map added (map trail xs))
+promised_each added promised output trail first [] all = tt
+promised_each added promised output trail first (x ∷ xs) all = (all.0, promised_each added promised output trail (first + 1) xs all.1)
 
 -- what is promised of each worker is so of the lists of what they bring back
-pub all_told : {X O L : Type 0} → (added : L → List Receipt) (told : Promised O) (output : X → O) (trail : X → L) (xs : List X) (outputs : List O) (trails : List L) → outputs ≡ map output xs → trails ≡ map trail xs
-    → ByNumber (λ worker x. told worker (output x) (added (trail x))) 0 xs → AllTold added told outputs trails
-all_told {O = O} {L = L} added told output trail xs outputs trails one two all =
-    subst (λ (os : List O). AreTold told 0 os (map added trails)) (sym one) (subst (λ (ts : List L). AreTold told 0 (map output xs) (map added ts)) (sym two) (told_each added told output trail 0 xs all))
+pub all_as_promised : {X O L : Type 0} → (added : L → List Receipt) (promised : Promised O) (output : X → O) (trail : X → L) (xs : List X) (outputs : List O) (trails : List L) → outputs ≡ map output xs → trails ≡ map trail xs
+    → ByNumber (λ worker x. promised worker (output x) (added (trail x))) 0 xs → AllAsPromised added promised outputs trails
+all_as_promised {O = O} {L = L} added promised output trail xs outputs trails one two all =
+    subst (λ (os : List O). AreAsPromised promised 0 os (map added trails)) (sym one) (subst (λ (ts : List L). AreAsPromised promised 0 (map output xs) (map added ts)) (sym two) (promised_each added promised output trail 0 xs all))
 
 pub counted_more : {L : Type 0} → (added : L → List Receipt) (shares more : List ShareValue) (trails trailed : List L) (share : ShareValue) (trail : L)
     → more ≡ shares ++ share ∷ [] → trailed ≡ trails ++ trail ∷ [] → shares ≡ map (λ trail. share_by (added trail)) trails → share ≡ share_by (added trail) → more ≡ map (λ trail. share_by (added trail)) trailed
@@ -54,14 +54,14 @@ counted_more added shares more trails trailed share trail one two same is =
     one ∙ ((λ j. same j ++ is j ∷ []) ∙ sym (ap (map (λ trail. share_by (added trail))) two ∙ map-append (λ trail. share_by (added trail)) trails (trail ∷ [])))
 
 -- a fact that the promise has of each worker's number and output, whatever its trail
-pub by_number_told : {O L : Type 0} → (added : L → List Receipt) (told : Promised O) (fact : ℕ → O → Type 0) (first : ℕ) (outputs : List O) (trails : List L)
-    → ((worker : ℕ) (output : O) (trail : List Receipt) → told worker output trail → fact worker output) → AreTold told first outputs (map added trails) → ByNumber fact first outputs
-by_number_told added told fact first [] [] has all = tt
-by_number_told added told fact first (o ∷ outputs) (t ∷ trails) has all = (has first o (added t) all.0, by_number_told added told fact (first + 1) outputs trails has all.1)
-by_number_told added told fact first [] (t ∷ trails) has all = absurd all
-by_number_told added told fact first (o ∷ outputs) [] has all = absurd all
+pub by_number_promised : {O L : Type 0} → (added : L → List Receipt) (promised : Promised O) (fact : ℕ → O → Type 0) (first : ℕ) (outputs : List O) (trails : List L)
+    → ((worker : ℕ) (output : O) (trail : List Receipt) → promised worker output trail → fact worker output) → AreAsPromised promised first outputs (map added trails) → ByNumber fact first outputs
+by_number_promised added promised fact first [] [] has all = tt
+by_number_promised added promised fact first (o ∷ outputs) (t ∷ trails) has all = (has first o (added t) all.0, by_number_promised added promised fact (first + 1) outputs trails has all.1)
+by_number_promised added promised fact first [] (t ∷ trails) has all = absurd all
+by_number_promised added promised fact first (o ∷ outputs) [] has all = absurd all
 
 -- where each output has its worker's number, the outputs stand by the workers' numbers
-pub numbered_by_told : {O L : Type 0} → (added : L → List Receipt) (number : O → ℕ) (outputs : List O) (trails : List L) → AllTold added (λ worker output trail. number output ≡ worker) outputs trails
+pub numbered_by_promise : {O L : Type 0} → (added : L → List Receipt) (number : O → ℕ) (outputs : List O) (trails : List L) → AllAsPromised added (λ worker output trail. number output ≡ worker) outputs trails
     → AreNumbered number 0 outputs
-numbered_by_told added number outputs trails all = by_number_told added (λ worker output trail. number output ≡ worker) (λ worker output. number output ≡ worker) 0 outputs trails (λ worker output trail is. is) all
+numbered_by_promise added number outputs trails all = by_number_promised added (λ worker output trail. number output ≡ worker) (λ worker output. number output ≡ worker) 0 outputs trails (λ worker output trail is. is) all

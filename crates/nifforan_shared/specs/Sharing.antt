@@ -12,7 +12,7 @@ use Rattle.nifforan_shared.specs.declared.fault.CrewFault.{CrewFault}
 use Rattle.nifforan_shared.specs.declared.fault.CrewFault.TheVariants as crew
 use Rattle.nifforan_shared.specs.declared.fault.ShareFault.{ShareFault}
 use Rattle.nifforan_shared.specs.declared.fault.ShareFault.TheVariants.{BadConfig, BadWorkers, NoMemory, NoThread}
-use Rattle.nifforan_shared.specs.Workers.{Promised, AllTold, changes_in}
+use Rattle.nifforan_shared.specs.Workers.{Promised, AllAsPromised, changes_in}
 
 -- What a tree comes to that workers shared: a lawful table, made by the configuration; an output and a trail of each worker, of which the
 -- promise holds; and as many pairs as all trails have insertions, less their removals. A trail has the receipts that were added to it, whether or
@@ -23,7 +23,7 @@ pub record IsShared {O L : Type 0} (added : L → List Receipt) (promise : Promi
   pub outputs : length outcome.outputs.items ≡ workers
   pub trails : length outcome.trails.items ≡ workers
   pub pairs : CountsPairs outcome.table (changes_in (map added outcome.trails.items))
-  pub told : AllTold added promise outcome.outputs.items outcome.trails.items
+  pub promised : AllAsPromised added promise outcome.outputs.items outcome.trails.items
 
 -- What a table comes to that workers shared: a lawful one of the same configuration, whose book has what the given table's has and the insertions
 -- and removals of all trails; and an output and a trail of each worker, of which the promise holds.
@@ -33,7 +33,7 @@ pub record IsTableShared {O L : Type 0} (added : L → List Receipt) (promise : 
   pub outputs : length outcome.outputs.items ≡ workers
   pub trails : length outcome.trails.items ≡ workers
   pub book : shared_in outcome.table.book ≡ together (shared_in given.book) (changes_in (map added outcome.trails.items))
-  pub told : AllTold added promise outcome.outputs.items outcome.trails.items
+  pub promised : AllAsPromised added promise outcome.outputs.items outcome.trails.items
 
 -- A table that wasn't shared comes back: it is lawful, by the same configuration, and where the workers were too few or too many just as it was.
 pub record IsBack {A : Type 0} (given : TableValue) (unshared : Unshared A ShareFault) : Type 0 where

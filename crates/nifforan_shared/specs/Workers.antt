@@ -10,11 +10,12 @@ use Rattle.bw_procedures.specs.Seen.{Seen, Looked}
 abbrev pub Promised : Type 0 → Type 1
 Promised O = ℕ → O → List Receipt → Type 0
 
--- What is promised where the jobs are by the workers' numbers: what the worker's own job promises. A worker past the last job brings nothing back,
--- and its trail stays empty.
+-- What is promised where the jobs are by the workers' numbers: what the worker's own job
+-- promises. A worker past the last job brings nothing back, and its trail stays empty.
 abbrev pub promised_of_each : {J O : Type 0} → (J → Promised O) → List J → Promised (Option O)
-promised_of_each told jobs worker output trail =
-    MatchOption (slice_get jobs worker) ((output ≡ None) × (trail ≡ [])) (λ job. MatchOption output ⊥ (λ it. told job worker it trail))
+promised_of_each promised jobs worker output trail =
+    MatchOption (slice_get jobs worker) ((output ≡ None) × (trail ≡ []))
+    (λ job. MatchOption output ⊥ (λ it. promised job worker it trail))
 
 -- the share of a worker with this trail
 abbrev pub share_by : List Receipt → ShareValue
@@ -34,14 +35,16 @@ abbrev pub AreNumbered : {X : Type 0} → (X → ℕ) → ℕ → List X → Typ
 AreNumbered number first xs = ByNumber (λ worker x. number x ≡ worker) first xs
 
 -- the promise holds of each worker's number, output and trail, of the workers from this one on
-abbrev pub AreTold : {O : Type 0} → Promised O → ℕ → List O → List (List Receipt) → Type 0
-AreTold told worker [] [] = Unit {0}
-AreTold told worker (output ∷ outputs) (trail ∷ trails) = told worker output trail × AreTold told (worker + 1) outputs trails
-AreTold told worker outputs trails = ⊥
+abbrev pub AreAsPromised : {O : Type 0} → Promised O → ℕ → List O → List (List Receipt) → Type 0
+AreAsPromised promised worker [] [] = Unit {0}
+AreAsPromised promised worker (output ∷ outputs) (trail ∷ trails) =
+    promised worker output trail × AreAsPromised promised (worker + 1) outputs trails
+AreAsPromised promised worker outputs trails = ⊥
 
 -- the promise holds of all workers, to whose trails these receipts were added
-abbrev pub AllTold : {O L : Type 0} → (L → List Receipt) → Promised O → List O → List L → Type 0
-AllTold added told outputs trails = AreTold told 0 outputs (map added trails)
+abbrev pub AllAsPromised : {O L : Type 0} → (L → List Receipt) → Promised O → List O → List L
+    → Type 0
+AllAsPromised added promised outputs trails = AreAsPromised promised 0 outputs (map added trails)
 
 -- the look was added to the trail, and nothing else has changed
 abbrev pub AddsNote : ℕ → Look → Seen → Seen → Type 0

@@ -22,25 +22,25 @@ pub trait Part<K> {
     ghost given: { Self → ℕ → K → Type 0 };
 
     // what is promised of a worker's number and of what that worker brings back
-    ghost told: { Self → ℕ → Self.Output → Type 0 };
+    ghost promised: { Self → ℕ → Self.Output → Type 0 };
 
     /// Does the part of the worker with this number, from 0 on.
     fn run(&self, worker: u32, kit: K) -> Self::Output
         requires few { worker < 64 }
         requires given { given self.now worker kit }
-        ensures told { told self.now worker result };
+        ensures promised { promised self.now worker result };
 }
 
 /// That what comes back from a thread is as promised of the worker with this number.
 #[derive(Drop)]
-struct Told<K, P> {
+struct AsPromised<K, P> {
     worker: u32,
     part: Snapshot<P>,
     kit: PhantomData<K>,
 }
 
-impl<O, K, P: Part<K, Output = O>> Promise<O> for Told<K, P> {
-    ghost kept_by = { λ promise output. P.told promise.part.value promise.worker output };
+impl<O, K, P: Part<K, Output = O>> Promise<O> for AsPromised<K, P> {
+    ghost kept_by = { λ promise output. P.promised promise.part.value promise.worker output };
 }
 
 /// Does the part with each kit, side by side, each in a thread of its own, and returns what the
@@ -57,7 +57,7 @@ pub(crate) fn run_all<
     requires few { length kits.items ≤ 64 }
     requires given { ByNumber (P.given part.now) 0 kits.items }
     ensures count { IfOk result (λ outputs. length outputs.items ≡ length kits.items) }
-    ensures told { IfOk result (λ outputs. ByNumber (P.told part.now) 0 outputs.items) }
+    ensures promised { IfOk result (λ outputs. ByNumber (P.promised part.now) 0 outputs.items) }
 {
     thread::scope(
         thread::scope_env(),
@@ -66,15 +66,15 @@ pub(crate) fn run_all<
             requires few { length kits.items ≤ 64 }
             requires given { ByNumber (P.given part.now) 0 kits.items }
             ensures count { IfOk result (λ outputs. length outputs.items ≡ length kits.items) }
-            ensures told { IfOk result
-                (λ outputs. ByNumber (P.told part.entry.now) 0 outputs.items) }
+            ensures promised { IfOk result
+                (λ outputs. ByNumber (P.promised part.entry.now) 0 outputs.items) }
         {
-            // asked for here, since what was done is given up where memory is wanting behind it
+            // asked for here, since what was done is given up where memory is wanting after it
             let room = Vec::with_capacity(machine, kits.len())?;
             let mut handles = Vec::with_capacity(machine, kits.len())?;
             let mut worker = 0u32;
             for kit in kits {
-                let promise = Told::<K, P> {
+                let promise = AsPromised::<K, P> {
                     worker,
                     part: Snapshot::of(part),
                     kit: PhantomData,
@@ -84,7 +84,7 @@ pub(crate) fn run_all<
                     move || -> O
                         requires few { worker < 64 }
                         requires given { P.given part.now worker kit }
-                        ensures { P.told part.entry.now worker result }
+                        ensures { P.promised part.entry.now worker result }
                     { part.run(worker, kit) },
                 ) else {
                     return Err(CrewFault::NoThread);
@@ -103,14 +103,14 @@ fn join_all<K, O: Drop, P: Part<K, Output = O>, R: Threads>(
     rt: &R,
     room: Vec<O>,
     part: &P,
-    handles: Vec<PromisedHandle<O, Told<K, P>>>,
+    handles: Vec<PromisedHandle<O, AsPromised<K, P>>>,
 ) -> Vec<O>
     requires numbered { AreNumbered (λ handle. handle.promise.worker) 0 handles.items }
     requires part { All (λ handle. handle.promise.part.value ≡ part.now) handles.items }
     requires empty { room.items ≡ [] }
     requires room { length handles.items ≤ vec_capacity room }
     ensures count { length result.items ≡ length handles.items }
-    ensures told { ByNumber (P.told part.now) 0 result.items }
+    ensures promised { ByNumber (P.promised part.now) 0 result.items }
 {
     let mut outputs = room;
     for handle in handles {

@@ -21,7 +21,7 @@ impl<'j, J: Job> Job for Each<'j, J> {
     type Trail = J::Trail;
 
     // the promise of the worker's own job
-    ghost told = { λ each. promised_of_each J.told each.jobs.now };
+    ghost promised = { λ each. promised_of_each J.promised each.jobs.now };
 
     fn work<W: Worker>(&self, worker: u32, hand: &mut W) -> Option<J::Output> {
         let job = self.jobs.get(worker as usize)?;
@@ -37,7 +37,7 @@ impl<'j, J: ReadingJob> ReadingJob for Each<'j, J> {
     type Trail = J::Trail;
 
     // the promise of the worker's own job
-    ghost told = { λ each. promised_of_each J.told each.jobs.now };
+    ghost promised = { λ each. promised_of_each J.promised each.jobs.now };
 
     fn work<W: Worker, R: Reads>(
         &self,

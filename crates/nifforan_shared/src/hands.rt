@@ -2,7 +2,7 @@
 
 ghost use Rattle.std.specs.Prelude.{◌≡◌, ◌<◌, ◌≤◌, IfOk, All, length, vec_capacity};
 ghost use Rattle.bw_tree.specs.Shares.{no_changes};
-ghost use Rattle.nifforan_shared.specs.Workers.{AllTold, ByNumber};
+ghost use Rattle.nifforan_shared.specs.Workers.{AllAsPromised, ByNumber};
 
 use crate::crew::{Part, run_all};
 use crate::fault::CrewFault;
@@ -43,8 +43,8 @@ impl<
 
     ghost given = { λ part worker seat. J.given part.task.now worker seat.kit };
 
-    ghost told = { λ part worker worked.
-        J.told part.task.now worker worked.output (L.added worked.trail) };
+    ghost promised = { λ part worker worked.
+        J.promised part.task.now worker worked.output (L.added worked.trail) };
 
     fn run(&self, worker: u32, seat: Seat<I, D, K>) -> Worked<I, D, O, L> {
         let Seat { share, kit } = seat;
@@ -90,8 +90,8 @@ pub fn work_all<
     requires given { ByNumber (J.given task.now) 0 kits.items }
     ensures count { IfOk result (λ all. length all.shares.items ≡ length kits.items) }
     ensures spare { IfOk result (λ all. length kits.items < vec_capacity all.shares) }
-    ensures told { IfOk result (λ all.
-        AllTold L.added (J.told task.now) all.outputs.items all.trails.items) }
+    ensures promised { IfOk result (λ all.
+        AllAsPromised L.added (J.promised task.now) all.outputs.items all.trails.items) }
 {
     let room = Gathered::with_room(machine, kits.len())?;
     let seats = seats_of(machine, shares, kits)?;

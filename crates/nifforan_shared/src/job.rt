@@ -18,14 +18,14 @@ pub trait Job {
     type Trail: Trail;
 
     // what the job promises of a worker's number, of what that worker brings back, and of its trail
-    ghost told: { Self → Promised Self.Output } = { λ job worker output trail. Unit {0} };
+    ghost promised: { Self → Promised Self.Output } = { λ job worker output trail. Unit {0} };
 
     /// Does the part of the worker with this number, from 0 on, with a hand on the tree. It may end
     /// early, as by a `?`: the hand stays with the tree, so nothing is lost.
     fn work<W: Worker>(&self, worker: u32, hand: &mut W) -> Self::Output
         requires few { worker < 64 }
         requires new { (W.seen hand.old).trail ≡ [] }
-        ensures told { told self.now worker result (W.seen hand.new).trail };
+        ensures promised { promised self.now worker result (W.seen hand.new).trail };
 }
 
 /// What each worker of a tree with readers does, in a thread of its own.
@@ -42,7 +42,7 @@ pub trait ReadingJob {
     type Trail: Trail;
 
     // what the job promises of a worker's number, of what that worker brings back, and of its trail
-    ghost told: { Self → Promised Self.Output } = { λ job worker output trail. Unit {0} };
+    ghost promised: { Self → Promised Self.Output } = { λ job worker output trail. Unit {0} };
 
     /// Does the part of the worker with this number, from 0 on, with a hand on the tree and a
     /// reader of what is published. It may end early, as by a `?`: the hand stays with the tree, so
@@ -50,5 +50,5 @@ pub trait ReadingJob {
     fn work<W: Worker, R: Reads>(&self, worker: u32, hand: &mut W, reader: &mut R) -> Self::Output
         requires few { worker < 64 }
         requires new { (W.seen hand.old).trail ≡ [] }
-        ensures told { told self.now worker result (W.seen hand.new).trail };
+        ensures promised { promised self.now worker result (W.seen hand.new).trail };
 }

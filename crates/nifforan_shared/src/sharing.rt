@@ -4,7 +4,7 @@ ghost use Rattle.std.specs.Prelude.{◌≡◌, ◌+◌, ◌<◌, ◌≤◌, IsOk
 ghost use Rattle.bw_tree.specs.Shares.{no_changes};
 ghost use Rattle.bw_tree.specs.Trees.{OpensFor};
 ghost use Rattle.nifforan_shared.specs.Sharing.{IsShared, IsTableShared, IsBack, MayShare, IsShareFault};
-ghost use Rattle.nifforan_shared.specs.Workers.{AllTold};
+ghost use Rattle.nifforan_shared.specs.Workers.{AllAsPromised};
 
 use crate::fault::{CrewFault, ShareFault};
 use crate::gathering::Gathered;
@@ -45,7 +45,7 @@ pub fn share<
     workers: u32,
     job: &J,
 ) -> Result<Outcome<O, L>, ShareFault>
-    ensures shared { IfOk result (IsShared L.added (J.told job.now) config workers) }
+    ensures shared { IfOk result (IsShared L.added (J.promised job.now) config workers) }
     ensures fine { IsOk result → MayShare 64 config workers }
     ensures fault { IfErr result (IsShareFault 64 config workers) }
 {
@@ -76,7 +76,7 @@ pub fn share_table<
     workers: u32,
     job: &J,
 ) -> Result<Outcome<O, L>, Unshared<Global, ShareFault>>
-    ensures shared { IfOk result (IsTableShared L.added (J.told job.now) table workers) }
+    ensures shared { IfOk result (IsTableShared L.added (J.promised job.now) table workers) }
     ensures fine { IsOk result → MayShare 64 table.config workers }
     ensures fault { IfErr result (λ unshared.
         IsShareFault 64 table.config workers unshared.fault) }
@@ -104,7 +104,7 @@ pub fn share_with_readers<
     workers: u32,
     job: &J,
 ) -> Result<Outcome<O, L>, ShareFault>
-    ensures shared { IfOk result (IsShared L.added (J.told job.now) config workers) }
+    ensures shared { IfOk result (IsShared L.added (J.promised job.now) config workers) }
     ensures fine { IsOk result → MayShare 16 config workers }
     ensures fault { IfErr result (IsShareFault 16 config workers) }
 {
@@ -147,7 +147,7 @@ fn share_locked<
     requires ledgers { OpensFor I.Ledger I.config D.Ledger table.config blanks }
     requires workers { blanks.workers ≡ workers + 1 }
     requires made { MayShare 64 table.config workers }
-    ensures shared { IfOk result (IsTableShared L.added (J.told job.now) table workers) }
+    ensures shared { IfOk result (IsTableShared L.added (J.promised job.now) table workers) }
     ensures fault { IfErr result (λ unshared.
         IsShareFault 64 table.config workers unshared.fault) }
     ensures back { IfErr result (IsBack table) }
@@ -207,8 +207,8 @@ fn work_by_hand<
     requires new { All (λ share. share ≡ no_changes) shares.items }
     ensures count { IfOk result (λ all. length all.shares.items ≡ length shares.items) }
     ensures spare { IfOk result (λ all. length shares.items < vec_capacity all.shares) }
-    ensures told { IfOk result (λ all.
-        AllTold L.added (J.told job.now) all.outputs.items all.trails.items) }
+    ensures promised { IfOk result (λ all.
+        AllAsPromised L.added (J.promised job.now) all.outputs.items all.trails.items) }
 {
     let kits = Vec::from_elem(machine, (), shares.len())?;
     work_all(rt, machine, tree, &Open, &ByHand { job }, shares, kits)
@@ -236,7 +236,7 @@ fn share_read<
     requires ledgers { OpensFor N.Ledger N.config D.Ledger config blanks }
     requires workers { blanks.workers ≡ workers }
     requires made { MayShare 16 config workers }
-    ensures shared { IfOk result (IsShared L.added (J.told job.now) config workers) }
+    ensures shared { IfOk result (IsShared L.added (J.promised job.now) config workers) }
     ensures fault { IfErr result (IsShareFault 16 config workers) }
 {
     let made = ReadTree::<R, N, D>::with_readers(

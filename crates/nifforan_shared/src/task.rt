@@ -23,14 +23,14 @@ pub trait Task<K> {
     ghost given: { Self → ℕ → K → Type 0 } = { λ task worker kit. Unit {0} };
 
     // what is promised of a worker's number, of what that worker brings back, and of its trail
-    ghost told: { Self → Promised Self.Output };
+    ghost promised: { Self → Promised Self.Output };
 
     /// Does the part of the worker with this number, from 0 on.
     fn run<W: Notes>(&self, worker: u32, hand: &mut W, kit: K) -> Self::Output
         requires few { worker < 64 }
         requires given { given self.now worker kit }
         requires new { (W.seen hand.old).trail ≡ [] }
-        ensures told { told self.now worker result (W.seen hand.new).trail };
+        ensures promised { promised self.now worker result (W.seen hand.new).trail };
 }
 
 /// A job that is done by the hand alone.
@@ -44,7 +44,7 @@ impl<'j, J: Job> Task<()> for ByHand<'j, J> {
 
     type Trail = J::Trail;
 
-    ghost told = { λ task. J.told task.job.now };
+    ghost promised = { λ task. J.promised task.job.now };
 
     fn run<W: Notes>(&self, worker: u32, hand: &mut W, _kit: ()) -> J::Output {
         self.job.work(worker, hand)
@@ -63,7 +63,7 @@ impl<'j, 't, J: ReadingJob, R: Wait + Copy, N: Naming, D: Ledger> Task<Reading<'
 
     type Trail = J::Trail;
 
-    ghost told = { λ task. J.told task.job.now };
+    ghost promised = { λ task. J.promised task.job.now };
 
     fn run<W: Notes>(&self, worker: u32, hand: &mut W, kit: Reading<'t, R, N, D>) -> J::Output {
         let mut reader = kit;

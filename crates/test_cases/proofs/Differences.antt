@@ -119,17 +119,17 @@ pub some_tells : (text other : List ℕ) (number : ℕ) → IsFirstDifference (l
 some_tells text other number first = ((λ none. absurd (cc none)), (λ same. absurd (first.differs (ap (λ t. line_in (lines_of t) number) same))))
 
 -- what is returned where the first text has ended
-abbrev pub Told : List ℕ → List ℕ → Option ℕ → Type 0
-Told text other result = ((result ≡ None) ↔ (text ≡ other)) × IfSome result (IsFirstDifference (lines_of text) (lines_of other))
+abbrev pub Reported : List ℕ → List ℕ → Option ℕ → Type 0
+Reported text other result = ((result ≡ None) ↔ (text ≡ other)) × IfSome result (IsFirstDifference (lines_of text) (lines_of other))
 
 ended : (text other : List ℕ) (number : ℕ) (other_rest : Option (Bor (List ℕ))) → IsSoFar text other number None (option_copied other_rest)
-    → Told text other (cond (is_some other_rest) (Some number) None)
+    → Reported text other (cond (is_some other_rest) (Some number) None)
 ended text other number None so_far = (((λ none. so_far.same refl), (λ same. refl)), tt)
 ended text other number (Some rest) so_far =
     let first = other_goes_on text other number rest.now so_far in (some_tells text other number first, first)
 
 pub text_ended : (text other : List ℕ) (number : ℕ) (rest other_rest : Option (Bor (List ℕ))) (result : Option ℕ) → rest ≡ None
-    → IsSoFar text other number (option_copied rest) (option_copied other_rest) → result ≡ cond (is_some other_rest) (Some number) None → Told text other result
+    → IsSoFar text other number (option_copied rest) (option_copied other_rest) → result ≡ cond (is_some other_rest) (Some number) None → Reported text other result
 text_ended text other number rest other_rest result none so_far is =
     rw is (ended text other number other_rest (subst (λ r. IsSoFar text other number (option_copied r) (option_copied other_rest)) none so_far))
 

@@ -1,12 +1,12 @@
 //! Cases of the program's command: its input, and the answer wanted.
 //!
-//! A file has one case after the other. Each line begins with a mark, and has its text behind a
+//! A file has one case after the other. Each line begins with a mark, and has its text after a
 //! blank:
 //!
 //! | Mark | The line says |
 //! |---|---|
-//! | `$` | a case begins, and these are its words; behind a bar are those of a second call, which reads what the first prints |
-//! | `+` | with these words behind its own the answer is the same |
+//! | `$` | a case begins, and these are its words; after a bar are those of a second call, which reads what the first prints |
+//! | `+` | with these words after its own the answer is the same |
 //! | `<` | a line of the input |
 //! | `<-` | a line of the input, without its line feed |
 //! | `<!` | from here on the input can't be read |
@@ -30,7 +30,7 @@ use std::thread::Threads;
 #[derive(Drop)]
 struct Case<'a> {
     words: &'a str,
-    /// Further words behind these, with which the answer is the same.
+    /// Further words after these, with which the answer is the same.
     more: Option<&'a str>,
     input: String,
     has_failure: bool,
@@ -119,7 +119,7 @@ fn judge<R: Threads + Wait + Sync + Send + Copy>(rt: R, alloc: Global, case: &Ca
     }
 }
 
-/// Fails where it first doesn't, with more words behind the case's own.
+/// Fails where it first doesn't, with more words after the case's own.
 fn judge_with<R: Threads + Wait + Sync + Send + Copy>(
     rt: R,
     alloc: Global,

@@ -36,7 +36,7 @@ pub(crate) struct Answer {
 }
 
 impl Answer {
-    /// Returns its lines, each behind a mark, as the files of cases have them.
+    /// Returns its lines, each after a mark, as the files of cases have them.
     pub(crate) fn lines(&self, alloc: Global) -> Result<String> {
         let mut lines = String::new(alloc);
         add_lines(&mut lines, '>', &self.output)?;
@@ -48,7 +48,7 @@ impl Answer {
     }
 }
 
-/// Adds the lines of a text, each behind the mark, which has a dash if the line feed is missing.
+/// Adds the lines of a text, each after the mark, which has a dash if the line feed is missing.
 fn add_lines(lines: &mut String, mark: char, text: &str) -> Result<()> {
     for line in text.split_inclusive('\n') {
         match line.strip_suffix('\n') {
@@ -59,7 +59,7 @@ fn add_lines(lines: &mut String, mark: char, text: &str) -> Result<()> {
     Ok(())
 }
 
-/// Returns what the program answers to these words, with more behind them. Notes are among the
+/// Returns what the program answers to these words, with more after them. Notes are among the
 /// faults where somebody watches these.
 pub(crate) fn answer_to<R: Threads + Wait + Sync + Send + Copy>(
     rt: R,

@@ -1,7 +1,7 @@
 //! Scripts of what workers and readers do on a tree, played line by line, with an answer to each.
 //!
 //! A script begins with its title and the line that makes its tree. An empty line stands between
-//! two scripts. The answer to a line stands beneath it, behind `> `.
+//! two scripts. The answer to a line stands beneath it, after `> `.
 //!
 //! | Line | What it says |
 //! |---|---|
@@ -196,7 +196,7 @@ fn tell<N: Naming>(
     Ok(())
 }
 
-/// Plays the lines behind the one that makes the tree. They are owned here, since ledgers aren't
+/// Plays the lines after the one that makes the tree. They are owned here, since ledgers aren't
 /// named at a call with a `&str`.
 fn play_over<R: Wait + Copy, N: Naming, D: Ledger>(
     rt: R,

@@ -59,7 +59,7 @@ pub(crate) fn agree<R: Threads + Wait + Sync + Send + Copy + Files + AllocGlobal
     Ok(lines)
 }
 
-/// Returns the replies, leaves and counts, and behind them the history.
+/// Returns the replies, leaves and counts, and after them the history.
 pub(crate) fn joined(alloc: Global, replies: String, history: &str) -> Result<String> {
     Ok(format!(in alloc; "{replies}history\n{history}")?)
 }

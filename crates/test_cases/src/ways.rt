@@ -32,7 +32,7 @@ fn work<S: Steps<Global, Step<Global>>>(
     Ok(lines)
 }
 
-/// Returns the replies, the survey of the table and the audit, and the history behind them.
+/// Returns the replies, the survey of the table and the audit, and the history after them.
 fn ending(
     alloc: Global,
     replies: String,

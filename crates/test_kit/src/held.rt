@@ -2,7 +2,7 @@
 
 use crate::meeting::Meeting;
 use crate::play::Played;
-use crate::worker::{Call, Reply, Task, Told, work_by_hand};
+use crate::worker::{Call, Reply, Reported, Task, work_by_hand};
 use bw_delta::NoMemory;
 use bw_keys::Key;
 use bw_step::{Book, Kind, Receipt, Step};
@@ -58,7 +58,7 @@ impl HeldAfter {
         share: Share<S::Insertions, S::Removals>,
         worker: u32,
         task: Task<'_>,
-    ) -> Played<S::Insertions, S::Removals, Told> {
+    ) -> Played<S::Insertions, S::Removals, Reported> {
         self.begin(worker);
         let worked = work_by_hand(machine, tree, share, (worker, self), task);
         self.end(worker);
@@ -144,7 +144,7 @@ const HELD_BOOK: Book = Book {
     modified: 0,
 };
 
-/// Returns whether the insertions on the trail are numbered one by one behind `changes`.
+/// Returns whether the insertions on the trail are numbered one by one after `changes`.
 fn are_numbered_behind(trail: &[Receipt], changes: u64) -> bool {
     let mut last = changes;
     for receipt in trail {
@@ -158,13 +158,13 @@ fn are_numbered_behind(trail: &[Receipt], changes: u64) -> bool {
     true
 }
 
-/// Returns whether both workers were answered as expected, worker 1 did all behind `changes`
+/// Returns whether both workers were answered as expected, worker 1 did all after `changes`
 /// changes of worker 0, and the table has the pairs of both.
 pub fn are_both_done(
     machine: Global,
     table: &Table<Global>,
     before: u64,
-    (zero, one): (&Told, &Told),
+    (zero, one): (&Reported, &Reported),
 ) -> Result<bool, NoMemory> {
     Ok(
         zero.fault.is_none()

@@ -28,7 +28,7 @@ pub trait Hook<S: Shared<Global, Step<Global>>> {
     }
 }
 
-/// A shared tree behind a hook: one that has its configuration and the atomic steps alone.
+/// A shared tree after a hook: one that has its configuration and the atomic steps alone.
 #[derive(Drop)]
 pub struct Hooked<'t, S, H> {
     pub tree: &'t S,

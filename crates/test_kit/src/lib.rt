@@ -31,4 +31,4 @@ pub use pages::{Pages, seen};
 pub use play::{Ended, NoTree, Play, Played, Turns, play_on_new_tree};
 pub use sights::{are_own_pairs, leaves_of};
 pub use tally::{Tally, partition_the_keys};
-pub use worker::{Call, Reply, Task, Told, work, work_by_hand};
+pub use worker::{Call, Reply, Reported, Task, work, work_by_hand};

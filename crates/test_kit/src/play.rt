@@ -18,7 +18,7 @@ use std::thread::{Threads, join};
 #[derive(Drop)]
 pub struct Played<I: Ledger, D: Ledger, T> {
     pub share: Share<I, D>,
-    pub told: T,
+    pub reported: T,
 }
 
 /// What two workers, 0 and 1, do on a tree.
@@ -132,8 +132,8 @@ fn play_over<
     match tree.close(shares) {
         Ok(table) => Ok(Ended {
             table,
-            zero: zero.told,
-            one: one.told,
+            zero: zero.reported,
+            one: one.reported,
         }),
         Err(_) => Err(NoTree),
     }

@@ -20,7 +20,7 @@ pub enum Call {
     Clear(Key, Fence),
 }
 
-/// An answer to a call: one reply, and behind it the fault that ended helping or tending, or the
+/// An answer to a call: one reply, and after it the fault that ended helping or tending, or the
 /// removal of a range, if there was one. A slice is answered by each of its pairs, and by where the
 /// next leaf begins.
 #[derive(Clone, Copy, Debug, PartialEq, Eq)]
@@ -67,8 +67,8 @@ impl<'c> Task<'c> {
 
 /// The answers to a worker.
 #[derive(Debug, Drop)]
-pub struct Told {
-    /// The replies to the calls, behind those to the puts that didn't just insert a key.
+pub struct Reported {
+    /// The replies to the calls, after those to the puts that didn't just insert a key.
     pub replies: Vec<Reply>,
     /// What the calls left on the trail.
     pub trail: Vec<Receipt>,
@@ -76,7 +76,7 @@ pub struct Told {
     pub fault: Option<Fault>,
 }
 
-impl Told {
+impl Reported {
     /// Returns whether each put just inserted a key, and no call was answered.
     pub fn is_plain(&self) -> bool {
         self.replies.is_empty() && self.fault.is_none()
@@ -179,17 +179,17 @@ pub fn work<S: Steps<Global, Step<Global>>>(
     machine: Global,
     steps: &mut S,
     task: Task<'_>,
-) -> Told {
+) -> Reported {
     let mut replies = Vec::new(machine);
     let (before, fault) = serve(machine, steps, task, &mut replies);
     let receipts = steps.trail().iter().skip(before).copied();
     match receipts.collect(machine) {
-        Ok(trail) => Told {
+        Ok(trail) => Reported {
             replies,
             trail,
             fault,
         },
-        Err(_) => Told {
+        Err(_) => Reported {
             replies,
             trail: Vec::new(machine),
             fault: Some(Fault::NoMemory),
@@ -204,9 +204,9 @@ pub fn work_by_hand<S: Shared<Global, Step<Global>>, G: Gate>(
     share: Share<S::Insertions, S::Removals>,
     (worker, gate): (u32, &G),
     task: Task<'_>,
-) -> Played<S::Insertions, S::Removals, Told> {
+) -> Played<S::Insertions, S::Removals, Reported> {
     let mut hand = Hand::new(machine, machine, tree, share, worker, gate);
-    let told = work(machine, &mut hand, task);
+    let reported = work(machine, &mut hand, task);
     let (share, _) = hand.finish();
-    Played { share, told }
+    Played { share, reported }
 }

@@ -2,7 +2,7 @@
 
 ghost use Rattle.std.specs.Prelude.{◌<◌, ◌≤◌};
 
-use nifforan::Map;
+use nifforan::{MAX_PAGES, Map};
 use nifforan_handle::status::{CLOSED, OK, OPEN, TABLE_FULL};
 use nifforan_handle::{Found, Handle, Held, High, Pair, Read, Settings};
 use rand_core::{Rng, SeedableRng};
@@ -37,7 +37,7 @@ fn made_anew(machine: Global, map: Map<Global>) -> Result<Map<Global>, AllocErro
     let most = map.config().pages;
     let mut table = map.into_table();
     let pages = table.config().pages;
-    if pages <= most && most <= 65_536 && table.add_pages(most - pages).is_err() {
+    if pages <= most && most <= MAX_PAGES && table.add_pages(most - pages).is_err() {
         return Err(AllocError);
     }
     Ok(Map::from_table(machine, machine, table))
@@ -291,15 +291,15 @@ impl Beside {
 }
 
 /// Returns whether a read found the first of the wanted pairs, as many as there are places, names the
-/// key of the next one, and left the place behind them alone.
+/// key of the next one, and left the place after them alone.
 fn is_filled(read: Read, places: &[Pair], behind: &Pair, wanted: &[(u64, u64)]) -> bool {
     let mut is_alike = read.count == wanted.len().min(places.len());
     for (place, pair) in places.iter().zip(wanted) {
         is_alike &= (place.key, place.value) == *pair;
     }
     let next = wanted.get(places.len()).copied();
-    let told = (OK, next.is_some(), next.unwrap_or((0, 0)).0);
-    is_alike && (read.status, read.has_next, read.next) == told && behind.key == UNTOUCHED.key
+    let reported = (OK, next.is_some(), next.unwrap_or((0, 0)).0);
+    is_alike && (read.status, read.has_next, read.next) == reported && behind.key == UNTOUCHED.key
 }
 
 /// Returns whether the look was answered with the pair, or with none.
@@ -314,7 +314,7 @@ pub fn is_closed(machine: Global, handle: &mut Handle) -> bool {
     let mut other = Handle::closed();
     let read = handle.read(machine, 0, High::TOP, &mut places);
     let back = handle.read_back(machine, 0, High::TOP, &mut places);
-    let told = [
+    let reported = [
         read.status,
         back.status,
         handle.pairs(machine).status,
@@ -333,5 +333,5 @@ pub fn is_closed(machine: Global, handle: &mut Handle) -> bool {
     ];
     other.close(machine);
     drop(other.into_box(machine));
-    told == [CLOSED; 15] && (read.count, back.count, places[0].key) == (0, 0, UNTOUCHED.key)
+    reported == [CLOSED; 15] && (read.count, back.count, places[0].key) == (0, 0, UNTOUCHED.key)
 }

@@ -22,7 +22,7 @@ pub(crate) const TABLES: [(u32, u32, u32); 4] = [
 /// Keys near both ends of all keys, and among those that are drawn.
 pub(crate) const BOUNDS: [u64; 9] = [0, 1, 2, 60, 61, 200, u64::MAX - 2, u64::MAX - 1, u64::MAX];
 
-/// From which end a pair is taken, a bit a turn: all from the front, all from behind, in turn, and four from each.
+/// From which end a pair is taken, a bit a turn: all from the front, all from the back, in turn, and four from each.
 const TURNS: [u64; 4] = [0, u64::MAX, 0x5555_5555_5555_5555, 0x0f0f_0f0f_0f0f_0f0f];
 
 /// Drawn puts, sets and deletes.

@@ -68,7 +68,7 @@ fn are_read<R: Threads>(rt: &R, machine: Global, one: &mut Handle, other: &mut H
 
 /// Returns whether no call changes the frozen map.
 fn is_left(machine: Global, handle: &mut Handle) -> bool {
-    let told = [
+    let reported = [
         handle.put(machine, 1, 1).status,
         handle.set(machine, 0, 1).status,
         handle.delete(machine, 0).status,
@@ -76,7 +76,7 @@ fn is_left(machine: Global, handle: &mut Handle) -> bool {
         handle.freeze(machine),
         handle.create(machine, &SETTINGS),
     ];
-    told == [FROZEN, FROZEN, FROZEN, FROZEN, FROZEN, OPEN]
+    reported == [FROZEN, FROZEN, FROZEN, FROZEN, FROZEN, OPEN]
 }
 
 /// Returns what came of each call that freezes, shares or thaws, in turn.
@@ -86,7 +86,7 @@ fn shared<R: Threads>(
     one: &mut Handle,
     other: &mut Handle,
 ) -> (bool, [u32; 9]) {
-    let mut told = [
+    let mut reported = [
         one.thaw(machine),
         one.share(machine, other),
         one.freeze(machine),
@@ -98,13 +98,13 @@ fn shared<R: Threads>(
         OK,
     ];
     let mut is_alike = are_read(rt, machine, one, other) && is_left(machine, other);
-    told[5] = one.thaw(machine);
+    reported[5] = one.thaw(machine);
     one.close(machine);
     is_alike &= has_each(machine, other);
-    told[6] = other.thaw(machine);
-    told[7] = other.thaw(machine);
-    told[8] = other.delete(machine, 0).status;
-    (is_alike, told)
+    reported[6] = other.thaw(machine);
+    reported[7] = other.thaw(machine);
+    reported[8] = other.delete(machine, 0).status;
+    (is_alike, reported)
 }
 
 #[test]
@@ -112,7 +112,7 @@ fn a_frozen_map_is_read_by_threads_at_once(rt: HostRuntime) -> Result<(), Fail> 
     let machine = rt.alloc();
     let (mut one, mut other) = (Handle::closed(), Handle::closed());
     let is_filled = fill(machine, &mut one);
-    let (is_alike, told) = shared(&rt, machine, &mut one, &mut other);
+    let (is_alike, reported) = shared(&rt, machine, &mut one, &mut other);
     let wanted = [
         NOT_FROZEN, NOT_FROZEN, OK, OK, OPEN, SHARED, OK, NOT_FROZEN, OK,
     ];
@@ -120,17 +120,17 @@ fn a_frozen_map_is_read_by_threads_at_once(rt: HostRuntime) -> Result<(), Fail> 
     drop(one.into_box(machine));
     drop(other.into_box(machine));
     assert!(rt; is_filled && is_alike);
-    assert_eq!(rt; told, wanted);
+    assert_eq!(rt; reported, wanted);
     Ok(())
 }
 
 #[test]
 fn settings_of_another_size_are_refused(rt: HostRuntime) -> Result<(), Fail> {
     let mut handle = Handle::closed();
-    let told = [0, SETTINGS_SIZE - 8, SETTINGS_SIZE + 8].map(|size| {
+    let reported = [0, SETTINGS_SIZE - 8, SETTINGS_SIZE + 8].map(|size| {
         handle.create(rt.alloc(), &Settings { size, ..SETTINGS })
     });
     drop(handle.into_box(rt.alloc()));
-    assert_eq!(rt; told, [BAD_SIZE; 3]);
+    assert_eq!(rt; reported, [BAD_SIZE; 3]);
     Ok(())
 }

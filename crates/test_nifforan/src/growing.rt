@@ -56,7 +56,7 @@ fn reply_to<T: Copy>(answer: Result<Done<T>, Fault>) -> Result<Option<T>, Fail> 
     }
 }
 
-/// Returns whether no page was free for the call, or for the care behind it.
+/// Returns whether no page was free for the call, or for the care after it.
 fn is_full<T: Copy>(answer: Result<Done<T>, Fault>) -> bool {
     match answer {
         Ok(done) => done.fault == Some(Fault::TableFull),

@@ -7,6 +7,8 @@ mod at_once;
 #[cfg(test)]
 mod beside;
 #[cfg(test)]
+mod beyond;
+#[cfg(test)]
 mod both_ends;
 #[cfg(test)]
 mod drawn;
@@ -17,11 +19,15 @@ mod given_up;
 #[cfg(test)]
 mod growing;
 #[cfg(test)]
+mod loading;
+#[cfg(test)]
 mod looks;
 #[cfg(test)]
 mod many;
 #[cfg(test)]
 mod queries;
+#[cfg(test)]
+mod reserving;
 #[cfg(test)]
 mod shared;
 #[cfg(test)]

@@ -1,5 +1,5 @@
 //! Each call of a job's reader beside one worker, where its answers are known: before a publication and
-//! behind it.
+//! after it.
 
 use nifforan_shared::{
     Calls as _, Config, Fence, GivenUp, ReadingJob, Reads, ScanFault, Steps, Worker,

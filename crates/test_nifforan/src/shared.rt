@@ -35,7 +35,7 @@ impl Job for Calls {
 
     type Trail = Vec<Receipt>;
 
-    ghost told = { λ calls worker part trail. part.worker ≡ worker };
+    ghost promised = { λ calls worker part trail. part.worker ≡ worker };
 
     fn work<W: Worker>(&self, worker: u32, hand: &mut W) -> Part {
         let answers = call_each(hand, 1000 * u64::from(worker));
@@ -189,11 +189,11 @@ const FAULTS: [(u32, u32, &str); 3] = [
 ];
 
 #[test]
-fn each_fault_of_the_numbers_is_told(rt: HostRuntime) -> Result<(), Fail> {
+fn each_fault_of_the_numbers_is_reported(rt: HostRuntime) -> Result<(), Fail> {
     let calls = Calls {
         machine: rt.alloc(),
     };
-    for (chain, workers, told) in FAULTS {
+    for (chain, workers, reported) in FAULTS {
         let config = Config {
             chain,
             ..Config::default()
@@ -201,7 +201,7 @@ fn each_fault_of_the_numbers_is_told(rt: HostRuntime) -> Result<(), Fail> {
         let Err(fault) = share_calls(rt, &calls, config, workers) else {
             return Err("it was shared".into());
         };
-        assert_eq!(rt; format!(in rt.alloc(); "{fault}")?.as_str(), told);
+        assert_eq!(rt; format!(in rt.alloc(); "{fault}")?.as_str(), reported);
     }
     let shared = share_with_readers(rt, rt.alloc(), Config::default(), 17, &calls);
     assert!(rt; matches!(shared, Err(ShareFault::BadWorkers)));

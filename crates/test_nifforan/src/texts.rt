@@ -10,7 +10,7 @@ static TEXTS: [&str; 17] = [
     "the handle is open",
     "the fanout is not from 4 to 64",
     "the chain is not from 1 to 32",
-    "the pages are not from 8 to 65536",
+    "the pages are not from 8 to 16777216",
     "the tries are not from 1 to 1000",
     "no memory",
     "no page is free",

@@ -84,7 +84,7 @@ impl Plain {
         }
     }
 
-    /// Takes over the act that a tree replied to, and returns whether memory was refused behind the
+    /// Takes over the act that a tree replied to, and returns whether memory was refused after the
     /// reply. Broken if it is another reply than this map's, or another fault.
     pub(crate) fn take(&mut self, act: Act, reply: Reply) -> Result<Ending, Stop> {
         let (is_right, fault) = match (act, reply) {

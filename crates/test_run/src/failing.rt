@@ -241,7 +241,7 @@ fn history_is_read(alloc: Global, calls: u64) -> bool {
     }
 }
 
-fn is_told(written: Result<End, OutFault>, text: &str) -> bool {
+fn is_reported(written: Result<End, OutFault>, text: &str) -> bool {
     match written {
         Ok(output) => output.taken.as_slice() == text.as_bytes(),
         Err(fault) => fault == OutFault::Write,
@@ -249,7 +249,7 @@ fn is_told(written: Result<End, OutFault>, text: &str) -> bool {
 }
 
 #[test]
-fn a_failed_read_or_write_of_a_text_is_told(rt: HostRuntime) -> Result<(), Fail> {
+fn a_failed_read_or_write_of_a_text_is_reported(rt: HostRuntime) -> Result<(), Fail> {
     let alloc = rt.alloc();
     let rows = read_trace(alloc, TRACE.as_bytes(), 1)?;
     let history = read_history(alloc, HISTORY.as_bytes())?;
@@ -259,7 +259,7 @@ fn a_failed_read_or_write_of_a_text_is_told(rt: HostRuntime) -> Result<(), Fail>
         let end = End::new(alloc, "", calls);
         let history = write_history(end, &history.trails, &history.pairs);
         assert!(rt;
-            are_read && is_told(trace, TRACE) && is_told(history, HISTORY),
+            are_read && is_reported(trace, TRACE) && is_reported(history, HISTORY),
             "{calls}"
         );
     }

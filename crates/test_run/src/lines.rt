@@ -56,11 +56,11 @@ fn a_text_has_so_many_rows_at_most(rt: HostRuntime) -> Result<(), Fail> {
             left: *rows,
         };
         let mut written = Vec::new(rt.alloc());
-        let mut told = Vec::new(rt.alloc());
-        let ended = command(rt, rt.alloc(), &[*word], input, &mut written, &mut told);
+        let mut reported = Vec::new(rt.alloc());
+        let ended = command(rt, rt.alloc(), &[*word], input, &mut written, &mut reported);
         assert_eq!(rt; ended, *status, "{word} {rows}");
         assert_eq!(rt; std::str::from_utf8(&written)?, *output);
-        assert_eq!(rt; std::str::from_utf8(&told)?, *faults);
+        assert_eq!(rt; std::str::from_utf8(&reported)?, *faults);
     }
     Ok(())
 }

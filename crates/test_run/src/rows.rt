@@ -19,7 +19,7 @@ pub(crate) fn clear_all(worker: u32) -> Row {
     }
 }
 
-/// Adds a worker's puts of the `many` keys after `behind`, each with itself as value. If looks are
+/// Adds a worker's puts of the `many` keys after `after`, each with itself as value. If looks are
 /// asked for, every tenth put is followed by one for its key.
 pub(crate) fn add_puts(
     trace: &mut Vec<Row>,

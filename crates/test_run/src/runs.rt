@@ -15,9 +15,16 @@ fn printed<R: Abort + AllocGlobal + Threads + Wait + Sync + Send + Copy>(
 ) -> Result<String, Fail> {
     let alloc = rt.alloc();
     let mut written = Vec::new(alloc);
-    let mut told = Vec::new(alloc);
-    let status = command(*rt, alloc, words, input.as_bytes(), &mut written, &mut told);
-    assert!(rt; status == 0 && told.is_empty());
+    let mut reported = Vec::new(alloc);
+    let status = command(
+        *rt,
+        alloc,
+        words,
+        input.as_bytes(),
+        &mut written,
+        &mut reported,
+    );
+    assert!(rt; status == 0 && reported.is_empty());
     Ok(String::from_utf8(written)?)
 }
 
@@ -89,12 +96,24 @@ fn a_run_counts_its_rows_and_their_faults(rt: HostRuntime) -> Result<(), Fail> {
     for (flag, notes) in NOTED.iter() {
         let words = ["run", word, *flag];
         let progress = Progress::new();
-        let (input, mut written, mut told) = (trace.as_bytes(), Vec::new(alloc), Vec::new(alloc));
-        let status = command_watched(rt, alloc, &words, input, &mut written, &mut told, &progress);
+        let (input, mut written, mut reported) = (
+            trace.as_bytes(),
+            Vec::new(alloc),
+            Vec::new(alloc),
+        );
+        let status = command_watched(
+            rt,
+            alloc,
+            &words,
+            input,
+            &mut written,
+            &mut reported,
+            &progress,
+        );
         assert_eq!(rt; (status, progress.faults()), (0, 1));
         let rows = progress.rows();
         assert!(rt; 4000 < rows && rows <= 4111, "{rows}");
-        assert_eq!(rt; std::str::from_utf8(&told)?, *notes);
+        assert_eq!(rt; std::str::from_utf8(&reported)?, *notes);
     }
     Ok(())
 }

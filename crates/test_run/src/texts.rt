@@ -44,9 +44,9 @@ static FAULTS: [(RunFault, u8, &str); 5] = [
 #[test]
 fn the_fault_of_a_run_has_a_line_and_a_status(rt: HostRuntime) -> Result<(), Fail> {
     for (fault, status, line) in FAULTS.iter() {
-        let mut told = Vec::new(rt.alloc());
-        assert_eq!(rt; tell_run_fault(&mut told, *fault), *status);
-        assert_eq!(rt; std::str::from_utf8(&told)?, *line);
+        let mut reported = Vec::new(rt.alloc());
+        assert_eq!(rt; tell_run_fault(&mut reported, *fault), *status);
+        assert_eq!(rt; std::str::from_utf8(&reported)?, *line);
     }
     Ok(())
 }

@@ -36,7 +36,7 @@ const PAGES: u32 = 40;
 const CHAINS: [u32; 3] = [1, 2, 8];
 
 /// What a tree is asked to do. The page of a consolidation and of a split is named by its version, or by
-/// the one behind it.
+/// the one after it.
 #[derive(Clone, Copy)]
 enum Question {
     Leaf(Key),
@@ -80,7 +80,7 @@ fn drawn_question(rng: &mut Pcg32) -> Question {
     }
 }
 
-/// Returns the page's version, or the one behind it.
+/// Returns the page's version, or the one after it.
 fn version_of<S: Shared<Global, Step<Global>>>(tree: &S, page: Pid, is_stale: bool) -> Version {
     let version = match tree.peek(page) {
         Some(view) => view.version,
@@ -124,7 +124,7 @@ fn carry_out(map: &mut BTreeMap<Key, u64>, key: Key, wished: Wished) -> Result<(
     Ok(())
 }
 
-/// What is done behind each part of the questions.
+/// What is done after each part of the questions.
 trait Behind {
     fn pass(&mut self, map: &BTreeMap<Key, u64>) -> Result<(), Fail>;
 }

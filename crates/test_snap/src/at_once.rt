@@ -19,7 +19,8 @@ use std::sync::Wait;
 use std::sync::ledger::Ledger;
 use std::test::Fail;
 use test_kit::{
-    Call, DRAWN_KEYS, Hook, Hooked, LARGE, Reply, SMALL, Task, Told, drawn_calls, leaves_of, work,
+    Call, DRAWN_KEYS, Hook, Hooked, LARGE, Reply, Reported, SMALL, Task, drawn_calls, leaves_of,
+    work,
 };
 
 /// The most calls of a worker.
@@ -84,7 +85,7 @@ fn do_plainly(map: &mut BTreeMap<Key, u64>, call: Call, most: u64) -> Result<Rep
 }
 
 /// Makes the calls that have a reply on a plain map, and fails where that replies otherwise. A fault
-/// beside a reply takes nothing back; one that ended the removal of a range left the keys behind those
+/// beside a reply takes nothing back; one that ended the removal of a range left the keys after those
 /// that were counted.
 fn follow(map: &mut BTreeMap<Key, u64>, calls: &[Call], replies: &[Reply]) -> Result<(), Fail> {
     let mut at = 0;
@@ -118,7 +119,7 @@ struct Outcome {
     leaves: Vec<(Key, Fence, u64)>,
 }
 
-/// What is done behind each part of the calls.
+/// What is done after each part of the calls.
 trait Behind {
     fn pass(&mut self, calls: &[Call], replies: &[Reply]) -> Result<(), Fail>;
 }
@@ -148,15 +149,15 @@ impl<'t, R: Wait + Copy, N: Naming, D: Ledger> Behind for Publishes<'t, R, N, D>
     }
 }
 
-/// Puts what was told of further calls behind what was told before.
-fn add(told: &mut Told, more: &Told) -> Result<(), Fail> {
+/// Puts what was reported of further calls after what was reported before.
+fn add(reported: &mut Reported, more: &Reported) -> Result<(), Fail> {
     for reply in more.replies.iter() {
-        told.replies.push(*reply)?;
+        reported.replies.push(*reply)?;
     }
     for receipt in more.trail.iter() {
-        told.trail.push(*receipt)?;
+        reported.trail.push(*receipt)?;
     }
-    told.fault = more.fault;
+    reported.fault = more.fault;
     Ok(())
 }
 
@@ -166,21 +167,21 @@ fn tell_all<W: Steps<Global, Step<Global>>, B: Behind>(
     steps: &mut W,
     parts: (&[Call], usize),
     behind: &mut B,
-) -> Result<Told, Fail> {
-    let mut told = Told {
+) -> Result<Reported, Fail> {
+    let mut reported = Reported {
         replies: Vec::new(machine),
         trail: Vec::new(machine),
         fault: None,
     };
     for calls in parts.0.chunks(parts.1.max(1)) {
         let more = work(machine, steps, Task::calls(calls));
-        add(&mut told, &more)?;
+        add(&mut reported, &more)?;
         behind.pass(calls, &more.replies)?;
-        if told.fault.is_some() {
+        if reported.fault.is_some() {
             break;
         }
     }
-    Ok(told)
+    Ok(reported)
 }
 
 /// Makes the calls in parts, and returns their outcome without leaves.
@@ -192,7 +193,7 @@ fn outcome_of<S: Shared<Global, Step<Global>>, B: Behind>(
     behind: &mut B,
 ) -> Result<Outcome, Fail> {
     let mut hand = Hand::new(machine, machine, tree, share, 0, &Open);
-    let Told {
+    let Reported {
         replies,
         trail,
         fault,

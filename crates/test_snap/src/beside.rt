@@ -16,7 +16,7 @@ use std::sync::atomic::{AtomicU64, Ordering};
 use std::sync::ledger::Ledger;
 use std::test::Fail;
 use std::thread;
-use test_kit::{LARGE, Meeting, Played, Told};
+use test_kit::{LARGE, Meeting, Played, Reported};
 
 const RUNS: u64 = 20;
 
@@ -98,7 +98,7 @@ impl Crew for Beside {
         tree: &ReadTree<R, N, D>,
         worker: u32,
         share: Share<N, D>,
-    ) -> Played<N, D, Told> {
+    ) -> Played<N, D, Reported> {
         let machine = self.machine;
         let mut hand = Hand::new(machine, machine, tree, share, worker, &Open);
         let fault = self.act_until_read(tree, &mut hand, worker);
@@ -106,7 +106,7 @@ impl Crew for Beside {
         let (share, trail) = hand.finish();
         Played {
             share,
-            told: Told {
+            reported: Reported {
                 replies: Vec::new(machine),
                 trail,
                 fault,

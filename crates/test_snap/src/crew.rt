@@ -13,7 +13,7 @@ use std::sync::Wait;
 use std::sync::ledger::Ledger;
 use std::test::Fail;
 use std::thread::{Threads, join};
-use test_kit::{Played, Told};
+use test_kit::{Played, Reported};
 
 /// What the threads do, each with its result.
 pub(crate) trait Crew {
@@ -23,7 +23,7 @@ pub(crate) trait Crew {
         tree: &ReadTree<R, N, D>,
         worker: u32,
         share: Share<N, D>,
-    ) -> Played<N, D, Told>;
+    ) -> Played<N, D, Reported>;
 
     fn read<N: Naming>(&self, reader: Reader<N>) -> Seen;
 }
@@ -39,7 +39,7 @@ fn write_both<
     tree: &ReadTree<R, N, D>,
     (zero, one): (Share<N, D>, Share<N, D>),
     crew: &C,
-) -> (Played<N, D, Told>, Played<N, D, Told>) {
+) -> (Played<N, D, Reported>, Played<N, D, Reported>) {
     join(
         &rt,
         move || crew.write(tree, 0, zero),
@@ -59,7 +59,7 @@ fn work_all<
     shares: (Share<N, D>, Share<N, D>),
     reader: Reader<N>,
     crew: &C,
-) -> ((Played<N, D, Told>, Played<N, D, Told>), Seen) {
+) -> ((Played<N, D, Reported>, Played<N, D, Reported>), Seen) {
     join(
         &rt,
         move || write_both(rt, tree, shares, crew),
@@ -100,8 +100,8 @@ fn work_over<
     }
     Ok(Left {
         table: tree.close(shares)?,
-        zero: zero.told,
-        one: one.told,
+        zero: zero.reported,
+        one: one.reported,
         seen,
     })
 }

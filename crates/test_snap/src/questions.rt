@@ -276,7 +276,7 @@ fn is_closed<N: Naming>(machine: Global, reader: &mut Reader<N>) -> Result<bool,
     Ok(is_closed)
 }
 
-/// What was told line by line, the first round of drawn changes with a wrong answer, and whether the
+/// What was reported line by line, the first round of drawn changes with a wrong answer, and whether the
 /// reader said that the tree was closed.
 type Found = (String, Option<u64>, bool);
 

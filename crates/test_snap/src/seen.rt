@@ -7,7 +7,7 @@ use bw_step::Receipt;
 use bw_table::Table;
 use std::alloc::Global;
 use std::test::Fail;
-use test_kit::Told;
+use test_kit::Reported;
 
 /// What a reader saw.
 #[derive(Debug, Drop)]
@@ -43,8 +43,8 @@ impl Seen {
 #[derive(Drop)]
 pub(crate) struct Left {
     pub(crate) table: Table<Global>,
-    pub(crate) zero: Told,
-    pub(crate) one: Told,
+    pub(crate) zero: Reported,
+    pub(crate) one: Reported,
     pub(crate) seen: Seen,
 }
 
@@ -61,8 +61,8 @@ impl Left {
         if !is_ascending(&pairs) {
             return Err("the keys of the pairs don't rise".into());
         }
-        let Told { trail: zero, .. } = zero;
-        let Told { trail: one, .. } = one;
+        let Reported { trail: zero, .. } = zero;
+        let Reported { trail: one, .. } = one;
         let Seen { trail: seen, .. } = seen;
         let trails = [zero, one, seen];
         Ok(audit(machine, &trails, &pairs)?)

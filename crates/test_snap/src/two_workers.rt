@@ -15,7 +15,7 @@ use std::sync::ledger::Ledger;
 use std::test::Fail;
 use std::thread::Threads;
 use test_kit::{
-    BESIDE_CALLS, Call, HELD_CALLS, HOLDS, HeldAfter, Played, Reply, SMALL, Task, Told,
+    BESIDE_CALLS, Call, HELD_CALLS, HOLDS, HeldAfter, Played, Reply, Reported, SMALL, Task,
     are_both_done, are_own_pairs, leaves_of, receipt, work_by_hand,
 };
 
@@ -37,12 +37,12 @@ impl Crew for Both {
         tree: &ReadTree<R, N, D>,
         worker: u32,
         share: Share<N, D>,
-    ) -> Played<N, D, Told> {
+    ) -> Played<N, D, Reported> {
         let task = if worker == 0 { self.zero } else { self.one };
         self.held.begin(worker);
         let mut worked = work_by_hand(self.machine, tree, share, (worker, &self.held), task);
         if worker == 1 && tree.publish().is_err() {
-            worked.told.fault = Some(Fault::NoMemory);
+            worked.reported.fault = Some(Fault::NoMemory);
         }
         self.held.end(worker);
         worked

@@ -23,6 +23,14 @@ pub(crate) fn are_alike(one: &Table<Global>, other: &Table<Global>) -> bool {
 /// What is answered to an action.
 pub(crate) type Answer = Result<Performed, Unperformed>;
 
+/// Returns the answer of one table, if it is that of the other and both are alike then.
+pub(crate) fn alike_answer(
+    (done, table): (Answer, &Table<Global>),
+    (wanted, by_steps): (Answer, &Table<Global>),
+) -> Option<Answer> {
+    (done == wanted && are_alike(table, by_steps)).then_some(done)
+}
+
 /// Returns what the receipt's step, or look, for the key came to on the page.
 pub(crate) fn performed(table: &Table<Global>, page: Pid, key: Key, receipt: Receipt) -> Answer {
     let view = table.peek(page).ok_or(Unperformed::StepByStep)?;

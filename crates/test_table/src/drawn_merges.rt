@@ -2,7 +2,7 @@
 
 use crate::halving::is_above;
 use crate::merging::{are_same, steps_of};
-use crate::recording::{follows, install_drawn};
+use crate::twins::Twins;
 use bw_delta::{Base, Entries, Spare};
 use bw_keys::{Config, Key, Pid};
 use bw_step::Stage;
@@ -10,7 +10,6 @@ use bw_table::{Action, Table, View, Wished};
 use rand_core::{Rng, SeedableRng};
 use rand_pcg::Pcg32;
 use std::alloc::Global;
-use std::collections::BTreeMap;
 use std::test::Fail;
 use test_kit::{Change, SMALL, step_of, take_all};
 
@@ -134,13 +133,11 @@ impl Merges {
     }
 }
 
-/// Two tables to which the same is done, but that pages are merged at once in one and by steps in the
-/// other, and a map that follows the receipts.
+/// What drawn acts are made on: pages are merged at once in one of the tables, and by steps in the
+/// other.
 #[derive(Drop)]
-struct Twins {
-    at_once: Table<Global>,
-    by_steps: Table<Global>,
-    map: BTreeMap<Key, u64>,
+struct Drawn {
+    twins: Twins,
     merges: Merges,
 }
 
@@ -215,46 +212,25 @@ fn drawn_wish(rng: &mut Pcg32, empties: bool) -> Wished {
     }
 }
 
-impl Twins {
-    fn new(alloc: Global, fanout: u32) -> Result<Twins, Fail> {
-        let config = Config { fanout, ..SMALL };
-        Ok(Twins {
-            at_once: Table::new(alloc, alloc, config)?,
-            by_steps: Table::new(alloc, alloc, config)?,
-            map: BTreeMap::new(alloc),
-            merges: Merges::NONE,
-        })
-    }
-
+impl Drawn {
     /// Takes a step on both tables, and returns whether they answer alike.
     fn take(&mut self, alloc: Global, change: Change) -> Result<bool, Fail> {
         let (one, other) = (
-            step_of(alloc, &self.at_once, change)?,
-            step_of(alloc, &self.by_steps, change)?,
+            step_of(alloc, &self.twins.at_once, change)?,
+            step_of(alloc, &self.twins.by_steps, change)?,
         );
-        Ok(self.at_once.install(one) == self.by_steps.install(other))
-    }
-
-    /// Takes a drawn step on both tables, and returns whether they answer alike, and as the map does.
-    fn take_drawn(&mut self, alloc: Global, seed: u64) -> Result<bool, Fail> {
-        let answer = install_drawn(alloc, &mut self.at_once, seed)?;
-        if answer != install_drawn(alloc, &mut self.by_steps, seed)? {
-            return Ok(false);
-        }
-        match answer {
-            Ok(receipt) => follows(&mut self.map, receipt),
-            Err(_) => Ok(true),
-        }
+        Ok(self.twins.at_once.install(one) == self.twins.by_steps.install(other))
     }
 
     /// Puts the record of a wish on both tables, and consolidates the leaf where its chain is long then.
     /// Returns whether they answer alike, and as the map does.
     fn record(&mut self, alloc: Global, chain: u8, key: Key, wished: Wished) -> Result<bool, Fail> {
         let action = Action::Record { key, wished };
-        let done = self
+        let twins = &mut self.twins;
+        let done = twins
             .at_once
             .perform(alloc, action, Some(Spare::new(alloc)?));
-        let other = self
+        let other = twins
             .by_steps
             .perform(alloc, action, Some(Spare::new(alloc)?));
         if done != other {
@@ -265,16 +241,16 @@ impl Twins {
         };
         let is_long = done.depth >= chain;
         Ok(
-            follows(&mut self.map, done.receipt)?
+            twins.follow(done.receipt)?
                 && (!is_long || self.take(alloc, Change::Consolidate(done.page.0))?),
         )
     }
 
     /// Returns a page whose shape is to be changed: one that is unfinished first.
     fn page_to_shape(&self, rng: &mut Pcg32) -> Option<View> {
-        match unfinished(&self.at_once) {
+        match unfinished(&self.twins.at_once) {
             Some(page) if rng.next_u32() % 4 > 0 => Some(page),
-            _ => drawn_page(&self.at_once, rng, 0),
+            _ => drawn_page(&self.twins.at_once, rng, 0),
         }
     }
 
@@ -283,7 +259,7 @@ impl Twins {
         let Some(page) = self.page_to_shape(rng) else {
             return Ok(false);
         };
-        let change = shape_of(&self.at_once, page);
+        let change = shape_of(&self.twins.at_once, page);
         let is_alike = self.take(alloc, change)?;
         if rng.next_u32() % 8 == 0 {
             return Ok(is_alike);
@@ -297,14 +273,15 @@ impl Twins {
     }
 
     /// Merges a page at once in one table, and by steps in the other. Returns whether the page on its left
-    /// is told, or none where it wasn't to be merged.
+    /// is reported, or none where it wasn't to be merged.
     fn merge(&mut self, alloc: Global, parent: u32, page: View) -> Result<bool, Fail> {
         let id = page.pid.0;
-        let left = left_under(alloc, &self.at_once, parent, id);
+        let left = left_under(alloc, &self.twins.at_once, parent, id);
         self.merges.count(page.level, left);
-        let done = self.at_once.merge_under(Pid(parent), page.pid);
+        let done = self.twins.at_once.merge_under(Pid(parent), page.pid);
         if let Ok(left) = left {
-            take_all(alloc, &mut self.by_steps, &steps_of(parent, left.0, id))?;
+            let steps = steps_of(parent, left.0, id);
+            take_all(alloc, &mut self.twins.by_steps, &steps)?;
         }
         Ok(done == left.ok())
     }
@@ -313,10 +290,10 @@ impl Twins {
     fn merge_drawn(&mut self, alloc: Global, rng: &mut Pcg32) -> Result<bool, Fail> {
         let (any, turn) = (rng.next_u32() % SMALL.pages, rng.next_u32() % 16);
         let level = if turn < 8 { 1 } else { 0 };
-        let Some(page) = drawn_page(&self.at_once, rng, level) else {
+        let Some(page) = drawn_page(&self.twins.at_once, rng, level) else {
             return Ok(true);
         };
-        let parent = parent_of(&self.at_once, page).unwrap_or(any);
+        let parent = parent_of(&self.twins.at_once, page).unwrap_or(any);
         self.merge(alloc, if turn == 0 { any } else { parent }, page)
     }
 
@@ -334,21 +311,15 @@ impl Twins {
                 self.record(alloc, chain, key, drawn_wish(rng, empties))
             }
             9..=11 => self.shape(alloc, rng),
-            12 => self.take_drawn(alloc, rng.next_u64()),
+            12 => self.twins.step_alike(alloc, rng.next_u64()),
             _ => self.merge_drawn(alloc, rng),
         }
     }
 
     /// Returns whether the tables are the same, and have the map's pairs.
     fn are_right(&self, machine: Global) -> Result<bool, Fail> {
-        let pairs = self.at_once.pairs(machine)?;
-        Ok(
-            are_same(machine, &self.at_once, &self.by_steps)?
-                && pairs
-                    .iter()
-                    .copied()
-                    .eq(self.map.iter().map(|(key, value)| (*key, *value))),
-        )
+        let twins = &self.twins;
+        Ok(are_same(machine, &twins.at_once, &twins.by_steps)? && twins.has_pairs_of_map(machine)?)
     }
 }
 
@@ -357,11 +328,11 @@ fn first_wrong(
     alloc: Global,
     chain: u8,
     rng: &mut Pcg32,
-    twins: &mut Twins,
+    drawn: &mut Drawn,
 ) -> Result<Option<u32>, Fail> {
     for act in 0..ACTS {
         let empties = act / TIDE % 2 == 1;
-        if !twins.act(alloc, chain, rng, empties)? || (act % 16 == 15 && !twins.are_right(alloc)?) {
+        if !drawn.act(alloc, chain, rng, empties)? || (act % 16 == 15 && !drawn.are_right(alloc)?) {
             return Ok(Some(act));
         }
     }
@@ -371,9 +342,12 @@ fn first_wrong(
 /// Makes two tables and acts on them. Returns the first wrong act, and what was merged.
 fn acted(alloc: Global, fanout: u32, chain: u8) -> Result<(Option<u32>, Merges), Fail> {
     let mut rng = Pcg32::seed_from_u64(fanout.into());
-    let mut twins = Twins::new(alloc, fanout)?;
-    let wrong = first_wrong(alloc, chain, &mut rng, &mut twins)?;
-    Ok((wrong, twins.merges))
+    let mut drawn = Drawn {
+        twins: Twins::new(alloc, Config { fanout, ..SMALL })?,
+        merges: Merges::NONE,
+    };
+    let wrong = first_wrong(alloc, chain, &mut rng, &mut drawn)?;
+    Ok((wrong, drawn.merges))
 }
 
 /// Fanouts and chains.

@@ -38,7 +38,10 @@ impl Play<Tally> for Drawn {
                 Err(_) => break,
             }
         }
-        Played { share, told: tally }
+        Played {
+            share,
+            reported: tally,
+        }
     }
 }
 

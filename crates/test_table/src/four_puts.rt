@@ -46,7 +46,10 @@ impl Play<u32> for FourPuts {
                 puts = puts.saturating_add(1);
             }
         }
-        Played { share, told: puts }
+        Played {
+            share,
+            reported: puts,
+        }
     }
 }
 

@@ -1,7 +1,7 @@
 //! A table to which pages are added is one that had them all from the beginning.
 
 use crate::at_once::are_alike;
-use crate::recording::install_drawn;
+use crate::twins::install_drawn;
 use bw_keys::Config;
 use bw_table::Table;
 use rand_core::{Rng, SeedableRng};
@@ -15,20 +15,25 @@ const FEW: u32 = 8;
 
 const ALL: u32 = SMALL.pages;
 
+/// The most pages that a table may be made with, and more than those.
+const MOST_MADE: u32 = 65_536;
+
+const MANY: u32 = 70_000;
+
 /// The number of drawn steps.
 const STEPS: u32 = 4000;
 
 /// A table that begins with few pages, and one that has all.
 #[derive(Drop)]
-struct Twins {
+struct Growth {
     growing: Table<Global>,
     whole: Table<Global>,
     /// How many steps were taken.
     taken: u32,
 }
 
-impl Twins {
-    fn new(alloc: Global, first_version: u64) -> Result<Twins, Fail> {
+impl Growth {
+    fn new(alloc: Global, first_version: u64) -> Result<Growth, Fail> {
         let config = Config {
             first_version,
             ..SMALL
@@ -37,9 +42,31 @@ impl Twins {
             pages: FEW,
             ..config
         };
-        Ok(Twins {
+        Ok(Growth {
             growing: Table::new(alloc, alloc, few)?,
             whole: Table::new(alloc, alloc, config)?,
+            taken: 0,
+        })
+    }
+
+    /// Makes tables that begin with few pages, and with as many as there may be then, and adds pages to
+    /// each until it has more.
+    fn with_many(alloc: Global) -> Result<Growth, Fail> {
+        let few = Config {
+            pages: FEW,
+            ..SMALL
+        };
+        let most = Config {
+            pages: MOST_MADE,
+            ..SMALL
+        };
+        let mut growing = Table::new(alloc, alloc, few)?;
+        growing.add_pages(MANY - FEW)?;
+        let mut whole = Table::new(alloc, alloc, most)?;
+        whole.add_pages(MANY - MOST_MADE)?;
+        Ok(Growth {
+            growing,
+            whole,
             taken: 0,
         })
     }
@@ -83,9 +110,9 @@ impl Twins {
 }
 
 /// Takes drawn steps. Returns the first after which the tables weren't alike, if there is one.
-fn first_wrong(alloc: Global, rng: &mut Pcg32, twins: &mut Twins) -> Result<Option<u32>, Fail> {
+fn first_wrong(alloc: Global, rng: &mut Pcg32, growth: &mut Growth) -> Result<Option<u32>, Fail> {
     for step in 0..STEPS {
-        if !twins.step(alloc, rng)? || (step % 32 == 31 && !twins.are_alike(alloc)?) {
+        if !growth.step(alloc, rng)? || (step % 32 == 31 && !growth.are_alike(alloc)?) {
             return Ok(Some(step));
         }
     }
@@ -96,9 +123,23 @@ fn first_wrong(alloc: Global, rng: &mut Pcg32, twins: &mut Twins) -> Result<Opti
 /// whether a third of the steps were taken.
 fn stepped(alloc: Global, seed: u64) -> Result<(Option<u32>, u32, bool), Fail> {
     let mut rng = Pcg32::seed_from_u64(seed);
-    let mut twins = Twins::new(alloc, seed)?;
-    let wrong = first_wrong(alloc, &mut rng, &mut twins)?;
-    Ok((wrong, twins.growing.config().pages, twins.taken > STEPS / 3))
+    let mut growth = Growth::new(alloc, seed)?;
+    let wrong = first_wrong(alloc, &mut rng, &mut growth)?;
+    Ok((
+        wrong,
+        growth.growing.config().pages,
+        growth.taken > STEPS / 3,
+    ))
+}
+
+#[test]
+fn a_table_comes_to_have_more_pages_than_one_is_made_with(rt: HostRuntime) -> Result<(), Fail> {
+    let mut growth = Growth::with_many(rt.alloc())?;
+    assert_eq!(rt; growth.growing.config().pages, MANY);
+    assert_eq!(rt; growth.growing.free_pages(), 69_999);
+    let wrong = first_wrong(rt.alloc(), &mut Pcg32::seed_from_u64(4), &mut growth)?;
+    assert_eq!(rt; (wrong, growth.taken > STEPS / 3), (None, true));
+    Ok(())
 }
 
 #[test]

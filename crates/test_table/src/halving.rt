@@ -1,7 +1,7 @@
 //! A split at once is a copy, its upper half and one step, and a term at once is a search for the
 //! parent and one step.
 
-use crate::at_once::{Answer, are_alike, performed};
+use crate::at_once::{Answer, alike_answer, performed};
 use crate::rest::{FREED, FULL, MARKED, MERGED, SPLIT, after, three_leaves};
 use bw_delta::{NoMemory, Spare};
 use bw_keys::{Config, Fence, Key, Pid, Version};
@@ -168,12 +168,7 @@ fn halved_alike(
     };
     let answer = table.perform(alloc, action, None);
     let wanted = halve_by_steps(alloc, &mut by_steps, page, version)?;
-    let are_same = answer == wanted && are_alike(&table, &by_steps);
-    Ok(if are_same {
-        Some(half_of(answer))
-    } else {
-        None
-    })
+    Ok(alike_answer((answer, &table), (wanted, &by_steps)).map(half_of))
 }
 
 #[test]
@@ -237,12 +232,8 @@ fn posted_alike(
     let (child, spare) = (Pid(child), Some(Spare::new(alloc)?));
     let answer = table.perform(alloc, Action::AddTerm { child }, spare);
     let wanted = add_term_by_steps(alloc, &mut by_steps, child)?;
-    let are_same = answer == wanted && are_alike(&table, &by_steps);
-    Ok(if are_same {
-        Some(answer.ok().map(|done| done.page))
-    } else {
-        None
-    })
+    let alike = alike_answer((answer, &table), (wanted, &by_steps));
+    Ok(alike.map(|answer| answer.ok().map(|done| done.page)))
 }
 
 #[test]
@@ -344,7 +335,7 @@ static ROUND: [Change; 6] = [
     Change::Split(3),
 ];
 
-/// Some steps behind the split of a leaf, how often a page is named and comes to its end, and the page
+/// Some steps after the split of a leaf, how often a page is named and comes to its end, and the page
 /// that takes its term then. The root takes 64 records.
 static ROUNDS: [(&[Change], u32, Option<u32>); 3] = [
     (&[], 31, Some(2)),

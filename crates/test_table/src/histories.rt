@@ -101,10 +101,14 @@ fn replayed(alloc: Global) -> Result<Replayed, Fail> {
 /// Returns whether the workers have their receipts, whether the first pair alone is left, and the verdict
 /// on both.
 fn judged(alloc: Global, replayed: &Replayed) -> Result<(bool, bool, Option<Verdict>), Fail> {
-    let are_told = replayed.trails == trails_of(alloc, &TOLD)?;
+    let are_reported = replayed.trails == trails_of(alloc, &TOLD)?;
     let pairs = replayed.table.pairs(alloc)?;
     let verdict = verdict_on(alloc, &replayed.trails, &pairs)?;
-    Ok((are_told, pairs.as_slice() == [(5, 50)].as_slice(), verdict))
+    Ok((
+        are_reported,
+        pairs.as_slice() == [(5, 50)].as_slice(),
+        verdict,
+    ))
 }
 
 #[test]

@@ -32,3 +32,5 @@ mod recording;
 mod rest;
 #[cfg(test)]
 mod stale;
+#[cfg(test)]
+mod twins;

@@ -44,7 +44,7 @@ fn several_gets_pass_a_tree_that_grows(rt: HostRuntime) -> Result<(), Fail> {
     Ok(())
 }
 
-/// Steps behind those of the seven puts, and the greatest key then.
+/// Steps after those of the seven puts, and the greatest key then.
 static LATER: [(&[Change], Key); 4] = [(&MARKED, 7), (&MERGED, 7), (&FREED, 7), (&SPLIT, 9)];
 
 #[test]

@@ -73,7 +73,7 @@ const UNPOSTED: [Change; 5] = [
     Change::Consolidate(2),
 ];
 
-/// The new leaf was split in turn, and the one behind it has a term, but not itself.
+/// The new leaf was split in turn, and the one after it has a term, but not itself.
 const UNPOSTED_BETWEEN: [Change; 9] = [
     Change::Insert(3, 8, 8),
     Change::Consolidate(3),

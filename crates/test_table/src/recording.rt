@@ -1,9 +1,10 @@
 //! A record at once is a look and one step, and a consolidation at once is a copy, the page made of
 //! it and one step. Drawn acts of these, and splits and terms at once between them, are those of steps.
 
-use crate::at_once::{Answer, Row, after_both, are_alike, performed};
+use crate::at_once::{Answer, Row, after_both, alike_answer, are_alike, performed};
 use crate::halving::{add_term_by_steps, halve_by_steps};
 use crate::rest::{FREED, MARKED, MERGED, SPLIT, after, three_leaves};
+use crate::twins::Twins;
 use bw_delta::{NoMemory, Spare};
 use bw_keys::{Config, Key, Pid, Version};
 use bw_step::Denied;
@@ -14,9 +15,7 @@ use rand_pcg::Pcg32;
 use std::alloc::Global;
 use std::collections::BTreeMap;
 use std::test::Fail;
-use test_kit::{
-    Change, Rooms, SMALL, drawn_step, growing_heaps, receipt, seen, step_of, step_with, take_all,
-};
+use test_kit::{Change, Rooms, SMALL, growing_heaps, receipt, seen, step_of, step_with, take_all};
 
 /// The most places of a walk in a small table.
 const LONGEST_WALK: u32 = 1000;
@@ -281,8 +280,7 @@ fn recorded_alike(
     let spare = Some(Spare::new(alloc)?);
     let done = table.perform(alloc, Action::Record { key: 6, wished }, spare);
     let wanted = record_by_steps(alloc, &mut by_steps, 6, wished)?;
-    let are_same = done == wanted && are_alike(&table, &by_steps);
-    Ok(if are_same { Some(done) } else { None })
+    Ok(alike_answer((done, &table), (wanted, &by_steps)))
 }
 
 #[test]
@@ -352,12 +350,8 @@ fn consolidated_alike(
     };
     let answer = table.perform(alloc, action, None);
     let wanted = consolidate_by_steps(alloc, &mut by_steps, page, version)?;
-    let are_same = answer == wanted && are_alike(&table, &by_steps);
-    Ok(if are_same {
-        Some(answer.map(|done| done.receipt))
-    } else {
-        None
-    })
+    let alike = alike_answer((answer, &table), (wanted, &by_steps));
+    Ok(alike.map(|answer| answer.map(|done| done.receipt)))
 }
 
 #[test]
@@ -437,32 +431,13 @@ const KEYS: u32 = 256;
 
 const IDS: u32 = SMALL.pages + 2;
 
-/// Two tables to which the same is done, one at once and one by steps, and a map that follows the
-/// receipts.
+/// What drawn acts are made on.
 #[derive(Drop)]
-struct Twins {
-    at_once: Table<Global>,
-    by_steps: Table<Global>,
-    map: BTreeMap<Key, u64>,
+struct Drawn {
+    twins: Twins,
     /// How many pages were split in half at once, and how many named.
     halved: u32,
     posted: u32,
-}
-
-/// Makes the receipt's change in the map, and returns whether the map had what it says.
-pub(crate) fn follows(map: &mut BTreeMap<Key, u64>, receipt: Receipt) -> Result<bool, Fail> {
-    Ok(match receipt {
-        Receipt::Inserted { key, value, .. } => map.insert(key, value)?.is_none(),
-        Receipt::Modified {
-            key,
-            old,
-            value,
-            ..
-        } => map.insert(key, value)? == Some(old),
-        Receipt::Deleted { key, value, .. } => map.remove(&key) == Some(value),
-        Receipt::Looked { key, found, .. } => map.get(&key).copied() == found,
-        Receipt::Shaped { .. } => true,
-    })
 }
 
 fn drawn_wish(rng: &mut Pcg32) -> Wished {
@@ -483,37 +458,29 @@ fn wanted(map: &BTreeMap<Key, u64>, key: Key, wished: Wished) -> Option<u64> {
     }
 }
 
-pub(crate) fn install_drawn(
-    alloc: Global,
-    table: &mut Table<Global>,
-    seed: u64,
-) -> Result<Result<Receipt, Refused>, Fail> {
-    let step = drawn_step(&mut Pcg32::seed_from_u64(seed), alloc, table)?;
-    Ok(table.install(step))
-}
-
-impl Twins {
+impl Drawn {
     /// Carries out a wish, and consolidates the leaf where its chain is long then. Returns whether the
     /// tables answer alike, and as the map does.
     fn record(&mut self, alloc: Global, chain: u8, key: Key, wished: Wished) -> Result<bool, Fail> {
         let spare = Some(Spare::new(alloc)?);
-        let done = self
+        let twins = &mut self.twins;
+        let done = twins
             .at_once
             .perform(alloc, Action::Record { key, wished }, spare);
-        if done != record_by_steps(alloc, &mut self.by_steps, key, wished)? {
+        if done != record_by_steps(alloc, &mut twins.by_steps, key, wished)? {
             return Ok(false);
         }
         let Ok(done) = done else {
             return Ok(true);
         };
-        let wanted = wanted(&self.map, key, wished);
-        if !follows(&mut self.map, done.receipt)? || self.map.get(&key).copied() != wanted {
+        let wanted = wanted(&twins.map, key, wished);
+        if !twins.follow(done.receipt)? || twins.map.get(&key).copied() != wanted {
             return Ok(false);
         }
         if done.depth < chain {
             return Ok(true);
         }
-        let version = seen(&self.at_once, done.page.0);
+        let version = seen(&twins.at_once, done.page.0);
         self.consolidate(alloc, done.page.0, version)
     }
 
@@ -523,8 +490,9 @@ impl Twins {
             page: Pid(page),
             seen: version,
         };
-        let answer = self.at_once.perform(alloc, action, None);
-        Ok(answer == consolidate_by_steps(alloc, &mut self.by_steps, page, version)?)
+        let twins = &mut self.twins;
+        let answer = twins.at_once.perform(alloc, action, None);
+        Ok(answer == consolidate_by_steps(alloc, &mut twins.by_steps, page, version)?)
     }
 
     /// Splits a page in half, and returns whether the tables answer alike.
@@ -533,31 +501,20 @@ impl Twins {
             page: Pid(page),
             seen: version,
         };
-        let answer = self.at_once.perform(alloc, action, None);
+        let answer = self.twins.at_once.perform(alloc, action, None);
         self.halved = self.halved.saturating_add(u32::from(answer.is_ok()));
-        Ok(answer == halve_by_steps(alloc, &mut self.by_steps, page, version)?)
+        Ok(answer == halve_by_steps(alloc, &mut self.twins.by_steps, page, version)?)
     }
 
     /// Names a page in its parent, and returns whether the tables answer alike.
     fn post(&mut self, alloc: Global, child: u32) -> Result<bool, Fail> {
         let (child, spare) = (Pid(child), Some(Spare::new(alloc)?));
         let answer = self
+            .twins
             .at_once
             .perform(alloc, Action::AddTerm { child }, spare);
         self.posted = self.posted.saturating_add(u32::from(answer.is_ok()));
-        Ok(answer == add_term_by_steps(alloc, &mut self.by_steps, child)?)
-    }
-
-    /// Takes a drawn step on both tables, and returns whether they answer alike, and as the map does.
-    fn step(&mut self, alloc: Global, seed: u64) -> Result<bool, Fail> {
-        let answer = install_drawn(alloc, &mut self.at_once, seed)?;
-        if answer != install_drawn(alloc, &mut self.by_steps, seed)? {
-            return Ok(false);
-        }
-        match answer {
-            Ok(receipt) => follows(&mut self.map, receipt),
-            Err(_) => Ok(true),
-        }
+        Ok(answer == add_term_by_steps(alloc, &mut self.twins.by_steps, child)?)
     }
 
     /// Does a drawn act, and returns whether it is answered alike.
@@ -570,7 +527,7 @@ impl Twins {
             9..=11 => {
                 let page = rng.next_u32() % IDS;
                 let older = u64::from(rng.next_u32() % 8 == 0);
-                let version = Version(seen(&self.at_once, page).0.saturating_sub(older));
+                let version = Version(seen(&self.twins.at_once, page).0.saturating_sub(older));
                 if rng.next_u32() % 2 == 0 {
                     self.consolidate(alloc, page, version)
                 } else {
@@ -578,20 +535,14 @@ impl Twins {
                 }
             }
             12 => self.post(alloc, rng.next_u32() % IDS),
-            _ => self.step(alloc, rng.next_u64()),
+            _ => self.twins.step_alike(alloc, rng.next_u64()),
         }
     }
 
     /// Returns whether the tables are alike, and have the map's pairs.
     fn are_alike(&self, machine: Global) -> Result<bool, Fail> {
-        let pairs = self.at_once.pairs(machine)?;
-        Ok(
-            are_alike(&self.at_once, &self.by_steps)
-                && pairs
-                    .iter()
-                    .copied()
-                    .eq(self.map.iter().map(|(key, value)| (*key, *value))),
-        )
+        let twins = &self.twins;
+        Ok(are_alike(&twins.at_once, &twins.by_steps) && twins.has_pairs_of_map(machine)?)
     }
 }
 
@@ -601,10 +552,10 @@ fn first_wrong(
     alloc: Global,
     chain: u8,
     rng: &mut Pcg32,
-    twins: &mut Twins,
+    drawn: &mut Drawn,
 ) -> Result<Option<u32>, Fail> {
     for act in 0..ACTS {
-        if !twins.act(alloc, chain, rng)? || (act % 16 == 15 && !twins.are_alike(alloc)?) {
+        if !drawn.act(alloc, chain, rng)? || (act % 16 == 15 && !drawn.are_alike(alloc)?) {
             return Ok(Some(act));
         }
     }
@@ -615,15 +566,13 @@ fn first_wrong(
 /// named.
 fn acted(alloc: Global, chain: u8) -> Result<(Option<u32>, [u32; 2]), Fail> {
     let mut rng = Pcg32::seed_from_u64(chain.into());
-    let mut twins = Twins {
-        at_once: Table::new(alloc, alloc, SMALL)?,
-        by_steps: Table::new(alloc, alloc, SMALL)?,
-        map: BTreeMap::new(alloc),
+    let mut drawn = Drawn {
+        twins: Twins::new(alloc, SMALL)?,
         halved: 0,
         posted: 0,
     };
-    let wrong = first_wrong(alloc, chain, &mut rng, &mut twins)?;
-    Ok((wrong, [twins.halved, twins.posted]))
+    let wrong = first_wrong(alloc, chain, &mut rng, &mut drawn)?;
+    Ok((wrong, [drawn.halved, drawn.posted]))
 }
 
 #[test]

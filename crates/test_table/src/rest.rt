@@ -84,11 +84,11 @@ static LEAVES: [(&[Change], Key, Option<u32>); 12] = [
 ];
 
 #[test]
-fn a_leaf_is_told_at_once_where_nothing_is_unfinished(rt: HostRuntime) -> Result<(), Fail> {
+fn a_leaf_is_reported_at_once_where_nothing_is_unfinished(rt: HostRuntime) -> Result<(), Fail> {
     for (changes, key, leaf) in LEAVES.iter() {
         let table = after(rt.alloc(), changes)?;
-        let told = table.leaf_at_rest(*key).map(|view| view.pid.0);
-        assert_eq!(rt; told, *leaf, "key {key}");
+        let reported = table.leaf_at_rest(*key).map(|view| view.pid.0);
+        assert_eq!(rt; reported, *leaf, "key {key}");
     }
     Ok(())
 }

@@ -21,7 +21,7 @@ fn leaf(alloc: Global, table: &Table<Global>, last: u64) -> Result<Option<(u64, 
     Ok(table.peek(Pid(0)).map(|view| (view.version.0, view.depth)))
 }
 
-/// Returns why a consolidation is refused that comes behind another record, and the leaf then and once
+/// Returns why a consolidation is refused that comes after another record, and the leaf then and once
 /// it is consolidated anew.
 fn late(alloc: Global) -> Result<(Option<Refused>, [Option<(u64, u8)>; 2]), Fail> {
     let mut table = begun(alloc, &THREE)?;

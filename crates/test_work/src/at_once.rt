@@ -64,11 +64,11 @@ fn outcome_of<S: Steps<Global, Step<Global>>>(
     steps: &mut S,
     calls: &[Call],
 ) -> Outcome {
-    let told = work(machine, steps, Task::calls(calls));
+    let reported = work(machine, steps, Task::calls(calls));
     Outcome {
-        replies: told.replies,
-        trail: told.trail,
-        fault: told.fault,
+        replies: reported.replies,
+        trail: reported.trail,
+        fault: reported.fault,
         effort: steps.effort(),
         ends: steps.ends(),
     }
@@ -176,9 +176,9 @@ impl ByHand {
         share: Share<S::Insertions, S::Removals>,
     ) -> Played<S::Insertions, S::Removals, Outcome> {
         let mut hand = Hand::new(self.machine, self.machine, tree, share, worker, self);
-        let told = outcome_of(self.machine, &mut hand, self.calls_of(worker));
+        let reported = outcome_of(self.machine, &mut hand, self.calls_of(worker));
         let (share, _) = hand.finish();
-        Played { share, told }
+        Played { share, reported }
     }
 
     fn outcome_by_steps<S: Shared<Global, Step<Global>>>(
@@ -189,10 +189,10 @@ impl ByHand {
     ) -> Played<S::Insertions, S::Removals, Outcome> {
         let hand = Hand::new(self.machine, self.machine, tree, share, worker, self);
         let mut plain = Plain { steps: hand };
-        let told = outcome_of(self.machine, &mut plain, self.calls_of(worker));
+        let reported = outcome_of(self.machine, &mut plain, self.calls_of(worker));
         let Plain { steps: hand } = plain;
         let (share, _) = hand.finish();
-        Played { share, told }
+        Played { share, reported }
     }
 }
 

@@ -45,9 +45,9 @@ impl Play<Efforts> for ByHand {
         share: Share<S::Insertions, S::Removals>,
     ) -> Played<S::Insertions, S::Removals, Efforts> {
         let mut hand = Hand::new(self.machine, self.machine, tree, share, worker, &Open);
-        let told = efforts(&mut hand);
+        let reported = efforts(&mut hand);
         let (share, _) = hand.finish();
-        Played { share, told }
+        Played { share, reported }
     }
 }
 

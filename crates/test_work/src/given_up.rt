@@ -45,7 +45,7 @@ struct Left {
 }
 
 impl Left {
-    /// Whether this many receipts were kept of the calls, and none behind them.
+    /// Whether this many receipts were kept of the calls, and none after them.
     fn has_kept(&self, receipts: usize) -> bool {
         self.kept == receipts && self.rest == 0
     }
@@ -62,12 +62,12 @@ impl Drawn {
     ) -> Played<S::Insertions, S::Removals, Left> {
         let calls: &[Call] = if worker == 0 { &self.calls } else { &[] };
         let mut hand = Hand::with_trail(trail, self.machine, tree, share, worker, &Open);
-        let told = work(self.machine, &mut hand, Task::calls(calls));
+        let reported = work(self.machine, &mut hand, Task::calls(calls));
         let receipts = hand.trail_len();
         let taken = hand.take_trail();
         let outcome = Outcome {
-            replies: told.replies,
-            fault: told.fault,
+            replies: reported.replies,
+            fault: reported.fault,
             effort: hand.effort(),
             ends: hand.ends(),
             receipts,
@@ -75,7 +75,7 @@ impl Drawn {
         let (share, rest) = hand.finish();
         Played {
             share,
-            told: Left {
+            reported: Left {
                 outcome,
                 kept: taken.receipts().len(),
                 rest: rest.count(),

@@ -13,7 +13,7 @@ use std::test::Fail;
 use std::thread::Threads;
 use test_kit::{
     BESIDE_CALLS, Call, Ended, HELD_CALLS, HOLDS, HeldAfter, NoTree, Pages, Play, Played, Reply,
-    SMALL, Task, Told, Turns, are_both_done, leaves_of, play_on_new_tree, receipt,
+    Reported, SMALL, Task, Turns, are_both_done, leaves_of, play_on_new_tree, receipt,
 };
 
 /// Each worker does a task, worker 1 while worker 0 is held.
@@ -25,13 +25,13 @@ struct Both {
     one: Task<'static>,
 }
 
-impl Play<Told> for Both {
+impl Play<Reported> for Both {
     fn work<S: Shared<Global, Step<Global>> + Pages<Global>>(
         &self,
         tree: &S,
         worker: u32,
         share: Share<S::Insertions, S::Removals>,
-    ) -> Played<S::Insertions, S::Removals, Told> {
+    ) -> Played<S::Insertions, S::Removals, Reported> {
         let task = if worker == 0 { self.zero } else { self.one };
         self.held.work(self.machine, tree, share, worker, task)
     }
@@ -41,7 +41,7 @@ impl Play<Told> for Both {
 fn play_both<R: Threads + Wait + Sync + Send + Copy>(
     rt: R,
     play: &Both,
-) -> Result<Ended<Told>, NoTree> {
+) -> Result<Ended<Reported>, NoTree> {
     play_on_new_tree(rt, play.machine, SMALL, Turns::SideBySide, play)
 }
 
@@ -94,22 +94,28 @@ static CASES: [Case; 2] = [
     },
 ];
 
-fn has_told(told: &Told, (_, replies, trail): Calls) -> bool {
-    told.fault.is_none() && told.replies.as_slice() == replies && told.trail.as_slice() == trail
+fn has_reported(reported: &Reported, (_, replies, trail): Calls) -> bool {
+    reported.fault.is_none()
+        && reported.replies.as_slice() == replies
+        && reported.trail.as_slice() == trail
 }
 
 /// Returns whether both had their replies and their receipts, and the tree has its leaves.
-fn is_as_told(machine: Global, ended: &Ended<Told>, case: &Case) -> Result<[bool; 3], NoMemory> {
+fn is_as_reported(
+    machine: Global,
+    ended: &Ended<Reported>,
+    case: &Case,
+) -> Result<[bool; 3], NoMemory> {
     Ok([
-        has_told(&ended.zero, case.zero),
-        has_told(&ended.one, case.one),
+        has_reported(&ended.zero, case.zero),
+        has_reported(&ended.one, case.one),
         leaves_of(machine, &ended.table)?.as_slice() == case.leaves,
     ])
 }
 
 /// Plays a case. Returns whether worker 0 was held, both had their replies and their receipts, and the tree
 /// has its leaves.
-fn are_as_told<R: Threads + Wait + Sync + Send + Copy>(
+fn are_as_reported<R: Threads + Wait + Sync + Send + Copy>(
     rt: R,
     machine: Global,
     case: &Case,
@@ -124,7 +130,7 @@ fn are_as_told<R: Threads + Wait + Sync + Send + Copy>(
         },
         one: Task::calls(case.one.0),
     };
-    let [zero, one, leaves] = is_as_told(machine, &play_both(rt, &play)?, case)?;
+    let [zero, one, leaves] = is_as_reported(machine, &play_both(rt, &play)?, case)?;
     Ok([play.held.came_about(), zero, one, leaves])
 }
 
@@ -132,7 +138,7 @@ fn are_as_told<R: Threads + Wait + Sync + Send + Copy>(
 fn a_worker_goes_on_where_one_is_held(rt: HostRuntime) -> Result<(), Fail> {
     for case in CASES.iter() {
         assert_eq!(rt;
-            are_as_told(rt, rt.alloc(), case)?,
+            are_as_reported(rt, rt.alloc(), case)?,
             [true; 4],
             "{:?}",
             case.kind
@@ -157,7 +163,7 @@ fn verdict_on(
 /// Returns whether both did their calls, and the verdict on all.
 fn done_and_audited(
     machine: Global,
-    ended: Ended<Told>,
+    ended: Ended<Reported>,
     before: u64,
 ) -> Result<(bool, Option<Verdict>), Fail> {
     let Ended { table, zero, one } = ended;

@@ -14,7 +14,7 @@ use std::sync::ledger::Ledger;
 use std::test::Fail;
 use std::thread::Threads;
 use test_kit::{
-    Change, Ended, Hook, Hooked, Pages, Play, Played, Task, Told, Turns, leaves_of,
+    Change, Ended, Hook, Hooked, Pages, Play, Played, Reported, Task, Turns, leaves_of,
     play_on_new_tree, step_of, take, work, work_by_hand,
 };
 
@@ -91,13 +91,13 @@ impl ByHand {
     }
 }
 
-impl Play<Told> for ByHand {
+impl Play<Reported> for ByHand {
     fn work<S: Shared<Global, Step<Global>> + Pages<Global>>(
         &self,
         tree: &S,
         worker: u32,
         share: Share<S::Insertions, S::Removals>,
-    ) -> Played<S::Insertions, S::Removals, Told> {
+    ) -> Played<S::Insertions, S::Removals, Reported> {
         let machine = self.machine;
         let task = self.task(worker);
         let mut worked = if self.by_steps {
@@ -107,7 +107,7 @@ impl Play<Told> for ByHand {
             work_by_hand(machine, tree, share, (worker, self), task)
         };
         if worker == 0 && leave(machine, tree, &mut worked.share, self.row.unfinished).is_none() {
-            worked.told.fault = Some(Fault::NoMemory);
+            worked.reported.fault = Some(Fault::NoMemory);
         }
         worked
     }
@@ -117,7 +117,7 @@ impl Play<Told> for ByHand {
 fn is_as_foretold(
     machine: Global,
     row: &Row,
-    told: &Told,
+    reported: &Reported,
     table: &Table<Global>,
 ) -> Result<bool, NoMemory> {
     let Book {
@@ -127,9 +127,9 @@ fn is_as_foretold(
     } = table.survey(machine)?.book;
     let many = table.pairs(machine)?.len() as u64;
     Ok(
-        told.fault.is_none()
-            && told.replies.as_slice() == row.replies
-            && told.trail.as_slice() == row.trail
+        reported.fault.is_none()
+            && reported.replies.as_slice() == row.replies
+            && reported.trail.as_slice() == row.trail
             && leaves_of(machine, table)?.as_slice() == row.leaves
             && (inserted, removed, modified) == row.book
             && inserted.checked_sub(removed) == Some(many),
@@ -140,12 +140,12 @@ fn expect<R: Abort>(
     rt: &R,
     machine: Global,
     row: &Row,
-    told: &Told,
+    reported: &Reported,
     table: &mut Table<Global>,
 ) -> Result<(), Fail> {
     assert!(rt;
-        is_as_foretold(machine, row, told, table)?,
-        "{}: {told:?}",
+        is_as_foretold(machine, row, reported, table)?,
+        "{}: {reported:?}",
         row.name
     );
     for (change, receipt) in row.then {
@@ -164,8 +164,8 @@ fn a_worker_alone_does_the_rows(rt: HostRuntime) -> Result<(), Fail> {
             last: row.puts,
             calls: row.calls,
         };
-        let told = work(machine, &mut Alone::new(machine, machine, &mut table), task);
-        expect(&rt, machine, row, &told, &mut table)?;
+        let reported = work(machine, &mut Alone::new(machine, machine, &mut table), task);
+        expect(&rt, machine, row, &reported, &mut table)?;
     }
     Ok(())
 }
@@ -189,7 +189,7 @@ fn do_by_hand<R: Threads + Wait + Abort + Sync + Send + Copy>(
         zero,
         one,
     } = play_on_new_tree(rt, machine, row.config, Turns::OneByOne, &play)?;
-    let (told, other) = if row.unfinished.is_empty() {
+    let (reported, other) = if row.unfinished.is_empty() {
         (zero, one)
     } else {
         (one, zero)
@@ -199,7 +199,7 @@ fn do_by_hand<R: Threads + Wait + Abort + Sync + Send + Copy>(
         "{}: {other:?}",
         row.name
     );
-    expect(&rt, machine, row, &told, &mut table)
+    expect(&rt, machine, row, &reported, &mut table)
 }
 
 #[test]

@@ -1,4 +1,4 @@
--- Rising entries before a key, and those behind it.
+-- Rising entries before a key, and those after it.
 use Rattle.std.proofs.Common.{◌≡◌, ◌≢◌, ℕ, zero, suc, ◌+◌, ◌<◌, ◌≤◌, true, List, [], ◌∷◌, ◌++◌, length, take, drop, get_or, drop-cons, append-nil, refl, ap, ◌∙◌, arith}
 use Rattle.std.specs.Prelude.{Some, slice_get}
 use Rattle.std.proofs.lemmas.Bool.Decides.{nat_tests}
@@ -93,7 +93,7 @@ module _ {X : Type 0} where
     pub last-after : from key es ≡ drop (suc i) es
     last-after = from-upto 0 key_count key i d es h inside less ∙ from-all_of key (drop (suc i) es) none_more
 
-  -- behind a key stand those from it on but for its own entry
+  -- after a key stand those from it on but for its own entry
   pub from-own : (low end key : ℕ) (e : ℕ × X) (es rest : List (ℕ × X)) → rises low end es ≡ true → from key es ≡ e ∷ rest → e.0 ≡ key → from (key + 1) es ≡ rest
   from-own low end key e [] rest h first same = cc
   from-own low end key e (d ∷ es) rest h first same = grind (arith, nat_tests, from-own (d.0 + 1) end key e es rest, from_all end (d.0 + 1) key es, from_all end (d.0 + 1) (key + 1) es)

@@ -24,7 +24,7 @@ module _ {X : Type 0} where
   puts-few (Some x) = omega arith
   puts-few None = omega arith
 
-  -- the edit is made at its place, and those of greater keys behind it
+  -- the edit is made at its place, and those of greater keys after it
   pub edited-last : (edits greater : List (ℕ × Option X)) (e : ℕ × Option X) (es : List (ℕ × X)) → edits ≡ greater ++ e ∷ [] → IsFalling edits → IsAscending es
       → edited edits es ≡ (below e.0 es ++ entry_of e.0 e.1) ++ edited greater (from (e.0 + 1) es)
   edited-last edits greater e es is f h =
@@ -38,7 +38,7 @@ module _ {X : Type 0} where
   length-entry_of key (Some x) = refl
   length-entry_of key None = refl
 
-  -- so they are as many as those before its key, behind it, and its own if it puts one
+  -- so they are as many as those before its key, after it, and its own if it puts one
   pub length-edited-last : (edits greater : List (ℕ × Option X)) (e : ℕ × Option X) (es : List (ℕ × X)) → edits ≡ greater ++ e ∷ [] → IsFalling edits → IsAscending es
       → length (edited edits es) ≡ length (below e.0 es) + puts e.1 + length (edited greater (from (e.0 + 1) es))
   length-edited-last edits greater e es is f h =

@@ -35,7 +35,7 @@ module _ {X : Type 0} where
       let rest : falls low e.0 es ≡ true = grind (arith, nat_tests) in
       falls-IsPartitionedBy low e.0 bound es rest i j d (omega arith) (omega arith) passes
 
-  -- behind an edit of a smaller key all keys are smaller
+  -- after an edit of a smaller key all keys are smaller
   pub falls-rest : (low end key i : ℕ) (d : ℕ × X) (es : List (ℕ × X)) → falls low end es ≡ true → i < length es → (get_or es i d).0 < key → falls low key (drop i es) ≡ true
   falls-rest low end key i d [] f inside less = absurd (omega arith)
   falls-rest low end key zero d (e ∷ es) f inside less = grind (arith, nat_tests)

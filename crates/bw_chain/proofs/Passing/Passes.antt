@@ -128,7 +128,7 @@ module _ {X : Type 0} where
   before_rises low end key (Some x) es h le =
       rises-append (key + 1) low key (below key es) (entry_of key (Some x)) le (omega arith) (rises-below end low key es h) (grind (arith, nat_tests))
 
-  -- entries that rise go on rising behind a key
+  -- entries that rise go on rising after a key
   pub ascending-from : (bound : ℕ) (es : List (ℕ × X)) → IsAscending es → IsAscending (from bound es)
   ascending-from bound es h = rises-lower key_count 0 bound (from bound es) (omega arith) (rises-from key_count 0 bound es h)
 

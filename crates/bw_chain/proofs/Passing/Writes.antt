@@ -3,7 +3,7 @@ use Rattle.std.proofs.Common.{◌≡◌, ℕ, ◌+◌, ◌<◌, List, [], ◌∷
 use Rattle.std.proofs.Math.ListN.{set, get_or}
 use Rattle.std.proofs.lemmas.List.{length-set, take_more, take_more_set}
 
--- an item of a list, written behind those before it
+-- an item of a list, written after those before it
 pub one-written : {Y : Type 0} → (old list items : List Y) (place i : ℕ) (y : Y) → i < length items → place + i < length list → y ≡ get_or items i y → take (place + i) list ≡ take place old ++ take i items
     → take (place + (i + 1)) (set list (place + i) y) ≡ take place old ++ take (i + 1) items
 one-written old list items place i y inside room is_y written =
@@ -16,7 +16,7 @@ one-written old list items place i y inside room is_y written =
     ∙ append_assoc (take place old) (take i items) (y ∷ [])
     ∙ ap (λ l. take place old ++ l) (sym one)
 
--- two items of a list, written behind those before them
+-- two items of a list, written after those before them
 pub pair-written : {Y : Type 0} → (old list items : List Y) (place i : ℕ) (y z : Y) → i + 1 < length items → place + i + 1 < length list → y ≡ get_or items i y → z ≡ get_or items (i + 1) z → take (place + i) list ≡ take place old ++ take i items
     → take (place + (i + 2)) (set (set list (place + i) y) (place + i + 1) z) ≡ take place old ++ take (i + 2) items
 pair-written old list items place i y z inside room is_y is_z written =

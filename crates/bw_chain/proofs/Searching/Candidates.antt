@@ -15,7 +15,7 @@ module _ {X : Type 0} (es : List (ℕ × X)) where
   first_from-held fence low key x ascending same le gap here =
       ap first_entry (same ∙ from-gap low key es le gap) ∙ first_from-at 0 key_count key x es ascending here
 
-  -- it has none: the search goes on behind it
+  -- it has none: the search goes on after it
   pub from-tried : (fence low key : ℕ) → from fence es ≡ from low es → low ≤ key → HasGap low key es → at key es ≡ None → from fence es ≡ from (key + 1) es
   from-tried fence low key same le gap none = same ∙ from-gap low (key + 1) es (omega arith) (HasGap-with_key low key es gap none)
 

@@ -8,7 +8,7 @@ use Rattle.bw_delta.specs.Entries.{from}
 use Rattle.bw_chain.specs.declared.pass.first.FirstPairs.{FirstPairs}
 use Rattle.bw_chain.specs.Passing.Rests.{from-append}
 
--- the items, and behind them the first of the entries from the fence on, as many as the limit leaves
+-- the items, and after them the first of the entries from the fence on, as many as the limit leaves
 abbrev pub with_first : {X : Type 0} → ℕ → Fence → List (ℕ × X) → List (ℕ × X) → List (ℕ × X)
 with_first limit fence items es = items ++ take (limit - length items) (from (end_of fence) es)
 

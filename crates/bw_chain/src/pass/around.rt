@@ -9,7 +9,7 @@ ghost use Rattle.bw_chain.specs.Ascends.{IsAscending};
 use bw_delta::EntrySlice;
 use bw_keys::Key;
 
-/// Returns the entries before the key, and those behind it.
+/// Returns the entries before the key, and those after it.
 pub(crate) fn split_around<X: Copy>(
     entries: EntrySlice<'_, X>,
     key: Key,
@@ -23,7 +23,7 @@ pub(crate) fn split_around<X: Copy>(
     (front, behind(entries, count, key))
 }
 
-/// Returns the entries behind the key, given the number of those before it.
+/// Returns the entries after the key, given the number of those before it.
 #[inline(always)]
 pub(crate) fn behind<X: Copy>(
     entries: EntrySlice<'_, X>,

@@ -118,7 +118,7 @@ fn raise<X: Copy>(edits: &mut [(Key, X)], count: usize, key: Key) -> (usize, boo
     (i, false)
 }
 
-/// Moves the items behind the place, up to the last one, down by one.
+/// Moves the items after the place, up to the last one, down by one.
 #[inline(always)]
 fn lower<T: Copy>(items: &mut [T], place: usize, last: usize)
     requires upto { place ≤ last }

@@ -64,7 +64,7 @@ impl<'a, X: EntryValue> Sink<X> for Compared<'a, X> {
         other };
 }
 
-/// Returns what comes behind the entries with the edits, if the list begins with those from the
+/// Returns what comes after the entries with the edits, if the list begins with those from the
 /// fence on.
 fn strip_edited<'a, X: EntryValue>(
     list: EntrySlice<'a, X>,
@@ -99,7 +99,7 @@ fn strip_edited<'a, X: EntryValue>(
     }
 }
 
-/// Returns what comes behind the entry that the edit puts, if the list begins with that entry or it
+/// Returns what comes after the entry that the edit puts, if the list begins with that entry or it
 /// lies below the fence.
 fn strip_edit<'a, X: EntryValue>(
     list: EntrySlice<'a, X>,
@@ -120,7 +120,7 @@ fn strip_edit<'a, X: EntryValue>(
     }
 }
 
-/// Returns what comes behind the front, if the list begins with it.
+/// Returns what comes after the front, if the list begins with it.
 fn strip_front<'a, X: EntryValue>(
     list: EntrySlice<'a, X>,
     front: EntrySlice<'_, X>,

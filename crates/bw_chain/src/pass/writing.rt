@@ -32,7 +32,7 @@ pub(crate) fn puts<X: Copy>(edit: Option<X>) -> usize
     }
 }
 
-/// Writes the entries with the edits from the start on, but for the entries behind the last edit.
+/// Writes the entries with the edits from the start on, but for the entries after the last edit.
 /// Returns the place for these, and the entries themselves.
 #[inline(always)]
 pub(crate) fn write_edited<'a, X: Copy>(

@@ -42,7 +42,7 @@ pub fn pairs_from<A: Allocator + Copy>(chain: &Chain<A>, key: Key) -> EntrySlice
     below_end(entries_from(stretch.pairs, Fence::Key(key)), stretch.end)
 }
 
-/// Returns the chain's pairs up to the key that lie side by side, from behind the last key that a
+/// Returns the chain's pairs up to the key that lie side by side, from after the last key that a
 /// record names: all of them if none does. It takes one walk down the records, and no memory.
 #[tactic(auto, using(crate::proofs::Bridges::both_kinds))]
 pub fn pairs_upto<A: Allocator + Copy>(chain: &Chain<A>, key: Key) -> EntrySlice<'_, u64>

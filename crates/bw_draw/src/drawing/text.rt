@@ -37,9 +37,9 @@ pub(crate) fn is_cut(text: &str) -> bool {
 
 /// What a record does to the page.
 #[derive(Clone, Copy)]
-pub(crate) struct Told(pub(crate) Delta);
+pub(crate) struct Described(pub(crate) Delta);
 
-impl fmt::Display for Told {
+impl fmt::Display for Described {
     fn fmt<W: fmt::Write>(&self, f: &mut fmt::Formatter<W>) -> fmt::Result {
         match self.0 {
             Delta::Insert(key, value) => write!(f, "insert {}:{}", Short(key), Short(value)),

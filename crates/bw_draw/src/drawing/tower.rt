@@ -3,7 +3,7 @@
 use crate::drawing::block::{Block, GAP, INSET, Kind, LINE, one_line};
 use crate::drawing::entries::lines_of;
 use crate::drawing::length::Length;
-use crate::drawing::text::{Joined, Told};
+use crate::drawing::text::{Described, Joined};
 use bw_delta::{Base, Chain, Delta, NoMemory, Node};
 use bw_keys::{Fence, Key};
 use std::alloc::{Allocator, Global};
@@ -136,7 +136,7 @@ impl Tower {
                 Kind::Shape
             }
         };
-        let line = format!(in alloc; "{}", Told(delta))?;
+        let line = format!(in alloc; "{}", Described(delta))?;
         self.one_line(alloc, kind, line, spot, columns)
     }
 

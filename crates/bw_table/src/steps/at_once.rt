@@ -33,7 +33,7 @@ use std::alloc::Allocator;
 
 impl<A: Allocator + Copy> Table<A> {
     /// Carries out the wish for a key and consolidates its leaf, as a change and a consolidation
-    /// one behind the other do. It isn't done where a page on the way to the leaf is in the middle
+    /// one after the other do. It isn't done where a page on the way to the leaf is in the middle
     /// of a split or a merge, where more than the record of its split stands on the leaf, where a
     /// number is used up, and where memory is short.
     #[inline(always)]
@@ -103,7 +103,7 @@ impl<A: Allocator + Copy> Table<A> {
 
 impl<A: Allocator + Copy> Table<A> {
     /// Names a page that no parent names yet in its parent, and consolidates the parent, as the two
-    /// steps one behind the other do. Returns false and changes nothing where the parent isn't a
+    /// steps one after the other do. Returns false and changes nothing where the parent isn't a
     /// posted page without records whose range holds the low of the child, where a number is used
     /// up, and where memory is short.
     pub fn post_at_once(&mut self, parent: Pid, child: Pid) -> bool
@@ -184,7 +184,7 @@ impl<A: Allocator + Copy> Slot<A> {
 
 impl<A: Allocator + Copy> Table<A> {
     /// Splits a page before the entry with the number, counted from 0, and consolidates it, as the
-    /// two steps one behind the other do. The new page has room for as many entries as it may get
+    /// two steps one after the other do. The new page has room for as many entries as it may get
     /// before it is split. Returns the new page, or returns `None` and changes nothing where the
     /// page isn't a posted one without records, where that entry is its first or isn't there or
     /// leads to a page that is leaving, where no slot is free, where a number is used up, and where

@@ -17,7 +17,7 @@ use std::mem;
 
 impl<A: Allocator + Copy> Table<A> {
     /// Merges a page into the page on its left and takes its term out of the parent, and
-    /// consolidates these two, as the five steps one behind the other do. Returns the page on the
+    /// consolidates these two, as the five steps one after the other do. Returns the page on the
     /// left, or returns `None` and changes nothing where one of the three isn't a posted page without records, where the
     /// parent isn't above the two and begins before the page, where the entries of both are too
     /// many for a page, where a number is used up, and where memory is short.

@@ -1,16 +1,12 @@
 //! Scripts of steps, and what is said of their lines.
 
-ghost use Rattle.std.specs.Prelude.{◌≤◌, IfOk, IfErr, OnOk};
-ghost use Rattle.bw_scripts.specs.declared.player.TheConstants.{MOST_LINES};
-ghost use Rattle.bw_scripts.specs.Answers.{IsAnswered};
-ghost use Rattle.bw_scripts.specs.Faults.{IsLineFault};
-ghost use Rattle.bw_scripts.specs.Played.{IsPlayed, one_more};
+ghost use Rattle.std.specs.Prelude.{IfOk};
+ghost use Rattle.bw_scripts.specs.Played.{IsPlayed};
 
 use crate::program::fault::Fault;
-use bw_scripts::{Answer, MOST_LINES, Player, ScriptFault};
+use bw_scripts::{Answer, Player, ScriptFault};
 use bw_table::Table;
 use std::alloc::Global;
-use std::io;
 use std::io::{BufRead, BufReader, Read, Write};
 
 /// Plays the script, and writes each answer as soon as it is there.
@@ -24,7 +20,8 @@ pub(crate) fn write_answers<R: Read + Drop, W: Write>(
     };
     let mut player = Player::new(alloc);
     for line in reader.lines(alloc) {
-        if let Some(answer) = take(&mut player, line)? {
+        let line = player.next_line(line)?;
+        if let Some(answer) = player.play(&line)? {
             let line = format!(in alloc; "{answer}\n")?;
             output.write_all(line.as_bytes())?;
         }
@@ -49,26 +46,12 @@ pub(crate) fn played_table<R: Read + Drop, N: Write>(
     };
     let mut player = Player::new(alloc);
     for line in reader.lines(alloc).take(lines) {
-        if let Some(answer) = take(&mut player, line)? {
+        let line = player.next_line(line)?;
+        if let Some(answer) = player.play(&line)? {
             note_refusal(notes, player.lines(), &answer);
         }
     }
     Ok(player.into_table().ok_or(ScriptFault::NoTable)?)
-}
-
-/// Plays the line, if it was read and isn't one too many.
-fn take(player: &mut Player, line: io::Result<String>) -> Result<Option<Answer>, ScriptFault>
-    ensures answered { IfOk result (λ answer.
-        IsAnswered player.old.table answer player.new.table) }
-    ensures within { OnOk result (player.new.lines ≤ MOST_LINES) }
-    ensures fault { IfErr result (IsLineFault (one_more player.old.lines)) }
-{
-    let number = player.lines().saturating_add(1);
-    match line {
-        Err(error) => Err(ScriptFault::of_reader(number, &error)),
-        Ok(_) if number > MOST_LINES => Err(ScriptFault::Lines),
-        Ok(line) => player.play(&line),
-    }
 }
 
 /// Notes the answer to the line with this number, where it says that the line changed nothing.

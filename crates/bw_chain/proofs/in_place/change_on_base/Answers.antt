@@ -19,6 +19,6 @@ invariant_of-base g c =
           let done = w.change_listed.ensures in
           rw w.base-inside-is
           (changed_is_page (page_of base.low base.high base.right base.entries) w.in-Pairs.pairs (ap listed w.in-Pairs.is) c.args.wished c.args.key _ _ c.base.invariant
-          (rw (← c.base.view_is) at c.requires.within) done.had done.delta done.changed done.unchanged)
+          (rw (← c.base.view_is) at c.requires.within) done.had done.changed done.unchanged)
       | in-Routes w ↦ rw w.base-inside-is c.base.invariant
     ]

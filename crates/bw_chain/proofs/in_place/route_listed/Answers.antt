@@ -1,15 +1,10 @@
-use Rattle.std.specs.Prelude.{Result, Ok, Err, OnOk, is_ok, true}
 use Rattle.std.proofs.Common.{◌≡◌, None, ap, sym, ◌∙◌, arith}
 use Rattle.bw_keys.specs.Ranges.{key_count}
 use Rattle.bw_delta.specs.Entries.{at}
+use Rattle.bw_chain.proofs.InPlaces.{done_if_ok}
 use Rattle.bw_chain.proofs.Places.{put-new}
 use Rattle.bw_chain.proofs.Sorted.{below-few}
 use Rattle.bw_chain.proofs.in_place.route_listed.Goals as goal
-
--- what an insertion that succeeded did
-inserted : {T E : Type 0} {P : Type 0} (r : Result T E) → OnOk r P → is_ok r ≡ true → P
-inserted (Ok x) done is = done
-inserted (Err e) done is = cc
 
 pub insert-requires : goal.insert-requires
 insert-requires g c =
@@ -18,5 +13,5 @@ insert-requires g c =
 pub returns-in-None-clause-put : goal.returns-in-None-clause-put
 returns-in-None-clause-put g c = λ yes.
     let absent : at c.args.separator c.args.routes.now ≡ None = ap (at c.args.separator) (sym c.as_slice-2.ensures) ∙ sym c.in-None.ensures.value in
-    inserted c.insert.result c.insert.ensures.inserted (sym c.is_ok.ensures.value ∙ yes)
+    done_if_ok c.insert.result c.insert.ensures.inserted (sym c.is_ok.ensures.value ∙ yes)
     ∙ rw (c.count_below_key-place.ensures, c.as_slice.ensures) (put-new 0 key_count c.args.separator c.args.child c.args.routes.now c.requires.ascending absent)

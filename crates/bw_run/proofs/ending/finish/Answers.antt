@@ -1,9 +1,9 @@
 use Rattle.std.proofs.Common.{rules, ◌≡◌, ◌<◌, [], length, ap, sym, subst, ◌∙◌}
 use Rattle.std.specs.Prelude.{slice_index_or}
 use Rattle.std.proofs.lemmas.List.{length-map}
-use Rattle.bw_step.specs.Tellings.{told_in}
+use Rattle.bw_step.specs.Tellings.{reported_in}
 use Rattle.bw_step.specs.Trails.{lists_of}
-use Rattle.bw_procedures.specs.Told.{GoWith}
+use Rattle.bw_procedures.specs.Reported.{GoWith}
 use Rattle.bw_audit.specs.Legal.{IsLegal}
 use Rattle.bw_run.specs.Answers.{columns_of}
 use Rattle.bw_run.specs.Faults.{EndsBadly}
@@ -28,9 +28,9 @@ returns-clause-finished c =
     record {
       replied = c.in_ok-replies.ensures.count;
       trailed = c.requires.trails;
-      told = λ worker inside.
+      reported = λ worker inside.
           let within : worker < length columns = subst (λ n. worker < n) (sym many) inside in
-          subst (λ replies. GoWith (acts_of worker c.args.rows.now) replies (told_in (slice_index_or trails worker []))) (sym (c.in_ok-replies.ensures.own worker within)) (c.requires.answered.told worker within);
+          subst (λ replies. GoWith (acts_of worker c.args.rows.now) replies (reported_in (slice_index_or trails worker []))) (sym (c.in_ok-replies.ensures.own worker within)) (c.requires.answered.reported worker within);
       tree = c.requires.tree;
       legal = λ pairs are. subst (λ ts. IsLegal (lists_of ts) pairs) c.deref.ensures.value (c.in_ok-judge.ensures.legal pairs are);
       count = c.requires.counted;

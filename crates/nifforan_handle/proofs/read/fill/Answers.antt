@@ -1,34 +1,19 @@
-use Rattle.std.proofs.Common.{length, sym, ◌∙◌}
-use Rattle.nifforan_handle.proofs.Filling.{none_yet, one_more, left_is, pairs_are, full, none_left}
+use Rattle.std.proofs.Common.{slice_set, subst, ◌+◌, arith}
+use Rattle.std.proofs.lemmas.List.{length-set}
+use Rattle.bw_delta.specs.Slices.{list_of}
+use Rattle.nifforan_handle.specs.declared.answer.Pair.{Pair}
+use Rattle.nifforan_handle.proofs.Filling.{IsFilledUpto, one_upto, run_upto}
 use Rattle.nifforan_handle.proofs.read.fill.Goals as goal
-
-pub loop-count-init : goal.loop-count-init
-loop-count-init c = none_yet c.args.places.now c.args.left.now
 
 pub loop-count-preserved : goal.loop-count-preserved
 loop-count-preserved c =
     let loop = c.loop-count in
-    one_more c.args.places.now loop.places c.args.left.now loop.yielded loop.left c.next.new.self loop.count c.in-Some.key c.in-Some.value loop.invariant c.in-Some.ensures.steps c.loop-count-test.true
-
-pub returns-after-loop-count-clause-count : goal.returns-after-loop-count-clause-count
-returns-after-loop-count-clause-count c =
-    let loop = c.loop-count in full c.args.places.now loop.places c.args.left.now loop.yielded loop.left loop.count (length c.args.places.now) loop.invariant loop.auto.places c.loop-count-test.false
-
-pub returns-after-loop-count-clause-left : goal.returns-after-loop-count-clause-left
-returns-after-loop-count-clause-left c = let loop = c.loop-count in left_is c.args.places.now loop.places c.args.left.now loop.yielded loop.left loop.count loop.invariant
-
-pub returns-after-loop-count-clause-pairs : goal.returns-after-loop-count-clause-pairs
-returns-after-loop-count-clause-pairs c = let loop = c.loop-count in pairs_are c.args.places.now loop.places c.args.left.now loop.yielded loop.left loop.count loop.invariant
-
-pub returns-in_default-clause-count : goal.returns-in_default-clause-count
-returns-in_default-clause-count c =
-    let loop = c.loop-count in
-    none_left c.args.places.now loop.places c.args.left.now loop.yielded loop.left loop.count (length c.args.places.now) loop.invariant loop.auto.places c.in_default.ensures.steps.0
-
-pub returns-in_default-clause-left : goal.returns-in_default-clause-left
-returns-in_default-clause-left c =
-    let loop = c.loop-count in
-    c.in_default.ensures.steps.1 ∙ sym c.in_default.ensures.steps.0 ∙ left_is c.args.places.now loop.places c.args.left.now loop.yielded loop.left loop.count loop.invariant
-
-pub returns-in_default-clause-pairs : goal.returns-in_default-clause-pairs
-returns-in_default-clause-pairs c = let loop = c.loop-count in pairs_are c.args.places.now loop.places c.args.left.now loop.yielded loop.left loop.count loop.invariant
+    let pair : Pair = record { key = c.in-Some.key; value = c.in-Some.value } in
+    let run = list_of c.take_run-run.result in
+    let one = one_upto c.args.places.now loop.places c.args.left.now loop.left loop.count loop.invariant
+    c.next.new.self c.in-Some.key c.in-Some.value c.in-Some.ensures.steps c.loop-count-test.true in
+    let long = length-set loop.places loop.count pair in
+    subst (IsFilledUpto c.args.places.now c.write_run.new.places c.args.left.now c.take_run-run.new.self) (omega (arith, c.len-count.ensures))
+    (run_upto c.args.places.now (slice_set loop.places loop.count pair) c.args.left.now c.next.new.self (loop.count + 1) one
+    c.write_run.new.places run c.take_run-run.new.self c.take_run-run.ensures.taken
+    c.write_run.auto.places (omega (arith, c.take_run-run.ensures.few, long, c.loop-count-test.true)) c.write_run.ensures.written c.write_run.ensures.rest)

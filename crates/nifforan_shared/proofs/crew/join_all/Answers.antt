@@ -21,6 +21,6 @@ loop-handle-preserved g c =
       room = rw c.push_reserved.ensures.capacity inv.room;
       numbered = subst (λ (k : ℕ). AreNumbered (λ handle. handle.promise.worker) k rest) (sym more) numbered.1;
       part = All-tail (λ handle. handle.promise.part.value ≡ part) handle rest tasks;
-      told = by_number_more (g.P.Part.told part) c.loop-handle.outputs.items c.push_reserved.new.self.items c.join.result handle.promise.worker grown inv.told
-          (subst (λ job. g.P.Part.told job handle.promise.worker c.join.result) same c.join.ensures) (omega (arith, numbered.0));
+      promised = by_number_more (g.P.Part.promised part) c.loop-handle.outputs.items c.push_reserved.new.self.items c.join.result handle.promise.worker grown inv.promised
+          (subst (λ job. g.P.Part.promised job handle.promise.worker c.join.result) same c.join.ensures) (omega (arith, numbered.0));
     }

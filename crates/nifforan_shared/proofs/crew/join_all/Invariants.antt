@@ -9,5 +9,5 @@ invariant-loop-handle g l = record {
   room : length l.fn.handles.items ≤ vec_capacity l.outputs;
   numbered : AreNumbered (λ handle. handle.promise.worker) (length l.outputs.items) l.handle-iterator.rest.items;
   part : All (λ handle. handle.promise.part.value ≡ l.part) l.handle-iterator.rest.items;
-  told : ByNumber (g.P.Part.told l.part) 0 l.outputs.items;
+  promised : ByNumber (g.P.Part.promised l.part) 0 l.outputs.items;
 }

@@ -1,10 +1,10 @@
-use Rattle.nifforan_shared.proofs.Workers.{all_told, by_number_of}
+use Rattle.nifforan_shared.proofs.Workers.{all_as_promised, by_number_of}
 use Rattle.nifforan_shared.proofs.hands.work_all.Goals as goal
 
 pub run_all-requires-clause-given : goal.run_all-requires-clause-given
 run_all-requires-clause-given g c κs within =
     by_number_of (g.J.Task.given c.args.task.now) (λ seat. seat.kit) 0 c.in_ok-seats.seats.items c.args.kits.items c.in_ok-seats.ensures.kits c.requires.given
 
-pub returns-clause-told : goal.returns-clause-told
-returns-clause-told g c =
-    all_told g.L.Trail.added (g.J.Task.told c.args.task.now) (λ worked. worked.output) (λ worked. worked.trail) c.in_ok-all.all.items c.gather.result.outputs.items c.gather.result.trails.items c.gather.ensures.outputs c.gather.ensures.trails c.in_ok-all.ensures.told
+pub returns-clause-promised : goal.returns-clause-promised
+returns-clause-promised g c =
+    all_as_promised g.L.Trail.added (g.J.Task.promised c.args.task.now) (λ worked. worked.output) (λ worked. worked.trail) c.in_ok-all.all.items c.gather.result.outputs.items c.gather.result.trails.items c.gather.ensures.outputs c.gather.ensures.trails c.in_ok-all.ensures.promised

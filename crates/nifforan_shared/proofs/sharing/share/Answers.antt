@@ -13,5 +13,5 @@ returns-in-Ok-share_table-clause-shared g c =
       outputs = all.outputs;
       trails = all.trails;
       pairs = counts_from_nothing c.in-Ok-share_table.outcome.table c.in-Ok.table c.args.config _ all.tree new all.book;
-      told = all.told;
+      promised = all.promised;
     }

@@ -26,5 +26,5 @@ returns-clause-shared g c =
       outputs = all.answered ∙ (c.in_ok-shares.ensures.count ∙ many);
       trails = all.trailed ∙ (c.in_ok-shares.ensures.count ∙ many);
       pairs = counts_trails g.L.Trail.added c.in-Ok-close.table all.shares.items all.trails.items all.counted closed.pairs;
-      told = c.in_ok-shares.ensures.told;
+      promised = c.in_ok-shares.ensures.promised;
     }

@@ -1,6 +1,6 @@
 use Rattle.std.proofs.Common.{rules, refl}
 use Rattle.bw_step.specs.ProposalView.{proposal_of}
-use Rattle.bw_law.proofs.TakenSteps.{config_kept, is_told}
+use Rattle.bw_law.proofs.TakenSteps.{config_kept, is_reported}
 use Rattle.bw_alone.proofs.Following.{step_leads}
 use Rattle.bw_alone.proofs.sole.SoleStepsStep.install.Goals as goal
 
@@ -20,7 +20,7 @@ returns-in-Ok-clause-follows g c =
 pub returns-in-Ok-clause-seen : goal.returns-in-Ok-clause-seen
 returns-in-Ok-clause-seen g c =
     rw (c.accepted.ensures.seen, c.reserve.ensures.seen) (record {
-      told = is_told _ _ _ _ c.in-Ok.ensures.taken;
+      reported = is_reported _ _ _ _ c.in-Ok.ensures.taken;
       counts = record { config = refl; full = refl; tall = refl; worn = refl };
       trail = refl;
       effort = refl;

@@ -12,7 +12,7 @@ module _ {Y : Type 0} (list head front : List Y) (n : ℕ) (first : head ≡ tak
   missed : (is_same : Bool) (rest : List Y) → n ≡ length front → IsTrue is_same ↔ (head ≡ front) → is_same ≡ false → list ≡ front ++ rest → ⊥
   missed is_same rest long tells other whole =
       let same : head ≡ front = first ∙ ap (take n) whole ∙ ap (λ k. take k (front ++ rest)) long ∙ take-append_seam front rest in
-      let told : is_same ≡ true = tells.1 same in
+      let reported : is_same ≡ true = tells.1 same in
       cc
 
 pub returns-then-len : goal.returns-then-len

@@ -12,7 +12,7 @@ invariant_of-self-2 g c =
     let new = c.perform.new.self in
     let it = c.in_ok-done.done in
     let is = c.in_ok-done.ensures.done in
-    rw (c.settle.ensures.desk, c.in-Ok.ensures.all, c.note_of-self-inside.ensures) (lags_on c.self.invariant (held_notes (held_note c.args.action it)) (steps_for old it.page.0 c.args.action) (note_stands old new it c.args.action is) new (performed_leads old new it c.args.action is))
+    rw (c.settle.ensures.desk, c.in-Ok.ensures.all, c.note_of-self-inside.ensures) (lags_on c.self.invariant (held_notes (held_note it.page it.receipt c.args.action)) (steps_for old it.page.0 c.args.action) (note_stands old new it c.args.action is) new (performed_leads old new it c.args.action is))
 
 pub returns-clause-steps : goal.returns-clause-steps
 returns-clause-steps g c =
@@ -20,7 +20,7 @@ returns-clause-steps g c =
     let new = c.perform.new.self in
     let it = c.in_ok-done.done in
     let is = c.in_ok-done.ensures.done in
-    rw (c.settle.ensures.desk, c.in-Ok.ensures.all, c.note_of-self-inside.ensures) (pending_on c.self.invariant (held_notes (held_note c.args.action it)) (steps_for old it.page.0 c.args.action) (note_stands old new it c.args.action is) ∙ ap (λ (h : PublishedValue). h.pending ++ steps_for h.table it.page.0 c.args.action) c.self.view_is)
+    rw (c.settle.ensures.desk, c.in-Ok.ensures.all, c.note_of-self-inside.ensures) (pending_on c.self.invariant (held_notes (held_note it.page it.receipt c.args.action)) (steps_for old it.page.0 c.args.action) (note_stands old new it c.args.action is) ∙ ap (λ (h : PublishedValue). h.pending ++ steps_for h.table it.page.0 c.args.action) c.self.view_is)
 
 pub returns-clause-done : goal.returns-clause-done
 returns-clause-done g c =

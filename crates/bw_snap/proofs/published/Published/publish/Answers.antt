@@ -74,9 +74,9 @@ invariant_of-self-2 g c =
     let is = c.again.ensures ∙ announced in
     let table : c.advance.new.writer.desk.shown.value.table ≡ c.self.inside.booked = end.0 ∙ ap (λ p. p.0) landed in
     let front : c.advance.new.writer.desk.shown.value.front ≡ record { list = v.front.list ++ steps_of v.table notes; announcements = g.N.Naming.announcements } = end.1 ∙ (ap (λ p. p.1) landed ∙ is) in
-    let told = c.told-inner.ensures in
+    let caught_up = c.caught_up-inner.ensures in
     let seen : view c.advance.new.writer.desk.place ≡ v.front.list ++ steps_of v.table notes = end.3 ∙ (ap (λ p. p.1.list) landed ∙ ap (λ (f : Announced). f.list) is) in
-    rw (told.desk, told.log.0, told.log.1, told.seen, table, front, end.2, c.in_ok-settle.ensures.settled, seen, announced)
+    rw (caught_up.desk, caught_up.log.0, caught_up.log.1, caught_up.seen, table, front, end.2, c.in_ok-settle.ensures.settled, seen, announced)
     (published_whole c.self.invariant (record { list = v.front.list ++ steps_of v.table notes; announcements = g.N.Naming.announcements }) refl)
 
 pub returns-clause-published : goal.returns-clause-published
@@ -88,7 +88,7 @@ returns-clause-published g c =
     let landed : fold noted (v.table, v.front) (notes ++ Mark c.again.result ∷ []) ≡ (c.self.inside.booked, c.again.result) = marked v.table c.self.inside.booked v.front c.again.result notes c.self.invariant.leads in
     let end = rw (c.append.ensures.desk, c.in_ok-append.ensures.pending, c.settle.ensures.desk, log) at c.in-Ok.ensures.ok in
     let table : c.advance.new.writer.desk.shown.value.table ≡ c.self.inside.booked = end.0 ∙ ap (λ p. p.0) landed in
-    ap (λ (shown : Part Shown). shown.value.table) c.told-inner.ensures.desk ∙ (table ∙ ap (λ (h : PublishedValue). h.table) c.self.view_is)
+    ap (λ (shown : Part Shown). shown.value.table) c.caught_up-inner.ensures.desk ∙ (table ∙ ap (λ (h : PublishedValue). h.table) c.self.view_is)
 
 pub returns-clause-table : goal.returns-clause-table
 returns-clause-table g c = ap (λ (h : PublishedValue). h.table) c.self.view_is
@@ -105,14 +105,14 @@ returns-clause-list g c =
     let end = rw (c.append.ensures.desk, c.in_ok-append.ensures.pending, c.settle.ensures.desk, log) at c.in-Ok.ensures.ok in
     let front : c.advance.new.writer.desk.shown.value.front ≡ record { list = v.front.list ++ steps_of v.table notes; announcements = g.N.Naming.announcements } = end.1 ∙ (ap (λ p. p.1) landed ∙ (c.again.ensures ∙ announced)) in
     let lists : v.front.list ++ steps_of v.table notes ≡ c.args.self.now.list ++ c.args.self.now.pending = ap (λ (h : PublishedValue). h.list ++ h.pending) c.self.view_is in
-    let told = c.told-inner.ensures in
-    rw (told.desk) (ap (λ (f : Announced). f.list) front ∙ lists)
+    let caught_up = c.caught_up-inner.ensures in
+    rw (caught_up.desk) (ap (λ (f : Announced). f.list) front ∙ lists)
 
 pub returns-clause-pending : goal.returns-clause-pending
 returns-clause-pending g c =
     let end = c.in-Ok.ensures.ok in
-    let told = c.told-inner.ensures in
-    rw (told.log.0, told.log.1, end.2, c.in_ok-settle.ensures.settled) refl
+    let caught_up = c.caught_up-inner.ensures in
+    rw (caught_up.log.0, caught_up.log.1, end.2, c.in_ok-settle.ensures.settled) refl
 
 pub returns-clause-stamp : goal.returns-clause-stamp
 returns-clause-stamp g c = search rules

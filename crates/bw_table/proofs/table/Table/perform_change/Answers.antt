@@ -6,14 +6,14 @@ use Rattle.bw_table.proofs.table.Table.perform_change.Goals as goal
 
 pub returns : goal.returns
 returns g c =
-    let told = c.performed.ensures in
+    let reported = c.performed.ensures in
     let new = c.change_at_rest.new.self in
     record {
       done = record {
-        finds = ((rw told.page c.in-Some.ensures.leaf), told.key);
-        takes = changed c.args.self.now new c.performed.result c.args.wished c.in-Some.page c.args.key c.in-Some-change_at_rest.receipt told.page told.key told.receipt c.in-Some-change_at_rest.ensures.done;
-        count = told.count ∙ ap (λ (p : Pid). (slot_at new p.0).count) (sym told.page);
-        depth = told.depth ∙ ap (λ (p : Pid). (slot_at new p.0).depth) (sym told.page);
+        finds = ((rw reported.page c.in-Some.ensures.leaf), reported.key);
+        takes = changed c.args.self.now new c.performed.result c.args.wished c.in-Some.page c.args.key c.in-Some-change_at_rest.receipt reported.page reported.key reported.receipt c.in-Some-change_at_rest.ensures.done;
+        count = reported.count ∙ ap (λ (p : Pid). (slot_at new p.0).count) (sym reported.page);
+        depth = reported.depth ∙ ap (λ (p : Pid). (slot_at new p.0).depth) (sym reported.page);
       };
       why = tt;
       unchanged = tt;

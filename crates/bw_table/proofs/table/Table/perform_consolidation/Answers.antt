@@ -15,14 +15,14 @@ pub returns : goal.returns
 returns g c =
     let fine = rw c.in-Some.ensures.there at c.in_default-may_be_made_anew.ensures in
     let accepted = anew_is_accepted c.args.self.now c.args.page.0 c.args.seen.0 _ c.slot.ensures.lawful fine c.in-Ok.ensures.made in
-    let told = c.performed.ensures in
+    let reported = c.performed.ensures in
     let new = c.consolidate-receipt.new.self in
     record {
       done = record {
-        finds = (told.page, told.key ∙ c.low-key.ensures ∙ ap (λ (s : SlotValue). s.low) c.in-Some.ensures.there);
-        takes = consolidated c.args.self.now new c.performed.result c.args.page.0 c.args.seen.0 _ _ told.receipt accepted c.consolidate-receipt.ensures;
-        count = told.count ∙ ap (λ (p : Pid). (slot_at new p.0).count) (sym told.page);
-        depth = told.depth ∙ ap (λ (p : Pid). (slot_at new p.0).depth) (sym told.page);
+        finds = (reported.page, reported.key ∙ c.low-key.ensures ∙ ap (λ (s : SlotValue). s.low) c.in-Some.ensures.there);
+        takes = consolidated c.args.self.now new c.performed.result c.args.page.0 c.args.seen.0 _ _ reported.receipt accepted c.consolidate-receipt.ensures;
+        count = reported.count ∙ ap (λ (p : Pid). (slot_at new p.0).count) (sym reported.page);
+        depth = reported.depth ∙ ap (λ (p : Pid). (slot_at new p.0).depth) (sym reported.page);
       };
       why = tt;
       unchanged = tt;

@@ -1,16 +1,16 @@
 use Rattle.std.proofs.Common.{refl, sym, ◌∙◌}
-use Rattle.bw_law.proofs.TakenSteps.{config_kept, is_told}
+use Rattle.bw_law.proofs.TakenSteps.{config_kept, is_reported}
 use Rattle.bw_tree.proofs.Trees.{book_kept, map_after}
 use Rattle.bw_tree.proofs.booked.Booked.install.Goals as goal
 
 pub invariant_of-self-2 : goal.invariant_of-self-2
 invariant_of-self-2 g c =
-    let told = c.in_ok-receipt.ensures in
+    let reported = c.in_ok-receipt.ensures in
     let kept = c.self.invariant in
-    (book_kept _ _ _ _ _ _ kept.0 (told.accepted.0 refl) told.taken c.count.ensures.totals, config_kept _ _ _ _ told.taken ∙ kept.1)
+    (book_kept _ _ _ _ _ _ kept.0 (reported.accepted.0 refl) reported.taken c.count.ensures.totals, config_kept _ _ _ _ reported.taken ∙ kept.1)
 
 pub returns-clause-map : goal.returns-clause-map
 returns-clause-map g c = rw (sym c.self.view_is) (map_after _ _ _ c.self.invariant.0 (c.in_ok-receipt.ensures.accepted.0 refl))
 
-pub returns-clause-told : goal.returns-clause-told
-returns-clause-told g c = is_told _ _ _ _ c.in_ok-receipt.ensures.taken
+pub returns-clause-reported : goal.returns-clause-reported
+returns-clause-reported g c = is_reported _ _ _ _ c.in_ok-receipt.ensures.taken

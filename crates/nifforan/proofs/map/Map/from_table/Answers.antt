@@ -1,7 +1,6 @@
 use Rattle.std.proofs.Common.{ap, arith}
 use Rattle.bw_keys.specs.declared.config.Config.{Config}
 use Rattle.bw_law.specs.Tables.{TableValue}
-use Rattle.nifforan.proofs.Growing.{pages_in_range}
 use Rattle.nifforan.proofs.map.Map.from_table.Goals as goal
 
 pub invariant_of-result : goal.invariant_of-result
@@ -15,5 +14,5 @@ invariant_of-result g c =
       booked = ready.booked;
       no_receipts = ready.no_receipts;
       pages = omega (arith, most, same);
-      few = omega (arith, most, (pages_in_range c.args.table.config own.lawful.bounds.config).1);
+      few = omega (arith, most, own.lawful.bounds.config.few);
     }

@@ -5,5 +5,5 @@ use Rattle.nifforan.specs.Maps.{MapValue}
 use Rattle.nifforan.proofs.Listing.{pairs_are}
 use Rattle.nifforan.proofs.map.Map.law.Goals as goal
 
-pub returns : goal.returns
-returns g c = subst (λ (m : MapValue). rises 0 key_count m.pairs ≡ true) c.self.view_is (pairs_are c.self.inside.worker.owner.table.value c.self.invariant.lawful).rise
+pub returns-clause-rise : goal.returns-clause-rise
+returns-clause-rise g c = subst (λ (m : MapValue). rises 0 key_count m.pairs ≡ true) c.self.view_is (pairs_are c.self.inside.worker.owner.table.value c.self.invariant.lawful).rise

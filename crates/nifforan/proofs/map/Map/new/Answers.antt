@@ -1,32 +1,50 @@
-use Rattle.std.proofs.Common.{◌≡◌, length, refl, ap, ◌∙◌, arith, None}
-use Rattle.bw_keys.specs.Limits.{first_bad_field}
+use Rattle.std.proofs.Common.{length, refl, ap, ◌∙◌, arith}
 use Rattle.bw_law.specs.Tables.{TableValue}
+use Rattle.bw_law.proofs.NewTable.{good_pages}
 use Rattle.nifforan.specs.Maps.{pairs_of}
-use Rattle.nifforan.proofs.Growing.{pages_in_range}
 use Rattle.nifforan.proofs.Listing.{new_is_empty, new_is_free}
+use Rattle.nifforan.proofs.Settings.{begins_with_8, fault_passed_on, no_bad_setting}
 use Rattle.nifforan.proofs.map.Map.new.Goals as goal
 
 pub invariant_of-result : goal.invariant_of-result
 invariant_of-result g c =
     let ready = c.new-2.ensures.ready in
-    let good : first_bad_field c.args.config ≡ None = c.in_default.ensures.fine.0 refl in
     let pages = ap (λ (t : TableValue). t.config.pages) (c.new-2.ensures.table ∙ c.in_ok-table.ensures.ok) in
+    let first = record c.args.config { pages = c.first_pages.result } in
+    let some = good_pages first (c.in_ok-table.ensures.fine refl) in
+    let range = begins_with_8 c.args.config.pages (omega (arith, some.0, c.first_pages.ensures)) in
     record {
       lawful = ready.lawful;
       booked = ready.booked;
       no_receipts = ready.no_receipts;
-      pages = omega (arith, pages, c.min.ensures);
-      few = (pages_in_range c.args.config good).1;
+      pages = omega (arith, pages, c.first_pages.ensures, range.0, range.1);
+      few = range.2;
     }
 
 pub returns-clause-empty : goal.returns-clause-empty
 returns-clause-empty g c =
-    let first = record c.args.config { pages = c.min.result } in
+    let first = record c.args.config { pages = c.first_pages.result } in
     ap (λ (t : TableValue). pairs_of t.slots) (c.new-2.ensures.table ∙ c.in_ok-table.ensures.ok) ∙ new_is_empty first (c.in_ok-table.ensures.fine refl) (omega arith)
+
+pub returns-clause-pages : goal.returns-clause-pages
+returns-clause-pages g c =
+    let first = record c.args.config { pages = c.first_pages.result } in
+    let is = c.new-2.ensures.table ∙ c.in_ok-table.ensures.ok in
+    let some = good_pages first (c.in_ok-table.ensures.fine refl) in
+    let range = begins_with_8 c.args.config.pages (omega (arith, some.0, c.first_pages.ensures)) in
+    omega (arith, ap (λ (t : TableValue). t.config.pages) is, c.first_pages.ensures, range.0)
 
 pub returns-clause-free : goal.returns-clause-free
 returns-clause-free g c =
-    let first = record c.args.config { pages = c.min.result } in
+    let first = record c.args.config { pages = c.first_pages.result } in
     let is = c.new-2.ensures.table ∙ c.in_ok-table.ensures.ok in
-    let some = pages_in_range first (c.in_ok-table.ensures.fine refl) in
-    omega (arith, ap (λ (t : TableValue). t.config.pages) is, ap (λ (t : TableValue). length t.free) is, new_is_free first, some.0, c.min.ensures)
+    let some = good_pages first (c.in_ok-table.ensures.fine refl) in
+    let range = begins_with_8 c.args.config.pages (omega (arith, some.0, c.first_pages.ensures)) in
+    omega (arith, ap (λ (t : TableValue). t.config.pages) is, ap (λ (t : TableValue). length t.free) is, new_is_free first, c.first_pages.ensures, range.0, range.1)
+
+pub returns-clause-fine : goal.returns-clause-fine
+returns-clause-fine g c = λ _. no_bad_setting c.args.config c.first_pages.result c.first_pages.ensures (c.in_ok-table.ensures.fine refl)
+
+pub returns-in_err-table-clause-fault : goal.returns-in_err-table-clause-fault
+returns-in_err-table-clause-fault g c =
+    fault_passed_on c.args.config c.first_pages.result c.first_pages.ensures c.from_residual.result _ c.from_residual.ensures.1 c.in_err-table.ensures.fault

@@ -88,8 +88,8 @@ into_box_spec {M} 𝓤 𝓛 𝓜 𝓡 wired =
     await ! tt $ pick ! (λ r. split ! $ move ! (1 ∷ []) $ pick ! (λ ls. split3 ! $ drop ! $ heard ! (r.value ≡ x) (λ same. drop ! $ split ! $ drop ! $
     box_out E ! r (u ∷ []) (λ b' o' h' at' word fits. box_in E ! r b' o' r.value at' refl $ rewrite ! 0 (λ (vs : List Val). ‵ (B.own_val r vs)) (sym word) refl $
     let typed : Good (layout B) u = subst (Good (layout B)) (sym (ap only word)) (box.box_typed E h' b' o' fits) in
-    let v : Val = live 1 (vcons u vnil) in let good : Good (layout Out) v = (and_tt _ typed.0, (record { fits = lit< tt }, (typed.1, tt))) in let told : d.held ≡ r.value = sym same in
+    let v : Val = live 1 (vcons u vnil) in let good : Good (layout Out) v = (and_tt _ typed.0, (record { fits = lit< tt }, (typed.1, tt))) in let reported : d.held ≡ r.value = sym same in
     lands_last ! refl typed $ exec ! 𝓣.C 𝓣.Λ Ev (after 4 fn.body) (at_ret Ev Post) $ sets ! (of_opd ! (get ! refl)) refl typed $ sets ! (of_opd ! (get ! refl)) refl typed $ sets ! (agg ! (and_then ! (lit ! tt) (and_then ! (get ! refl) (no_more !)))) refl good $
     -- [the box; true; true; nothing; the locals]
-    use1 𝓛 (‵ (Out.own_val (Some r) (v ∷ []))) (Some-of 𝓛 B r u) $ use0 𝓛 (raw (fact 𝓤 (d.held ≡ r.value))) (fact_i 𝓤 (d.held ≡ r.value) (emp 𝓤) told) $ nothing ! $ nothing ! $ fjoin ! $ nothing ! $ fjoin ! $
+    use1 𝓛 (‵ (Out.own_val (Some r) (v ∷ []))) (Some-of 𝓛 B r u) $ use0 𝓛 (raw (fact 𝓤 (d.held ≡ r.value))) (fact_i 𝓤 (d.held ≡ r.value) (emp 𝓤) reported) $ nothing ! $ nothing ! $ fjoin ! $ nothing ! $ fjoin ! $
     returns ! (look_at ! 0 refl) $ free_all ! refl $ keep ! (4 ∷ 0 ∷ 2 ∷ 1 ∷ []) $ by ! (leaves 𝓛 F.ended hs c z v (Some r) (tt, (tt, tt)) (tt, (tt, tt)))))))))))))

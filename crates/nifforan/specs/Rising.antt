@@ -1,0 +1,68 @@
+-- Maps that are made of pairs whose keys rise.
+use Rattle.std.specs.Prelude.{◌≡◌, ℕ, nat_lt, Bool, true, false, Option, None, Some, [], ◌∷◌, ◌++◌, length, Result, Ok, Err}
+use Rattle.std.specs.Iterator.{Drains, Yields}
+use Rattle.bw_keys.specs.declared.config.Config.{Config}
+use Rattle.bw_keys.specs.Ranges.{key_count}
+use Rattle.bw_delta.specs.Entries.{rises}
+use Rattle.nifforan.specs.Maps.{PairList}
+use Rattle.nifforan.specs.Settings.{first_bad_setting, IsMapFault}
+use Rattle.nifforan.specs.declared.sorted.SortedFault.{SortedFault}
+use Rattle.nifforan.specs.declared.sorted.SortedFault.TheVariants as faults
+
+-- the key is above the one before, if there is one
+abbrev pub is_above : ℕ → Option ℕ → Bool
+is_above key None = true
+is_above key (Some before) = nat_lt before key
+
+-- the list has all items of the iterator, in their order, and their keys rise
+pub record HasAllOf {U T : Type 0}
+    (becomes : U → T → Type 0) (steps : T → Option (ℕ × ℕ) → T → Type 0)
+    (pairs : U) (made : PairList) : Type 0 where
+  pub start : T
+  pub begins : becomes pairs start
+  pub drains : Drains steps start made
+  pub rise : rises 0 key_count made ≡ true
+
+-- the keys of that many items of the iterator rise, and with the next item they don't
+pub record StopsRising {U T : Type 0}
+    (becomes : U → T → Type 0) (steps : T → Option (ℕ × ℕ) → T → Type 0)
+    (pairs : U) (count : ℕ) : Type 0 where
+  pub start : T
+  pub begins : becomes pairs start
+  pub rising : PairList
+  pub next : ℕ × ℕ
+  pub rest : T
+  pub yields : Yields steps start (rising ++ next ∷ []) rest
+  pub rise : rises 0 key_count rising ≡ true
+  pub not_with_next : rises 0 key_count (rising ++ next ∷ []) ≡ false
+  pub many : count ≡ length rising
+
+-- the keys of the first items of the iterator rise
+pub record StartsRising {U T : Type 0}
+    (becomes : U → T → Type 0) (steps : T → Option (ℕ × ℕ) → T → Type 0)
+    (pairs : U) : Type 0 where
+  pub start : T
+  pub begins : becomes pairs start
+  pub rising : PairList
+  pub rest : T
+  pub yields : Yields steps start rising rest
+  pub rise : rises 0 key_count rising ≡ true
+
+-- no map could be made by the configuration; or it was made, and a pair wasn't above
+-- the one before, or was and wasn't put
+abbrev pub IsSortedFault : {U T : Type 0} → (U → T → Type 0) → (T → Option (ℕ × ℕ) → T → Type 0)
+    → Config → U → SortedFault → Type 0
+IsSortedFault becomes steps config pairs (faults.New fault) = IsMapFault config fault
+IsSortedFault becomes steps config pairs (faults.Unsorted number) =
+    (first_bad_setting config ≡ None) × StopsRising becomes steps pairs number
+IsSortedFault becomes steps config pairs (faults.Put _) =
+    (first_bad_setting config ≡ None) × StartsRising becomes steps pairs
+
+-- a map without pairs got all of them; or one wasn't above the one before, or wasn't put
+abbrev pub AppendsAll : {U T : Type 0} → (U → T → Type 0) → (T → Option (ℕ × ℕ) → T → Type 0)
+    → U → Result (Unit {0}) SortedFault → PairList → Type 0
+AppendsAll becomes steps pairs (Ok done) new = HasAllOf becomes steps pairs new
+AppendsAll becomes steps pairs (Err (faults.Unsorted number)) new =
+    StopsRising becomes steps pairs number
+AppendsAll becomes steps pairs (Err (faults.Put fault)) new = StartsRising becomes steps pairs
+AppendsAll becomes steps pairs (Err (faults.New fault)) new = ⊥

@@ -1,0 +1,194 @@
+//! The last leaf of a map, where pairs with ever greater keys go.
+
+ghost use Rattle.std.specs.Prelude.{◌≡◌, [], Some, IfSome, IfNone};
+ghost use Rattle.bw_keys.specs.declared.wished.Wished.TheVariants as wishes;
+ghost use Rattle.bw_step.specs.Tellings.{telling_of};
+ghost use Rattle.bw_law.specs.Tables.{ChangesKey, SameMap, TellsMap};
+ghost use Rattle.bw_procedures.specs.Writing.{IsReceiptFor};
+ghost use Rattle.nifforan.specs.Maps.{IsReady, before_set};
+
+use crate::worker::Worker;
+use bw_keys::{Key, Pid};
+use bw_procedures::{Calls, Set};
+use bw_step::{Go, Todo};
+use bw_table::{Receipt, Table, Wished};
+use std::alloc::Allocator;
+
+/// A leaf that pairs are put into without a search, until it has one more than a page may have.
+#[derive(Clone, Copy)]
+pub(crate) struct Edge {
+    leaf: Option<Pid>,
+    /// How many pairs it still takes.
+    room: u64,
+}
+
+impl Edge {
+    /// No leaf.
+    pub(crate) fn none() -> Edge {
+        Edge {
+            leaf: None,
+            room: 0,
+        }
+    }
+
+    /// Sets the key to the value, if it belongs to the leaf and there is room.
+    #[inline(always)]
+    fn set<A: Allocator + Copy>(
+        &mut self,
+        table: &mut Table<A>,
+        key: Key,
+        value: u64,
+    ) -> Option<Receipt>
+        ensures reported { IfSome result (IsReceiptFor key (wishes.Set value)) }
+        ensures map { IfSome result (λ receipt.
+            TellsMap (telling_of receipt) table.old.slots table.new.slots) }
+        ensures config { table.new.config ≡ table.old.config }
+        ensures unchanged { IfNone result (table.new ≡ table.old) }
+    {
+        let leaf = self.leaf?;
+        if self.room == 0 {
+            return None;
+        }
+        let receipt = table.change_leaf(leaf, key, Wished::Set(value))?;
+        self.room -= 1;
+        Some(receipt)
+    }
+
+    /// The leaf, if it has no room.
+    fn full_leaf(self) -> Option<Pid> {
+        if self.room > 0 {
+            return None;
+        }
+        self.leaf
+    }
+}
+
+impl<A: Allocator + Copy> Worker<A> {
+    /// The leaf whose range holds the key.
+    pub(crate) fn edge_at(&self, key: Key) -> Edge {
+        let table = &self.owner.table.value;
+        match table.leaf_at_rest(key) {
+            Some(view) => Edge {
+                leaf: Some(view.pid),
+                room: (u64::from(table.config().fanout) + 1).saturating_sub(view.count),
+            },
+            None => Edge::none(),
+        }
+    }
+
+    /// Sets the key to the value in the edge's leaf, if it belongs there and there is room.
+    #[inline(always)]
+    pub(crate) fn set_at_edge(&mut self, edge: &mut Edge, key: Key, value: u64) -> Option<Set>
+        requires { self.old.owner.account.seen.trail ≡ [] }
+        ensures change { IfSome result (λ reply. ChangesKey
+            self.old.owner.table.value.slots self.new.owner.table.value.slots
+            key (before_set reply) (Some value)) }
+        ensures ready { IsReady self.new.owner.table.value self.new.owner.account.seen.trail }
+        ensures config { self.new.owner.table.value.config ≡ self.old.owner.table.value.config }
+        ensures unchanged { IfNone result (self.new ≡ self.old) }
+    {
+        let receipt = edge.set(&mut self.owner.table.value, key, value);
+        self.owner.table.value.law();
+        Some(Set::of(receipt?))
+    }
+
+    /// Splits the edge's leaf, if it has no room, before its last pair, and goes on to the leaf of
+    /// the key.
+    pub(crate) fn move_edge(&mut self, edge: &mut Edge, key: Key)
+        requires { self.old.owner.account.seen.trail ≡ [] }
+        ensures same { SameMap self.old.owner.table.value.slots self.new.owner.table.value.slots }
+        ensures ready { IsReady self.new.owner.table.value self.new.owner.account.seen.trail }
+        ensures config { self.new.owner.table.value.config ≡ self.old.owner.table.value.config }
+    {
+        self.owner.table.value.law();
+        if let Some(leaf) = edge.full_leaf() {
+            self.split_edge(leaf, key);
+            *edge = self.edge_at(key);
+        }
+    }
+
+    /// Splits a leaf that is too big by one pair before that pair, which is left alone in a new one.
+    fn split_edge(&mut self, leaf: Pid, key: Key)
+        requires { self.old.owner.account.seen.trail ≡ [] }
+        ensures same { SameMap self.old.owner.table.value.slots self.new.owner.table.value.slots }
+        ensures ready { IsReady self.new.owner.table.value self.new.owner.account.seen.trail }
+        ensures config { self.new.owner.table.value.config ≡ self.old.owner.table.value.config }
+    {
+        let table = &self.owner.table.value;
+        // The root, which has no page over it, doesn't name the new one: `post` sees to that.
+        let parent = page_above_leaf(table, key).unwrap_or(leaf);
+        let full = table.config().fanout as usize;
+        match self.split_under(parent, leaf, full) {
+            Some(new) => {
+                self.post(new);
+                self.tend(parent);
+            }
+            None => self.tend(leaf),
+        }
+    }
+
+    /// Splits the page before its entry with the number, and names the new one in the parent where
+    /// that takes it.
+    fn split_under(&mut self, parent: Pid, page: Pid, number: usize) -> Option<Pid>
+        requires { self.old.owner.account.seen.trail ≡ [] }
+        ensures same { SameMap self.old.owner.table.value.slots self.new.owner.table.value.slots }
+        ensures ready { IsReady self.new.owner.table.value self.new.owner.account.seen.trail }
+        ensures config { self.new.owner.table.value.config ≡ self.old.owner.table.value.config }
+    {
+        self.owner.table.value.law();
+        let split = self.owner.table.value.split_under(parent, page, number);
+        self.owner.table.value.law();
+        let (new, _posted) = split?;
+        Some(new)
+    }
+
+    /// Sees to it that the page has a parent that names it. A fault leaves that to a later call.
+    fn post(&mut self, page: Pid)
+        requires { self.old.owner.account.seen.trail ≡ [] }
+        ensures same { SameMap self.old.owner.table.value.slots self.new.owner.table.value.slots }
+        ensures ready { IsReady self.new.owner.table.value self.new.owner.account.seen.trail }
+        ensures config { self.new.owner.table.value.config ≡ self.old.owner.table.value.config }
+    {
+        let _posted = self.owner.help(Todo::Post(page));
+        self.owner.forget();
+    }
+
+    /// Tends the page. A fault leaves that to a later call.
+    fn tend(&mut self, page: Pid)
+        requires { self.old.owner.account.seen.trail ≡ [] }
+        ensures same { SameMap self.old.owner.table.value.slots self.new.owner.table.value.slots }
+        ensures ready { IsReady self.new.owner.table.value self.new.owner.account.seen.trail }
+        ensures config { self.new.owner.table.value.config ≡ self.old.owner.table.value.config }
+    {
+        let _tended = self.owner.tend(page);
+        self.owner.forget();
+    }
+
+    /// Tends the edge's leaf, if it has no room.
+    pub(crate) fn tend_edge(&mut self, edge: Edge)
+        requires { self.old.owner.account.seen.trail ≡ [] }
+        ensures same { SameMap self.old.owner.table.value.slots self.new.owner.table.value.slots }
+        ensures ready { IsReady self.new.owner.table.value self.new.owner.account.seen.trail }
+        ensures config { self.new.owner.table.value.config ≡ self.old.owner.table.value.config }
+    {
+        self.owner.table.value.law();
+        if let Some(leaf) = edge.full_leaf() {
+            self.tend(leaf);
+        }
+    }
+}
+
+/// The page over the leaf whose range holds the key, if there is one.
+fn page_above_leaf<A: Allocator + Copy>(table: &Table<A>, key: Key) -> Option<Pid> {
+    let mut place = table.root();
+    if place.level == 0 {
+        return None;
+    }
+    'down: loop {
+        match table.visit(place, key, 1).go {
+            Go::Right(next) | Go::Down(next) => place = next,
+            Go::Here(view) => return Some(view.pid),
+            Go::Gone => return None,
+        }
+    }
+}

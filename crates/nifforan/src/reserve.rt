@@ -1,0 +1,120 @@
+//! Pages taken ahead, for pairs that are to come, and given back.
+
+ghost use Rattle.std.specs.Prelude.{◌≡◌, ◌+◌, ◌-◌, ◌*◌, ◌^◌, ◌<◌, ◌≤◌, ℕ, List, [], None, length, sum};
+ghost use Rattle.std.specs.Prelude.{IsOk, IfOk, IfErr, OnOk, OnErr};
+ghost use Rattle.bw_keys.specs.Rooms.{half, AreLevels};
+ghost use Rattle.nifforan.specs.Growing.{HasGrown, HasPagesFor};
+ghost use Rattle.nifforan.specs.Settings.{first_bad_setting, IsMapFault};
+
+use crate::map::Map;
+use bw_delta::NoMemory;
+use bw_keys::Config;
+use bw_procedures::{Fault, Steps};
+use bw_table::NewFault;
+use std::alloc::{Allocator, Global};
+
+impl<A: Allocator + Copy> Map<A> {
+    /// Creates a map without pairs, with pages enough for that many: see `new` and `reserve`.
+    pub fn with_capacity(
+        machine: Global,
+        alloc: A,
+        config: Config,
+        pairs: u64,
+    ) -> Result<Map<A>, NewFault>
+        ensures config { IfOk result (λ map. map.config ≡ config) }
+        ensures empty { IfOk result (λ map. map.pairs ≡ []) }
+        ensures room { IfOk result (HasPagesFor pairs) }
+        ensures free { IfOk result (λ map. map.free ≡ config.pages - 1) }
+        ensures fine { IsOk result → first_bad_setting config ≡ None }
+        ensures fault { IfErr result (IsMapFault config) }
+    {
+        let mut map = Map::new(machine, alloc, config)?;
+        match map.reserve(pairs) {
+            Ok(()) => Ok(map),
+            Err(NoMemory) => Err(NewFault::NoMemory),
+        }
+    }
+
+    /// Takes memory ahead for pages enough for that many pairs more, in whatever order they are put,
+    /// at the usual fanout, or for as many pages as the map may have. It takes some six bytes a pair,
+    /// or at least doubles what there was. If memory is refused, the map stays as it was.
+    pub fn reserve(&mut self, additional: u64) -> Result<(), NoMemory>
+        ensures kept { HasGrown self.old self.new }
+        ensures room { OnOk result (HasPagesFor (length self.old.pairs + additional) self.new) }
+        ensures unchanged { OnErr result (self.new ≡ self.old) }
+    {
+        let pairs = self.len().saturating_add(additional);
+        let pages = pages_for(pairs).min(u64::from(self.most)) as u32;
+        self.grow_to(pages)
+    }
+
+    /// Makes the map anew, by puts of rising keys, so that it has no more pages than its pairs want,
+    /// and none that it took ahead. That takes some 0.3 µs a pair, and meanwhile memory for both. If
+    /// a fault ends it, the map stays as it was.
+    pub fn shrink_to_fit(&mut self) -> Result<(), Fault>
+        ensures pairs { self.new.pairs ≡ self.old.pairs }
+        ensures config { self.new.config ≡ self.old.config }
+        ensures pages { self.new.pages ≤ self.old.pages }
+        ensures unchanged { OnErr result (self.new ≡ self.old) }
+    {
+        let fitted = self.anew()?;
+        if fitted.pages() <= self.pages() {
+            *self = fitted;
+        }
+        Ok(())
+    }
+
+    /// Creates a map of the same configuration with the same pairs, which are set one after the
+    /// other.
+    fn anew(&self) -> Result<Map<A>, Fault>
+        ensures pairs { IfOk result (λ map. map.pairs ≡ self.now.pairs) }
+        ensures config { IfOk result (λ map. map.config ≡ self.now.config) }
+    {
+        self.law();
+        let mut map = self.emptied()?;
+        let _done = map.set_each(self.iter())?;
+        Ok(map)
+    }
+
+    /// Creates a map of the same configuration without pairs, in the same memory.
+    fn emptied(&self) -> Result<Map<A>, NoMemory>
+        ensures config { IfOk result (λ map. map.config ≡ self.now.config) }
+        ensures empty { IfOk result (λ map. map.pairs ≡ []) }
+    {
+        let alloc = self.worker.owner.alloc();
+        match Map::new(self.worker.machine, alloc, self.config()) {
+            Ok(map) => Ok(map),
+            // The configuration made this map.
+            Err(_) => Err(NoMemory),
+        }
+    }
+}
+
+/// The least that a split leaves to either page, where pages may have 64 entries.
+const HALF: u64 = 32;
+
+/// Returns how many pages a map wants for that many pairs: as many as insertions alone, in any order,
+/// may fill, and those that each put finds free.
+fn pages_for(pairs: u64) -> u64
+    ensures room { (leaves : ℕ) (above : List ℕ) → half * (leaves - 1) ≤ pairs
+        → AreLevels leaves above → leaves + sum above ≤ result }
+    ensures many { pairs < half * result }
+{
+    let leaves = pairs / HALF + 1;
+    leaves + pages_above(leaves)
+}
+
+/// Returns how many pages there may be on all levels above one that has so many, and one page for
+/// each level, and for a new root, that stays free.
+fn pages_above(pages: u64) -> u64
+    requires { pages < 2 ^ 60 }
+    ensures all { (below : ℕ) (above : List ℕ) → below ≤ pages → AreLevels below above
+        → sum above ≤ result }
+    ensures few { result ≤ 2 * pages + 2 }
+{
+    if pages <= 1 {
+        return 2;
+    }
+    let next = (pages - 1) / HALF + 1;
+    next + 1 + pages_above(next)
+}

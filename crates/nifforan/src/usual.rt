@@ -1,0 +1,18 @@
+ghost use Rattle.std.specs.Prelude.{◌≡◌};
+ghost use Rattle.bw_keys.specs.Limits.{usual_with};
+ghost use Rattle.bw_law.specs.declared.pages.TheConstants.{MAX_PAGES as most};
+
+use bw_keys::Config;
+use bw_table::MAX_PAGES;
+
+/// Returns the usual configuration of a map: pages of 64 entries, consolidated after each change, and
+/// the most of them that there may be, which cost nothing, since a map takes its pages as it grows.
+/// They have room for 520 million pairs in any order of insertion.
+pub fn usual_config() -> Config
+    ensures { result ≡ usual_with most }
+{
+    Config {
+        pages: MAX_PAGES,
+        ..Config::default()
+    }
+}

@@ -1,0 +1,250 @@
+//! Maps that are made of pairs whose keys rise, beside the kit's map, and pairs whose keys don't.
+
+use bw_keys::{Fence, Range};
+use linked_list_allocator::LocalHeap;
+use nifforan::{Config, Del, Fault, Map, NewFault, Set, SortedFault};
+use rand_core::{Rng, SeedableRng};
+use rand_pcg::Pcg32;
+use std::alloc::{AllocError, Allocator, Global};
+use std::collections::BTreeMap;
+use std::test::Fail;
+use test_kit::{Rooms, growing_heaps};
+
+/// Fanout and chain.
+const TABLES: [(u32, u32); 6] = [(4, 1), (4, 3), (5, 1), (7, 32), (64, 1), (64, 8)];
+
+/// How many pairs: none, one, about as many as a leaf has, and trees of several levels.
+const COUNTS: [u64; 14] = [0, 1, 2, 3, 4, 5, 6, 8, 9, 64, 65, 66, 129, 1500];
+
+fn config_of(fanout: u32, chain: u32) -> Config {
+    Config {
+        fanout,
+        chain,
+        ..Config::default()
+    }
+}
+
+/// Returns that many pairs with rising keys, of which the last may have the greatest key.
+fn rising(machine: Global, count: u64, to_the_end: bool) -> Result<Vec<(u64, u64)>, AllocError> {
+    let mut pairs = Vec::new(machine);
+    for number in 0..count {
+        let is_last = number.saturating_add(1) == count;
+        let key = if is_last && to_the_end {
+            u64::MAX
+        } else {
+            number.saturating_mul(3)
+        };
+        pairs.push((key, number ^ 5))?;
+    }
+    Ok(pairs)
+}
+
+fn owned(pair: (&u64, &u64)) -> (u64, u64) {
+    (*pair.0, *pair.1)
+}
+
+/// Returns whether the map has the pairs of the kit's map.
+fn is_same<A: Allocator + Copy>(map: &Map<A>, plain: &BTreeMap<u64, u64>) -> bool {
+    map.len() == plain.len() as u64 && map.iter().eq(plain.iter().map(owned))
+}
+
+/// What a survey shows of the leaves of a map.
+#[derive(Clone, Copy, Debug, PartialEq, Eq)]
+struct Leaves {
+    /// Whether each leaf begins where the one before ends, from the least key to the top.
+    is_whole: bool,
+    /// How many leaves before the last two have another number of pairs than the fanout.
+    not_full: u64,
+    pairs: u64,
+}
+
+fn leaves_of(machine: Global, map: &Map<Global>) -> Result<Leaves, Fail> {
+    let survey = map.table().survey(machine)?;
+    let mut seen = Leaves {
+        is_whole: true,
+        not_full: 0,
+        pairs: 0,
+    };
+    let mut next = Fence::Key(0);
+    for (number, leaf) in survey.leaves.iter().enumerate() {
+        let Range { low, high } = leaf.range;
+        seen.is_whole &= next == Fence::Key(low);
+        seen.pairs = seen.pairs.saturating_add(leaf.count);
+        let is_late = number.saturating_add(2) >= survey.leaves.len();
+        if !is_late && leaf.count != u64::from(map.config().fanout) {
+            seen.not_full = seen.not_full.saturating_add(1);
+        }
+        next = high;
+    }
+    seen.is_whole &= next == Fence::Top;
+    Ok(seen)
+}
+
+/// Sets and deletes drawn keys. Returns whether each is answered as the kit's map answers it.
+fn are_changed_alike(
+    map: &mut Map<Global>,
+    plain: &mut BTreeMap<u64, u64>,
+    keys: u64,
+) -> Result<bool, Fail> {
+    let mut rng = Pcg32::seed_from_u64(keys);
+    for _ in 0..keys.saturating_mul(2) {
+        let key = rng
+            .next_u64()
+            .checked_rem(keys.saturating_mul(3))
+            .unwrap_or(0);
+        let is_same = if rng.next_u32() % 2 == 0 {
+            match (map.set(key, 7)?.reply, plain.insert(key, 7)?) {
+                (Set::Replaced(old), Some(there)) => old == there,
+                (reply, had) => reply == Set::Inserted && had.is_none(),
+            }
+        } else {
+            match (map.delete(key)?.reply, plain.remove(&key)) {
+                (Del::Removed(old), Some(there)) => old == there,
+                (reply, had) => reply == Del::NoKey && had.is_none(),
+            }
+        };
+        if !is_same {
+            return Ok(false);
+        }
+    }
+    Ok(is_same(map, plain))
+}
+
+/// What came of a load.
+#[derive(Clone, Copy, Debug, PartialEq, Eq)]
+struct Loaded {
+    is_same: bool,
+    leaves: Leaves,
+    is_changed_alike: bool,
+}
+
+fn loaded(machine: Global, config: Config, count: u64, to_the_end: bool) -> Result<Loaded, Fail> {
+    let pairs = rising(machine, count, to_the_end)?;
+    let mut plain = BTreeMap::new(machine);
+    for pair in &pairs {
+        plain.insert(pair.0, pair.1)?;
+    }
+    let mut map = Map::from_sorted(machine, machine, config, pairs)?;
+    Ok(Loaded {
+        is_same: is_same(&map, &plain) && map.config() == config,
+        leaves: leaves_of(machine, &map)?,
+        is_changed_alike: are_changed_alike(&mut map, &mut plain, count)?,
+    })
+}
+
+#[test]
+fn a_map_of_rising_pairs_is_the_kits_map(rt: HostRuntime) -> Result<(), Fail> {
+    for (fanout, chain) in TABLES {
+        for count in COUNTS {
+            for to_the_end in [false, true] {
+                let wanted = Loaded {
+                    is_same: true,
+                    leaves: Leaves {
+                        is_whole: true,
+                        not_full: 0,
+                        pairs: count,
+                    },
+                    is_changed_alike: true,
+                };
+                let config = config_of(fanout, chain);
+                let came = loaded(rt.alloc(), config, count, to_the_end)?;
+                assert_eq!(rt;
+                    came,
+                    wanted,
+                    "fanout {fanout}, chain {chain}, {count} pairs"
+                );
+            }
+        }
+    }
+    Ok(())
+}
+
+#[test]
+fn a_map_that_runs_out_of_pages_has_all_rising_pairs(rt: HostRuntime) -> Result<(), Fail> {
+    let config = Config {
+        pages: 8,
+        ..config_of(4, 1)
+    };
+    let pairs = rising(rt.alloc(), 200, true)?;
+    let map = Map::from_sorted(rt.alloc(), rt.alloc(), config, pairs)?;
+    let wanted = rising(rt.alloc(), 200, true)?;
+    assert!(rt; map.is_full() && map.iter().eq(wanted.iter().copied()));
+    Ok(())
+}
+
+/// Returns pairs with rising keys, but for the one with the number, whose key is that much less
+/// than that of the pair before.
+fn falling_at(machine: Global, number: usize, less: u64) -> Result<Vec<(u64, u64)>, AllocError> {
+    let mut pairs = Vec::new(machine);
+    for place in 0..11usize {
+        let key = if place == number {
+            (place as u64)
+                .saturating_mul(3)
+                .saturating_sub(less.saturating_add(3))
+        } else {
+            (place as u64).saturating_mul(3)
+        };
+        pairs.push((key, 1))?;
+    }
+    Ok(pairs)
+}
+
+#[test]
+fn the_first_pair_that_is_not_above_the_one_before_is_named(rt: HostRuntime) -> Result<(), Fail> {
+    for less in [0, 1, 3] {
+        for number in 1..11usize {
+            let pairs = falling_at(rt.alloc(), number, less)?;
+            let came = Map::from_sorted(rt.alloc(), rt.alloc(), config_of(4, 1), pairs);
+            let fault = came.map(|map| map.len());
+            assert_eq!(rt;
+                fault,
+                Err(SortedFault::Unsorted(number as u64)),
+                "{less} less"
+            );
+        }
+    }
+    Ok(())
+}
+
+#[test]
+fn there_is_no_map_of_a_bad_configuration(rt: HostRuntime) -> Result<(), Fail> {
+    let pairs = rising(rt.alloc(), 3, false)?;
+    let came = Map::from_sorted(rt.alloc(), rt.alloc(), config_of(3, 1), pairs);
+    let is_bad = matches!(came, Err(SortedFault::New(NewFault::BadConfig(_))));
+    assert!(rt; is_bad);
+    Ok(())
+}
+
+/// Makes a map in the heap, and returns whether that has room for it.
+fn is_made_in<'a>(machine: Global, heap: &'a LocalHeap, count: u64) -> Result<bool, Fail> {
+    let pairs = rising(machine, count, false)?;
+    match Map::from_sorted(machine, heap, config_of(4, 1), pairs) {
+        Ok(map) => {
+            let wanted = rising(machine, count, false)?;
+            if !map.iter().eq(wanted.iter().copied()) {
+                return Err("other pairs".into());
+            }
+            Ok(true)
+        }
+        Err(SortedFault::Put(Fault::NoMemory)) => Ok(false),
+        Err(fault) => Err(fault.into()),
+    }
+}
+
+fn made_in_each(machine: Global, heaps: &[LocalHeap]) -> Result<Rooms, Fail> {
+    let mut rooms = Rooms::NONE;
+    for heap in heaps {
+        let made = is_made_in(machine, heap, 30)?;
+        rooms.count(made, heap);
+    }
+    Ok(rooms)
+}
+
+#[test]
+fn a_map_of_rising_pairs_is_made_where_memory_is_enough(rt: HostRuntime) -> Result<(), Fail> {
+    let heaps = growing_heaps(rt.alloc(), 200)?;
+    let (_, tight) = heaps.split_first().ok_or("no heap")?;
+    let rooms = made_in_each(rt.alloc(), tight)?;
+    assert!(rt; rooms.are_fair(), "{rooms:?}");
+    Ok(())
+}
