@@ -118,7 +118,7 @@ struct Loaded {
     is_changed_alike: bool,
 }
 
-fn loaded(machine: Global, config: Config, count: u64, to_the_end: bool) -> Result<Loaded, Fail> {
+fn load(machine: Global, config: Config, count: u64, to_the_end: bool) -> Result<Loaded, Fail> {
     let pairs = rising(machine, count, to_the_end)?;
     let mut plain = BTreeMap::new(machine);
     for pair in &pairs {
@@ -147,7 +147,7 @@ fn a_map_of_rising_pairs_is_the_kits_map(rt: HostRuntime) -> Result<(), Fail> {
                     is_changed_alike: true,
                 };
                 let config = config_of(fanout, chain);
-                let came = loaded(rt.alloc(), config, count, to_the_end)?;
+                let came = load(rt.alloc(), config, count, to_the_end)?;
                 assert_eq!(rt;
                     came,
                     wanted,
