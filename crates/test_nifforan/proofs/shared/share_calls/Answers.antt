@@ -3,4 +3,4 @@ use Rattle.nifforan_shared.proofs.Workers.{numbered_by_promise}
 use Rattle.test_nifforan.proofs.shared.share_calls.Goals as goal
 
 pub returns : goal.returns
-returns g c = IfOk-weaker c.share.result _ _ (λ outcome shared. numbered_by_promise (λ trail. trail.items) (λ part. part.worker) outcome.outputs.items outcome.trails.items shared.reported) c.share.ensures.shared
+returns g c = IfOk-weaker c.share.result _ _ (λ outcome shared. numbered_by_promise (λ trail. trail.items) (λ part. part.worker) outcome.outputs.items outcome.trails.items shared.promised) c.share.ensures.shared
