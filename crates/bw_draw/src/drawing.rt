@@ -57,7 +57,7 @@ const NEAR: usize = 3;
 /// has its id, its range, its number of entries, its stage while it is half done, the newest
 /// records of its chain, and below them the base pages with their first entries and the last one. A
 /// number of more than nine digits is without its middle. The mapping table has the version of each
-/// page.
+/// page. For scripts, `data-page`, `data-slot`, `data-link` and `data-part` say what a part is of.
 #[derive(Drop)]
 pub struct Drawing {
     /// From the leaves up.

@@ -4,6 +4,7 @@ use crate::drawing::block::LINE;
 use crate::drawing::card::Card;
 use crate::drawing::length::Length;
 use crate::drawing::row::{BETWEEN, HIDDEN_WIDTH, Row};
+use bw_keys::Pid;
 use bw_step::Stage;
 use std::fmt;
 
@@ -42,7 +43,8 @@ fn write_terms<W: fmt::Write>(
     for child in below.cards.iter() {
         if parent.holds(child.view.low) {
             let port = parent.left + parent.width().port(place, children);
-            write_term(f, (port, parent.bottom()), (bottom, below.top), child)?;
+            let from = (parent.view.pid, (port, parent.bottom()));
+            write_term(f, from, (bottom, below.top), child)?;
             place = place.saturating_add(1);
         }
     }
@@ -76,7 +78,7 @@ fn write_stub<W: fmt::Write>(
 /// Writes a line down to a page: straight beside the boxes of both rows, and bent between the rows.
 fn write_term<W: fmt::Write>(
     f: &mut fmt::Formatter<W>,
-    (left, top): (Length, Length),
+    (parent, (left, top)): (Pid, (Length, Length)),
     (bend, end): (Length, Length),
     child: &Card,
 ) -> fmt::Result {
@@ -89,8 +91,8 @@ fn write_term<W: fmt::Write>(
     let middle = (bend + end).half();
     writeln!(
         f,
-        "<path class=\"{class}\" d=\"M{left} {top}V{bend}C{left} {middle} {right} {middle} {right} {end}V{}\"/>",
-        child.top
+        "<path class=\"{class}\" data-link=\"{parent} {}\" d=\"M{left} {top}V{bend}C{left} {middle} {right} {middle} {right} {end}V{}\"/>",
+        child.view.pid, child.top
     )
 }
 
@@ -100,8 +102,9 @@ fn write_side_links<W: fmt::Write>(f: &mut fmt::Formatter<W>, row: &Row) -> fmt:
     let mut last: Option<&Card> = None;
     for card in row.cards.iter().filter(|card| card.view.stage.is_in_row()) {
         match last {
-            Some(last) => write_arrow(f, last.right(), card.left, height)?,
+            Some(last) => write_link(f, last, card, height)?,
             None if row.hidden_before > 0 => {
+                f.write_str("<path class=\"side\"")?;
                 write_arrow(f, row.left() - BETWEEN, card.left, height)?;
             }
             None => {}
@@ -110,12 +113,26 @@ fn write_side_links<W: fmt::Write>(f: &mut fmt::Formatter<W>, row: &Row) -> fmt:
     }
     match last {
         Some(last) if row.hidden_after > 0 => {
+            f.write_str("<path class=\"side\"")?;
             write_arrow(f, last.right(), row.right() - HIDDEN_WIDTH, height)
         }
         _ => Ok(()),
     }
 }
 
+/// Writes the arrow from a page to the next one of its row.
+fn write_link<W: fmt::Write>(
+    f: &mut fmt::Formatter<W>,
+    left: &Card,
+    right: &Card,
+    height: Length,
+) -> fmt::Result {
+    let (from, to) = (left.view.pid, right.view.pid);
+    write!(f, "<path class=\"side\" data-link=\"{from} {to}\"")?;
+    write_arrow(f, left.right(), right.left, height)
+}
+
+/// Ends the path of an arrow.
 fn write_arrow<W: fmt::Write>(
     f: &mut fmt::Formatter<W>,
     left: Length,
@@ -124,6 +141,6 @@ fn write_arrow<W: fmt::Write>(
 ) -> fmt::Result {
     writeln!(
         f,
-        "<path class=\"side\" marker-end=\"url(#side)\" d=\"M{left} {height}H{right}\"/>"
+        " marker-end=\"url(#side)\" d=\"M{left} {height}H{right}\"/>"
     )
 }

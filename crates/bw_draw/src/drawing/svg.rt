@@ -97,7 +97,7 @@ fn write_box<W: fmt::Write>(
 fn write_strip<W: fmt::Write>(f: &mut fmt::Formatter<W>, strip: &Strip) -> fmt::Result {
     write!(
         f,
-        "<text x=\"{}\" y=\"{}\"><tspan class=\"name\">mapping table</tspan><tspan class=\"soft\" dx=\"10\">{} slots, {} with a page, {} free",
+        "<g data-part=\"table\">\n<text x=\"{}\" y=\"{}\"><tspan class=\"name\">mapping table</tspan><tspan class=\"soft\" dx=\"10\">{} slots, {} with a page, {} free",
         strip.left,
         strip.top - LINE - INSET + FEET,
         strip.slots,
@@ -118,7 +118,7 @@ fn write_strip<W: fmt::Write>(f: &mut fmt::Formatter<W>, strip: &Strip) -> fmt::
     for (id, cell) in strip.cells.iter().enumerate() {
         write_cell(f, strip, id, cell)?;
     }
-    Ok(())
+    f.write_str("</g>\n")
 }
 
 fn write_cell<W: fmt::Write>(
@@ -136,6 +136,7 @@ fn write_cell<W: fmt::Write>(
         Stage::Posted => ("base", "name"),
         Stage::Unposted | Stage::Marked | Stage::Merged => ("half", "name"),
     };
+    writeln!(f, "<g data-slot=\"{id}\">")?;
     write_box(f, class, (left, top), (strip.cell, CELL_HEIGHT))?;
     let middle = left + strip.cell.half();
     write!(
@@ -145,7 +146,7 @@ fn write_cell<W: fmt::Write>(
     )?;
     writeln!(
         f,
-        "<text class=\"soft middle\" x=\"{middle}\" y=\"{}\">{}</text>",
+        "<text class=\"soft middle\" x=\"{middle}\" y=\"{}\">{}</text>\n</g>",
         top + LINE + FEET,
         cell.text
     )
@@ -173,7 +174,7 @@ fn write_label<W: fmt::Write>(f: &mut fmt::Formatter<W>, row: &Row) -> fmt::Resu
     let top = row.top + FEET + INSET.half();
     writeln!(
         f,
-        "<text class=\"name\" x=\"{MARGIN}\" y=\"{top}\">level {}</text>",
+        "<g data-part=\"level\">\n<text class=\"name\" x=\"{MARGIN}\" y=\"{top}\">level {}</text>",
         row.level
     )?;
     writeln!(
@@ -183,15 +184,15 @@ fn write_label<W: fmt::Write>(f: &mut fmt::Formatter<W>, row: &Row) -> fmt::Resu
         row.in_row,
         plural(row.in_row)
     )?;
-    if row.merged == 0 {
-        return Ok(());
+    if row.merged > 0 {
+        writeln!(
+            f,
+            "<text class=\"warn\" x=\"{MARGIN}\" y=\"{}\">{} merged</text>",
+            top + LINE * 2,
+            row.merged
+        )?;
     }
-    writeln!(
-        f,
-        "<text class=\"warn\" x=\"{MARGIN}\" y=\"{}\">{} merged</text>",
-        top + LINE * 2,
-        row.merged
-    )
+    f.write_str("</g>\n")
 }
 
 /// Writes the number of pages that aren't drawn here, if there are any.
@@ -218,6 +219,7 @@ fn write_card<W: fmt::Write>(f: &mut fmt::Formatter<W>, card: &Card) -> fmt::Res
     let undone = undone(card.view.stage);
     let class = if undone.is_some() { "half" } else { "page" };
     let size = (card.width(), card.height());
+    writeln!(f, "<g data-page=\"{}\">", card.view.pid)?;
     write_box(f, class, (card.left, card.top), size)?;
     if card.is_root {
         write_root(f, card)?;
@@ -238,7 +240,7 @@ fn write_card<W: fmt::Write>(f: &mut fmt::Formatter<W>, card: &Card) -> fmt::Res
     for block in card.tower.blocks.iter() {
         write_block(f, card, block)?;
     }
-    Ok(())
+    f.write_str("</g>\n")
 }
 
 /// Writes an arrow down to the root.
@@ -287,10 +289,11 @@ fn write_legend<W: fmt::Write>(
     legend: &Legend,
     top: Length,
 ) -> fmt::Result {
+    f.write_str("<g data-part=\"legend\">\n")?;
     for item in legend.items.iter() {
         write_item(f, *item, MARGIN + item.left, top + item.top)?;
     }
-    Ok(())
+    f.write_str("</g>\n")
 }
 
 fn write_item<W: fmt::Write>(
