@@ -58,6 +58,11 @@ pub record IsDrawnBy (found : Found) (options : DrawOptions) : Type 0 where
   pub shown : IsShownBy found options.shown
   pub key : IsOptionFor found (codes "key") options.key
 
+-- the last moment isn't before the first one
+abbrev pub IsForward : Option ℕ → Option ℕ → Type 0
+IsForward (Some from) (Some to) = from ≤ to
+IsForward from to = Unit
+
 pub record IsFilmedBy (found : Found) (options : FilmOptions) : Type 0 where
   pub setting : IsSettingFor found options.setting
   pub steps : IsFlagFor found (codes "steps") options.steps

@@ -35,8 +35,10 @@ use bw_texts::{MOST_TRACE_ROWS, make, read_history, read_trace, write_history, w
 use bw_work::Open;
 use clap::ArgMatches;
 use std::alloc::Global;
+use std::fs::File;
 use std::io;
 use std::io::{Read, Write};
+use std::rt::Files;
 use std::sync::Wait;
 use std::thread::Threads;
 
@@ -45,7 +47,8 @@ static USUAL: [&str; 1] = ["run"];
 
 /// Carries out the words, which leave out the program's own name, and returns the exit status. No
 /// words stand for `run` alone. Writes results and help to `output`, and fault lines and the usage
-/// text to `faults`, where nothing is written of what ends with 0.
+/// text to `faults`, where nothing is written of what ends with 0. Where the words name a file, that is
+/// read in place of `input`.
 ///
 /// | Status | Case |
 /// |---|---|
@@ -54,7 +57,7 @@ static USUAL: [&str; 1] = ["run"];
 /// | 2 | the words are none of the program's, or a value is out of its range |
 /// | 3 | a limit was met, memory was refused, or a worker gave up |
 /// | 4 | the history, or that of the run, isn't legal |
-pub fn command<T: Threads + Wait + Sync + Send + Copy, R: Read + Drop, W: Write, E: Write>(
+pub fn command<T: Threads + Wait + Files + Sync + Send + Copy, R: Read + Drop, W: Write, E: Write>(
     rt: T,
     alloc: Global,
     words: &[&str],
@@ -72,9 +75,15 @@ pub fn command<T: Threads + Wait + Sync + Send + Copy, R: Read + Drop, W: Write,
 }
 
 /// Carries out the words as [`command`] does, for somebody who watches the faults, as on a terminal:
-/// counts the rows of a run meanwhile, and notes of what ends well how many rows have a fault beside
-/// their reply, and which lines of a script were refused.
-pub fn command_watched<T: Threads + Wait + Sync + Send + Copy, R: Read + Drop, W: Write, E: Write>(
+/// counts the rows of a run meanwhile, notes of what ends well how many rows have a fault beside their
+/// reply, and which lines of a script were refused, and says which range an option has that is out of
+/// it.
+pub fn command_watched<
+    T: Threads + Wait + Files + Sync + Send + Copy,
+    R: Read + Drop,
+    W: Write,
+    E: Write,
+>(
     rt: T,
     alloc: Global,
     words: &[&str],
@@ -86,7 +95,20 @@ pub fn command_watched<T: Threads + Wait + Sync + Send + Copy, R: Read + Drop, W
     ensures { result ≤ 4 }
 {
     let obeyed = obey(rt, alloc, words, input, output, faults, progress);
-    end(output, faults, obeyed)
+    let bad = bad_field(&obeyed);
+    let status = end(output, faults, obeyed);
+    if let Some(field) = bad {
+        let _ = writeln!(faults, "{}", field.range());
+    }
+    status
+}
+
+/// Returns the option that is out of its range, if that is why the words aren't carried out.
+fn bad_field(obeyed: &Result<u8, Fault>) -> Option<Field> {
+    match obeyed {
+        Err(Fault::Bad(field)) => Some(*field),
+        _ => None,
+    }
 }
 
 /// Tells the fault of what ended with one, or prints the help. Returns the exit status.
@@ -103,7 +125,7 @@ fn end<W: Write, E: Write>(output: &mut W, faults: &mut E, obeyed: Result<u8, Fa
 }
 
 /// Carries out the words. Writes results to `output`, and to `notes` what is noted of them.
-fn obey<T: Threads + Wait + Sync + Send + Copy, R: Read + Drop, W: Write, N: Write>(
+fn obey<T: Threads + Wait + Files + Sync + Send + Copy, R: Read + Drop, W: Write, N: Write>(
     rt: T,
     alloc: Global,
     words: &[&str],
@@ -115,8 +137,35 @@ fn obey<T: Threads + Wait + Sync + Send + Copy, R: Read + Drop, W: Write, N: Wri
     ensures { IfOk result (λ status. status ≤ 4) }
 {
     let matches = parse(alloc, words)?;
-    match matches.subcommand() {
-        Some(("run", options)) => {
+    let Some((name, options)) = matches.subcommand() else {
+        return do_check(alloc, input, output);
+    };
+    match options.get_str("FILE") {
+        None => carry_out(rt, alloc, name, options, input, output, notes, progress),
+        Some(path) => {
+            let Ok(file) = File::open(&rt, path) else {
+                return Err(Fault::Open(path.to_string(alloc)?));
+            };
+            carry_out(rt, alloc, name, options, file, output, notes, progress)
+        }
+    }
+}
+
+/// Carries out a command that reads this input.
+fn carry_out<T: Threads + Wait + Sync + Send + Copy, R: Read + Drop, W: Write, N: Write>(
+    rt: T,
+    alloc: Global,
+    name: &str,
+    options: &ArgMatches,
+    input: R,
+    output: &mut W,
+    notes: &mut N,
+    progress: &Progress,
+) -> Result<u8, Fault>
+    ensures { IfOk result (λ status. status ≤ 4) }
+{
+    match name {
+        "run" => {
             do_run(
                 rt,
                 alloc,
@@ -127,15 +176,11 @@ fn obey<T: Threads + Wait + Sync + Send + Copy, R: Read + Drop, W: Write, N: Wri
                 progress,
             )
         }
-        Some(("draw", options)) => {
-            do_draw(rt, alloc, DrawOptions::of(options)?, input, output, notes)
-        }
-        Some(("film", options)) => do_film(alloc, FilmOptions::of(options)?, input, output),
-        Some(("stats", options)) => {
-            do_stats(rt, alloc, ShowOptions::of(options)?, input, output, notes)
-        }
-        Some(("steps", _)) => do_steps(alloc, input, output),
-        Some(("make", options)) => do_make(alloc, options, output),
+        "draw" => do_draw(rt, alloc, DrawOptions::of(options)?, input, output, notes),
+        "film" => do_film(alloc, FilmOptions::of(options)?, input, output),
+        "stats" => do_stats(rt, alloc, ShowOptions::of(options)?, input, output, notes),
+        "steps" => do_steps(alloc, input, output),
+        "make" => do_make(alloc, options, output),
         _ => do_check(alloc, input, output),
     }
 }

@@ -5,6 +5,7 @@ use std::alloc::Global;
 use std::cell::Cell;
 use std::io;
 use std::io::{Read, Write};
+use std::rt::Files;
 use std::sync::Wait;
 use std::thread::Threads;
 
@@ -71,7 +72,7 @@ impl<R: Read, W: Write> Read for Hinted<R, W> {
 /// after it, if there is one. Where somebody watches the faults, notes are written there too, and
 /// the rows of a run are counted.
 pub(crate) fn answer<
-    T: Threads + Wait + Sync + Send + Copy,
+    T: Threads + Wait + Files + Sync + Send + Copy,
     R: Read + Drop,
     W: Write + Drop,
     E: Write + Copy + Drop,

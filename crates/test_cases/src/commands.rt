@@ -23,6 +23,7 @@ use crate::program::{Answer, Input, answer_to};
 use crate::texts::compare;
 use anyhow::{Result, bail, ensure};
 use std::alloc::Global;
+use std::rt::Files;
 use std::sync::Wait;
 use std::thread::Threads;
 
@@ -43,7 +44,7 @@ struct Case<'a> {
 }
 
 /// Runs the program on the cases of a file, and counts them.
-pub(crate) fn agree<R: Threads + Wait + Sync + Send + Copy>(
+pub(crate) fn agree<R: Threads + Wait + Sync + Send + Copy + Files>(
     rt: R,
     alloc: Global,
     text: &str,
@@ -101,7 +102,7 @@ impl<'a> Case<'a> {
 }
 
 /// Fails where the program first doesn't answer the case of a block as wanted.
-fn judge_block<R: Threads + Wait + Sync + Send + Copy>(
+fn judge_block<R: Threads + Wait + Sync + Send + Copy + Files>(
     rt: R,
     alloc: Global,
     block: &str,
@@ -111,7 +112,11 @@ fn judge_block<R: Threads + Wait + Sync + Send + Copy>(
 }
 
 /// Fails where the program first doesn't answer as wanted.
-fn judge<R: Threads + Wait + Sync + Send + Copy>(rt: R, alloc: Global, case: &Case) -> Result<()> {
+fn judge<R: Threads + Wait + Sync + Send + Copy + Files>(
+    rt: R,
+    alloc: Global,
+    case: &Case,
+) -> Result<()> {
     judge_with(rt, alloc, case, "")?;
     match case.more {
         Some(more) => judge_with(rt, alloc, case, more),
@@ -120,7 +125,7 @@ fn judge<R: Threads + Wait + Sync + Send + Copy>(rt: R, alloc: Global, case: &Ca
 }
 
 /// Fails where it first doesn't, with more words after the case's own.
-fn judge_with<R: Threads + Wait + Sync + Send + Copy>(
+fn judge_with<R: Threads + Wait + Sync + Send + Copy + Files>(
     rt: R,
     alloc: Global,
     case: &Case,
@@ -136,7 +141,7 @@ fn judge_with<R: Threads + Wait + Sync + Send + Copy>(
 }
 
 /// Returns what the program answers to the case, and to what that prints if there is a second call.
-fn answer_with<R: Threads + Wait + Sync + Send + Copy>(
+fn answer_with<R: Threads + Wait + Sync + Send + Copy + Files>(
     rt: R,
     alloc: Global,
     case: &Case,

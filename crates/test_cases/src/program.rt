@@ -5,6 +5,7 @@ use bw_trace::{Progress, command, command_watched};
 use std::alloc::Global;
 use std::io;
 use std::io::Read;
+use std::rt::Files;
 use std::sync::Wait;
 use std::thread::Threads;
 
@@ -61,7 +62,7 @@ fn add_lines(lines: &mut String, mark: char, text: &str) -> Result<()> {
 
 /// Returns what the program answers to these words, with more after them. Notes are among the
 /// faults where somebody watches these.
-pub(crate) fn answer_to<R: Threads + Wait + Sync + Send + Copy>(
+pub(crate) fn answer_to<R: Threads + Wait + Sync + Send + Copy + Files>(
     rt: R,
     alloc: Global,
     words: &str,
@@ -95,7 +96,7 @@ pub(crate) fn answer_to<R: Threads + Wait + Sync + Send + Copy>(
 }
 
 /// Returns what the program prints on the text, which it has to take without a fault.
-pub(crate) fn output_of<R: Threads + Wait + Sync + Send + Copy>(
+pub(crate) fn output_of<R: Threads + Wait + Sync + Send + Copy + Files>(
     rt: R,
     alloc: Global,
     words: &str,

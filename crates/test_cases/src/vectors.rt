@@ -64,7 +64,7 @@ pub(crate) fn joined(alloc: Global, replies: String, history: &str) -> Result<St
     Ok(format!(in alloc; "{replies}history\n{history}")?)
 }
 
-fn run<R: Threads + Wait + Sync + Send + Copy>(
+fn run<R: Threads + Wait + Sync + Send + Copy + Files>(
     rt: R,
     alloc: Global,
     vector: &Vector,
@@ -120,7 +120,7 @@ pub(crate) fn config_of(options: &str) -> Result<Config> {
 
 impl Vector {
     /// Returns what the program prints of the trace.
-    fn printed<R: Threads + Wait + Sync + Send + Copy>(
+    fn printed<R: Threads + Wait + Sync + Send + Copy + Files>(
         &self,
         rt: R,
         alloc: Global,

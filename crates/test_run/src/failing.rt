@@ -6,6 +6,7 @@ use bw_trace::{
 use std::alloc::Global;
 use std::io;
 use std::io::{Read, Write};
+use std::rt::Files;
 use std::sync::Wait;
 use std::test::Fail;
 use std::thread::Threads;
@@ -124,7 +125,7 @@ struct Ended {
 
 impl Ended {
     /// Runs a case of which an end fails after `calls` calls.
-    fn of<R: AllocGlobal + Threads + Wait + Sync + Send + Copy>(
+    fn of<R: AllocGlobal + Threads + Wait + Files + Sync + Send + Copy>(
         rt: R,
         (words, text): Case,
         failing: Failing,
@@ -171,7 +172,7 @@ impl Ended {
 }
 
 /// Returns how the case ends over memory.
-fn whole<R: AllocGlobal + Threads + Wait + Sync + Send + Copy>(
+fn whole<R: AllocGlobal + Threads + Wait + Files + Sync + Send + Copy>(
     rt: R,
     (words, text): Case,
 ) -> Ended {
@@ -189,7 +190,7 @@ fn whole<R: AllocGlobal + Threads + Wait + Sync + Send + Copy>(
 
 /// Returns the number of calls of the end that fail, each in a run that ends as it should, or None
 /// if one doesn't.
-fn failures<R: AllocGlobal + Threads + Wait + Sync + Send + Copy>(
+fn failures<R: AllocGlobal + Threads + Wait + Files + Sync + Send + Copy>(
     rt: R,
     case: Case,
     whole: &Ended,

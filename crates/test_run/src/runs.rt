@@ -3,12 +3,13 @@
 use bw_trace::{Progress, command, command_watched};
 use std::alloc::Global;
 use std::process::Abort;
+use std::rt::Files;
 use std::sync::Wait;
 use std::test::Fail;
 use std::thread::Threads;
 
 /// Returns what the program prints on the input, if it ends well.
-fn printed<R: Abort + AllocGlobal + Threads + Wait + Sync + Send + Copy>(
+fn printed<R: Abort + AllocGlobal + Threads + Wait + Files + Sync + Send + Copy>(
     rt: &R,
     words: &[&str],
     input: &str,
@@ -163,7 +164,7 @@ fn meeting_trace(alloc: Global, meeting: Meeting) -> Result<String, Fail> {
 }
 
 /// Runs the trace by two workers, and checks its history.
-fn met<R: Abort + AllocGlobal + Threads + Wait + Sync + Send + Copy>(
+fn met<R: Abort + AllocGlobal + Threads + Wait + Files + Sync + Send + Copy>(
     rt: &R,
     trace: &str,
     readers: &str,

@@ -40,6 +40,9 @@ pub(crate) enum Fault {
     Run(RunFault),
     #[error(transparent)]
     Script(ScriptFault),
+    /// The file that the words name.
+    #[error("can't open '{0}'")]
+    Open(String),
     #[error("write")]
     Write,
     #[error("memory")]
@@ -54,6 +57,7 @@ impl Fault {
         match self {
             Fault::Text(TextFault::Row(_, _) | TextFault::Read)
             | Fault::Script(ScriptFault::Line(_) | ScriptFault::NoTable | ScriptFault::Read)
+            | Fault::Open(_)
             | Fault::Write => BAD_INPUT,
             Fault::Usage(_)
             | Fault::Bad(_)

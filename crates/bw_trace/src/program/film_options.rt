@@ -2,10 +2,10 @@
 
 ghost use Rattle.std.specs.Prelude.{IfOk};
 ghost use Rattle.clap.specs.Words.{found_of};
-ghost use Rattle.bw_trace.specs.Options.{IsFilmedBy, IsFit};
+ghost use Rattle.bw_trace.specs.Options.{IsFilmedBy, IsFit, IsForward};
 
 use crate::program::help::OF_FILM;
-use crate::program::options::{Field, if_given, optional};
+use crate::program::options::{Field, file_arg, if_given, optional};
 use crate::program::setting::{Setting, with_setting};
 use crate::program::show_options::{key_option, steps_flag};
 use bw_keys::Key;
@@ -25,16 +25,23 @@ pub(crate) struct FilmOptions {
 }
 
 impl FilmOptions {
-    /// Reads the options. Fails with the first that is out of its range.
+    /// Reads the options. Fails with the first that is out of its range, or where the last moment is
+    /// before the first.
     pub(crate) fn of(matches: &ArgMatches) -> Result<FilmOptions, Field>
         ensures asked { IfOk result (IsFilmedBy (found_of matches.now)) }
         ensures fit { IfOk result (λ options. IsFit options.setting) }
+        ensures forward { IfOk result (λ options. IsForward options.from options.to) }
     {
+        let setting = Setting::of(matches)?;
+        let (from, to) = (if_given(matches, "from"), if_given(matches, "to"));
+        if from.unwrap_or(0) > to.unwrap_or(u64::MAX) {
+            return Err(Field::To);
+        }
         Ok(FilmOptions {
-            setting: Setting::of(matches)?,
+            setting,
             steps: matches.get_flag("steps"),
-            from: if_given(matches, "from"),
-            to: if_given(matches, "to"),
+            from,
+            to,
             key: if_given(matches, "key"),
         })
     }
@@ -53,5 +60,6 @@ pub(crate) fn film_command<'a>(alloc: Global) -> Result<Command<'a>, AllocError>
             "to",
             "The last moment, that of the last step if absent",
         ))?
-        .arg(key_option(alloc))
+        .arg(key_option(alloc))?
+        .arg(file_arg(alloc))
 }

@@ -1,17 +1,18 @@
 //! The help of the program and of its commands, after their options.
 
 /// The program's version.
-pub(crate) const VERSION: &str = "0.2.0";
+pub(crate) const VERSION: &str = "0.3.0";
 
 pub(crate) const OF_ALL: &str = r"Example:
   printf '0,put,5,50\n0,get,5,\n' | bwtree run --replies
 
-Status: 0 done, 1 a row that can't be read or a failed read or write, 2 bad words or values,
+Status: 0 done, 1 a row or a file that can't be read or a failed read or write, 2 bad words or values,
 3 a limit, no memory or a worker that gave up, 4 a history that isn't legal.
 No words stand for run. 'bwtree run --help' has the rows of a trace.";
 
 pub(crate) const OF_RUN: &str =
-    "Rows: WORKER,OP,KEY,VALUE with no header and no blanks; workers from 0, numbers below 2^64.
+    "Rows: WORKER,OP,KEY,VALUE with no header and no blanks; workers from 0, numbers below 2^64. A trace
+has 1000000 rows at most.
   0,put,5,50  gives key 5 the value 50, unless it has one: then that one stays
   0,set,5,50  gives key 5 the value 50, whatever it has
   0,get,5,    looks key 5 up
@@ -26,7 +27,8 @@ Where row N can't be read, 'bwtree: row N: PART' names its first bad part:
   key     no number: a sign, a blank, 2^64 or more
   value   no number, or one behind get or del
 
-Where a number is out of an option's range, 'bwtree: bad NAME' names the option.
+Where a number is out of an option's range, 'bwtree: bad NAME' names the option; on a terminal the
+range follows.
 
 Replies: inserted, present V (put left V there), replaced V, removed V, nokey, found V, none,
 cleared N. 'inserted (table full)' wants more --pages. On a terminal standard error says each second
@@ -69,7 +71,8 @@ all lines, answers and refusals.";
 pub(crate) const OF_FILM: &str =
     "Rows, scripts of steps and options are those of draw. It prints a page of HTML that needs no other
 file: the drawing after each step, with the row or line that wanted the step, and what a comment
-of a script says behind it. Moment 0 is the new table, and each step makes the next one. A page
+of a script says behind it: one that begins with 'Worker 2:' says what that worker does from there
+on. Moment 0 is the new table, and each step makes the next one. What it changed is marked. A page
 has 200 moments at most, from --from on. The rows of a trace are done one after the other, each up
 to its end, and --readers changes nothing. With --workers 2 and more the page says at each moment
 which row each worker did last, and what was answered, which it does now, and which is next.

@@ -31,6 +31,25 @@ pub(crate) enum Field {
     Rows,
     #[error("span")]
     Span,
+    #[error("to")]
+    To,
+}
+
+impl Field {
+    /// Returns the range that it has.
+    pub(crate) fn range(self) -> &'static str {
+        match self {
+            Field::Fanout => "--fanout is 4 to 64",
+            Field::Chain => "--chain is 1 to 32",
+            Field::Pages => "--pages is 8 to 65536",
+            Field::Tries => "--tries is 1 to 1000",
+            Field::Workers => "--workers is 1 to 64",
+            Field::Readers => "--readers is 0 to 16, and no more than --workers",
+            Field::Rows => "--rows is 0 to 1000000",
+            Field::Span => "--span is 1 to 4294967295",
+            Field::To => "--to is no less than --from",
+        }
+    }
 }
 
 /// Returns the program's commands, with their options and defaults.
@@ -46,15 +65,16 @@ pub(crate) fn commands<'a>(alloc: Global) -> Result<Command<'a>, AllocError> {
         .subcommand(draw_command(alloc)?)?
         .subcommand(film_command(alloc)?)?
         .subcommand(stats_command(alloc)?)?
-        .subcommand(steps_command(alloc))?
+        .subcommand(steps_command(alloc)?)?
         .subcommand(make_command(alloc)?)?
-        .subcommand(check_command(alloc))
+        .subcommand(check_command(alloc)?)
 }
 
-fn steps_command<'a>(alloc: Global) -> Command<'a> {
+fn steps_command<'a>(alloc: Global) -> Result<Command<'a>, AllocError> {
     Command::new(alloc, "steps")
-        .about("Answers each line of the script of steps on standard input")
+        .about("Answers each line of a script of steps")
         .after_help(OF_STEPS)
+        .arg(file_arg(alloc))
 }
 
 fn make_command<'a>(alloc: Global) -> Result<Command<'a>, AllocError> {
@@ -72,10 +92,16 @@ fn make_command<'a>(alloc: Global) -> Result<Command<'a>, AllocError> {
         .arg(option(alloc, "span", "1000", "Keys are below it, 1 to 4294967295"))
 }
 
-fn check_command<'a>(alloc: Global) -> Command<'a> {
+fn check_command<'a>(alloc: Global) -> Result<Command<'a>, AllocError> {
     Command::new(alloc, "check")
-        .about("Says whether the history on standard input is legal")
+        .about("Says whether a history is legal")
         .after_help(OF_CHECK)
+        .arg(file_arg(alloc))
+}
+
+/// Returns the file that is read in place of standard input.
+pub(crate) fn file_arg<'a>(alloc: Global) -> Arg<'a> {
+    Arg::new(alloc, "FILE").help("Reads this file, and not standard input")
 }
 
 /// Returns an option whose value is a number.

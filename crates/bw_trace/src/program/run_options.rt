@@ -5,7 +5,7 @@ ghost use Rattle.clap.specs.Words.{found_of};
 ghost use Rattle.bw_trace.specs.Options.{IsAskedFor, IsFit};
 
 use crate::program::help::OF_RUN;
-use crate::program::options::Field;
+use crate::program::options::{Field, file_arg};
 use crate::program::setting::{Setting, flag, with_setting};
 use clap::{ArgMatches, Command};
 use std::alloc::{AllocError, Global};
@@ -40,7 +40,7 @@ impl RunOptions {
 /// Returns the command `run` with its options and defaults.
 pub(crate) fn run_command<'a>(alloc: Global) -> Result<Command<'a>, AllocError> {
     let run = Command::new(alloc, "run")
-        .about("Runs the trace on standard input")
+        .about("Runs a trace")
         .after_help(OF_RUN);
     with_setting(alloc, run)?
         .arg(flag(alloc, "replies", "Prints the replies, too"))?
@@ -49,5 +49,6 @@ pub(crate) fn run_command<'a>(alloc: Global) -> Result<Command<'a>, AllocError> 
             alloc,
             "quiet",
             "Says nothing of a run that ends well, not even on a terminal",
-        ))
+        ))?
+        .arg(file_arg(alloc))
 }

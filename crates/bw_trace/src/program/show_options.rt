@@ -5,7 +5,7 @@ ghost use Rattle.clap.specs.Words.{found_of};
 ghost use Rattle.bw_trace.specs.Options.{IsDrawnBy, IsFit, IsShownBy};
 
 use crate::program::help::{OF_DRAW, OF_STATS};
-use crate::program::options::{Field, if_given, optional};
+use crate::program::options::{Field, file_arg, if_given, optional};
 use crate::program::setting::{NUMBERS, Setting, flag, with_setting};
 use bw_keys::Key;
 use clap::{Arg, ArgMatches, Command};
@@ -64,7 +64,8 @@ pub(crate) fn draw_command<'a>(alloc: Global) -> Result<Command<'a>, AllocError>
     with_setting(alloc, draw)?
         .arg(steps_flag(alloc)?)?
         .arg(after_option(alloc))?
-        .arg(key_option(alloc))
+        .arg(key_option(alloc))?
+        .arg(file_arg(alloc))
 }
 
 /// Returns the command `stats` with its options and defaults.
@@ -74,7 +75,8 @@ pub(crate) fn stats_command<'a>(alloc: Global) -> Result<Command<'a>, AllocError
         .after_help(OF_STATS);
     with_setting(alloc, stats)?
         .arg(steps_flag(alloc)?)?
-        .arg(after_option(alloc))
+        .arg(after_option(alloc))?
+        .arg(file_arg(alloc))
 }
 
 fn after_option<'a>(alloc: Global) -> Arg<'a> {
