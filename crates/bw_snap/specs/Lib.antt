@@ -7,3 +7,4 @@ pub mod Trees
 pub mod Codes
 pub mod Answers
 pub mod Ends
+pub mod CallFaults

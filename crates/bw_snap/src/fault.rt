@@ -1,4 +1,9 @@
+ghost use Rattle.std.specs.Prelude.{◌≡◌};
+ghost use Rattle.bw_procedures.specs.declared.fault.Fault.TheVariants as faults;
+ghost use Rattle.bw_snap.specs.CallFaults.{call_fault};
+
 use bw_keys::BadConfig;
+use bw_procedures::Fault;
 use thiserror::Error;
 
 /// Why there is no new tree with readers: the first fault that applies, in the order in which they
@@ -34,4 +39,25 @@ pub enum ScanFault {
     Closed,
     #[error("out of memory")]
     NoMemory,
+}
+
+/// A call of which the question is a part may be made again.
+impl From<Closed> for Fault {
+    ghost from_gives = { λ _ fault. fault ≡ faults.Contended };
+
+    fn from(_: Closed) -> Fault {
+        Fault::Contended
+    }
+}
+
+/// The same of a scan that a closed table had no entry for.
+impl From<ScanFault> for Fault {
+    ghost from_gives = { λ scan fault. fault ≡ call_fault scan };
+
+    fn from(fault: ScanFault) -> Fault {
+        match fault {
+            ScanFault::Closed => Fault::Contended,
+            ScanFault::NoMemory => Fault::NoMemory,
+        }
+    }
 }

@@ -40,12 +40,7 @@ impl ReadingJob for Fill {
         Job::work(self, worker, hand)?;
         reader.publish()?;
         let mut pairs = Vec::new(hand.alloc());
-        if reader
-            .scan(1000 * u64::from(worker), 2, &mut pairs)
-            .is_err()
-        {
-            return Err(Fault::NoMemory);
-        }
+        reader.scan(1000 * u64::from(worker), 2, &mut pairs)?;
         Ok(pairs)
     }
 }
