@@ -167,6 +167,11 @@ pub(crate) const SCRIPT: &str = r#"<script>
     'Term delete': 'No search comes to the merged page any more. The merge is done.',
   };
 
+  // What is made once for each key.
+  const once = make => {
+    const made = new Map();
+    return key => made.has(key) ? made.get(key) : made.set(key, make(key)).get(key);
+  };
   const number = text => Number(text) || 0;
   const texts = nodes => nodes.map(it => it.textContent);
 
@@ -181,52 +186,57 @@ pub(crate) const SCRIPT: &str = r#"<script>
     }
     for (const it of found.boxes) it.text = texts(it.lines).join(' ');
     found.head = found.head.filter(it => it.textContent !== 'root');
+    found.heads = texts(found.head);
     return found;
   }
 
   const by = (svg, name) => new Map([...svg.querySelectorAll(`[${name}]`)].map(it => [it.getAttribute(name), it]));
   const links_of = svg => new Map([...svg.querySelectorAll('[data-link]')].map(it => [`${it.getAttribute('class')} ${it.dataset.link}`, it]));
 
-  // Marks in the drawing what it has and the one before hasn't, and returns it in words.
-  function mark(svg, before) {
-    const said = [];
-    const old = by(before, 'data-page');
-    for (const [page, card] of by(svg, 'data-page')) {
-      const now = parts_of(card);
+  const pages_of = svg => new Map([...by(svg, 'data-page')].map(([page, card]) => [page, parts_of(card)]));
+  const pages_at = once(moment => pages_of(frames[moment].content));
+
+  // What the drawing of a moment has and the one before hasn't: its parts, and that in words.
+  function news_of(moment, svg, pages) {
+    const [parts, said] = [[], []];
+    const before = frames[moment - 1].content;
+    const old = pages_at(moment - 1);
+    for (const [page, now] of pages) {
       if (!old.has(page)) {
-        now.frame.classList.add('new');
+        parts.push(now.frame);
         said.push(`page ${page} is new`);
         continue;
       }
-      const then = parts_of(old.get(page));
+      const then = old.get(page);
       const kept = then.boxes.map(it => it.text);
       const added = now.boxes.filter(it => !kept.includes(it.text));
-      for (const it of added) it.rect.classList.add('new');
+      parts.push(...added.map(it => it.rect));
       const record = added.filter(it => !it.rect.classList.contains('base')).pop();
       if (record) said.push(`page ${page} has a record more: ${record.text}`);
       else if (added.length) said.push(`page ${page} has a new base page`);
-      const heads = texts(then.head);
-      const lines = now.head.filter(it => !heads.includes(it.textContent));
-      for (const it of lines) it.classList.add('new');
+      const lines = now.head.filter((_, i) => !then.heads.includes(now.heads[i]));
+      parts.push(...lines);
       if (lines.length) said.push(`page ${page} now reads “${texts(lines).join(', ')}”`);
-      else if (now.head.length < then.head.length) said.push(`page ${page} is no longer ${heads[heads.length - 1]}`);
+      else if (now.head.length < then.head.length) said.push(`page ${page} is no longer ${then.heads[then.heads.length - 1]}`);
     }
-    for (const page of old.keys()) if (!svg.querySelector(`[data-page="${page}"]`)) said.push(`page ${page} is gone`);
+    for (const page of old.keys()) if (!pages.has(page)) said.push(`page ${page} is gone`);
     const slots = by(before, 'data-slot');
     for (const [slot, cell] of by(svg, 'data-slot')) {
       const was = slots.get(slot);
-      if (was && was.textContent !== cell.textContent) cell.lastElementChild.classList.add('new');
+      if (was && was.textContent !== cell.textContent) parts.push(cell.lastElementChild);
     }
     const links = links_of(before);
     for (const [link, path] of links_of(svg)) {
       if (links.has(link)) continue;
-      path.classList.add('new');
+      parts.push(path);
       const [kind, from, to] = link.split(' ');
       if (kind === 'side') said.push(`the side link goes from page ${from} to page ${to}`);
       if (kind === 'line') said.push(`a term of page ${from} leads to page ${to}`);
     }
-    return said;
+    return { parts, said };
   }
+
+  const told_at = once(moment => moment > 0 ? news_of(moment, frames[moment].content, pages_at(moment)).said : []);
 
   // How large the drawings are without their legends, and from where on they are shown: the names of the levels are left
   // out where there is little room.
@@ -240,13 +250,14 @@ pub(crate) const SCRIPT: &str = r#"<script>
     return { width: Math.max(drawn, table + (slim ? 72 : 0)) + 12, height: number(legend.getAttribute('y')) - 18 };
   }
 
-  const is_slim = () => at('stage').clientWidth < 520;
+  const most_of = once(slim => {
+    const all = frames.map(it => extent_of(it.content.firstElementChild, slim));
+    return [Math.max(...all.map(it => it.width)), Math.max(...all.map(it => it.height))];
+  });
 
   function size(svg) {
-    const slim = is_slim();
-    const all = frames.map(it => extent_of(it.content.firstElementChild, slim));
-    const width = Math.max(...all.map(it => it.width));
-    const height = Math.max(...all.map(it => it.height));
+    const slim = at('stage').clientWidth < 520;
+    const [width, height] = most_of(slim);
     const left = slim ? 84 : 8;
     svg.removeAttribute('height');
     svg.removeAttribute('width');
@@ -264,13 +275,18 @@ pub(crate) const SCRIPT: &str = r#"<script>
 
   function acts_at(moment) {
     const acts = new Map(workers.map(it => [it, ['', false]]));
-    for (let i = 0; i <= moment; i++) {
+    for (let i = 0; workers.length && i <= moment; i++) {
       for (const it of words_of(frames[i].dataset.note)) {
         const worker = worker_of(it);
         if (worker !== undefined) acts.set(worker, [it.replace(/^Worker \d+: */, ''), i === moment]);
       }
     }
     return acts;
+  }
+
+  function crew_length(moment) {
+    const table = frames[moment].content.querySelector('table');
+    return (table ? table.textContent.length : 0) + [...acts_at(moment).values()].map(([words]) => words.length + 1).reduce((a, b) => a + b, 0);
   }
 
   function crew_of(moment, table) {
@@ -293,23 +309,21 @@ pub(crate) const SCRIPT: &str = r#"<script>
     return made;
   }
 
-  // What is said of a moment, with its drawing and the workers.
-  function scene(moment) {
-    const frame = frames[moment];
-    const { told, note, row, proved } = frame.dataset;
-    const content = frame.content.cloneNode(true);
-    const svg = content.querySelector('svg');
-    const table = content.querySelector('table');
-    const changed = moment > 0 ? mark(svg, frames[moment - 1].content) : [];
+  // What is said of a moment, and what the workers do.
+  function words_at(moment) {
+    const { dataset, content } = frames[moment];
+    const { told, note, row, proved } = dataset;
     const own = words_of(note).filter(it => worker_of(it) === undefined).join(' ');
+    const changed = told_at(moment).join('; ');
     const said = {
-      told: `${frame.dataset.moment}: ${told}`,
+      told: `${dataset.moment}: ${told}`,
       note: own || meanings[told.split(':')[0]] || '',
-      changed: changed.length ? `Marked in the drawing: ${changed.join('; ')}.` : '',
+      changed: changed && `Marked in the drawing: ${changed}.`,
       proved,
       row,
     };
-    return { svg, said, crew: crew_of(moment, table) };
+    const table = content.querySelector('table');
+    return { said, crew: crew_of(moment, table && table.cloneNode(true)) };
   }
 
   function tell({ said, crew }) {
@@ -318,13 +332,21 @@ pub(crate) const SCRIPT: &str = r#"<script>
     at('crew').replaceChildren(...crew);
   }
 
+  // The moments with the longest texts.
+  function longest(length_at) {
+    const all = frames.map((_, moment) => [length_at(moment), moment]).sort(([a], [b]) => b - a);
+    return all.slice(0, 16).map(([, moment]) => moment);
+  }
+
   // Keeps room for what is said of any moment, so that nothing moves when the film plays.
   function keep_room() {
     for (const name of ['said', 'crew']) at(name).style.minHeight = '';
     const most = { said: 0, crew: 0 };
     at('said').setAttribute('aria-live', 'off');
-    for (let i = 0; i <= last; i++) {
-      tell(scene(i));
+    const words = longest(moment => Object.values(words_at(moment).said).join(' ').length);
+    const acts = longest(moment => crew_length(moment));
+    for (const moment of new Set([...words, ...acts])) {
+      tell(words_at(moment));
       for (const name in most) most[name] = Math.max(most[name], at(name).offsetHeight);
     }
     for (const name in most) at(name).style.minHeight = `${most[name]}px`;
@@ -333,11 +355,13 @@ pub(crate) const SCRIPT: &str = r#"<script>
 
   function show(wanted) {
     place = Math.max(0, Math.min(wanted, last));
-    const shown = scene(place);
-    size(shown.svg);
-    at('stage').replaceChildren(shown.svg);
-    tell(shown);
-    const { told } = shown.said;
+    const svg = frames[place].content.querySelector('svg').cloneNode(true);
+    if (place > 0) for (const it of news_of(place, svg, pages_of(svg)).parts) it.classList.add('new');
+    size(svg);
+    at('stage').replaceChildren(svg);
+    const words = words_at(place);
+    tell(words);
+    const { told } = words.said;
     at('place').value = place;
     at('place').setAttribute('aria-valuetext', told);
     for (const name of ['first', 'back']) at(name).setAttribute('aria-disabled', place === 0);
