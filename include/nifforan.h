@@ -1,5 +1,7 @@
 /* Nifforan: an ordered map from uint64_t keys to uint64_t values, in memory. A map is used by one thread at a time; a
- * frozen map is read by many at once, through a handle each.
+ * frozen map is read by many at once, through a handle each. A map that many threads change is one or more of these maps,
+ * each behind a lock of the program's own: the library takes none. nifforan_cpp::Forest of examples/cpp/forest.hpp and
+ * Forest of bindings/rust are that, by ranges of keys. What a call does to a map is proved; those locks are not.
  *
  * A handle is eight bytes of the caller's. It begins as NIFFORAN_CLOSED, nifforan_create opens it, and
  * nifforan_close closes it. A call on a closed handle, or nifforan_create on an open one, does nothing and
@@ -14,8 +16,8 @@
  *     `Send` is proved. Who hands it over sees to it that the calls of the one thread come before those of the other:
  *     by a lock, by the start or the join of a thread, or by a sequentially consistent atomic. Calls on different
  *     handles may be made at once, by any threads, also where the handles share a frozen map;
- *   - pointers are valid, aligned and not null, also `pairs` where `room` is 0; `pairs` has `room` places; what a call
- *     writes overlaps none of its other arguments;
+ *   - pointers are valid, aligned and not null, also `pairs` where `room` or `count` is 0; `pairs` has `room` places, or
+ *     `count` pairs; what a call writes overlaps none of its other arguments;
  *   - the program's malloc, realloc and free are one allocator's, with blocks aligned to 16 bytes, and where threads make
  *     calls at once, threads may call these three at once too.
  * A map that is never closed is never freed.
@@ -47,8 +49,8 @@ uint32_t nifforan_version(void);
 enum {
     NIFFORAN_OK = 0,
     NIFFORAN_CLOSED_HANDLE = 1, /* the handle has no map */
-    NIFFORAN_OPEN_HANDLE = 2,   /* nifforan_create, nifforan_share: the handle to open has a map already */
-    NIFFORAN_BAD_FANOUT = 3,    /* nifforan_create: a setting is out of its range; this is the first such one */
+    NIFFORAN_OPEN_HANDLE = 2,   /* nifforan_create, nifforan_from_sorted, nifforan_share: the handle to open has a map already */
+    NIFFORAN_BAD_FANOUT = 3,    /* nifforan_create, nifforan_from_sorted: a setting is out of its range; this is the first */
     NIFFORAN_BAD_CHAIN = 4,
     NIFFORAN_BAD_PAGES = 5,
     NIFFORAN_BAD_TRIES = 6,
@@ -58,10 +60,11 @@ enum {
     NIFFORAN_TOO_TALL = 9,   /* the tree has its greatest height */
     NIFFORAN_WORN = 10,      /* the version of a page, or the number of changes, is used up (2^64) */
     NIFFORAN_CONTENDED = 11, /* the call took all tries that its settings allow it */
-    NIFFORAN_BAD_SIZE = 12,  /* nifforan_create: the settings have another size than in the library's version */
+    NIFFORAN_BAD_SIZE = 12,  /* the same two: the settings have another size than in the library's version */
     NIFFORAN_FROZEN = 13,    /* the map is frozen: no call changes it, nor freezes it again */
     NIFFORAN_NOT_FROZEN = 14, /* nifforan_share, nifforan_thaw: the map is not frozen */
-    NIFFORAN_SHARED = 15      /* nifforan_thaw: other handles have the map too */
+    NIFFORAN_SHARED = 15,     /* nifforan_thaw: other handles have the map too */
+    NIFFORAN_UNSORTED = 16    /* nifforan_from_sorted: a key isn't above the one before */
 };
 
 typedef struct nifforan_text {
@@ -110,6 +113,20 @@ typedef struct nifforan_high {
 #define NIFFORAN_TOP ((nifforan_high){ 0, true })
 #endif
 
+/* A value, or none. */
+typedef struct nifforan_optional {
+    uint64_t value; /* ignored where there is none */
+    bool is_some;   /* whether there is one */
+} nifforan_optional;
+
+#ifdef __cplusplus
+#define NIFFORAN_SOME(value) (nifforan_optional{ (value), true })
+#define NIFFORAN_NONE (nifforan_optional{ 0, false })
+#else
+#define NIFFORAN_SOME(value) ((nifforan_optional){ (value), true })
+#define NIFFORAN_NONE ((nifforan_optional){ 0, false })
+#endif
+
 /* What a call on one key answers. */
 typedef struct nifforan_reply {
     uint32_t status; /* NIFFORAN_OK with a reply, or why there is none: then the map has the pairs that it had */
@@ -138,6 +155,23 @@ typedef struct nifforan_found {
     uint64_t value;
 } nifforan_found;
 
+/* What a call that takes a pair out answers. */
+typedef struct nifforan_popped {
+    uint32_t status; /* NIFFORAN_OK, or why none was taken out */
+    uint16_t care;   /* as in nifforan_reply */
+    bool found;      /* whether there was a pair */
+    uint64_t key;    /* its key and its value, or 0 */
+    uint64_t value;
+} nifforan_popped;
+
+/* What a call with many pairs answers. */
+typedef struct nifforan_filled {
+    uint32_t status; /* NIFFORAN_OK, or what ended the call before its last pair */
+    uint16_t care;   /* with NIFFORAN_OK: NIFFORAN_OK, or what cut the care for the pages short first */
+    uint64_t count;  /* how many pairs were set; with NIFFORAN_UNSORTED, the number of the first pair, counted from 0,
+                        whose key isn't above the one before */
+} nifforan_filled;
+
 typedef struct nifforan_pair {
     uint64_t key;
     uint64_t value;
@@ -154,6 +188,11 @@ typedef struct nifforan_read_answer {
  * map, else NIFFORAN_BAD_SIZE where the settings have another size than in the library, else the NIFFORAN_BAD_.. of the
  * first setting out of its range, else NIFFORAN_NO_MEMORY. */
 uint32_t nifforan_create(nifforan *map, const nifforan_settings *settings);
+
+/* Opens a map with these pairs, each of whose keys has to be above the one before. It fills its pages from left to right,
+ * in a fraction of the time that as many puts take. With any status but NIFFORAN_OK the handle stays as it was: that of
+ * nifforan_create, or else NIFFORAN_UNSORTED, or what ended it, mostly NIFFORAN_NO_MEMORY. */
+nifforan_filled nifforan_from_sorted(nifforan *map, const nifforan_settings *settings, const nifforan_pair *pairs, size_t count);
 
 /* ---- Calls that look at a map, frozen or not. They take no memory, and give NIFFORAN_OK on each open handle. */
 
@@ -190,6 +229,31 @@ nifforan_reply nifforan_set(nifforan *map, uint64_t key, uint64_t value);
 
 /* Takes the key out, if it is there. The reply tells the value that it had. */
 nifforan_reply nifforan_delete(nifforan *map, uint64_t key);
+
+/* Gives the key the new value, or takes it out where that is none, if it has the expected one, or none where that is none:
+ * in C, nifforan_compare_and_set(&map, 3, &NIFFORAN_SOME(9), &NIFFORAN_NONE). The reply tells the value that it had: it was
+ * set if that is what was expected, and otherwise it keeps it. */
+nifforan_reply nifforan_compare_and_set(nifforan *map, uint64_t key, const nifforan_optional *expected, const nifforan_optional *value);
+
+/* Makes a value of the one that a key has, which is 0 where none was found. It makes no call on the map. */
+typedef uint64_t (*nifforan_make)(void *context, bool found, uint64_t value);
+
+/* Gives the key what `make` makes of its value, or of none. The reply tells the value that it had. This is a nifforan_get and
+ * then a nifforan_set, which fails after `make` was called, if it does. */
+static inline nifforan_reply nifforan_upsert(nifforan *map, uint64_t key, nifforan_make make, void *context)
+{
+    const nifforan_reply had = nifforan_get(map, key);
+    if (had.status != NIFFORAN_OK) return had;
+    return nifforan_set(map, key, make(context, had.found, had.value));
+}
+
+/* Takes out the pair with the least key, and with the greatest, if there is any pair. */
+nifforan_popped nifforan_pop_first(nifforan *map);
+nifforan_popped nifforan_pop_last(nifforan *map);
+
+/* Sets each of the pairs, one after the other: of pairs with the same key the last one stays. Where it ends early, the first
+ * ones are set, as many as it tells. */
+nifforan_filled nifforan_extend(nifforan *map, const nifforan_pair *pairs, size_t count);
 
 /* Takes out the keys of the range from `low` up to `high`. Where it ends early, as many of them are out as it tells, and
  * no others. It ends early also where the care for the pages is cut short, which then stands in `status`. The same call

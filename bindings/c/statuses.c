@@ -19,6 +19,15 @@
 
 static const nifforan_settings usual = NIFFORAN_USUAL_SETTINGS;
 
+static const nifforan_optional none = { 0, false };
+
+static uint64_t never(void *context, bool found, uint64_t value)
+{
+    (void)context, (void)found, (void)value;
+    MUST(false);
+    return 0;
+}
+
 /* Each call says so, and writes no pair. */
 static void is_closed(nifforan *map) {
     nifforan_pair place[1] = { { 5, 6 } };
@@ -31,6 +40,10 @@ static void is_closed(nifforan *map) {
     MUST(nifforan_put(map, 1, 2).status == NIFFORAN_CLOSED_HANDLE);
     MUST(nifforan_set(map, 1, 2).status == NIFFORAN_CLOSED_HANDLE);
     MUST(nifforan_delete(map, 1).status == NIFFORAN_CLOSED_HANDLE);
+    MUST(nifforan_compare_and_set(map, 1, &none, &none).status == NIFFORAN_CLOSED_HANDLE);
+    MUST(nifforan_upsert(map, 1, never, NULL).status == NIFFORAN_CLOSED_HANDLE);
+    MUST(nifforan_pop_first(map).status == NIFFORAN_CLOSED_HANDLE && !nifforan_pop_last(map).found);
+    MUST(nifforan_extend(map, place, 1).status == NIFFORAN_CLOSED_HANDLE && nifforan_extend(map, place, 0).count == 0);
     MUST(nifforan_clear(map, 0, NIFFORAN_TOP).status == NIFFORAN_CLOSED_HANDLE);
     MUST(nifforan_reserve(map, 1) == NIFFORAN_CLOSED_HANDLE && nifforan_shrink(map) == NIFFORAN_CLOSED_HANDLE);
     MUST(nifforan_first(map).status == NIFFORAN_CLOSED_HANDLE && !nifforan_first(map).found);
@@ -50,6 +63,13 @@ static void settings_say(uint32_t status, nifforan_settings settings) {
     MUST(nifforan_create(&map, &settings) == status);
     MUST((map.at != NULL) == (status == NIFFORAN_OK));
     nifforan_close(&map);
+    is_closed(&map);
+    const nifforan_pair falling[2] = { { 2, 0 }, { 1, 0 } };
+    MUST(nifforan_from_sorted(&map, &settings, falling, 0).status == status);
+    nifforan_close(&map);
+    const bool has_versions = settings.first_version == 0;
+    const uint32_t then = status != NIFFORAN_OK ? status : has_versions ? NIFFORAN_UNSORTED : NIFFORAN_WORN;
+    MUST(nifforan_from_sorted(&map, &settings, falling, 2).status == then);
     is_closed(&map);
 }
 
@@ -129,6 +149,78 @@ static void limits(nifforan *map) {
     found_none(nifforan_previous_at(map, UINT64_MAX));
 }
 
+static void popped_is(nifforan_popped popped, bool found, uint64_t key, uint64_t value) {
+    MUST(popped.status == NIFFORAN_OK && popped.care == NIFFORAN_OK);
+    MUST(popped.found == found && popped.key == key && popped.value == value);
+}
+
+static uint64_t sum_of(void *context, bool found, uint64_t value)
+{
+    const uint64_t *more = context;
+    return found ? value + *more : *more;
+}
+
+/* Changes by what a key has: a row a call, with what it answers and what the key has then. */
+static void changes(nifforan *map) {
+    const nifforan_optional nine = { 9, true }, ten = { 10, true }, zero = { 0, true };
+    const struct {
+        const nifforan_optional *expected, *value;
+        bool found;
+        uint64_t had;
+        bool has;
+        uint64_t now;
+    } rows[] = {
+        { &nine, &ten, false, 0, false, 0 }, { &none, &none, false, 0, false, 0 },   { &none, &nine, false, 0, true, 9 },
+        { &none, &ten, true, 9, true, 9 },   { &ten, &nine, true, 9, true, 9 },      { &nine, &zero, true, 9, true, 0 },
+        { &none, &nine, true, 0, true, 0 },  { &zero, &none, true, 0, false, 0 },    { &zero, &nine, false, 0, false, 0 },
+    };
+    for (size_t i = 0; i < sizeof rows / sizeof *rows; i++) {
+        reply_is(nifforan_compare_and_set(map, UINT64_MAX, rows[i].expected, rows[i].value), rows[i].found, rows[i].had);
+        reply_is(nifforan_get(map, UINT64_MAX), rows[i].has, rows[i].now);
+        MUST(nifforan_pairs(map).pairs == rows[i].has);
+    }
+    uint64_t more = 7;
+    reply_is(nifforan_upsert(map, 3, sum_of, &more), false, 0);
+    reply_is(nifforan_upsert(map, 3, sum_of, &more), true, 7);
+    reply_is(nifforan_get(map, 3), true, 14);
+    const nifforan_pair some[] = { { 5, 1 }, { 3, 2 }, { 5, 3 }, { UINT64_MAX, 4 }, { 0, 5 } };
+    nifforan_filled filled = nifforan_extend(map, some, 5);
+    MUST(filled.status == NIFFORAN_OK && filled.care == NIFFORAN_OK && filled.count == 5);
+    filled = nifforan_extend(map, some, 0);
+    MUST(filled.status == NIFFORAN_OK && filled.count == 0);
+    popped_is(nifforan_pop_first(map), true, 0, 5);
+    popped_is(nifforan_pop_last(map), true, UINT64_MAX, 4);
+    popped_is(nifforan_pop_first(map), true, 3, 2);
+    popped_is(nifforan_pop_first(map), true, 5, 3);
+    popped_is(nifforan_pop_first(map), false, 0, 0);
+    popped_is(nifforan_pop_last(map), false, 0, 0);
+    MUST(nifforan_pairs(map).pairs == 0);
+}
+
+/* Maps of pairs whose keys rise, and the first pair that doesn't. */
+static void sorted(void) {
+    enum { MANY = 5000 };
+    static nifforan_pair pairs[MANY], read[MANY];
+    nifforan map = NIFFORAN_CLOSED;
+    for (uint64_t i = 0; i < MANY; i++) pairs[i] = (nifforan_pair){ 3 * i, i };
+    pairs[MANY - 1].key = UINT64_MAX;
+    for (size_t count = 0; count <= MANY; count += 1250) {
+        const nifforan_filled filled = nifforan_from_sorted(&map, &usual, pairs, count);
+        MUST(filled.status == NIFFORAN_OK && filled.care == NIFFORAN_OK && filled.count == count);
+        MUST(nifforan_pairs(&map).pairs == count);
+        MUST(nifforan_from_sorted(&map, &usual, pairs, count).status == NIFFORAN_OPEN_HANDLE);
+        MUST(nifforan_read(&map, 0, NIFFORAN_TOP, read, MANY).count == count);
+        MUST(memcmp(read, pairs, count * sizeof *pairs) == 0);
+        nifforan_close(&map);
+    }
+    pairs[4000].key = pairs[3999].key;
+    const nifforan_filled unsorted = nifforan_from_sorted(&map, &usual, pairs, MANY);
+    MUST(unsorted.status == NIFFORAN_UNSORTED && unsorted.care == NIFFORAN_OK && unsorted.count == 4000 && map.at == NULL);
+    const nifforan_settings last = { SIZE, 16, 8, 4096, 1000, UINT64_MAX };
+    const nifforan_filled worn = nifforan_from_sorted(&map, &last, pairs, 2);
+    MUST(worn.status == NIFFORAN_WORN && worn.count == 0 && map.at == NULL);
+}
+
 /* A map that begins at the last version can have no pair. */
 static void worn(void) {
     nifforan map = NIFFORAN_CLOSED;
@@ -138,6 +230,13 @@ static void worn(void) {
     MUST(put.status == NIFFORAN_WORN && put.care == NIFFORAN_OK && !put.found && put.value == 0);
     MUST(set.status == NIFFORAN_WORN && set.care == NIFFORAN_OK && !set.found && set.value == 0);
     reply_is(nifforan_get(&map, 1), false, 0);
+    const nifforan_pair pair = { 1, 2 };
+    const nifforan_optional two = { 2, true };
+    const nifforan_filled filled = nifforan_extend(&map, &pair, 1);
+    MUST(filled.status == NIFFORAN_WORN && filled.care == NIFFORAN_OK && filled.count == 0);
+    const nifforan_reply set_if = nifforan_compare_and_set(&map, 1, &none, &two);
+    MUST(set_if.status == NIFFORAN_WORN && set_if.care == NIFFORAN_OK && !set_if.found && set_if.value == 0);
+    popped_is(nifforan_pop_last(&map), false, 0, 0);
     MUST(nifforan_pairs(&map).pairs == 0);
     nifforan_close(&map);
 }
@@ -186,6 +285,12 @@ static void is_frozen(nifforan *map) {
     MUST(reply.status == NIFFORAN_FROZEN && reply.care == NIFFORAN_OK && !reply.found && reply.value == 0);
     MUST(nifforan_set(map, 7, 1).status == NIFFORAN_FROZEN);
     MUST(nifforan_delete(map, 7).status == NIFFORAN_FROZEN);
+    MUST(nifforan_compare_and_set(map, 7, &none, &none).status == NIFFORAN_FROZEN);
+    MUST(nifforan_pop_first(map).status == NIFFORAN_FROZEN && nifforan_pop_last(map).status == NIFFORAN_FROZEN);
+    const nifforan_pair pair = { 7, 1 };
+    const nifforan_filled filled = nifforan_extend(map, &pair, 1);
+    MUST(filled.status == NIFFORAN_FROZEN && filled.care == NIFFORAN_OK && filled.count == 0);
+    MUST(nifforan_from_sorted(map, &usual, &pair, 1).status == NIFFORAN_OPEN_HANDLE);
     MUST(nifforan_clear(map, 0, NIFFORAN_TOP).status == NIFFORAN_FROZEN);
     MUST(nifforan_reserve(map, 1) == NIFFORAN_FROZEN && nifforan_shrink(map) == NIFFORAN_FROZEN);
     MUST(nifforan_create(map, &usual) == NIFFORAN_OPEN_HANDLE);
@@ -223,12 +328,12 @@ static void frozen(void) {
 
 /* Each status has a text of its own, which ends in its room, and all other numbers have one in common. */
 static void texts(void) {
-    const nifforan_text none = nifforan_status_text(NIFFORAN_SHARED + 1), far = nifforan_status_text(UINT32_MAX);
-    MUST(strcmp(none.text, far.text) == 0);
-    for (uint32_t status = NIFFORAN_OK; status <= NIFFORAN_SHARED; status++) {
+    const nifforan_text no_status = nifforan_status_text(NIFFORAN_UNSORTED + 1), far = nifforan_status_text(UINT32_MAX);
+    MUST(strcmp(no_status.text, far.text) == 0);
+    for (uint32_t status = NIFFORAN_OK; status <= NIFFORAN_UNSORTED; status++) {
         const nifforan_text text = nifforan_status_text(status);
         const size_t length = strlen(text.text);
-        MUST(length > 0 && length < sizeof text.text && strcmp(text.text, none.text) != 0);
+        MUST(length > 0 && length < sizeof text.text && strcmp(text.text, no_status.text) != 0);
         for (size_t i = length; i < sizeof text.text; i++) MUST(text.text[i] == 0);
         for (uint32_t other = NIFFORAN_OK; other < status; other++)
             MUST(strcmp(text.text, nifforan_status_text(other).text) != 0);
@@ -251,8 +356,10 @@ int main(void) {
     MUST(nifforan_create(&map, &usual) == NIFFORAN_OPEN_HANDLE);
     reply_is(nifforan_delete(&map, 7), true, 49);
     limits(&map);
+    changes(&map);
     nifforan_close(&map);
     is_closed(&map);
+    sorted();
     printf("the statuses are as the header tells them\n");
     return 0;
 }

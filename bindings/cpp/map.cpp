@@ -129,6 +129,36 @@ static void look(Map &map, const Plain &plain, std::uint64_t key) {
     if (!plain.empty()) MUST(map.first() == pair_of(*plain.begin()) && map.last() == pair_of(*plain.rbegin()));
 }
 
+// Changes of a key by what it has, of the first pair and the last one, and of many.
+static void change_by_value(Map &map, Plain &plain, std::uint64_t key, std::uint64_t value) {
+    const auto there = value_of(plain, key);
+    const bool is_set = draw(3) != 0;
+    const auto expected = draw(3) == 0 ? std::optional(value) : there;
+    MUST(map.compare_and_set(key, expected, is_set ? std::optional(value / 2) : std::nullopt) == there);
+    if (there == expected) {
+        if (is_set) {
+            plain[key] = value / 2;
+        } else {
+            plain.erase(key);
+        }
+    }
+    MUST(map.get(key) == value_of(plain, key));
+    const auto before = value_of(plain, key + 1);
+    MUST(map.upsert(key + 1, [value](auto had) { return had.value_or(3) + value; }) == before.value_or(3) + value);
+    plain[key + 1] = before.value_or(3) + value;
+    MUST(map.pop_first() == pair_of(*plain.begin()));
+    plain.erase(plain.begin());
+    if (!plain.empty()) {
+        MUST(map.pop_last() == pair_of(*plain.rbegin()));
+        plain.erase(std::prev(plain.end()));
+    }
+    std::vector<nifforan_pair> many;
+    for (std::uint64_t n = draw(200); n > 0; n--) many.push_back({draw(3000), draw(1000000)});
+    for (const auto [at, its] : many) plain[at] = its;
+    map.extend(many.data(), many.size());
+    MUST(map.size() == plain.size());
+}
+
 static void call(Map &map, Plain &plain, std::uint64_t keys) {
     const std::uint64_t key = draw(keys), value = draw(1000000);
     const auto there = value_of(plain, key);
@@ -149,8 +179,10 @@ static void call(Map &map, Plain &plain, std::uint64_t keys) {
         walk(map, plain, key);
     } else if (which < 96) {
         compare_range(map, plain, key, key + draw(100) - std::min<std::uint64_t>(key, 5));
-    } else if (which < 98) {
+    } else if (which < 97) {
         change_under_way(map, plain, key);
+    } else if (which < 98) {
+        change_by_value(map, plain, key, value);
     } else {
         const auto from = plain.lower_bound(key), to = plain.lower_bound(key + 20);
         MUST(map.clear(key, NIFFORAN_BELOW(key + 20)) == static_cast<std::uint64_t>(std::distance(from, to)));
@@ -173,6 +205,10 @@ static void drawn_calls(long calls) {
         MUST(std::equal(map.begin(), map.end(), plain.begin(), plain.end(), same));
         MUST(std::equal(map.rbegin(), map.rend(), plain.rbegin(), plain.rend(), same));
         MUST((Plain(map.begin(), map.end()) == plain));
+        std::vector<nifforan_pair> sorted;
+        for (const auto &[key, value] : plain) sorted.push_back({key, value});
+        Map again = Map::from_sorted(sorted.data(), sorted.size(), settings);
+        MUST(std::equal(again.begin(), again.end(), plain.begin(), plain.end(), same));
     }
 }
 
@@ -218,6 +254,11 @@ static void faults() {
     must_throw(NIFFORAN_CLOSED_HANDLE, [&] { map.put(1, 1); });
     must_throw(NIFFORAN_CLOSED_HANDLE, [&] { map.reserve(1); });
     must_throw(NIFFORAN_CLOSED_HANDLE, [&] { map.shrink_to_fit(); });
+    must_throw(NIFFORAN_CLOSED_HANDLE, [&] { map.pop_first(); });
+    must_throw(NIFFORAN_CLOSED_HANDLE, [&] { map.extend(nullptr, 0); });
+    const nifforan_pair falling[] = {{2, 0}, {1, 0}};
+    must_throw(NIFFORAN_UNSORTED, [&] { Map::from_sorted(falling, 2); });
+    MUST(Map::from_sorted(nullptr, 0).empty());
     MUST(map.try_put(1, 1).status == NIFFORAN_CLOSED_HANDLE && map.try_clear().status == NIFFORAN_CLOSED_HANDLE);
     Frozen mine, theirs;
     MUST(mine.try_share(theirs) == NIFFORAN_CLOSED_HANDLE && map.try_freeze(mine) == NIFFORAN_CLOSED_HANDLE);

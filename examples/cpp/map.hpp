@@ -112,7 +112,7 @@ protected:
         if (!reply.found) return std::nullopt;
         return reply.value;
     }
-    static std::optional<value_type> pair(const nifforan_found &found) {
+    template <typename Found> static std::optional<value_type> pair(const Found &found) {
         check(found.status);
         if (!found.found) return std::nullopt;
         return value_type{found.key, found.value};
@@ -263,6 +263,18 @@ public:
         return *this;
     }
 
+    // A map with these pairs, each of whose keys has to be above the one before.
+    static Map from_sorted(const nifforan_pair *pairs, std::size_t count, const nifforan_settings &settings = NIFFORAN_USUAL_SETTINGS) {
+        Map map = closed();
+        check(map.try_from_sorted(pairs, count, settings).status);
+        return map;
+    }
+    [[nodiscard]] nifforan_filled try_from_sorted(const nifforan_pair *pairs, std::size_t count,
+                                                  const nifforan_settings &settings = NIFFORAN_USUAL_SETTINGS) noexcept {
+        const nifforan_pair none{0, 0};
+        return nifforan_from_sorted(&handle, &settings, count == 0 ? &none : pairs, count);
+    }
+
     // A map that is closed, for try_open, which answers a status, NIFFORAN_OPEN_HANDLE where it isn't.
     static Map closed() noexcept { return Map(nifforan{nullptr}); }
     [[nodiscard]] std::uint32_t try_open(const nifforan_settings &settings = NIFFORAN_USUAL_SETTINGS) noexcept {
@@ -278,6 +290,34 @@ public:
     // Takes the key out, and answers the value that it had.
     std::optional<std::uint64_t> erase(std::uint64_t key) { return value(try_erase(key)); }
     [[nodiscard]] nifforan_reply try_erase(std::uint64_t key) noexcept { return seen(nifforan_delete(&handle, key)); }
+    // Gives the key the new value, or takes it out where that is none, if it has the expected one, or none. It answers the value
+    // that it had: it was set if that is what was expected.
+    std::optional<std::uint64_t> compare_and_set(std::uint64_t key, std::optional<std::uint64_t> expected, std::optional<std::uint64_t> v) {
+        return value(try_compare_and_set(key, expected, v));
+    }
+    [[nodiscard]] nifforan_reply try_compare_and_set(std::uint64_t key, std::optional<std::uint64_t> expected,
+                                                     std::optional<std::uint64_t> v) noexcept {
+        const nifforan_optional wanted = optional(expected), given = optional(v);
+        return seen(nifforan_compare_and_set(&handle, key, &wanted, &given));
+    }
+    // Gives the key what the function makes of its value, or of none, and answers the value that it has then. It looks the key
+    // up twice.
+    template <typename Make> std::uint64_t upsert(std::uint64_t key, Make make) {
+        const std::uint64_t made = make(get(key));
+        set(key, made);
+        return made;
+    }
+    // Takes out the pair with the least key, and with the greatest, and answers it.
+    std::optional<value_type> pop_first() { return pair(try_pop_first()); }
+    std::optional<value_type> pop_last() { return pair(try_pop_last()); }
+    [[nodiscard]] nifforan_popped try_pop_first() noexcept { return seen(nifforan_pop_first(&handle)); }
+    [[nodiscard]] nifforan_popped try_pop_last() noexcept { return seen(nifforan_pop_last(&handle)); }
+    // Sets each of the pairs, one after the other. Where it throws, the first ones are set; try_extend tells how many.
+    void extend(const nifforan_pair *pairs, std::size_t count) { check(try_extend(pairs, count).status); }
+    [[nodiscard]] nifforan_filled try_extend(const nifforan_pair *pairs, std::size_t count) noexcept {
+        const nifforan_pair none{0, 0};
+        return seen(nifforan_extend(&handle, count == 0 ? &none : pairs, count));
+    }
     // Takes the pair out at which the iterator is, and answers an iterator at the next one.
     Iterator erase(Iterator at) {
         const std::uint64_t key = at->first;
@@ -303,7 +343,7 @@ public:
     // Gives back the memory for pages that the pairs don't want, by making the map anew. Where it throws, it stays as it was.
     void shrink_to_fit() { check(try_shrink_to_fit()); }
     [[nodiscard]] std::uint32_t try_shrink_to_fit() noexcept { return nifforan_shrink(&handle); }
-    // What cut the care for the pages short in the last put, set or erase: NIFFORAN_OK, or a fault. Its answer stands
+    // What cut the care for the pages short in the last call that changed the map, but for clear: NIFFORAN_OK, or a fault. Its answer stands
     // all the same, and a later call takes the care up again.
     std::uint32_t care() const noexcept { return cut_short; }
 
@@ -315,11 +355,12 @@ private:
     friend class Frozen;
     explicit Map(nifforan handle) noexcept : Reads(handle) {}
 
-    nifforan_reply seen(const nifforan_reply &reply) noexcept {
+    template <typename Answer> Answer seen(const Answer &answer) noexcept {
         changes++;
-        cut_short = reply.care;
-        return reply;
+        cut_short = answer.care;
+        return answer;
     }
+    static nifforan_optional optional(std::optional<std::uint64_t> v) noexcept { return {v.value_or(0), v.has_value()}; }
 
     std::uint32_t cut_short = NIFFORAN_OK;
 };

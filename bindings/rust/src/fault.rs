@@ -35,6 +35,8 @@ pub enum Fault {
     Contended,
     /// The library that is linked has settings of another size: it is of another version.
     BadSize,
+    /// A key isn't above the one before, where keys have to rise.
+    Unsorted,
     /// A status that this crate has no name for: the library that is linked is of a later version.
     Other(u32),
 }
@@ -54,6 +56,7 @@ impl Fault {
             ffi::WORN => Fault::Worn,
             ffi::CONTENDED => Fault::Contended,
             ffi::BAD_SIZE => Fault::BadSize,
+            ffi::UNSORTED => Fault::Unsorted,
             // those of closed, open and frozen handles don't come: see `Reads::handle`
             other => Fault::Other(other),
         })
@@ -71,6 +74,7 @@ impl Fault {
             Fault::Worn => ffi::WORN,
             Fault::Contended => ffi::CONTENDED,
             Fault::BadSize => ffi::BAD_SIZE,
+            Fault::Unsorted => ffi::UNSORTED,
             Fault::Other(status) => status,
         }
     }

@@ -19,6 +19,7 @@ pub const BAD_SIZE: u32 = 12;
 pub const FROZEN: u32 = 13;
 pub const NOT_FROZEN: u32 = 14;
 pub const SHARED: u32 = 15;
+pub const UNSORTED: u32 = 16;
 
 #[repr(C)]
 #[derive(Clone, Copy, Debug)]
@@ -47,6 +48,13 @@ pub struct Settings {
 pub struct High {
     pub key: u64,
     pub is_top: bool,
+}
+
+#[repr(C)]
+#[derive(Clone, Copy, Debug)]
+pub struct Optional {
+    pub value: u64,
+    pub is_some: bool,
 }
 
 #[repr(C)]
@@ -84,6 +92,24 @@ pub struct Found {
 
 #[repr(C)]
 #[derive(Clone, Copy, Debug)]
+pub struct Popped {
+    pub status: u32,
+    pub care: u16,
+    pub found: bool,
+    pub key: u64,
+    pub value: u64,
+}
+
+#[repr(C)]
+#[derive(Clone, Copy, Debug)]
+pub struct Filled {
+    pub status: u32,
+    pub care: u16,
+    pub count: u64,
+}
+
+#[repr(C)]
+#[derive(Clone, Copy, Debug)]
 pub struct Pair {
     pub key: u64,
     pub value: u64,
@@ -102,6 +128,12 @@ extern "C" {
     pub fn nifforan_version() -> u32;
     pub fn nifforan_status_text(status: u32) -> Text;
     pub fn nifforan_create(map: *mut Handle, settings: *const Settings) -> u32;
+    pub fn nifforan_from_sorted(
+        map: *mut Handle,
+        settings: *const Settings,
+        pairs: *const Pair,
+        count: usize,
+    ) -> Filled;
     pub fn nifforan_pairs(map: *mut Handle) -> Count;
     pub fn nifforan_get(map: *mut Handle, key: u64) -> Reply;
     pub fn nifforan_first(map: *mut Handle) -> Found;
@@ -125,6 +157,15 @@ extern "C" {
     pub fn nifforan_put(map: *mut Handle, key: u64, value: u64) -> Reply;
     pub fn nifforan_set(map: *mut Handle, key: u64, value: u64) -> Reply;
     pub fn nifforan_delete(map: *mut Handle, key: u64) -> Reply;
+    pub fn nifforan_compare_and_set(
+        map: *mut Handle,
+        key: u64,
+        expected: *const Optional,
+        value: *const Optional,
+    ) -> Reply;
+    pub fn nifforan_pop_first(map: *mut Handle) -> Popped;
+    pub fn nifforan_pop_last(map: *mut Handle) -> Popped;
+    pub fn nifforan_extend(map: *mut Handle, pairs: *const Pair, count: usize) -> Filled;
     pub fn nifforan_clear(map: *mut Handle, low: u64, high: High) -> Cleared;
     pub fn nifforan_reserve(map: *mut Handle, pairs: u64) -> u32;
     pub fn nifforan_shrink(map: *mut Handle) -> u32;

@@ -15,7 +15,7 @@ pub use entry::{Entry, OccupiedEntry, VacantEntry};
 pub use fault::{Fault, Unfinished, Unfrozen};
 pub use frozen::Frozen;
 pub use iter::{IntoIter, IntoKeys, IntoValues, Iter, Keys, Range, Values};
-pub use map::Map;
+pub use map::{CompareAndSet, Map, Upsert};
 pub use reads::Reads;
 pub use settings::Settings;
 

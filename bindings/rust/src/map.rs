@@ -6,6 +6,27 @@ use crate::walk::Window;
 use crate::{Fault, Frozen, OccupiedEntry, Reads, Settings, Unfinished, Unfrozen};
 use std::ops::RangeBounds;
 
+/// How many pairs one call sets, of those that an iterator yields.
+const AT_ONCE: usize = 64;
+
+/// What a [`Map::compare_and_set`] found.
+#[derive(Clone, Copy, Debug, PartialEq, Eq, Hash)]
+pub enum CompareAndSet {
+    /// The key had what was expected, and has the new value now, or none.
+    Set,
+    /// The key had this value, or none, and keeps it.
+    Differs(Option<u64>),
+}
+
+/// What a [`Map::upsert`] did.
+#[derive(Clone, Copy, Debug, PartialEq, Eq, Hash)]
+pub struct Upsert {
+    /// The value that the key had.
+    pub old: Option<u64>,
+    /// The value that it has now.
+    pub new: u64,
+}
+
 /// An ordered map from `u64` keys to `u64` values. It may go to another thread, and is used by one at a time: it is
 /// `Send`, and not `Sync`. The calls that only look at it are those of [`Reads`].
 ///
@@ -66,6 +87,34 @@ impl Map {
         }
     }
 
+    /// Makes a map with these pairs, each of whose keys has to be above the one before: else it fails by
+    /// [`Fault::Unsorted`]. It fills its pages from left to right, in a fraction of the time that as many puts take. The
+    /// pairs are brought into one array first.
+    ///
+    /// ```
+    /// use nifforan::{Fault, Map, Settings};
+    /// let squares = Map::from_sorted(&Settings::default(), (0..1000).map(|root| (root, root * root)))?;
+    /// assert_eq!(squares.get(31), Some(961));
+    /// let twice = Map::from_sorted(&Settings::default(), [(3, 9), (3, 9)]);
+    /// assert_eq!(twice.err(), Some(Fault::Unsorted));
+    /// # Ok::<(), nifforan::Fault>(())
+    /// ```
+    pub fn from_sorted(
+        settings: &Settings,
+        pairs: impl IntoIterator<Item = (u64, u64)>,
+    ) -> Result<Map, Fault> {
+        let mut array = Vec::new();
+        for pair in pairs {
+            array.try_reserve(1).map_err(|_| Fault::NoMemory)?;
+            array.push(ffi::Pair::of(pair));
+        }
+        let in_c = settings.in_c();
+        let (first, count) = (array.as_ptr(), array.len());
+        // SAFETY: the handle is closed and this call's own; the pairs are in the array.
+        let fill = |handle| unsafe { ffi::nifforan_from_sorted(handle, &in_c, first, count) };
+        Reads::opened_by(*settings, |handle| fill(handle).status).map(Map::of)
+    }
+
     /// Makes a map of the same settings with the same pairs.
     pub fn try_clone(&self) -> Result<Map, Fault> {
         let mut map = Map::new(self.settings())?;
@@ -123,6 +172,54 @@ impl Map {
         self.before(reply)
     }
 
+    /// Gives the key the new value, or takes it out where that is `None`, if it has the expected one, or none.
+    ///
+    /// ```
+    /// use nifforan::{CompareAndSet, Map};
+    /// let mut map = Map::from([(3, 9)]);
+    /// assert_eq!(map.compare_and_set(3, Some(9), Some(10))?, CompareAndSet::Set);
+    /// assert_eq!(map.compare_and_set(3, Some(9), None)?, CompareAndSet::Differs(Some(10)));
+    /// assert_eq!(map.compare_and_set(4, None, Some(16))?, CompareAndSet::Set);
+    /// # Ok::<(), nifforan::Fault>(())
+    /// ```
+    pub fn compare_and_set(
+        &mut self,
+        key: u64,
+        expected: Option<u64>,
+        new: Option<u64>,
+    ) -> Result<CompareAndSet, Fault> {
+        let (wanted, value) = (ffi::Optional::of(expected), ffi::Optional::of(new));
+        let handle = self.reads.handle();
+        // SAFETY: see `Reads::handle`; both are this call's own.
+        let reply = unsafe { ffi::nifforan_compare_and_set(handle, key, &wanted, &value) };
+        let had = self.before(reply)?;
+        Ok(if had == expected {
+            CompareAndSet::Set
+        } else {
+            CompareAndSet::Differs(had)
+        })
+    }
+
+    /// Gives the key what the function makes of its value, or of none, and returns both. It looks the key up twice.
+    ///
+    /// ```
+    /// use nifforan::{Map, Upsert};
+    /// let mut counts = Map::default();
+    /// let one_more = |count: Option<u64>| count.unwrap_or(0) + 1;
+    /// assert_eq!(counts.upsert(3, one_more)?, Upsert { old: None, new: 1 });
+    /// assert_eq!(counts.upsert(3, one_more)?, Upsert { old: Some(1), new: 2 });
+    /// # Ok::<(), nifforan::Fault>(())
+    /// ```
+    pub fn upsert(
+        &mut self,
+        key: u64,
+        new: impl FnOnce(Option<u64>) -> u64,
+    ) -> Result<Upsert, Fault> {
+        let new = new(self.get(key));
+        let old = self.set(key, new)?;
+        Ok(Upsert { old, new })
+    }
+
     /// Takes out the pair with the least key, and returns it.
     ///
     /// ```
@@ -133,16 +230,16 @@ impl Map {
     /// # Ok::<(), nifforan::Fault>(())
     /// ```
     pub fn pop_first(&mut self) -> Result<Option<(u64, u64)>, Fault> {
-        self.first_entry()
-            .map(OccupiedEntry::remove_entry)
-            .transpose()
+        // SAFETY: see `Reads::handle`.
+        let popped = unsafe { ffi::nifforan_pop_first(self.reads.handle()) };
+        self.popped(popped)
     }
 
     /// Takes out the pair with the greatest key, and returns it.
     pub fn pop_last(&mut self) -> Result<Option<(u64, u64)>, Fault> {
-        self.last_entry()
-            .map(OccupiedEntry::remove_entry)
-            .transpose()
+        // SAFETY: see `Reads::handle`.
+        let popped = unsafe { ffi::nifforan_pop_last(self.reads.handle()) };
+        self.popped(popped)
     }
 
     /// Returns the place of the key, to see what is there and to change it. That looks the key up once more than a
@@ -229,7 +326,18 @@ impl Map {
         let hint = pairs.size_hint().0;
         // keys of a map that has some may be among them, and without this memory pages come by and by
         let _ahead = self.reserve(if self.is_empty() { hint } else { hint / 2 });
-        pairs.try_for_each(|(key, value)| self.also(|map| map.set(key, value)).map(drop))
+        let mut some = [const { ffi::Pair { key: 0, value: 0 } }; AT_ONCE];
+        loop {
+            let mut count = 0;
+            for (place, pair) in some.iter_mut().zip(pairs.by_ref()) {
+                *place = ffi::Pair::of(pair);
+                count += 1;
+            }
+            self.also(|map| map.set_each(&some[..count]))?;
+            if count < AT_ONCE {
+                return Ok(());
+            }
+        }
     }
 
     /// Returns what cut the care for the pages short in the last call that changed the map, if anything did; where that
@@ -275,6 +383,24 @@ impl Map {
             None => Ok(reply.found.then_some(reply.value)),
             Some(fault) => Err(fault),
         }
+    }
+
+    /// The pair that a call took out, or why it was not made.
+    fn popped(&mut self, popped: ffi::Popped) -> Result<Option<(u64, u64)>, Fault> {
+        self.care = popped.care.into();
+        match Fault::of(popped.status) {
+            None => Ok(popped.found.then_some((popped.key, popped.value))),
+            Some(fault) => Err(fault),
+        }
+    }
+
+    /// Sets the pairs by one call of the library.
+    fn set_each(&mut self, pairs: &[ffi::Pair]) -> Result<(), Fault> {
+        // SAFETY: see `Reads::handle`; the pairs are in the array.
+        let filled =
+            unsafe { ffi::nifforan_extend(self.reads.handle(), pairs.as_ptr(), pairs.len()) };
+        self.care = filled.care.into();
+        Fault::of(filled.status).map_or(Ok(()), Err)
     }
 
     /// Makes one call of many: where its care isn't cut short, that of an earlier one stays.

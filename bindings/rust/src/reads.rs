@@ -287,6 +287,21 @@ fn pair(found: Found) -> Option<(u64, u64)> {
     found.found.then_some((found.key, found.value))
 }
 
+impl ffi::Pair {
+    pub fn of((key, value): (u64, u64)) -> ffi::Pair {
+        ffi::Pair { key, value }
+    }
+}
+
+impl ffi::Optional {
+    pub fn of(value: Option<u64>) -> ffi::Optional {
+        ffi::Optional {
+            value: value.unwrap_or(0),
+            is_some: value.is_some(),
+        }
+    }
+}
+
 impl High {
     /// Past all keys.
     pub const TOP: High = High {

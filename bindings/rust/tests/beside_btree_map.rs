@@ -1,7 +1,7 @@
 //! Ten million drawn calls on maps of all kinds, each compared with the same call on a `BTreeMap`; then each map is
 //! frozen, and compared by threads at once.
 
-use nifforan::{Entry, Fault, Frozen, Map, Settings, Unfinished};
+use nifforan::{CompareAndSet, Entry, Fault, Frozen, Map, Settings, Unfinished, Upsert};
 use std::collections::{btree_map, BTreeMap};
 use std::io::{self, Write};
 use std::ops::Bound::{self, Excluded, Included, Unbounded};
@@ -74,7 +74,9 @@ impl Both {
             8800..8900 => self.clear(key, key + value % 20),
             8900..9200 => self.or_insert(key, value),
             9200..9500 => self.modify(key, value),
-            9500..9800 => self.place(key, value),
+            9500..9700 => self.place(key, value),
+            9700..9770 => self.compare_and_set(key, value),
+            9770..9800 => self.upsert(key, value),
             9800..9900 => self.pop(value.is_multiple_of(2)),
             9900..9995 => self.extend(key, value),
             9995..9999 => self.parts(dice),
@@ -173,6 +175,33 @@ impl Both {
                 }
             }
             (ours, plain) => panic!("{ours:?} beside {plain:?}"),
+        }
+        self.get(key);
+    }
+
+    /// With what the key has, or with another value or none; to a new value or to none.
+    fn compare_and_set(&mut self, key: u64, value: u64) {
+        let there = self.plain.get(&key).copied();
+        let expected = [there, there, None, Some(value)][value as usize % 4];
+        let new = (!value.is_multiple_of(3)).then_some(value / 2);
+        let answer = self.map.compare_and_set(key, expected, new);
+        let wanted = match there == expected {
+            true => CompareAndSet::Set,
+            false => CompareAndSet::Differs(there),
+        };
+        if self.is_done(answer, wanted) && there == expected {
+            self.plain.remove(&key);
+            self.plain.extend(new.map(|new| (key, new)));
+        }
+        self.get(key);
+    }
+
+    fn upsert(&mut self, key: u64, value: u64) {
+        let old = self.plain.get(&key).copied();
+        let new = |old: Option<u64>| old.unwrap_or(7) ^ value;
+        let answer = self.map.upsert(key, new);
+        if self.is_done(answer, Upsert { old, new: new(old) }) {
+            self.plain.insert(key, new(old));
         }
         self.get(key);
     }

@@ -315,3 +315,48 @@ fn a_function_takes_maps_of_both_kinds() {
     assert_eq!(sum(&map), 25);
     assert_eq!(sum(&map.freeze().expect("there is memory")), 25);
 }
+
+#[test]
+fn maps_of_sorted_pairs() {
+    let settings = Settings::default();
+    for count in [0, 1, 63, 64, 65, 10_000] {
+        let pairs = || (0..count).map(|n| (n * (u64::MAX / 10_000), n));
+        let mut map = Map::from_sorted(&settings, pairs()).expect("they rise");
+        assert!(map.iter().eq(pairs()));
+        assert!(map.iter().rev().eq(pairs().rev()));
+        assert_eq!(map.insert(u64::MAX, 0), Ok(None));
+        assert_eq!(map.pop_last(), Ok(Some((u64::MAX, 0))));
+        assert_eq!(map.clear(..), Ok(count));
+    }
+    for unsorted in [[1, 0, 2], [0, 2, 1], [0, 0, 1], [0, 1, 1]] {
+        let map = Map::from_sorted(&settings, unsorted.map(|key| (key, 0)));
+        assert_eq!(map.err(), Some(Fault::Unsorted));
+    }
+    let worn = Settings {
+        first_version: u64::MAX,
+        ..settings
+    };
+    assert_eq!(Map::from_sorted(&worn, [(1, 1)]).err(), Some(Fault::Worn));
+    let bad = Settings {
+        fanout: 65,
+        ..settings
+    };
+    assert_eq!(Map::from_sorted(&bad, []).err(), Some(Fault::BadFanout));
+}
+
+/// Pairs go in by 64 at once, also where an iterator says nothing of how many there are.
+#[test]
+fn many_pairs_are_set_in_their_order() {
+    for count in [0, 1, 63, 64, 65, 127, 128, 129, 1000] {
+        let pairs = || {
+            (0..count)
+                .map(|n| (n % 100, n))
+                .filter(|(_, n)| *n < u64::MAX)
+        };
+        let mut map = Map::from([(7, 0), (200, 200)]);
+        map.try_extend(pairs()).expect("there is memory");
+        let mut plain = std::collections::BTreeMap::from([(7, 0), (200, 200)]);
+        plain.extend(pairs());
+        assert!(map.into_iter().eq(plain));
+    }
+}

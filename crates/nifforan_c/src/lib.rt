@@ -5,19 +5,22 @@
 
 ghost use Rattle.std.specs.Prelude.{◌≡◌, ◌≢◌, ◌↔◌, None, length, reverse};
 ghost use Rattle.bw_delta.specs.Entries.{at, first_entry, last_entry, first_from, last_upto};
-ghost use Rattle.nifforan.specs.Calls.{Puts, Sets, Deletes};
-ghost use Rattle.nifforan_handle.specs.Answers.{had, IsZeroWithout};
+ghost use Rattle.nifforan.specs.Calls.{Puts, Sets, Deletes, PopsFirst, PopsLast};
+ghost use Rattle.nifforan_handle.specs.Answers.{had, value_of, IsZeroWithout};
 ghost use Rattle.nifforan_handle.specs.Calls.{Creates, Writes, ClearsHeld, Reserves, Shrinks};
-ghost use Rattle.nifforan_handle.specs.Calls.{Finds, ReadsInto};
+ghost use Rattle.nifforan_handle.specs.Calls.{SetsIfExpected, Pops, Extends, Finds, ReadsInto};
+ghost use Rattle.nifforan_handle.specs.Filling.{OpensSorted};
 ghost use Rattle.nifforan_handle.specs.Frozen.{Freezes, Shares, Thaws};
 ghost use Rattle.nifforan_handle.specs.Held.{end_at, map_in, pairs_in, pairs_between};
+ghost use Rattle.nifforan_handle.specs.Reading.{are_pairs};
 ghost use Rattle.nifforan_handle.specs.declared.held.Held.TheVariants.{Closed};
 ghost use Rattle.nifforan_handle.specs.declared.status.TheConstants.{CLOSED, OK};
 ghost use Rattle.nifforan_handle.specs.declared.text.TheConstants.{VERSION};
 ghost use Rattle.nifforan_handle.specs.Statuses.{EndsWithZero};
 
 pub use nifforan_handle::{
-    Cleared, Count, Found, Handle, High, Pair, Read, Reply, Settings, StatusText,
+    Cleared, Count, Filled, Found, Handle, High, Optional, Pair, Popped, Read, Reply, Settings,
+    StatusText,
 };
 use std::alloc::Global;
 
@@ -46,6 +49,21 @@ pub extern "C" fn nifforan_create(alloc: Global, map: &mut Handle, settings: &Se
     ensures { Creates settings.now result map.old.held map.new.held }
 {
     map.create(alloc, settings)
+}
+
+/// Opens a map with the pairs, whose keys have to rise, at a closed handle. With any status but `OK`
+/// the handle stays as it was: those of `nifforan_create`, `UNSORTED` if a key isn't above the one
+/// before, or a fault. The count is that of the pairs, or with `UNSORTED` of those that rise.
+#[unsafe(no_mangle)]
+pub extern "C" fn nifforan_from_sorted(
+    alloc: Global,
+    map: &mut Handle,
+    settings: &Settings,
+    pairs: &[Pair],
+) -> Filled
+    ensures { OpensSorted settings.now (are_pairs pairs.now) result map.old.held map.new.held }
+{
+    map.from_sorted(alloc, settings, pairs)
 }
 
 /// Returns the number of pairs.
@@ -167,6 +185,47 @@ pub extern "C" fn nifforan_delete(alloc: Global, map: &mut Handle, key: u64) -> 
     ensures { Writes (Deletes key) result map.old.held map.new.held }
 {
     map.delete(alloc, key)
+}
+
+/// Sets the key to the new value, or deletes it where there is none, if it has the expected value, or
+/// none. The reply has the value that it had: it was set if that is what was expected.
+#[unsafe(no_mangle)]
+pub extern "C" fn nifforan_compare_and_set(
+    alloc: Global,
+    map: &mut Handle,
+    key: u64,
+    expected: &Optional,
+    value: &Optional,
+) -> Reply
+    ensures { Writes (SetsIfExpected key (value_of expected.now) (value_of value.now)) result
+        map.old.held map.new.held }
+{
+    map.compare_and_set(alloc, key, expected, value)
+}
+
+/// Removes the pair with the least key, if there is any. The answer has it.
+#[unsafe(no_mangle)]
+pub extern "C" fn nifforan_pop_first(alloc: Global, map: &mut Handle) -> Popped
+    ensures { Pops PopsFirst result map.old.held map.new.held }
+{
+    map.pop_first(alloc)
+}
+
+/// Removes the pair with the greatest key, if there is any. The answer has it.
+#[unsafe(no_mangle)]
+pub extern "C" fn nifforan_pop_last(alloc: Global, map: &mut Handle) -> Popped
+    ensures { Pops PopsLast result map.old.held map.new.held }
+{
+    map.pop_last(alloc)
+}
+
+/// Sets the key of each pair to its value, one after the other: of pairs with the same key the last
+/// one stays. If a fault ends it before, the first ones are set, and the answer has their number.
+#[unsafe(no_mangle)]
+pub extern "C" fn nifforan_extend(alloc: Global, map: &mut Handle, pairs: &[Pair]) -> Filled
+    ensures { Extends (are_pairs pairs.now) result map.old.held map.new.held }
+{
+    map.extend(alloc, pairs)
 }
 
 /// Deletes the keys from the low on and below the high, and returns how many it deleted. If a fault

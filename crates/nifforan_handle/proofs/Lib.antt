@@ -1,3 +1,4 @@
+pub mod Bulk
 mod Crossing
 pub mod Filling
 pub mod Steps

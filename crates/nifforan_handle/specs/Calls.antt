@@ -1,12 +1,15 @@
 -- What the calls on a handle do to what it holds.
 use Rattle.std.specs.Prelude.{◌≡◌, ◌≢◌, ◌↔◌, ℕ, ◌+◌, ◌≤◌, false, List, Option, None, IfSome, length, take, drop, min}
-use Rattle.nifforan.specs.Calls.{Clears}
+use Rattle.bw_delta.specs.Entries.{at}
+use Rattle.nifforan.specs.Calls.{Clears, set_all, with_value}
 use Rattle.nifforan.specs.Growing.{HasAllPages, HasPagesFor}
 use Rattle.nifforan.specs.Maps.{PairList}
 use Rattle.nifforan.specs.Settings.{first_bad_setting}
 use Rattle.nifforan_handle.specs.declared.answer.Cleared.{Cleared}
+use Rattle.nifforan_handle.specs.declared.filled.Filled.{Filled}
 use Rattle.nifforan_handle.specs.declared.answer.Found.{Found}
 use Rattle.nifforan_handle.specs.declared.answer.Pair.{Pair}
+use Rattle.nifforan_handle.specs.declared.popped.Popped.{Popped}
 use Rattle.nifforan_handle.specs.declared.answer.Read.{Read}
 use Rattle.nifforan_handle.specs.declared.answer.Reply.{Reply}
 use Rattle.nifforan_handle.specs.declared.held.Held.{Held}
@@ -14,10 +17,10 @@ use Rattle.nifforan_handle.specs.declared.held.Held.TheVariants.{Own}
 use Rattle.nifforan_handle.specs.declared.settings.Settings.{Settings}
 use Rattle.nifforan_handle.specs.declared.settings.TheConstants.{SETTINGS_SIZE}
 use Rattle.nifforan_handle.specs.declared.status.TheConstants.{BAD_SIZE, CLOSED, FROZEN, NO_MEMORY, OK, OPEN, TABLE_FULL}
-use Rattle.nifforan_handle.specs.Answers.{had, next_key, pair_of, IsCare, IsZeroWithout, IsZeroAtEnd, IsZeroWithoutPair}
+use Rattle.nifforan_handle.specs.Answers.{had, next_key, pair_of, pair_popped, IsCare, IsZeroWithout, IsZeroAtEnd, IsZeroWithoutPair, IsZeroWithoutPopped}
 use Rattle.nifforan_handle.specs.Held.{map_in, pairs_in, pages_in, free_in, config_in, empty_map, is_own, IsOwn, IsFrozen}
 use Rattle.nifforan_handle.specs.Reading.{are_pairs, first_key}
-use Rattle.nifforan_handle.specs.Statuses.{config_of, status_of_field, IsStatus}
+use Rattle.nifforan_handle.specs.Statuses.{config_of, status_of_field, IsStatus, TellsFault}
 
 -- a map without pairs is opened at a closed handle, unless the settings' size is another than they have here, or a field is out of its range, or memory is short
 pub record Creates (settings : Settings) (status : ℕ) (old new : Held) : Type 0 where
@@ -46,6 +49,44 @@ pub record Writes (Does : Option ℕ → PairList → PairList → Type 0) (it :
   -- a map of the handle's own stays its own, and anything else stays as it was
   pub own : IsOwn old → IsOwn new
   pub others : is_own old ≡ false → new ≡ old
+
+-- the key had this before: if that was what was expected, it has the new value then, or none, and
+-- otherwise it keeps what it had
+pub record SetsIfExpected (key : ℕ) (expected value had : Option ℕ) (old new : PairList)
+    : Type 0 where
+  pub before : had ≡ at key old
+  pub set : had ≡ expected → new ≡ with_value key value old
+  pub kept : had ≢ expected → new ≡ old
+
+-- what the status and the care of a call say that may change a map
+pub record Reports (status care : ℕ) (old new : Held) : Type 0 where
+  pub closed : (map_in old ≡ None) ↔ (status ≡ CLOSED)
+  pub frozen : IsFrozen old ↔ (status ≡ FROZEN)
+  pub told : IsStatus status
+  pub beside : status ≢ OK → care ≡ OK
+  pub cared : care ≢ OK → TellsFault care
+  pub full : status ≡ TABLE_FULL → IfSome (map_in new) HasAllPages
+  pub full_care : care ≡ TABLE_FULL → IfSome (map_in new) HasAllPages
+  pub config : config_in new ≡ config_in old
+  pub own : IsOwn old → IsOwn new
+  pub others : is_own old ≡ false → new ≡ old
+
+-- a pair is taken out, by which one it is
+pub record Pops (Does : Option (ℕ × ℕ) → PairList → PairList → Type 0) (it : Popped)
+    (old new : Held) : Type 0 where
+  pub reports : Reports it.status it.care old new
+  pub pops : it.status ≡ OK → Does (pair_popped it) (pairs_in old) (pairs_in new)
+  pub nothing : it.status ≢ OK → pair_popped it ≡ None
+  pub zero : IsZeroWithoutPopped it
+  pub unchanged : it.status ≢ OK → pairs_in new ≡ pairs_in old
+
+-- the first of the pairs are set, one after the other, and the answer has their number: all of
+-- them, unless the call ended before
+pub record Extends (pairs : PairList) (it : Filled) (old new : Held) : Type 0 where
+  pub reports : Reports it.status it.care old new
+  pub sets : pairs_in new ≡ set_all (take it.count pairs) (pairs_in old)
+  pub few : it.count ≤ length pairs
+  pub all : it.status ≡ OK → it.count ≡ length pairs
 
 -- the removal of the keys from the low on and below the end
 pub record ClearsHeld (low end : ℕ) (it : Cleared) (old new : Held) : Type 0 where

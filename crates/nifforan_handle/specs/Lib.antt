@@ -1,5 +1,6 @@
 pub mod Answers
 pub mod Calls
+pub mod Filling
 pub mod Frozen
 pub mod Held
 pub mod Owned

@@ -2,14 +2,14 @@
 ghost use Rattle.std.specs.Prelude.{◌≡◌, None, Some, IfOk, IfErr, IfSome};
 ghost use Rattle.bw_procedures.specs.declared.fault.Fault.TheVariants as faults;
 ghost use Rattle.nifforan.specs.Growing.{fault_reported};
-ghost use Rattle.nifforan_handle.specs.Answers.{had, next_key, pair_of};
+ghost use Rattle.nifforan_handle.specs.Answers.{had, next_key, pair_of, before_compare};
 ghost use Rattle.nifforan_handle.specs.Answers.{RepliesWith, IsCare, IsZeroWithout, IsZeroAtEnd};
 ghost use Rattle.nifforan_handle.specs.Answers.{IsZeroWithoutPair};
 ghost use Rattle.nifforan_handle.specs.Statuses.{status_of_fault, status_of, IsStatus};
 ghost use Rattle.nifforan_handle.specs.declared.status.TheConstants.{CLOSED, OK, TABLE_FULL};
 
 use crate::status::{self, CLOSED, OK};
-use nifforan::{Del, Done, Fault, Put, Set};
+use nifforan::{CompareAndSet, Del, Done, Fault, Put, Set};
 
 /// What a call on one key replies: it says what the key had before.
 pub(crate) trait Before {
@@ -103,6 +103,30 @@ impl Reply {
             care: status::of(fault),
             found: before.is_some(),
             value: before.unwrap_or(0),
+        }
+    }
+
+    pub(crate) fn of_compared(
+        answer: Result<Done<CompareAndSet>, Fault>,
+        expected: Option<u64>,
+    ) -> Reply
+        ensures reply { IfOk answer (λ done.
+            RepliesWith (before_compare expected done.reply) result) }
+        ensures fault { IfErr answer (λ fault. result.status ≡ status_of_fault fault) }
+        ensures nothing { IfErr answer (λ fault. had result ≡ None) }
+        ensures full { result.status ≡ TABLE_FULL → fault_reported answer ≡ Some faults.TableFull }
+        ensures full_care { result.care ≡ TABLE_FULL
+            → fault_reported answer ≡ Some faults.TableFull }
+        ensures status { IsStatus result.status }
+        ensures reported { IsCare result }
+        ensures zero { IsZeroWithout result }
+    {
+        match answer {
+            Ok(done) => match done.reply {
+                CompareAndSet::Set => Reply::found(expected, done.fault),
+                CompareAndSet::Differs(there) => Reply::found(there, done.fault),
+            },
+            Err(fault) => Reply::without(status::of_fault(fault)),
         }
     }
 

@@ -1,17 +1,23 @@
 //! The calls for C that change a map, or what a handle holds.
 
 ghost use Rattle.std.specs.Prelude.{◌≡◌, ◌≢◌, ◌↔◌, None, IsTrue};
-ghost use Rattle.nifforan.specs.Calls.{Puts, Sets, Deletes};
+ghost use Rattle.nifforan.specs.Calls.{Puts, Sets, Deletes, PopsFirst, PopsLast};
+ghost use Rattle.nifforan_handle.specs.Answers.{value_of};
 ghost use Rattle.nifforan_handle.specs.Calls.{Creates, Writes, ClearsHeld, Reserves, Shrinks};
+ghost use Rattle.nifforan_handle.specs.Calls.{SetsIfExpected, Pops, Extends};
 ghost use Rattle.nifforan_handle.specs.Frozen.{Freezes, Shares, Thaws};
 ghost use Rattle.nifforan_handle.specs.Held.{end_at, map_in};
+ghost use Rattle.nifforan_handle.specs.Reading.{are_pairs};
 ghost use Rattle.nifforan_handle.specs.declared.held.Held.TheVariants.{Closed};
 ghost use Rattle.nifforan_handle.specs.declared.status.TheConstants.{NO_MEMORY, OK};
 
-use crate::answer::{Cleared, Reply};
+use crate::answer::{Cleared, Pair, Reply};
+use crate::filled::Filled;
 use crate::handle::Handle;
 use crate::held::Held;
 use crate::high::High;
+use crate::optional::Optional;
+use crate::popped::Popped;
 use crate::settings::{SETTINGS_SIZE, Settings};
 use crate::status::{self, BAD_SIZE, CLOSED, NO_MEMORY, OK, OPEN};
 use nifforan::{Map, NewFault};
@@ -39,7 +45,7 @@ impl Handle {
     }
 
     /// Returns whether the handle has a map.
-    fn is_open(&mut self, alloc: Global) -> bool
+    pub(crate) fn is_open(&mut self, alloc: Global) -> bool
         ensures open { IsTrue result ↔ (map_in self.old.held ≢ None) }
         ensures unchanged { self.new.held ≡ self.old.held }
     {
@@ -52,7 +58,7 @@ impl Handle {
     }
 
     /// Holds this from now on, unless memory is short.
-    fn open(&mut self, alloc: Global, held: Held) -> u32
+    pub(crate) fn open(&mut self, alloc: Global, held: Held) -> u32
         ensures open { result ≡ OK → self.new.held ≡ held }
         ensures memory { result ≢ OK → result ≡ NO_MEMORY }
         ensures unchanged { result ≢ OK → self.new.held ≡ self.old.held }
@@ -100,6 +106,64 @@ impl Handle {
         let reply = held.delete(key);
         self.hold(alloc, held);
         reply
+    }
+
+    /// Sets the key to the new value, or deletes it where there is none, if it has the expected value,
+    /// or none. The reply has the value that it had: it was set if that is what was expected.
+    pub fn compare_and_set(
+        &mut self,
+        alloc: Global,
+        key: u64,
+        expected: &Optional,
+        new: &Optional,
+    ) -> Reply
+        ensures { Writes (SetsIfExpected key (value_of expected.now) (value_of new.now)) result
+            self.old.held self.new.held }
+    {
+        let Some(mut held) = self.take(alloc) else {
+            return Reply::without(CLOSED);
+        };
+        let reply = held.compare_and_set(key, expected.get(), new.get());
+        self.hold(alloc, held);
+        reply
+    }
+
+    /// Removes the pair with the least key, if there is any. The answer has it.
+    pub fn pop_first(&mut self, alloc: Global) -> Popped
+        ensures { Pops PopsFirst result self.old.held self.new.held }
+    {
+        let Some(mut held) = self.take(alloc) else {
+            return Popped::without(CLOSED);
+        };
+        let popped = held.pop_first();
+        self.hold(alloc, held);
+        popped
+    }
+
+    /// Removes the pair with the greatest key, if there is any. The answer has it.
+    pub fn pop_last(&mut self, alloc: Global) -> Popped
+        ensures { Pops PopsLast result self.old.held self.new.held }
+    {
+        let Some(mut held) = self.take(alloc) else {
+            return Popped::without(CLOSED);
+        };
+        let popped = held.pop_last();
+        self.hold(alloc, held);
+        popped
+    }
+
+    /// Sets the key of each pair to its value, one after the other: of pairs with the same key the
+    /// last one stays. If a fault ends it before, the first ones are set, and the answer has their
+    /// number.
+    pub fn extend(&mut self, alloc: Global, pairs: &[Pair]) -> Filled
+        ensures { Extends (are_pairs pairs.now) result self.old.held self.new.held }
+    {
+        let Some(mut held) = self.take(alloc) else {
+            return Filled::ended(CLOSED, 0);
+        };
+        let filled = held.extend(pairs);
+        self.hold(alloc, held);
+        filled
     }
 
     /// Deletes the keys from the low on and below the high, and returns how many it deleted. If a

@@ -3,11 +3,16 @@
 ghost use Rattle.std.specs.Prelude.{◌≡◌, None, Some};
 ghost use Rattle.std.specs.Option.{MatchOption};
 ghost use Rattle.bw_keys.specs.Ranges.{end_of};
-ghost use Rattle.nifforan.specs.Calls.{Puts, Sets, Deletes};
+ghost use Rattle.nifforan.specs.Calls.{Puts, Sets, Deletes, PopsFirst, PopsLast};
 ghost use Rattle.nifforan_handle.specs.Calls.{Writes, ClearsHeld, Reserves, Shrinks};
+ghost use Rattle.nifforan_handle.specs.Calls.{SetsIfExpected, Pops, Extends};
 ghost use Rattle.nifforan_handle.specs.Held.{map_in};
+ghost use Rattle.nifforan_handle.specs.Reading.{are_pairs};
 
-use crate::answer::{Cleared, Reply};
+use crate::answer::{Cleared, Pair, Reply};
+use crate::fill;
+use crate::filled::Filled;
+use crate::popped::Popped;
 use crate::status::{self, CLOSED, FROZEN, NO_MEMORY, OK};
 use bw_keys::{Fence, Key};
 use nifforan::Map;
@@ -65,6 +70,51 @@ impl Held {
             Held::Closed => Reply::without(CLOSED),
             Held::Own(map) => Reply::of(map.delete(key)),
             Held::Frozen(_) => Reply::without(FROZEN),
+        }
+    }
+
+    pub(crate) fn compare_and_set(
+        &mut self,
+        key: Key,
+        expected: Option<u64>,
+        new: Option<u64>,
+    ) -> Reply
+        ensures { Writes (SetsIfExpected key expected new) result self.old self.new }
+    {
+        match self {
+            Held::Closed => Reply::without(CLOSED),
+            Held::Own(map) => Reply::of_compared(map.compare_and_set(key, expected, new), expected),
+            Held::Frozen(_) => Reply::without(FROZEN),
+        }
+    }
+
+    pub(crate) fn pop_first(&mut self) -> Popped
+        ensures { Pops PopsFirst result self.old self.new }
+    {
+        match self {
+            Held::Closed => Popped::without(CLOSED),
+            Held::Own(map) => Popped::of(map.pop_first()),
+            Held::Frozen(_) => Popped::without(FROZEN),
+        }
+    }
+
+    pub(crate) fn pop_last(&mut self) -> Popped
+        ensures { Pops PopsLast result self.old self.new }
+    {
+        match self {
+            Held::Closed => Popped::without(CLOSED),
+            Held::Own(map) => Popped::of(map.pop_last()),
+            Held::Frozen(_) => Popped::without(FROZEN),
+        }
+    }
+
+    pub(crate) fn extend(&mut self, pairs: &[Pair]) -> Filled
+        ensures { Extends (are_pairs pairs.now) result self.old self.new }
+    {
+        match self {
+            Held::Closed => Filled::ended(CLOSED, 0),
+            Held::Own(map) => fill::set_each(map, pairs),
+            Held::Frozen(_) => Filled::ended(FROZEN, 0),
         }
     }
 

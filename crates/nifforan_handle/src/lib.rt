@@ -4,20 +4,27 @@
 
 mod answer;
 mod calls;
+mod fill;
+mod filled;
 mod frozen;
 mod handle;
 mod held;
 mod high;
 mod looks;
 mod loose;
+mod optional;
+mod popped;
 mod read;
 mod settings;
 pub mod status;
 mod text;
 
 pub use answer::{Cleared, Count, Found, Pair, Read, Reply};
+pub use filled::Filled;
 pub use handle::Handle;
 pub use held::Held;
 pub use high::High;
+pub use optional::Optional;
+pub use popped::Popped;
 pub use settings::{SETTINGS_SIZE, Settings};
 pub use text::{StatusText, VERSION, status_text};

@@ -55,6 +55,9 @@ pub const NOT_FROZEN: u32 = 14;
 /// Other handles have the frozen map too.
 pub const SHARED: u32 = 15;
 
+/// The key of a pair isn't above that of the pair before.
+pub const UNSORTED: u32 = 16;
+
 pub(crate) fn of(fault: Option<Fault>) -> u16
     ensures status { result ≡ status_of fault }
     ensures full { result ≡ TABLE_FULL → fault ≡ Some faults.TableFull }

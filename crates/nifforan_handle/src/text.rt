@@ -48,6 +48,7 @@ fn meaning(status: u32) -> &'static str {
         status::FROZEN => "the map is frozen",
         status::NOT_FROZEN => "the map is not frozen",
         status::SHARED => "other handles have the map too",
+        status::UNSORTED => "a key is not above the one before",
         _ => "no status of this library",
     }
 }
