@@ -16,6 +16,12 @@ pub(crate) struct Window {
     end: usize,
 }
 
+impl Default for Window {
+    fn default() -> Window {
+        Window::empty()
+    }
+}
+
 impl Window {
     #[inline]
     pub fn empty() -> Window {
@@ -48,11 +54,13 @@ impl Window {
     }
 
     #[inline]
-    fn take_first(&mut self) -> Option<(u64, u64)> {
-        let place = *self.places[..self.end].get(self.first)?;
+    pub fn take_first(&mut self) -> Option<(u64, u64)> {
+        if self.first >= self.end {
+            return None;
+        }
+        // SAFETY: the places below `end`, of which there are as many, were written.
+        let pair = unsafe { self.places.get_unchecked(self.first).assume_init() };
         self.first += 1;
-        // SAFETY: it was written.
-        let pair = unsafe { place.assume_init() };
         Some((pair.key, pair.value))
     }
 
@@ -69,8 +77,8 @@ impl Window {
 pub(crate) struct Walk {
     /// Pairs from the front, by rising keys.
     front: Window,
-    /// Pairs from the back, by falling keys.
-    back: Window,
+    /// Pairs from the back, by falling keys, once any was asked for there.
+    back: Option<Box<Window>>,
     /// What may not be read yet, between the two.
     unread: Option<(u64, High)>,
 }
@@ -81,7 +89,7 @@ impl Walk {
     pub fn of(ends: Option<(u64, High)>) -> Walk {
         Walk {
             front: Window::empty(),
-            back: Window::empty(),
+            back: None,
             unread: ends,
         }
     }
@@ -94,19 +102,27 @@ impl Walk {
     #[inline(never)]
     fn read_next(&mut self, map: &Reads) -> Option<(u64, u64)> {
         self.read_front(map);
-        self.front.take_first().or_else(|| self.back.take_last())
+        let back = self.back.as_deref_mut();
+        let front = self.front.take_first();
+        front.or_else(|| back?.take_last())
     }
 
     pub fn next_back(&mut self, map: &Reads) -> Option<(u64, u64)> {
-        if self.back.left().is_empty() {
-            self.read_back(map);
-        }
-        self.back.take_first().or_else(|| self.front.take_last())
+        let read = self.back.as_deref_mut().and_then(Window::take_first);
+        read.or_else(|| self.read_previous(map))
+    }
+
+    #[inline(never)]
+    fn read_previous(&mut self, map: &Reads) -> Option<(u64, u64)> {
+        self.read_back(map);
+        let back = self.back.as_deref_mut().and_then(Window::take_first);
+        back.or_else(|| self.front.take_last())
     }
 
     /// How many pairs are left at least, and at most.
     pub fn size_hint(&self, map: &Reads) -> (usize, Option<usize>) {
-        let read = self.front.left().len() + self.back.left().len();
+        let back = self.back.as_ref().map_or(0, |back| back.left().len());
+        let read = self.front.left().len() + back;
         let most = if self.unread.is_some() {
             map.len()
         } else {
@@ -127,8 +143,9 @@ impl Walk {
         let Some((low, high)) = self.unread else {
             return;
         };
-        let read = self.back.read_back(map, low, high);
-        self.unread = match self.back.left().last() {
+        let back = self.back.get_or_insert_with(Box::default);
+        let read = back.read_back(map, low, high);
+        self.unread = match back.left().last() {
             Some(pair) if read.has_next => Some((low, High::below(pair.key))),
             _ => None,
         };
