@@ -4,6 +4,7 @@
 mod entry;
 mod fault;
 mod ffi;
+mod forest;
 mod frozen;
 mod iter;
 mod map;
@@ -13,6 +14,7 @@ mod walk;
 
 pub use entry::{Entry, OccupiedEntry, VacantEntry};
 pub use fault::{Fault, Unfinished, Unfrozen};
+pub use forest::{BadBounds, Bounds, Forest, ForestRange, IntoPairs};
 pub use frozen::Frozen;
 pub use iter::{IntoIter, IntoKeys, IntoValues, Iter, Keys, Range, Values};
 pub use map::{CompareAndSet, Map, Upsert};

@@ -1,0 +1,204 @@
+// A map of C++17 that many threads read and change at once, over nifforan.h: several trees, each a map for a range of keys
+// behind a std::mutex of its own, so that threads with keys of different ranges seldom wait for each other.
+//
+// A call of one key is one call of the map that has it, under its lock. What each map does is proved; the locks and what is
+// written here around them are not. Calls of many keys go from tree to tree, and see each at a moment of its own.
+//
+// What can't be made throws, as of nifforan_cpp::Map. Where a caller's function throws under a lock, nothing is changed.
+#pragma once
+
+#include <algorithm>
+#include <cstddef>
+#include <cstdint>
+#include <functional>
+#include <limits>
+#include <mutex>
+#include <optional>
+#include <stdexcept>
+#include <utility>
+#include <vector>
+
+#include "map.hpp"
+
+namespace nifforan_cpp {
+
+// Where the ranges of a forest's trees begin: the first one at 0, each other above the one before.
+class Bounds {
+public:
+    static constexpr std::size_t MOST_TREES = 1024;
+
+    // It throws std::invalid_argument where they don't rise from 0 on, or are none, or more than 1,024.
+    explicit Bounds(std::vector<std::uint64_t> firsts) : keys(std::move(firsts)) {
+        see(keys.size());
+        if (keys.front() != 0) throw std::invalid_argument("nifforan: the first bound is not 0");
+        if (std::adjacent_find(keys.begin(), keys.end(), std::greater_equal<>()) != keys.end())
+            throw std::invalid_argument("nifforan: a bound is not above the one before");
+    }
+    // Cuts the keys below the end into this many ranges of the same length; keys from the end on belong to the last one.
+    static Bounds even(std::size_t trees, std::uint64_t end) {
+        see(trees);
+        // trees are few, so that neither product is too great
+        const std::uint64_t part = end / trees, rest = end % trees;
+        return of_firsts(trees, [=](std::size_t tree) { return part * tree + rest * tree / trees; });
+    }
+    // Cuts all keys into this many ranges, so that each has as many of these keys; where keys are the same, or too few, into fewer.
+    static Bounds of_sample(std::vector<std::uint64_t> sample, std::size_t trees) {
+        see(trees);
+        std::sort(sample.begin(), sample.end());
+        return of_firsts(trees, [&](std::size_t tree) { return sample.empty() ? 0 : sample[sample.size() * tree / trees]; });
+    }
+    // The number of the tree whose range has the key.
+    std::size_t tree_of(std::uint64_t key) const {
+        return static_cast<std::size_t>(std::upper_bound(keys.begin(), keys.end(), key) - keys.begin()) - 1;
+    }
+    const std::vector<std::uint64_t> &firsts() const { return keys; }
+
+private:
+    static void see(std::size_t trees) {
+        if (trees < 1 || trees > MOST_TREES) throw std::invalid_argument("nifforan: the bounds are not from 1 to 1024");
+    }
+    template <typename First> static Bounds of_firsts(std::size_t trees, First first) {
+        std::vector<std::uint64_t> keys{0};
+        for (std::size_t tree = 1; tree < trees; tree++)
+            if (first(tree) > keys.back()) keys.push_back(first(tree));
+        return Bounds(std::move(keys));
+    }
+
+    std::vector<std::uint64_t> keys;
+};
+
+class Forest {
+    static constexpr std::size_t AT_ONCE = 64;
+
+    // A map by itself on its cache lines, also where those are fetched two by two.
+    struct alignas(128) Tree {
+        std::mutex lock;
+        Map map = Map::closed();
+
+        template <typename Call> auto locked(Call call) {
+            const std::lock_guard<std::mutex> held(lock);
+            return call(map);
+        }
+    };
+
+    template <typename Call> auto in_tree_of(std::uint64_t key, Call call) {
+        return trees[its_bounds.tree_of(key)].locked(call);
+    }
+
+public:
+    using value_type = Map::value_type;
+
+    explicit Forest(Bounds bounds, const nifforan_settings &settings = NIFFORAN_USUAL_SETTINGS)
+        : its_bounds(std::move(bounds)), trees(its_bounds.firsts().size()) {
+        for (Tree &tree : trees) check(tree.map.try_open(settings));
+    }
+    // With these pairs, each of whose keys has to be above the one before.
+    Forest(Bounds bounds, const nifforan_pair *pairs, std::size_t count, const nifforan_settings &settings = NIFFORAN_USUAL_SETTINGS)
+        : its_bounds(std::move(bounds)), trees(its_bounds.firsts().size()) {
+        const auto not_rising = [](const nifforan_pair &one, const nifforan_pair &next) { return one.key >= next.key; };
+        if (std::adjacent_find(pairs, pairs + count, not_rising) != pairs + count) throw Fault(NIFFORAN_UNSORTED);
+        const nifforan_pair *from = pairs;
+        for (std::size_t tree = 0; tree < trees.size(); tree++) {
+            const auto is_inside = [&](const nifforan_pair &pair) { return its_bounds.tree_of(pair.key) == tree; };
+            const nifforan_pair *to = std::partition_point(from, pairs + count, is_inside);
+            check(trees[tree].map.try_from_sorted(from, static_cast<std::size_t>(to - from), settings).status);
+            from = to;
+        }
+    }
+    Forest(const Forest &) = delete;
+    Forest &operator=(const Forest &) = delete;
+
+    const Bounds &bounds() const { return its_bounds; }
+
+    std::optional<std::uint64_t> get(std::uint64_t key) {
+        return in_tree_of(key, [=](Map &map) { return map.get(key); });
+    }
+    bool contains(std::uint64_t key) { return get(key).has_value(); }
+    // Gives the key the value unless it has one, and answers the one that it had.
+    std::optional<std::uint64_t> put(std::uint64_t key, std::uint64_t value) {
+        return in_tree_of(key, [=](Map &map) { return map.put(key, value); });
+    }
+    // Gives the key the value, and answers the one that it had.
+    std::optional<std::uint64_t> set(std::uint64_t key, std::uint64_t value) {
+        return in_tree_of(key, [=](Map &map) { return map.set(key, value); });
+    }
+    // Takes the key out, and answers the value that it had.
+    std::optional<std::uint64_t> erase(std::uint64_t key) {
+        return in_tree_of(key, [=](Map &map) { return map.erase(key); });
+    }
+    // As of a map, with no other thread between.
+    std::optional<std::uint64_t> compare_and_set(std::uint64_t key, std::optional<std::uint64_t> expected,
+                                                 std::optional<std::uint64_t> value) {
+        return in_tree_of(key, [=](Map &map) { return map.compare_and_set(key, expected, value); });
+    }
+    // Gives the key what the function makes of its std::optional value, and takes it out where that is none. It answers the value
+    // that the key had. No other thread comes between: the function runs under the tree's lock, and makes no call on this
+    // forest.
+    template <typename Change> std::optional<std::uint64_t> update(std::uint64_t key, Change change) {
+        return in_tree_of(key, [&](Map &map) {
+            const std::optional<std::uint64_t> given = change(map.get(key));
+            return given ? map.set(key, *given) : map.erase(key);
+        });
+    }
+
+    // How many pairs the trees have, each counted at a moment of its own: while other threads change them, there need be no moment
+    // at which the forest had as many.
+    std::uint64_t size() {
+        std::uint64_t pairs = 0;
+        for (Tree &tree : trees) pairs += tree.locked([](Map &map) { return map.size(); });
+        return pairs;
+    }
+    bool empty() { return size() == 0; }
+    // The pair with the least key, of the first tree that has any when it is asked, and with the greatest, of the last one.
+    std::optional<value_type> first() {
+        for (Tree &tree : trees)
+            if (const auto pair = tree.locked([](Map &map) { return map.first(); })) return pair;
+        return std::nullopt;
+    }
+    std::optional<value_type> last() {
+        for (auto tree = trees.rbegin(); tree != trees.rend(); ++tree)
+            if (const auto pair = tree->locked([](Map &map) { return map.last(); })) return pair;
+        return std::nullopt;
+    }
+    // Takes out the keys from the low on and below the high, tree by tree, and answers how many. Where it throws, some are out.
+    std::uint64_t clear(std::uint64_t low = 0, nifforan_high high = NIFFORAN_TOP) {
+        std::uint64_t removed = 0;
+        if (!high.is_top && high.key <= low) return removed;
+        const std::size_t last = its_bounds.tree_of(high.is_top ? std::numeric_limits<std::uint64_t>::max() : high.key - 1);
+        for (std::size_t tree = its_bounds.tree_of(low); tree <= last; tree++)
+            removed += trees[tree].locked([&](Map &map) { return map.clear(low, high); });
+        return removed;
+    }
+    // Hands each pair from the low on and below the high, in the order of their keys, to the function, until it answers false. Pairs are
+    // copied by 64 at most under a tree's lock, and no lock is held while the function runs: those that are copied at once are
+    // of one moment.
+    template <typename See> void scan(std::uint64_t low, nifforan_high high, See see) {
+        std::vector<value_type> some;
+        some.reserve(AT_ONCE);
+        std::size_t tree = its_bounds.tree_of(low);
+        while (high.is_top || low < high.key) {
+            some.clear();
+            const bool is_done = trees[tree].locked([&](Map &map) {
+                const auto pairs = map.range(low, high);
+                auto at = pairs.begin();
+                for (; at != pairs.end() && some.size() < AT_ONCE; ++at) some.push_back(*at);
+                return at == pairs.end();
+            });
+            for (const auto &[key, value] : some)
+                if (!see(key, value)) return;
+            if (!is_done) {
+                low = some.back().first + 1;
+            } else if (++tree < trees.size()) {
+                low = its_bounds.firsts()[tree];
+            } else {
+                return;
+            }
+        }
+    }
+
+private:
+    Bounds its_bounds;
+    std::vector<Tree> trees;
+};
+
+}  // namespace nifforan_cpp
