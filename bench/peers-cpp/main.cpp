@@ -19,7 +19,7 @@ namespace {
 constexpr std::string_view usage = R"(usage: peers STRUCTURE WORK THREADS KEYS OPERATIONS
        peers tallies KEYS OPERATIONS
 STRUCTURE is absl or tbb, if this was built with it;
-WORK is load, rising, set, delete, scan, 100, 95, 50 (percent of gets beside puts and deletes), zipf, zipf95, zipf50,
+WORK is load, rising, set, delete, scan, 100, 95, 50 (percent of gets beside puts and deletes), zipf, zipf95, zipf50, near, near50,
 fill or fill-rising (scans after the one or other load). tbb has no deletes beside other threads.
 )";
 

@@ -39,7 +39,7 @@ struct Tally {
 
 // The kind of the operations.
 struct Work {
-    enum class Kind { load, mix, zipf, set, remove, scan };
+    enum class Kind { load, mix, zipf, near, set, remove, scan };
 
     std::string_view name;
     Kind kind;
@@ -51,7 +51,10 @@ struct Work {
     // whether each key has one turn
     bool has_each_key() const { return kind == Kind::load || kind == Kind::remove; }
 
-    bool has_deletes() const { return kind == Kind::remove || ((kind == Kind::mix || kind == Kind::zipf) && gets < 100); }
+    // whether the keys are drawn by Zipf's distribution
+    bool is_zipf() const { return kind == Kind::zipf || kind == Kind::near; }
+
+    bool has_deletes() const { return kind == Kind::remove || ((kind == Kind::mix || is_zipf()) && gets < 100); }
 };
 
 inline constexpr std::array works = {
@@ -68,6 +71,8 @@ inline constexpr std::array works = {
     Work{"zipf", Work::Kind::zipf, 100},
     Work{"zipf95", Work::Kind::zipf, 95},
     Work{"zipf50", Work::Kind::zipf, 50},
+    Work{"near", Work::Kind::near, 100},
+    Work{"near50", Work::Kind::near, 50},
     Work{"set", Work::Kind::set},
     Work{"delete", Work::Kind::remove},
     Work{"scan", Work::Kind::scan},
@@ -107,7 +112,7 @@ struct Task {
 
     // The keys of all operations, where threads don't draw them as they go.
     std::vector<std::uint32_t> known_keys(std::vector<std::uint32_t> order) const {
-        return work.kind == Work::Kind::zipf ? zipf::draw(2 * keys, count()) : order;
+        return work.is_zipf() ? zipf::draw(2 * keys, count(), work.kind == Work::Kind::near) : order;
     }
 
     // Does one worker's part.
@@ -118,6 +123,7 @@ struct Task {
             return load(worker, known, index);
         case Work::Kind::mix:
         case Work::Kind::zipf:
+        case Work::Kind::near:
             return mix(worker, known, index);
         case Work::Kind::set:
             return set_often(worker, index);
@@ -160,7 +166,7 @@ private:
     Tally mix(std::uint32_t worker, const std::vector<std::uint32_t> &known, Index &index) const {
         Tally tally;
         Dice dice(worker, 1);
-        const bool is_known = work.kind == Work::Kind::zipf;
+        const bool is_known = work.is_zipf();
         const std::size_t start = std::size_t{turns()} * worker;
         for (std::uint32_t turn = 0; turn < turns(); ++turn) {
             const Key key = is_known ? known[start + turn] : drawn_key(dice);

@@ -34,15 +34,15 @@ inline std::vector<std::uint64_t> cumulative_weights(std::uint32_t ranks) {
     return sums;
 }
 
-// So many keys, each below `end`. Those that are drawn often don't lie side by side.
-inline std::vector<std::uint32_t> draw(std::uint32_t end, std::size_t count) {
+// So many keys, each below `end`. Those that are drawn often are the least ones, or don't lie side by side.
+inline std::vector<std::uint32_t> draw(std::uint32_t end, std::size_t count, bool are_near) {
     const auto sums = cumulative_weights(end);
     Dice dice(0, 2);
     std::vector<std::uint32_t> keys(count);
     for (auto &key : keys) {
         const std::uint64_t drawn = dice.long_word() % sums.back();
-        const auto rank = std::upper_bound(sums.begin(), sums.end(), drawn) - sums.begin();
-        key = static_cast<std::uint32_t>(static_cast<std::uint64_t>(rank) * step % end);
+        const auto rank = static_cast<std::uint64_t>(std::upper_bound(sums.begin(), sums.end(), drawn) - sums.begin());
+        key = static_cast<std::uint32_t>(are_near ? rank : rank * step % end);
     }
     return keys;
 }

@@ -61,46 +61,137 @@ impl Worker for &mut Map {
     }
 }
 
-impl Worker for &Mutex<Map> {
-    fn get(&mut self, key: u64) -> Option<u64> {
-        self.lock().unwrap().get(&key).copied()
+/// A map behind a lock, which a thread holds to read it or to change it.
+pub trait Locked: Sync {
+    fn of(map: Map) -> Self;
+
+    fn read<T>(&self, look: impl FnOnce(&Map) -> T) -> T;
+
+    fn write<T>(&self, change: impl FnOnce(&mut Map) -> T) -> T;
+}
+
+impl Locked for Mutex<Map> {
+    fn of(map: Map) -> Mutex<Map> {
+        Mutex::new(map)
     }
 
-    fn put(&mut self, key: u64, value: u64) -> bool {
-        put_absent(&mut self.lock().unwrap(), key, value)
+    fn read<T>(&self, look: impl FnOnce(&Map) -> T) -> T {
+        look(&self.lock().unwrap())
     }
 
-    fn set(&mut self, key: u64, value: u64) -> Option<u64> {
-        self.lock().unwrap().insert(key, value)
-    }
-
-    fn delete(&mut self, key: u64) -> Option<u64> {
-        self.lock().unwrap().remove(&key)
-    }
-
-    fn scan(&mut self, low: u64, limit: usize) -> Vec<(u64, u64)> {
-        first_from(&self.lock().unwrap(), low, limit)
+    fn write<T>(&self, change: impl FnOnce(&mut Map) -> T) -> T {
+        change(&mut self.lock().unwrap())
     }
 }
 
-impl Worker for &RwLock<Map> {
+impl Locked for RwLock<Map> {
+    fn of(map: Map) -> RwLock<Map> {
+        RwLock::new(map)
+    }
+
+    fn read<T>(&self, look: impl FnOnce(&Map) -> T) -> T {
+        look(&RwLock::read(self).unwrap())
+    }
+
+    fn write<T>(&self, change: impl FnOnce(&mut Map) -> T) -> T {
+        change(&mut RwLock::write(self).unwrap())
+    }
+}
+
+/// A map by itself on its cache lines, also where those are fetched two by two.
+#[repr(align(128))]
+struct Padded<L>(L);
+
+/// Maps by ranges of keys, each behind a lock of its own.
+pub struct Parted<L> {
+    /// The first key of each range. The least one is 0.
+    firsts: Vec<u64>,
+    parts: Vec<Padded<L>>,
+}
+
+impl<L: Locked> Parted<L> {
+    /// Parts a map into ranges of the same length of the keys below the end.
+    pub fn of(mut map: Map, parts: u32, end: u64) -> Parted<L> {
+        let firsts: Vec<u64> = (0..u64::from(parts))
+            .map(|part| part * end / u64::from(parts))
+            .collect();
+        let mut parted: Vec<_> = firsts
+            .iter()
+            .rev()
+            .map(|first| Padded(L::of(map.split_off(first))))
+            .collect();
+        parted.reverse();
+        Parted {
+            firsts,
+            parts: parted,
+        }
+    }
+
+    #[inline]
+    fn number_of(&self, key: u64) -> usize {
+        self.firsts.partition_point(|first| *first <= key) - 1
+    }
+
+    #[inline]
+    fn part_of(&self, key: u64) -> &L {
+        &self.parts[self.number_of(key)].0
+    }
+}
+
+impl<L: Locked> Worker for &Parted<L> {
     fn get(&mut self, key: u64) -> Option<u64> {
-        self.read().unwrap().get(&key).copied()
+        self.part_of(key).read(|map| map.get(&key).copied())
     }
 
     fn put(&mut self, key: u64, value: u64) -> bool {
-        put_absent(&mut self.write().unwrap(), key, value)
+        self.part_of(key).write(|map| put_absent(map, key, value))
     }
 
     fn set(&mut self, key: u64, value: u64) -> Option<u64> {
-        self.write().unwrap().insert(key, value)
+        self.part_of(key).write(|map| map.insert(key, value))
     }
 
     fn delete(&mut self, key: u64) -> Option<u64> {
-        self.write().unwrap().remove(&key)
+        self.part_of(key).write(|map| map.remove(&key))
     }
 
     fn scan(&mut self, low: u64, limit: usize) -> Vec<(u64, u64)> {
-        first_from(&self.read().unwrap(), low, limit)
+        let mut pairs = Vec::with_capacity(limit.min(1000));
+        for part in &self.parts[self.number_of(low)..] {
+            let left = limit - pairs.len();
+            if left == 0 {
+                break;
+            }
+            part.0.read(|map| {
+                let more = map.range(low..).take(left);
+                pairs.extend(more.map(|(key, value)| (*key, *value)));
+            });
+        }
+        pairs
+    }
+}
+
+/// A map behind one lock.
+pub struct Whole<L>(pub L);
+
+impl<L: Locked> Worker for &Whole<L> {
+    fn get(&mut self, key: u64) -> Option<u64> {
+        self.0.read(|map| map.get(&key).copied())
+    }
+
+    fn put(&mut self, key: u64, value: u64) -> bool {
+        self.0.write(|map| put_absent(map, key, value))
+    }
+
+    fn set(&mut self, key: u64, value: u64) -> Option<u64> {
+        self.0.write(|map| map.insert(key, value))
+    }
+
+    fn delete(&mut self, key: u64) -> Option<u64> {
+        self.0.write(|map| map.remove(&key))
+    }
+
+    fn scan(&mut self, low: u64, limit: usize) -> Vec<(u64, u64)> {
+        self.0.read(|map| first_from(map, low, limit))
     }
 }

@@ -8,7 +8,7 @@ mod task;
 mod zipf;
 
 use beside::{run_beside, Beside};
-use index::Worker;
+use index::{Locked, Map, Parted, Whole, Worker};
 use std::process::ExitCode;
 use std::sync::{Mutex, RwLock};
 use std::time::{Duration, Instant};
@@ -19,28 +19,48 @@ use task::{Task, Work};
 const USAGE: &str = "usage: peers STRUCTURE WORK THREADS KEYS OPERATIONS
        peers beside STRUCTURE WORK THREADS KEYS OPERATIONS
        peers tallies KEYS OPERATIONS
-STRUCTURE is btree (one thread, and no other beside it), mutex or rwlock;
+STRUCTURE is btree (one thread, and no other beside it), mutex or rwlock, or mutexes PARTS or rwlocks PARTS (not beside),
+which are as many maps by ranges of keys, each behind a lock of its own;
 WORK is load, rising, set, delete, scan, list, the percent of gets beside puts and deletes, or zipf with a percent
-behind it (100 if there is none), and fill or fill-rising are scans after the one or other load.";
+behind it (100 if there is none), or near, the same with those keys side by side that are drawn often, and fill or
+fill-rising are scans after the one or other load.";
+
+/// The parts of a map whose answers are told.
+const PARTS: u32 = 16;
 
 #[derive(Clone, Copy, PartialEq, Eq)]
 enum Structure {
     Btree,
     Mutex,
     Rwlock,
+    Mutexes(u32),
+    Rwlocks(u32),
 }
 
 impl Structure {
-    const ALL: [(&'static str, Structure); 3] = [
+    const ALL: [(&'static str, Structure); 5] = [
         ("btree", Structure::Btree),
         ("mutex", Structure::Mutex),
         ("rwlock", Structure::Rwlock),
+        ("mutexes", Structure::Mutexes(PARTS)),
+        ("rwlocks", Structure::Rwlocks(PARTS)),
     ];
 
-    fn read(word: &str) -> Option<Structure> {
-        Structure::ALL
-            .into_iter()
-            .find_map(|(name, structure)| (name == word).then_some(structure))
+    /// The structure that the first words name, and the other words.
+    fn read(words: &[String]) -> Option<(Structure, &[String])> {
+        let (name, rest) = words.split_first()?;
+        let (_, structure) = Structure::ALL.into_iter().find(|(its, _)| its == name)?;
+        let parted = match structure {
+            Structure::Mutexes(_) => Structure::Mutexes,
+            Structure::Rwlocks(_) => Structure::Rwlocks,
+            whole => return Some((whole, rest)),
+        };
+        let (parts, rest) = rest.split_first()?;
+        let parts = parts
+            .parse()
+            .ok()
+            .filter(|parts| (1..=1024).contains(parts))?;
+        Some((parted(parts), rest))
     }
 
     fn is_for(self, threads: u32) -> bool {
@@ -58,14 +78,10 @@ impl Structure {
                 let tally = task.work(0, &keys, &mut map);
                 (tally, start.elapsed())
             }
-            Structure::Mutex => {
-                let shared = Mutex::new(map);
-                run_together(task, &keys, || &shared)
-            }
-            Structure::Rwlock => {
-                let shared = RwLock::new(map);
-                run_together(task, &keys, || &shared)
-            }
+            Structure::Mutex => run_whole::<Mutex<_>>(task, &keys, map),
+            Structure::Rwlock => run_whole::<RwLock<_>>(task, &keys, map),
+            Structure::Mutexes(parts) => run_parted::<Mutex<_>>(task, &keys, map, parts),
+            Structure::Rwlocks(parts) => run_parted::<RwLock<_>>(task, &keys, map, parts),
         }
     }
 
@@ -75,17 +91,27 @@ impl Structure {
         let map = task.map(&order);
         let keys = task.known_keys(order);
         match self {
-            Structure::Btree => None,
             Structure::Mutex => {
-                let shared = Mutex::new(map);
+                let shared = Whole(Mutex::new(map));
                 Some(run_beside(task, &keys, || &shared))
             }
             Structure::Rwlock => {
-                let shared = RwLock::new(map);
+                let shared = Whole(RwLock::new(map));
                 Some(run_beside(task, &keys, || &shared))
             }
+            _ => None,
         }
     }
+}
+
+fn run_whole<L: Locked>(task: &Task, keys: &[u32], map: Map) -> (Tally, Duration) {
+    let shared = Whole(L::of(map));
+    run_together(task, keys, || &shared)
+}
+
+fn run_parted<L: Locked>(task: &Task, keys: &[u32], map: Map, parts: u32) -> (Tally, Duration) {
+    let shared = Parted::<L>::of(map, parts, task.end());
+    run_together(task, keys, || &shared)
 }
 
 /// The workers side by side, each with what it is handed of the map.
@@ -116,8 +142,8 @@ fn rate_of(task: &Task, time: Duration) -> f64 {
 }
 
 fn rate(words: &[String]) -> Option<String> {
-    let (name, rest) = words.split_first()?;
-    let structure = Structure::read(name)?;
+    let name = words.first()?;
+    let (structure, rest) = Structure::read(words)?;
     let task = Task::read(rest).filter(|task| structure.is_for(task.threads))?;
     let (_, time) = structure.run(&task);
     let rate = rate_of(&task, time);
@@ -126,9 +152,10 @@ fn rate(words: &[String]) -> Option<String> {
 
 /// How many million operations and changes a second are done side by side.
 fn rates_beside(words: &[String]) -> Option<String> {
-    let (name, rest) = words.split_first()?;
+    let name = words.first()?;
+    let (structure, rest) = Structure::read(words)?;
     let task = Task::read(rest)?;
-    let Beside { time, changes } = Structure::read(name)?.run_beside(&task)?;
+    let Beside { time, changes } = structure.run_beside(&task)?;
     let rate = rate_of(&task, time);
     let changes = changes / 1e6;
     Some(format!("{name} {rate:.9} writer {changes:.6}\n"))

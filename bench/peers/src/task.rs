@@ -26,8 +26,8 @@ pub enum Work {
     Fill(Order),
     /// The share of gets, in percent; of the other operations half are puts, half deletes.
     Mix { gets: u32 },
-    /// The same by Zipf's distribution, so that a few keys are drawn often.
-    Zipf { gets: u32 },
+    /// The same by Zipf's distribution, so that a few keys are drawn often. They lie apart, or side by side.
+    Zipf { gets: u32, are_near: bool },
     /// Gets, which other structures do eight at once.
     Eights,
     /// Keys that are there are given other values.
@@ -42,7 +42,7 @@ pub enum Work {
 
 impl Work {
     /// The kinds that `bench/compare` times.
-    pub const ALL: [Work; 14] = [
+    pub const ALL: [Work; 16] = [
         Work::Load(Order::Drawn),
         Work::Load(Order::Rising),
         Work::Fill(Order::Drawn),
@@ -51,13 +51,29 @@ impl Work {
         Work::Eights,
         Work::Mix { gets: 95 },
         Work::Mix { gets: 50 },
-        Work::Zipf { gets: 100 },
-        Work::Zipf { gets: 95 },
-        Work::Zipf { gets: 50 },
+        Work::scattered(100),
+        Work::scattered(95),
+        Work::scattered(50),
+        Work::near(100),
+        Work::near(50),
         Work::Set,
         Work::Delete,
         Work::Scan,
     ];
+
+    const fn scattered(gets: u32) -> Work {
+        Work::Zipf {
+            gets,
+            are_near: false,
+        }
+    }
+
+    const fn near(gets: u32) -> Work {
+        Work::Zipf {
+            gets,
+            are_near: true,
+        }
+    }
 
     fn read(word: &str) -> Option<Work> {
         match word {
@@ -70,15 +86,19 @@ impl Work {
             "delete" => Some(Work::Delete),
             "scan" => Some(Work::Scan),
             "list" => Some(Work::List),
-            "zipf" => Some(Work::Zipf { gets: 100 }),
-            mixture => match mixture.strip_prefix("zipf") {
-                Some(gets) => Some(Work::Zipf {
-                    gets: percent(gets)?,
-                }),
-                None => Some(Work::Mix {
-                    gets: percent(mixture)?,
-                }),
-            },
+            "zipf" => Some(Work::scattered(100)),
+            "near" => Some(Work::near(100)),
+            mixture => {
+                if let Some(gets) = mixture.strip_prefix("zipf") {
+                    Some(Work::scattered(percent(gets)?))
+                } else if let Some(gets) = mixture.strip_prefix("near") {
+                    Some(Work::near(percent(gets)?))
+                } else {
+                    Some(Work::Mix {
+                        gets: percent(mixture)?,
+                    })
+                }
+            }
         }
     }
 
@@ -103,8 +123,13 @@ impl fmt::Display for Work {
             Work::Fill(Order::Drawn) => f.write_str("fill"),
             Work::Fill(Order::Rising) => f.write_str("fill-rising"),
             Work::Mix { gets } => write!(f, "{gets}"),
-            Work::Zipf { gets: 100 } => f.write_str("zipf"),
-            Work::Zipf { gets } => write!(f, "zipf{gets}"),
+            Work::Zipf { gets, are_near } => {
+                f.write_str(if *are_near { "near" } else { "zipf" })?;
+                match gets {
+                    100 => Ok(()),
+                    _ => write!(f, "{gets}"),
+                }
+            }
             Work::Eights => f.write_str("eights"),
             Work::Set => f.write_str("set"),
             Work::Delete => f.write_str("delete"),
@@ -167,7 +192,7 @@ impl Task {
     pub fn known_keys(&self, order: Vec<u32>) -> Vec<u32> {
         match self.work {
             Work::Load(_) | Work::Delete => order,
-            Work::Zipf { .. } => zipf::draw(2 * self.keys, self.count()),
+            Work::Zipf { are_near, .. } => zipf::draw(2 * self.keys, self.count(), are_near),
             _ => Vec::new(),
         }
     }
@@ -177,6 +202,14 @@ impl Task {
         let turns = self.turns() as usize;
         let start = turns * worker as usize;
         keys.get(start..start + turns).unwrap_or_default()
+    }
+
+    /// What all keys of the task lie below.
+    pub fn end(&self) -> u64 {
+        match self.work {
+            Work::Load(_) => u64::from(self.keys),
+            _ => 2 * u64::from(self.keys),
+        }
     }
 
     /// A map with every second key of those that are drawn later, put one by one, where the work
@@ -196,7 +229,9 @@ impl Task {
         match self.work {
             Work::Load(_) => self.load(worker, keys, &mut index),
             Work::Delete => self.delete_each(worker, keys, &mut index),
-            Work::Mix { gets } | Work::Zipf { gets } => self.mix(worker, gets, keys, &mut index),
+            Work::Mix { gets } | Work::Zipf { gets, .. } => {
+                self.mix(worker, gets, keys, &mut index)
+            }
             Work::Eights => self.mix(worker, 100, keys, &mut index),
             Work::Set => self.set_often(worker, &mut index),
             Work::Fill(_) | Work::Scan | Work::List => self.scan_often(worker, &mut index),

@@ -9,8 +9,8 @@ const FIRST_WEIGHT: u64 = 1 << 54;
 /// A prime above every `end`, so that the ranks times this, modulo `end`, are all the keys.
 const STEP: u64 = 2_654_435_761;
 
-/// So many keys, each below `end`. Those that are drawn often don't lie side by side.
-pub fn draw(end: u32, count: u32) -> Vec<u32> {
+/// So many keys, each below `end`. Those that are drawn often are the least ones, or don't lie side by side.
+pub fn draw(end: u32, count: u32, are_near: bool) -> Vec<u32> {
     let sums = cumulative_weights(end);
     let total = *sums.last().expect("there is a key");
     let mut dice = Dice::new(0, 2);
@@ -18,7 +18,11 @@ pub fn draw(end: u32, count: u32) -> Vec<u32> {
         .map(|_| {
             let drawn = dice.long_word() % total;
             let rank = sums.partition_point(|sum| *sum <= drawn);
-            (rank as u64 * STEP % u64::from(end)) as u32
+            if are_near {
+                rank as u32
+            } else {
+                (rank as u64 * STEP % u64::from(end)) as u32
+            }
         })
         .collect()
 }
