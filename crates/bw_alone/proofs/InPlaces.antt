@@ -4,7 +4,6 @@ use Rattle.std.specs.Prelude.{option_to_list}
 use Rattle.bw_keys.specs.declared.page.Pid.{Pid}
 use Rattle.bw_keys.specs.declared.wished.Wished.{Wished}
 use Rattle.bw_keys.specs.declared.wished.Wished.TheVariants as wishes
-use Rattle.bw_chain.specs.InPlaces.{delta_for}
 use Rattle.bw_step.specs.declared.receipt.Receipt.{Receipt}
 use Rattle.bw_step.specs.declared.receipt.Receipt.TheVariants.{Shaped}
 use Rattle.bw_step.specs.declared.receipt.Kind.TheVariants as kinds
@@ -15,19 +14,17 @@ use Rattle.bw_step.specs.declared.action.Action.TheVariants as actions
 use Rattle.bw_step.specs.declared.action.Performed.{Performed}
 use Rattle.bw_law.specs.Effects.{TakesStep, after, receipt_of, pid}
 use Rattle.bw_law.specs.Laws.{IsLeafOf}
-use Rattle.bw_law.specs.Refusals.{new_id, refusal}
+use Rattle.bw_law.specs.Refusals.{refusal}
 use Rattle.bw_law.specs.Runs.{TakesInTurn}
-use Rattle.bw_law.specs.Tables.{TableValue, TellsMap, slot_at, number_of, Lawful, Booked}
+use Rattle.bw_law.specs.Tables.{TableValue, TellsMap, slot_at, Lawful, Booked}
 use Rattle.bw_law.proofs.AllSteps.{step_law}
 use Rattle.bw_law.proofs.Facts.{leaf_decides}
 use Rattle.bw_law.proofs.TakenSteps.{turn_keeps_config}
-use Rattle.bw_table.specs.Actions.{IsPerformed, Takes, consolidated_behind, consolidation_of, had_at, look_at, middle_of, steps_for, term_of, wished_step, with_receipts}
-use Rattle.bw_table.specs.InPlaces.{TakesBoth, both_steps, consolidating, halving, IsMergedUnder, IsSplitUnder, merging_steps, receipt_for, step_for}
-use Rattle.bw_table.proofs.Reports.{IsReportOf, change_reports, put_reports}
+use Rattle.bw_table.specs.Actions.{IsPerformed, Takes, consolidated_behind, consolidation_of, had_at, look_at, reshaping, steps_for, term_of, wished_step, with_receipts}
+use Rattle.bw_table.specs.InPlaces.{TakesBoth, both_steps, IsMergedUnder, IsSplitUnder, merging_steps, step_for}
 use Rattle.bw_procedures.specs.Seen.{Seen}
 use Rattle.bw_procedures.specs.Calls.{SplitAtOnce, raised, receipts_of_merge, receipts_of_shape, receipts_of_split}
-use Rattle.bw_procedures.specs.Actions.{IsReceiptOfAction, consolidates_behind, receipts_of}
-use Rattle.bw_procedures.specs.Writing.{IsReceiptFor}
+use Rattle.bw_procedures.specs.Actions.{consolidates_behind, receipts_of}
 use Rattle.bw_alone.specs.Leading.{Tells, Leads, leads_join}
 use Rattle.bw_alone.proofs.Following.{leads_by, step_leads}
 
@@ -63,15 +60,6 @@ both_lead old new page receipt trail step law booked both = turn_leads (both_ste
 both_keep_config : (old new : TableValue) (page : ℕ) (receipt : Receipt) (step : Proposal) → TakesBoth old step receipt page new → new.config ≡ old.config
 both_keep_config old new page receipt step both = turn_keeps_config (both_steps step receipt page both.seen both.base) old new both.takes
 
--- the receipt of the record that is wished is that of the wish
-pub is_receipt_for : (number key : ℕ) (wished : Wished) (had : Option ℕ) → IsReceiptFor key wished (receipt_for number key had (delta_for wished key had))
-is_receipt_for number key (wishes.Put value) None = (refl, refl)
-is_receipt_for number key (wishes.Put value) (Some had) = (refl, refl)
-is_receipt_for number key (wishes.Set value) None = (refl, refl)
-is_receipt_for number key (wishes.Set value) (Some had) = (refl, refl)
-is_receipt_for number key wishes.Delete None = (refl, refl)
-is_receipt_for number key wishes.Delete (Some had) = refl
-
 -- an action that was performed
 module _ (old new : TableValue) (it : Performed) where
   takes_keep_config : (steps : List Proposal) → Takes old it new steps → new.config ≡ old.config
@@ -80,21 +68,6 @@ module _ (old new : TableValue) (it : Performed) where
 
   pub performed_keeps_config : (action : Action) → IsPerformed old action new it → new.config ≡ old.config
   performed_keeps_config action done = takes_keep_config (steps_for old it.page.0 action) done.takes
-
-  reported_for : (key : ℕ) (wished : Wished) → it.key ≡ key → IsReportOf old it.page.0 it.key wished it.receipt → IsReceiptFor key wished it.receipt
-  reported_for key wished found report =
-      subst (λ (k : ℕ). IsReceiptFor k wished it.receipt) found
-      (subst (IsReceiptFor it.key wished) (sym report) (is_receipt_for (number_of old.book) it.key wished (had_at old it.page.0 it.key)))
-
-  -- its receipt is the one that goes with it
-  pub performed_reported : (action : Action) → IsPerformed old action new it → IsReceiptOfAction action it.page it.receipt
-  performed_reported (actions.Change key wished) done =
-      reported_for key wished done.finds.1 (change_reports old new it wished (subst (λ (k : ℕ). Takes old it new (steps_for old it.page.0 (actions.Change k wished))) (sym done.finds.1) done.takes))
-  performed_reported (actions.Record key wished) done =
-      reported_for key wished done.finds.1 (put_reports old new it wished (subst (λ (k : ℕ). Takes old it new (steps_for old it.page.0 (actions.Record k wished))) (sym done.finds.1) done.takes))
-  performed_reported (actions.Consolidate page seen) done = done.takes.2.reported
-  performed_reported (actions.Halve page seen) done = (pid (new_id old), done.takes.2.reported)
-  performed_reported (actions.AddTerm child) done = done.takes.2.reported
 
   module _ (trail : List Receipt) (law : Lawful old) (booked : Booked old) where
     abbrev LeadsBy : List Receipt → Type 0
@@ -154,8 +127,7 @@ module _ (old new : TableValue) (it : Performed) where
     pub performed_leads : (action : Action) → IsPerformed old action new it → LeadsBy (receipts_of action it)
     performed_leads (actions.Change key wished) done = change_leads key wished (had_at old it.page.0 key) (at_leaf key done.finds) done.takes
     performed_leads (actions.Record key wished) done = record_leads (wished_step old it.page.0 key wished) (at_leaf key done.finds) done.takes
-    performed_leads (actions.Consolidate page seen) done = step_leads_on (consolidating old page.0 seen.0) done.takes
-    performed_leads (actions.Halve page seen) done = step_leads_on (halving old page.0 seen.0 (middle_of old page.0)) done.takes
+    performed_leads (actions.Reshape page seen how) done = step_leads_on (reshaping old page.0 seen.0 how) done.takes
     performed_leads (actions.AddTerm child) done = step_leads_on (term_of old it.page.0 child.0) done.takes
 
 law_kept : (old new : TableValue) (step : Proposal) (receipt : Receipt) (page : ℕ) → Lawful old → Booked old → TakesBoth old step receipt page new → Lawful new × Booked new

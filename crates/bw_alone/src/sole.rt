@@ -89,7 +89,7 @@ impl<A: Allocator + Copy, H: Holds<Table<A>>, T: Trail> Sole<A, H, T> {
     fn performs(&self, action: Action) -> bool {
         match action {
             Action::Change { .. } => self.table.is_owner() || self.account.config().chain == 1,
-            Action::Consolidate { .. } | Action::Halve { .. } => true,
+            Action::Reshape { .. } => true,
             Action::Record { .. } | Action::AddTerm { .. } => false,
         }
     }

@@ -1,8 +1,9 @@
 -- What a step that changes the map leaves.
-use Rattle.std.proofs.Common.{◌≡◌, ◌⊎◌, inl, inr, IfSome, IfNone, ℕ, ◌≤◌, Bool, true, false, if◌then◌else◌, List, [], ◌∷◌, ◌++◌, Option, Some, Result, Ok, Err, refl, sym, ap, subst, ◌∙◌, arith}
+use Rattle.std.proofs.Common.{◌≡◌, ◌⊎◌, inl, inr, IfSome, IfNone, ℕ, ◌≤◌, Bool, true, false, if◌then◌else◌, List, [], ◌∷◌, ◌++◌, Option, Some, None, Result, Ok, Err, refl, sym, ap, subst, ◌∙◌, arith}
 use Rattle.std.specs.Result.{result_ok}
 use Rattle.bw_keys.specs.declared.wished.Wished.{Wished}
 use Rattle.bw_keys.specs.declared.wished.Wished.TheVariants.{Put, Set, Delete as TakeOut}
+use Rattle.bw_step.specs.Actions.{IsReceiptOfWish, receipt_of_wish}
 use Rattle.bw_step.specs.declared.action.Action.{Action}
 use Rattle.bw_step.specs.declared.action.Action.TheVariants as actions
 use Rattle.bw_step.specs.declared.action.Performed.{Performed}
@@ -100,6 +101,18 @@ pub deletion_comes_true : (key : ℕ) (receipt : Receipt) → IsDeletionOf key r
 deletion_comes_true key (Deleted n k v) h = h
 deletion_comes_true key receipt h = absurd h
 
+-- the receipt of a wish is that of its change, or of a look that answers it
+is_receipt_for : (number key : ℕ) (wished : Wished) (had : Option ℕ) → IsReceiptFor key wished (receipt_of_wish number key wished had)
+is_receipt_for number key (Put value) None = (refl, refl)
+is_receipt_for number key (Put value) (Some had) = (refl, refl)
+is_receipt_for number key (Set value) None = (refl, refl)
+is_receipt_for number key (Set value) (Some had) = (refl, refl)
+is_receipt_for number key TakeOut None = (refl, refl)
+is_receipt_for number key TakeOut (Some had) = refl
+
+wish_comes_true : (key : ℕ) (wished : Wished) (receipt : Receipt) → IsReceiptOfWish key wished receipt → IsReceiptFor key wished receipt
+wish_comes_true key wished receipt h = subst (IsReceiptFor key wished) (sym h.2) (is_receipt_for h.0 key wished h.1)
+
 -- no wish comes true by a change of the shape alone
 shape_is_no_change : (key : ℕ) (wished : Wished) (receipt : Receipt) → without_shapes (receipt ∷ []) ≡ [] → IsChangeFor key wished receipt → ⊥
 shape_is_no_change key (Put value) (Inserted n k v) none reported = cc
@@ -137,12 +150,12 @@ adds_for is_of reply key wished action done a b h reported goes = (
 
 pub adds_at_once : {T : Type 0} → (is_of : T → Receipt → Type 0) (reply : T) (key : ℕ) (wished : Wished) (done : Performed) (a b : Seen) → MadeBy key wished done a b → is_of reply done.receipt
     → AddsReceipt is_of reply a b × Grows a b
-adds_at_once is_of reply key wished done a b (inl h) goes = adds_for is_of reply key wished (actions.Record key wished) done a b h h.reported goes
-adds_at_once is_of reply key wished done a b (inr h) goes = adds_for is_of reply key wished (actions.Change key wished) done a b h h.reported goes
+adds_at_once is_of reply key wished done a b (inl h) goes = adds_for is_of reply key wished (actions.Record key wished) done a b h (wish_comes_true key wished done.receipt h.reported.1) goes
+adds_at_once is_of reply key wished done a b (inr h) goes = adds_for is_of reply key wished (actions.Change key wished) done a b h (wish_comes_true key wished done.receipt h.reported.1) goes
 
 reported_at_once : (key : ℕ) (wished : Wished) (done : Performed) (a b : Seen) → MadeBy key wished done a b → IsReceiptFor key wished done.receipt
-reported_at_once key wished done a b (inl h) = h.reported
-reported_at_once key wished done a b (inr h) = h.reported
+reported_at_once key wished done a b (inl h) = wish_comes_true key wished done.receipt h.reported.1
+reported_at_once key wished done a b (inr h) = wish_comes_true key wished done.receipt h.reported.1
 
 -- so does a look that finds the wish true
 pub looked_at_once : {T : Type 0} → (is_of : T → Receipt → Type 0) (reply : T) (key : ℕ) (wished : Wished) (done : Performed) (a b : Seen) → MadeBy key wished done a b

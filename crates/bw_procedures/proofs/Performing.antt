@@ -1,6 +1,7 @@
 -- What an action leaves that was performed.
 use Rattle.std.proofs.Common.{◌≡◌, ℕ, ◌-◌, ◌<◌, ◌≤◌, ◌^◌, Bool, true, false, if◌then◌else◌, List, [], ◌∷◌, ◌++◌, None, Result, Ok, Err, is_ok, refl, ap, ◌∙◌, append-nil, arith}
 use Rattle.bw_keys.specs.declared.page.Pid.{Pid}
+use Rattle.bw_step.specs.Actions.{Reports}
 use Rattle.bw_step.specs.declared.action.Action.{Action}
 use Rattle.bw_step.specs.declared.action.Action.TheVariants as actions
 use Rattle.bw_step.specs.declared.action.Performed.{Performed}
@@ -13,7 +14,7 @@ use Rattle.bw_step.specs.declared.receipt.Receipt.{Receipt}
 use Rattle.bw_step.specs.declared.receipt.Receipt.TheVariants.{Inserted, Deleted, Modified, Looked, Shaped}
 use Rattle.bw_step.specs.Tellings.{Telling, change, look, shape, telling_of, without_shapes}
 use Rattle.bw_step.proofs.Tellings.{without_shapes-append}
-use Rattle.bw_procedures.specs.Actions.{consolidates_behind, effort_with, most_receipts, receipts_behind, receipts_of, IsReceiptOfAction, Performs, PerformedBy, RefusedFor}
+use Rattle.bw_procedures.specs.Actions.{consolidates_behind, effort_with, most_receipts, receipts_behind, receipts_of, Performs, PerformedBy, RefusedFor}
 use Rattle.bw_procedures.specs.Accounts.{after_performed}
 use Rattle.bw_procedures.specs.Calls.{OnlyReshapes, RoseBy}
 use Rattle.bw_procedures.specs.Seen.{Seen, Grows, receipt_effort, reported_effort}
@@ -72,15 +73,13 @@ performed_nears limit action done a b fits before is h = let more = performed_re
 pub one_at_least : (action : Action) → 1 ≤ most_receipts action
 one_at_least (actions.Change key wished) = omega arith
 one_at_least (actions.Record key wished) = omega arith
-one_at_least (actions.Consolidate page seen) = omega arith
-one_at_least (actions.Halve page seen) = omega arith
+one_at_least (actions.Reshape page seen how) = omega arith
 one_at_least (actions.AddTerm child) = omega arith
 
 pub two_with_behind : (action : Action) (receipt : Receipt) → consolidates_behind action receipt ≡ true → most_receipts action ≡ 2
 two_with_behind (actions.Change key wished) receipt is = refl
 two_with_behind (actions.Record key wished) receipt is = cc
-two_with_behind (actions.Consolidate page seen) receipt is = cc
-two_with_behind (actions.Halve page seen) receipt is = cc
+two_with_behind (actions.Reshape page seen how) receipt is = cc
 two_with_behind (actions.AddTerm child) receipt is = cc
 
 -- a page that was named in its parent at once costs one effort, and one that wasn't costs none
@@ -95,13 +94,12 @@ unposted_same child (Err (Denied NoMemory)) a b h is = h
 unposted_same child (Err StepByStep) a b h is = h
 
 -- what the account makes of an action is what it leaves
-pub performs : (action : Action) (done : Performed) (a : Seen) → IsReceiptOfAction action done.page done.receipt → Performs action done a (after_performed action done a)
+pub performs : (action : Action) (done : Performed) (a : Seen) → Reports action done → Performs action done a (after_performed action done a)
 performs action done a reported = record { reported = reported; counts = record { config = refl; full = refl; tall = refl; worn = refl }; trail = refl; effort = refl }
 
 -- an action that wasn't performed adds no receipt
 refused_trail : (action : Action) (reason : Reason) (a b : Seen) → RefusedFor action reason a b → b.trail ≡ a.trail
-refused_trail (actions.Consolidate page seen) reason a b h = h.trail
-refused_trail (actions.Halve page seen) reason a b h = h.trail
+refused_trail (actions.Reshape page seen how) reason a b h = h.trail
 refused_trail (actions.Change key wished) reason a b h = ap (λ (s : Seen). s.trail) h
 refused_trail (actions.Record key wished) reason a b h = ap (λ (s : Seen). s.trail) h
 refused_trail (actions.AddTerm child) reason a b h = ap (λ (s : Seen). s.trail) h

@@ -1,6 +1,6 @@
 -- What an action leaves of the worker, which the table performs in one hold of its lock or doesn't.
-use Rattle.std.specs.Prelude.{◌≡◌, ℕ, Bool, true, false, if◌then◌else◌, List, [], ◌∷◌, ◌++◌, Some, None, Result, Ok, Err}
-use Rattle.bw_keys.specs.declared.page.Pid.{Pid}
+use Rattle.std.specs.Prelude.{◌≡◌, ℕ, Bool, true, false, if◌then◌else◌, List, [], ◌∷◌, ◌++◌, None, Result, Ok, Err}
+use Rattle.bw_step.specs.Actions.{Reports}
 use Rattle.bw_step.specs.declared.action.Action.{Action}
 use Rattle.bw_step.specs.declared.action.Action.TheVariants as actions
 use Rattle.bw_step.specs.declared.action.Performed.{Performed}
@@ -12,15 +12,6 @@ use Rattle.bw_step.specs.declared.receipt.Receipt.{Receipt}
 use Rattle.bw_step.specs.declared.receipt.Receipt.TheVariants.{Looked, Shaped}
 use Rattle.bw_step.specs.declared.refused.Refused.{Refused as Reason}
 use Rattle.bw_procedures.specs.Seen.{Seen, SameCounts, IsRefused, receipt_effort}
-use Rattle.bw_procedures.specs.Writing.{IsReceiptFor}
-
--- the receipt that goes with an action, where this is the page that was looked at or changed
-abbrev pub IsReceiptOfAction : Action → Pid → Receipt → Type 0
-IsReceiptOfAction (actions.Change key wished) page receipt = IsReceiptFor key wished receipt
-IsReceiptOfAction (actions.Record key wished) page receipt = IsReceiptFor key wished receipt
-IsReceiptOfAction (actions.Consolidate at seen) page receipt = receipt ≡ Shaped kinds.Consolidate at None
-IsReceiptOfAction (actions.Halve at seen) page receipt = (new : Pid) × (receipt ≡ Shaped kinds.Split at (Some new))
-IsReceiptOfAction (actions.AddTerm child) page receipt = receipt ≡ Shaped kinds.TermAdd page (Some child)
 
 -- whether the page is consolidated after what this is the receipt of: a change in its place is, and a look isn't
 abbrev pub consolidates_behind : Action → Receipt → Bool
@@ -48,15 +39,14 @@ effort_with (receipt ∷ rest) n = effort_with rest (receipt_effort receipt n)
 
 -- an action that was performed adds its receipts to the trail, and no other
 pub record Performs (action : Action) (done : Performed) (old new : Seen) : Type 0 where
-  pub reported : IsReceiptOfAction action done.page done.receipt
+  pub reported : Reports action done
   pub counts : SameCounts old new
   pub trail : new.trail ≡ old.trail ++ receipts_of action done
   pub effort : new.effort ≡ effort_with (receipts_of action done) old.effort
 
 -- the refusal of a page that the action names is one of its step, and of what the action would find nothing comes
 abbrev pub RefusedFor : Action → Reason → Seen → Seen → Type 0
-RefusedFor (actions.Consolidate page seen) reason old new = IsRefused reason old new
-RefusedFor (actions.Halve page seen) reason old new = IsRefused reason old new
+RefusedFor (actions.Reshape page seen how) reason old new = IsRefused reason old new
 RefusedFor action reason old new = new ≡ old
 
 -- where memory was wanting, or the steps are to be proposed one by one, nothing was done

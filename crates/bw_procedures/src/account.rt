@@ -197,10 +197,9 @@ impl<T: Trail> Account<T> {
     {
         match action {
             Action::Change { .. } => self.trail.make_room(2),
-            Action::Record { .. }
-            | Action::Consolidate { .. }
-            | Action::Halve { .. }
-            | Action::AddTerm { .. } => self.trail.make_room(1),
+            Action::Record { .. } | Action::Reshape { .. } | Action::AddTerm { .. } => {
+                self.trail.make_room(1)
+            }
         }
     }
 
@@ -230,10 +229,9 @@ impl<T: Trail> Account<T> {
         ensures { PerformedBy action (Err why) self.old.seen self.new.seen }
     {
         match (action, why) {
-            (
-                Action::Consolidate { .. } | Action::Halve { .. },
-                Unperformed::Denied(Denied::Refused(reason)),
-            ) => self.refused(reason),
+            (Action::Reshape { .. }, Unperformed::Denied(Denied::Refused(reason))) => {
+                self.refused(reason)
+            }
             _ => {}
         }
     }

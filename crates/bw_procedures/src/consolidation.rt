@@ -10,7 +10,7 @@ use crate::fault::Fault;
 use crate::offer::{Answer, offer};
 use crate::steps::Steps;
 use bw_delta::NoMemory;
-use bw_step::{Action, Consolidate, CopyFault, Denied, Step, Unperformed, View};
+use bw_step::{Action, Consolidate, CopyFault, Denied, Reshaping, Step, Unperformed, View};
 use std::alloc::Allocator;
 
 /// Makes the step that consolidates the page as it was seen. None where the page has changed since,
@@ -63,8 +63,12 @@ fn consolidate_in_place<A: Allocator + Copy, S: Steps<A, Step<A>>>(
     if is_spent(steps, limit) {
         return Ok(None);
     }
-    let (page, seen) = (view.pid, view.version);
-    match steps.perform(Action::Consolidate { page, seen }) {
+    let action = Action::Reshape {
+        page: view.pid,
+        seen: view.version,
+        how: Reshaping::Consolidate,
+    };
+    match steps.perform(action) {
         Ok(_) => Ok(Some(true)),
         Err(Unperformed::Denied(Denied::Refused(_))) => Ok(Some(false)),
         Err(Unperformed::Denied(Denied::NoMemory)) => Err(Fault::NoMemory),

@@ -17,7 +17,8 @@ use bw_chain::{HalveFault, halve};
 use bw_delta::{Base, Chain, Node, Spare};
 use bw_keys::{Key, Pid};
 use bw_step::{
-    Action, CopyFault, Denied, Mark, Receipt, Split, Stage, Step, Todo, Unperformed, View,
+    Action, CopyFault, Denied, Mark, Receipt, Reshaping, Split, Stage, Step, Todo, Unperformed,
+    View,
 };
 use std::alloc::Allocator;
 
@@ -156,8 +157,12 @@ fn split_off<A: Allocator + Copy, S: Steps<A, Step<A>>>(
     if is_spent(steps, limit) {
         return split_by_copy(steps, limit, view);
     }
-    let (page, seen) = (view.pid, view.version);
-    match steps.perform(Action::Halve { page, seen }) {
+    let action = Action::Reshape {
+        page: view.pid,
+        seen: view.version,
+        how: Reshaping::Halve,
+    };
+    match steps.perform(action) {
         Ok(done) => match done.receipt {
             Receipt::Shaped {
                 other: Some(new),

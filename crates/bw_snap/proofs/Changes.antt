@@ -69,8 +69,7 @@ module _ (old new : TableValue) (it : Performed) where
   stands (Inserted n k value) reported (actions.Record key wished) done =
       append-nil (record_for key (wishes.Put value) (had_at old it.page.0 key)) ∙ put_stands n k value key reported wished (had_at old it.page.0 key) done.takes
   stands (Inserted n k value) reported (actions.Change key wished) done = append-nil (steps_for old it.page.0 (actions.Change key wished))
-  stands (Inserted n k value) reported (actions.Consolidate page seen) done = append-nil (steps_for old it.page.0 (actions.Consolidate page seen))
-  stands (Inserted n k value) reported (actions.Halve page seen) done = append-nil (steps_for old it.page.0 (actions.Halve page seen))
+  stands (Inserted n k value) reported (actions.Reshape page seen how) done = append-nil (steps_for old it.page.0 (actions.Reshape page seen how))
   stands (Inserted n k value) reported (actions.AddTerm child) done = append-nil (steps_for old it.page.0 (actions.AddTerm child))
   stands (Deleted n k value) reported action done = append-nil (steps_for old it.page.0 action)
   stands (Modified n k had value) reported action done = append-nil (steps_for old it.page.0 action)

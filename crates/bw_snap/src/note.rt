@@ -68,7 +68,7 @@ pub fn record_of(
                 spare,
             }))
         }
-        Action::Change { .. } | Action::Consolidate { .. } | Action::Halve { .. } => None,
+        Action::Change { .. } | Action::Reshape { .. } => None,
     }
 }
 

@@ -98,8 +98,9 @@ fn carry_out(machine: Global, table: &mut Table<Global>, page: Pid, action: Acti
     match action {
         Action::Change { key, wished } => table.change_leaf(page, key, wished).is_some(),
         Action::Record { .. } | Action::AddTerm { .. } => put(machine, table, page, action),
-        Action::Consolidate { .. } | Action::Halve { .. } => {
-            table.perform(machine, action, None).is_ok()
+        Action::Reshape { .. } => {
+            let spare = action.spare(machine);
+            table.perform(machine, action, spare).is_ok()
         }
     }
 }

@@ -14,15 +14,34 @@ use std::alloc::Allocator;
 pub enum Action {
     /// Makes the wish come true for the key and consolidates its leaf, in the place where that
     /// lies.
-    Change { key: Key, wished: Wished },
+    Change {
+        key: Key,
+        wished: Wished,
+    },
     /// Puts the record of the change that is wished on the key's leaf.
-    Record { key: Key, wished: Wished },
-    /// Consolidates the page, if it still has the version that was seen.
-    Consolidate { page: Pid, seen: Version },
-    /// Splits the page in half, if it still has the version that was seen.
-    Halve { page: Pid, seen: Version },
+    Record {
+        key: Key,
+        wished: Wished,
+    },
+    /// Reshapes the page by one step, if it still has the version that was seen.
+    Reshape {
+        page: Pid,
+        seen: Version,
+        how: Reshaping,
+    },
     /// Names an unposted page in its parent.
-    AddTerm { child: Pid },
+    AddTerm {
+        child: Pid,
+    },
+}
+
+/// What is done to a page that an action names.
+#[derive(Clone, Copy, Debug, PartialEq, Eq, Hash)]
+pub enum Reshaping {
+    /// Consolidates it.
+    Consolidate,
+    /// Splits it in half.
+    Halve,
 }
 
 impl Action {
@@ -33,7 +52,7 @@ impl Action {
     {
         match self {
             Action::Record { .. } | Action::AddTerm { .. } => Spare::new(alloc).ok(),
-            Action::Change { .. } | Action::Consolidate { .. } | Action::Halve { .. } => None,
+            Action::Change { .. } | Action::Reshape { .. } => None,
         }
     }
 }

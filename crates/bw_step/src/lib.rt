@@ -13,7 +13,7 @@ mod steps;
 mod survey;
 mod view;
 
-pub use action::{Action, Performed, Unperformed};
+pub use action::{Action, Performed, Reshaping, Unperformed};
 pub use fault::{CopyFault, Denied};
 pub use place::{Go, Next, Place, Todo};
 pub use proposes::Proposes;

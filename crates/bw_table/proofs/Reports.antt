@@ -1,57 +1,70 @@
--- What is done at once for a key reports itself: its receipt is that of the record which is wished, or of the look where there is none.
+-- What was performed reports itself: for a key by the receipt of the record which is wished, or of the look where there is none.
 use Rattle.std.proofs.Common.{◌≡◌, ℕ, suc, List, [], ◌∷◌, Option, Some, None, unwrap_or, refl, sym, ap, subst, ◌∙◌}
+use Rattle.std.specs.Prelude.{option_to_list}
 use Rattle.bw_keys.specs.declared.wished.Wished.{Wished}
 use Rattle.bw_keys.specs.declared.wished.Wished.TheVariants as wishes
-use Rattle.bw_chain.specs.InPlaces.{delta_for}
-use Rattle.std.specs.Prelude.{option_to_list}
-use Rattle.bw_delta.specs.Entries.{at}
-use Rattle.bw_step.specs.declared.receipt.Receipt.{Receipt}
-use Rattle.bw_step.specs.declared.receipt.Receipt.TheVariants.{Looked, Modified, Deleted}
-use Rattle.bw_step.specs.Proposals.{Proposal}
-use Rattle.bw_law.specs.Effects.{receipt_of}
-use Rattle.bw_law.specs.Slots.{pairs_in}
-use Rattle.bw_law.specs.Tables.{TableValue, slot_at, number_of}
-use Rattle.bw_table.specs.Actions.{consolidated_behind, wished_step, steps_for, look_at, Takes}
+use Rattle.bw_step.specs.Actions.{IsReceiptOfReshaping, IsReceiptOfWish, Reports, receipt_of_wish}
+use Rattle.bw_step.specs.declared.action.Action.{Action}
 use Rattle.bw_step.specs.declared.action.Action.TheVariants as actions
 use Rattle.bw_step.specs.declared.action.Performed.{Performed}
-use Rattle.bw_table.specs.InPlaces.{receipt_for, step_for}
+use Rattle.bw_step.specs.declared.action.Reshaping.{Reshaping}
+use Rattle.bw_step.specs.declared.action.Reshaping.TheVariants as reshapings
+use Rattle.bw_step.specs.declared.receipt.Receipt.TheVariants.{Looked, Modified, Deleted}
+use Rattle.bw_step.specs.Proposals.{Proposal}
+use Rattle.bw_law.specs.Effects.{pid, receipt_of}
+use Rattle.bw_law.specs.Refusals.{new_id}
+use Rattle.bw_law.specs.Tables.{TableValue, slot_at, number_of}
+use Rattle.bw_table.specs.Actions.{IsPerformed, Takes, consolidated_behind, had_at, look_at, reshaping, wished_step}
+use Rattle.bw_table.specs.InPlaces.{step_for}
 
--- the receipt is that of the record which is wished, for what the page has at the key
-abbrev pub IsReportOf : TableValue → ℕ → ℕ → Wished → Receipt → Type 0
-IsReportOf old page key wished receipt =
-    let had = at key (pairs_in (slot_at old page)) in
-    receipt ≡ receipt_for (number_of old.book) key had (delta_for wished key had)
+module _ (old new : TableValue) (it : Performed) where
+  -- the receipt is that of the step, or of a look where there is none
+  abbrev IsOf : Option Proposal → Type 0
+  IsOf None = it.receipt ≡ look_at old it.page.0 it.key
+  IsOf (Some step) = it.receipt ≡ receipt_of old step
 
-module _ (old new : TableValue) (page key seen : ℕ) (receipt : Receipt) where
-  -- the receipt is that of the step, or of the look where there is none
-  abbrev IsOf : Option Proposal → Receipt → Type 0
-  IsOf None look = receipt ≡ look
-  IsOf (Some step) look = receipt ≡ receipt_of old step
+  -- the steps begin with this one, if it is there, and otherwise there are none
+  abbrev BeginsWith : (Option Proposal → List Proposal) → Type 0
+  BeginsWith steps = (steps None ≡ []) × ((step : Proposal) → (behind : List Proposal) × (steps (Some step) ≡ step ∷ behind))
 
-  of_record : (wished : Wished) (had : Option ℕ) → had ≡ at key (pairs_in (slot_at old page)) → IsOf (step_for page seen key wished had) (Looked (number_of old.book) key had)
-      → receipt ≡ receipt_for (number_of old.book) key had (delta_for wished key had)
+  of_steps : (step : Option Proposal) (steps : Option Proposal → List Proposal) → BeginsWith steps → Takes old it new (steps step) → IsOf step
+  of_steps None steps begins done = (subst (Takes old it new) begins.0 done).0
+  of_steps (Some step) steps begins done = let turn = subst (Takes old it new) (begins.1 step).1 done in turn.2.reported
+
+  -- the step for what was found at the key
+  abbrev step_at : ℕ → Wished → Option ℕ → Option Proposal
+  step_at key wished had = step_for it.page.0 (slot_at old it.page.0).version key wished had
+
+  of_record : (wished : Wished) (had : Option ℕ) → had ≡ had_at old it.page.0 it.key → IsOf (step_at it.key wished had)
+      → it.receipt ≡ receipt_of_wish (number_of old.book) it.key wished had
   of_record (wishes.Put value) None is of = of
-  of_record (wishes.Put value) (Some had) is of = of
+  of_record (wishes.Put value) (Some had) is of = of ∙ ap (Looked (number_of old.book) it.key) (sym is)
   of_record (wishes.Set value) None is of = of
-  of_record (wishes.Set value) (Some had) is of = of ∙ ap (λ h. Modified (suc (number_of old.book)) key (unwrap_or h 0) value) (sym is)
-  of_record wishes.Delete None is of = of
-  of_record wishes.Delete (Some had) is of = of ∙ ap (λ h. Deleted (suc (number_of old.book)) key (unwrap_or h 0)) (sym is)
+  of_record (wishes.Set value) (Some had) is of = of ∙ ap (λ h. Modified (suc (number_of old.book)) it.key (unwrap_or h 0) value) (sym is)
+  of_record wishes.Delete None is of = of ∙ ap (Looked (number_of old.book) it.key) (sym is)
+  of_record wishes.Delete (Some had) is of = of ∙ ap (λ h. Deleted (suc (number_of old.book)) it.key (unwrap_or h 0)) (sym is)
 
--- so it is by each action for a key
-module _ (old new : TableValue) (it : Performed) (wished : Wished) where
-  abbrev seen : ℕ
-  seen = (slot_at old it.page.0).version
+  -- steps for the key that was found, if there is anything to do, report the wish
+  wish_reports : (key : ℕ) (wished : Wished) (steps : Option Proposal → List Proposal) → it.key ≡ key → BeginsWith steps
+      → Takes old it new (steps (wished_step old it.page.0 key wished)) → (it.key ≡ key) × IsReceiptOfWish key wished it.receipt
+  wish_reports key wished steps found begins done =
+      let Taken : ℕ → Type 0 = λ k. Takes old it new (steps (wished_step old it.page.0 k wished)) in
+      let there = had_at old it.page.0 it.key in
+      let first = of_steps (wished_step old it.page.0 it.key wished) steps begins (subst Taken (sym found) done) in
+      let Reported : ℕ → Type 0 = λ k. IsReceiptOfWish k wished it.receipt in
+      (found, subst Reported found (number_of old.book, there, of_record wished there refl first))
 
-  of_steps : (step : Option Proposal) (steps : Option Proposal → List Proposal) → steps None ≡ [] → ((it : Proposal) → (behind : List Proposal) × (steps (Some it) ≡ it ∷ behind)) → Takes old it new (steps step)
-      → IsOf old new it.page.0 it.key seen it.receipt step (look_at old it.page.0 it.key)
-  of_steps None steps none some done = (subst (Takes old it new) none done).0
-  of_steps (Some step) steps none some done = let turn = subst (Takes old it new) (some step).1 done in turn.2.reported
+  -- a page that was named reports how it was reshaped
+  reshaping_reports : (how : Reshaping) (page seen : ℕ) → it.receipt ≡ receipt_of old (reshaping old page seen how)
+      → IsReceiptOfReshaping how (pid page) it.receipt
+  reshaping_reports reshapings.Consolidate page seen reported = reported
+  reshaping_reports reshapings.Halve page seen reported = (pid (new_id old), reported)
 
-  of_wish : IsOf old new it.page.0 it.key seen it.receipt (wished_step old it.page.0 it.key wished) (look_at old it.page.0 it.key) → IsReportOf old it.page.0 it.key wished it.receipt
-  of_wish of = of_record old new it.page.0 it.key seen it.receipt wished (at it.key (pairs_in (slot_at old it.page.0))) refl of
-
-  pub change_reports : Takes old it new (steps_for old it.page.0 (actions.Change it.key wished)) → IsReportOf old it.page.0 it.key wished it.receipt
-  change_reports done = of_wish (of_steps (wished_step old it.page.0 it.key wished) (consolidated_behind old it.page.0) refl (λ step. (_, refl)) done)
-
-  pub put_reports : Takes old it new (steps_for old it.page.0 (actions.Record it.key wished)) → IsReportOf old it.page.0 it.key wished it.receipt
-  put_reports done = of_wish (of_steps (wished_step old it.page.0 it.key wished) option_to_list refl (λ step. (_, refl)) done)
+  pub performed_reports : (action : Action) → IsPerformed old action new it → Reports action it
+  performed_reports (actions.Change key wished) done =
+      wish_reports key wished (consolidated_behind old it.page.0) done.finds.1 (refl, λ step. (_, refl)) done.takes
+  performed_reports (actions.Record key wished) done =
+      wish_reports key wished option_to_list done.finds.1 (refl, λ step. (_, refl)) done.takes
+  performed_reports (actions.Reshape page seen how) done =
+      (done.finds.0, reshaping_reports how page.0 seen.0 done.takes.2.reported)
+  performed_reports (actions.AddTerm child) done = done.takes.2.reported

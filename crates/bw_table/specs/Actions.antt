@@ -10,6 +10,7 @@ use Rattle.bw_step.specs.Proposals.{Proposal, term_add}
 use Rattle.bw_step.specs.declared.receipt.Kind.TheVariants as kinds
 use Rattle.bw_step.specs.declared.receipt.Receipt.{Receipt}
 use Rattle.bw_step.specs.declared.receipt.Receipt.TheVariants.{Looked, Shaped}
+use Rattle.bw_step.specs.declared.refused.Refused.{Refused}
 use Rattle.bw_law.specs.Effects.{after}
 use Rattle.bw_law.specs.Laws.{IsLeafOf}
 use Rattle.bw_law.specs.Refusals.{refusal}
@@ -21,6 +22,8 @@ use Rattle.bw_table.specs.InPlaces.{step_for, consolidating, halving, half_reaso
 use Rattle.bw_step.specs.declared.action.Action.{Action}
 use Rattle.bw_step.specs.declared.action.Action.TheVariants as actions
 use Rattle.bw_step.specs.declared.action.Performed.{Performed}
+use Rattle.bw_step.specs.declared.action.Reshaping.{Reshaping}
+use Rattle.bw_step.specs.declared.action.Reshaping.TheVariants as reshapings
 use Rattle.bw_step.specs.declared.action.Unperformed.{Unperformed}
 use Rattle.bw_step.specs.declared.action.Unperformed.TheVariants.{Denied, StepByStep}
 
@@ -47,6 +50,22 @@ abbrev pub middle_of : TableValue → ℕ → ℕ
 middle_of table page =
     unwrap_or (listed_middle_key (page_for (chain_in (slot_at table page))).listed) 0
 
+-- the step by which the page is reshaped as it is in the table
+abbrev pub reshaping : TableValue → ℕ → ℕ → Reshaping → Proposal
+reshaping table page seen reshapings.Consolidate = consolidating table page seen
+reshaping table page seen reshapings.Halve = halving table page seen (middle_of table page)
+
+-- the key where it is reshaped: its low, or where it is split
+abbrev pub reshaped_at : TableValue → ℕ → Reshaping → ℕ
+reshaped_at table page reshapings.Consolidate = (slot_at table page).low
+reshaped_at table page reshapings.Halve = middle_of table page
+
+-- why it is refused, if it is
+abbrev pub reshaping_refusal : TableValue → ℕ → ℕ → Reshaping → Option Refused
+reshaping_refusal table page seen reshapings.Consolidate =
+    refusal table (consolidating table page seen)
+reshaping_refusal table page seen reshapings.Halve = first_reason (half_reasons table page seen)
+
 -- the term of the child in the parent, as both are in the table
 abbrev pub term_of : TableValue → ℕ → ℕ → Proposal
 term_of table parent child =
@@ -58,17 +77,15 @@ steps_for table page (actions.Change key wished) =
     consolidated_behind table page (wished_step table page key wished)
 steps_for table page (actions.Record key wished) =
     option_to_list (wished_step table page key wished)
-steps_for table page (actions.Consolidate at seen) = consolidating table at.0 seen.0 ∷ []
-steps_for table page (actions.Halve at seen) = halving table at.0 seen.0 (middle_of table at.0) ∷ []
+steps_for table page (actions.Reshape at seen how) = reshaping table at.0 seen.0 how ∷ []
 steps_for table page (actions.AddTerm child) = term_of table page child.0 ∷ []
 
 -- the action finds this page and this key
 abbrev pub Finds : TableValue → Action → Pid → ℕ → Type 0
 Finds table (actions.Change key wished) page found = IsLeafOf table key page.0 × (found ≡ key)
 Finds table (actions.Record key wished) page found = IsLeafOf table key page.0 × (found ≡ key)
-Finds table (actions.Consolidate at seen) page found =
-    (page ≡ at) × (found ≡ (slot_at table at.0).low)
-Finds table (actions.Halve at seen) page found = (page ≡ at) × (found ≡ middle_of table at.0)
+Finds table (actions.Reshape at seen how) page found =
+    (page ≡ at) × (found ≡ reshaped_at table at.0 how)
 Finds table (actions.AddTerm child) page found = found ≡ (slot_at table child.0).low
 
 -- the receipt of a look for the key at the page
@@ -94,16 +111,13 @@ pub record IsPerformed (old : TableValue) (action : Action) (new : TableValue)
   pub count : it.count ≡ (slot_at new it.page.0).count
   pub depth : it.depth ≡ (slot_at new it.page.0).depth
 
--- Why it isn't performed: a page that is named is consolidated or split unless the step is refused
--- or memory is short, and the others need not be done at once.
+-- Why it isn't performed: a page that is named is reshaped unless the step is refused or memory is
+-- short, and the others need not be done at once.
 abbrev pub IsWhyNot : TableValue → Action → Unperformed → Type 0
-IsWhyNot table (actions.Consolidate page seen) (Denied denied) =
-    IsDenialFor (refusal table (consolidating table page.0 seen.0)) denied
-IsWhyNot table (actions.Halve page seen) (Denied denied) =
-    IsDenialFor (first_reason (half_reasons table page.0 seen.0)) denied
+IsWhyNot table (actions.Reshape page seen how) (Denied denied) =
+    IsDenialFor (reshaping_refusal table page.0 seen.0 how) denied
 IsWhyNot table action (Denied denied) = ⊥
-IsWhyNot table (actions.Consolidate page seen) StepByStep = ⊥
-IsWhyNot table (actions.Halve page seen) StepByStep = ⊥
+IsWhyNot table (actions.Reshape page seen how) StepByStep = ⊥
 IsWhyNot table action StepByStep = Unit {0}
 
 -- the action was performed, or this is why not, and then the table is as it was

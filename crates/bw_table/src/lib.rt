@@ -24,8 +24,8 @@ pub use bw_keys::Wished;
 pub use bw_law::MAX_PAGES;
 pub use bw_step::{
     Action, Book, Consolidate, CopyFault, Delete, Go, Grow, Insert, Kind, Leaf, Look, Mark, Merge,
-    Modify, Next, Performed, Place, Receipt, Refused, Split, Stage, Step, Summary, Survey, TermAdd,
-    TermDelete, Todo, Unperformed, View,
+    Modify, Next, Performed, Place, Receipt, Refused, Reshaping, Split, Stage, Step, Summary,
+    Survey, TermAdd, TermDelete, Todo, Unperformed, View,
 };
 pub use fault::NewFault;
 pub use leaf::LeafRef;

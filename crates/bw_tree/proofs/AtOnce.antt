@@ -1,21 +1,16 @@
--- What a table performs keeps its book, as the steps do, one after the other, and reports itself.
-use Rattle.std.proofs.Common.{◌≡◌, ℕ, List, [], ◌∷◌, fold, refl, sym, ap, subst, ◌∙◌}
-use Rattle.bw_keys.specs.declared.wished.Wished.{Wished}
+-- What a table performs keeps its book, as the steps do, one after the other.
+use Rattle.std.proofs.Common.{◌≡◌, List, [], ◌∷◌, fold, refl, sym, ap, subst, ◌∙◌}
 use Rattle.bw_keys.specs.declared.config.Config.{Config}
 use Rattle.bw_keys.specs.declared.page.Pid.{Pid}
 use Rattle.bw_step.specs.declared.receipt.Receipt.{Receipt}
 use Rattle.bw_step.specs.Proposals.{Proposal}
-use Rattle.bw_law.specs.Effects.{pid}
-use Rattle.bw_law.specs.Refusals.{new_id}
 use Rattle.bw_law.specs.Runs.{TakesInTurn}
-use Rattle.bw_law.specs.Tables.{TableValue, number_of}
+use Rattle.bw_law.specs.Tables.{TableValue}
 use Rattle.bw_law.proofs.TakenSteps.{config_kept}
-use Rattle.bw_table.proofs.Reports.{IsReportOf, change_reports, put_reports}
-use Rattle.bw_table.specs.Actions.{IsPerformed, Takes, had_at, steps_for, with_receipts}
+use Rattle.bw_table.specs.Actions.{IsPerformed, Takes, steps_for, with_receipts}
 use Rattle.bw_step.specs.declared.action.Action.{Action}
-use Rattle.bw_step.specs.declared.action.Action.TheVariants as actions
 use Rattle.bw_step.specs.declared.action.Performed.{Performed}
-use Rattle.bw_tree.specs.Shares.{ShareValue, IsReceiptAtOnce, Reports, counted}
+use Rattle.bw_tree.specs.Shares.{ShareValue, counted}
 use Rattle.bw_tree.specs.Trees.{IsBookOf}
 use Rattle.bw_tree.proofs.Trees.{book_kept}
 
@@ -47,18 +42,3 @@ module _ (old new : TableValue) (it : Performed) where
   -- what was performed counts by its receipt
   pub performed_counts : (action : Action) → IsPerformed old action new it → (made : Config) (totals : ShareValue) → IsKept made old totals → IsKept made new (counted totals it.receipt)
   performed_counts action done made totals kept = takes_count made totals kept (steps_for old it.page.0 action) done.takes
-
-  for_the_key : (key : ℕ) (wished : Wished) → it.key ≡ key → IsReportOf old it.page.0 it.key wished it.receipt → IsReceiptAtOnce key wished it.receipt
-  for_the_key key wished found report = subst (λ (k : ℕ). IsReceiptAtOnce k wished it.receipt) found (number_of old.book, had_at old it.page.0 it.key, report)
-
-  -- and its receipt tells what it was
-  pub performed_reports : (action : Action) → IsPerformed old action new it → Reports action it
-  performed_reports (actions.Change key wished) done =
-      let takes = subst (λ (k : ℕ). Takes old it new (steps_for old it.page.0 (actions.Change k wished))) (sym done.finds.1) done.takes in
-      (done.finds.1, for_the_key key wished done.finds.1 (change_reports old new it wished takes))
-  performed_reports (actions.Record key wished) done =
-      let takes = subst (λ (k : ℕ). Takes old it new (steps_for old it.page.0 (actions.Record k wished))) (sym done.finds.1) done.takes in
-      (done.finds.1, for_the_key key wished done.finds.1 (put_reports old new it wished takes))
-  performed_reports (actions.Consolidate page seen) done = (done.finds.0, done.takes.2.reported)
-  performed_reports (actions.Halve page seen) done = (done.finds.0, pid (new_id old), done.takes.2.reported)
-  performed_reports (actions.AddTerm child) done = done.takes.2.reported

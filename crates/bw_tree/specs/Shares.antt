@@ -1,18 +1,10 @@
 -- The shares of a tree's workers: each is a part of the book's insertions and removals.
-use Rattle.std.specs.Prelude.{◌≡◌, ℕ, ◌+◌, List, Result, sum_by, Option, Some, None, refl, MatchResult}
+use Rattle.std.specs.Prelude.{◌≡◌, ℕ, ◌+◌, List, Result, sum_by, Some, None, refl, MatchResult}
 use Rattle.std.specs.Coded.{Coded, code_by, coded×, coded_ℕ}
 use Rattle.std.specs.declared.sync.ledger.Blank.{Blank}
-use Rattle.bw_keys.specs.declared.wished.Wished.{Wished}
-use Rattle.bw_chain.specs.InPlaces.{delta_for}
 use Rattle.bw_step.specs.declared.survey.Book.{Book}
-use Rattle.bw_keys.specs.declared.page.Pid.{Pid}
-use Rattle.bw_step.specs.declared.receipt.Kind.TheVariants as kinds
 use Rattle.bw_step.specs.declared.receipt.Receipt.{Receipt}
-use Rattle.bw_step.specs.declared.receipt.Receipt.TheVariants.{Shaped}
 use Rattle.bw_step.specs.Tellings.{Telling, change, telling_of}
-use Rattle.bw_table.specs.InPlaces.{receipt_for}
-use Rattle.bw_step.specs.declared.action.Action.{Action}
-use Rattle.bw_step.specs.declared.action.Action.TheVariants as actions
 use Rattle.bw_step.specs.declared.action.Performed.{Performed}
 
 -- the number of insertions and that of removals; modifications are no part of a share
@@ -58,23 +50,6 @@ CountsIn old new result = MatchResult result (λ receipt. new ≡ counted old re
 abbrev pub CountsPerformed : {E : Type 0} → ShareValue → ShareValue → Result Performed E → Type 0
 CountsPerformed old new result =
     MatchResult result (λ it. new ≡ counted old it.receipt) (λ _. new ≡ old)
-
--- the receipt of what was done for the wish, for a key that had a value, or none
-abbrev pub IsReceiptAtOnce : ℕ → Wished → Receipt → Type 0
-IsReceiptAtOnce key wished receipt =
-    (number : ℕ) × (had : Option ℕ)
-    × (receipt ≡ receipt_for number key had (delta_for wished key had))
-
--- what was performed is reported, whatever the table was: the key that was wished of, the page that
--- was named, and the parent of the child
-abbrev pub Reports : Action → Performed → Type 0
-Reports (actions.Change key wished) it = (it.key ≡ key) × IsReceiptAtOnce key wished it.receipt
-Reports (actions.Record key wished) it = (it.key ≡ key) × IsReceiptAtOnce key wished it.receipt
-Reports (actions.Consolidate page seen) it =
-    (it.page ≡ page) × (it.receipt ≡ Shaped kinds.Consolidate page None)
-Reports (actions.Halve page seen) it =
-    (it.page ≡ page) × (new : Pid) × (it.receipt ≡ Shaped kinds.Split page (Some new))
-Reports (actions.AddTerm child) it = it.receipt ≡ Shaped kinds.TermAdd it.page (Some child)
 
 -- all insertions and all removals of the shares
 abbrev pub sum_of : List ShareValue → ShareValue

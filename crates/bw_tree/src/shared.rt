@@ -20,7 +20,8 @@ pub trait Shared<A: Allocator + Copy, P: Proposes> {
     ghost use Rattle.bw_keys.specs.Ranges.{end_of};
     ghost use Rattle.bw_keys.specs.declared.config.Config.{Config};
     ghost use Rattle.bw_delta.specs.Sound.{IsSound};
-    ghost use Rattle.bw_tree.specs.Shares.{CountsIn, CountsPerformed, Reports};
+    ghost use Rattle.bw_tree.specs.Shares.{CountsIn, CountsPerformed};
+    ghost use Rattle.bw_step.specs.Actions.{Reports};
     ghost use Rattle.bw_step.specs.Steps.{IsNext, IsReceiptOf};
 
     /// The ledger of the tree's insertions.

@@ -1,21 +1,18 @@
 -- A look raises no share, whether or not it is kept, and an action raises it by its receipt.
-use Rattle.std.proofs.Common.{ℕ, Bool, true, false, if◌then◌else◌, List, [], ◌∷◌, ◌++◌, Option, Some, None, Err, append-nil, fold, refl, sym, subst, ◌∙◌, ◌≡◌}
+use Rattle.std.proofs.Common.{ℕ, Bool, true, false, if◌then◌else◌, List, [], ◌∷◌, ◌++◌, Option, Some, None, Err, append-nil, fold, refl, sym, ◌∙◌, ◌≡◌}
 use Rattle.bw_keys.specs.declared.page.Pid.{Pid}
 use Rattle.bw_step.specs.declared.receipt.Receipt.{Receipt}
 use Rattle.bw_step.specs.declared.receipt.Receipt.TheVariants.{Looked, Shaped}
 use Rattle.bw_step.specs.declared.receipt.Kind.TheVariants as kinds
 use Rattle.bw_step.specs.declared.action.Action.{Action}
-use Rattle.bw_step.specs.declared.action.Action.TheVariants as actions
 use Rattle.bw_step.specs.declared.action.Performed.{Performed}
 use Rattle.bw_step.specs.declared.action.Unperformed.{Unperformed}
 use Rattle.bw_step.specs.declared.view.Look.{Look}
 use Rattle.bw_procedures.specs.declared.steps.Keep.{Keep}
 use Rattle.bw_procedures.specs.Seen.{Seen, is_kept, trail_after_look}
 use Rattle.bw_procedures.proofs.Performing.{unperformed_trail}
-use Rattle.bw_procedures.specs.Actions.{IsReceiptOfAction, PerformedBy, consolidates_behind, receipts_of}
-use Rattle.bw_procedures.specs.Writing.{IsReceiptFor}
-use Rattle.bw_tree.specs.Shares.{ShareValue, counted, Reports}
-use Rattle.bw_alone.proofs.InPlaces.{is_receipt_for}
+use Rattle.bw_procedures.specs.Actions.{PerformedBy, consolidates_behind, receipts_of}
+use Rattle.bw_tree.specs.Shares.{ShareValue, counted}
 use Rattle.bw_work.specs.Hands.{Sums, sums_stay}
 
 kept_sums : (kept : Bool) (at key : ℕ) (found : Option ℕ) (trail : List Receipt) (share : ShareValue) → Sums trail share (if kept then trail ++ Looked at key found ∷ [] else trail) share
@@ -33,14 +30,6 @@ behind_sums false page share = refl
 pub performed_sums : (action : Action) (done : Performed) (trail : List Receipt) (share later : ShareValue) → later ≡ counted share done.receipt → Sums trail share (trail ++ receipts_of action done) later
 performed_sums action done trail share later is =
     (receipts_of action done, refl, is ∙ sym (behind_sums (consolidates_behind action done.receipt) done.page (counted share done.receipt)))
-
--- what is reported of it is what the worker keeps
-pub performed_reported : (action : Action) (done : Performed) → Reports action done → IsReceiptOfAction action done.page done.receipt
-performed_reported (actions.Change key wished) done report = subst (IsReceiptFor key wished) (sym report.1.2) (is_receipt_for report.1.0 key wished report.1.1)
-performed_reported (actions.Record key wished) done report = subst (IsReceiptFor key wished) (sym report.1.2) (is_receipt_for report.1.0 key wished report.1.1)
-performed_reported (actions.Consolidate page seen) done report = report.1
-performed_reported (actions.Halve page seen) done report = (report.1, report.2)
-performed_reported (actions.AddTerm child) done report = report
 
 -- what wasn't performed raises no share
 pub unperformed_sums : (action : Action) (why : Unperformed) (a b : Seen) (share later : ShareValue) → PerformedBy action (Err why) a b → later ≡ share → Sums a.trail share b.trail later

@@ -7,7 +7,7 @@ ghost use Rattle.bw_tree.specs.Trees.{OpensFor};
 use crate::one_reader::{Names, publish_all_of, watched_tree};
 use bw_keys::{Config, Fence, Key, Pid, Version};
 use bw_snap::{Announcements, Naming, ReadTree, Reader};
-use bw_step::{Action, Look, Performed, Step, Unperformed, View};
+use bw_step::{Action, Look, Performed, Reshaping, Step, Unperformed, View};
 use bw_table::{Table, Wished};
 use bw_tree::{Blanks, MadeBy, Share, Shared, Tree};
 use bw_work::{Calls, Hand, Open, Steps};
@@ -102,11 +102,19 @@ fn ask<S: Shared<Global, Step<Global>>>(
         Question::Record(key, wished) => Action::Record { key, wished },
         Question::Consolidate(page, is_stale) => {
             let seen = version_of(tree, page, is_stale);
-            Action::Consolidate { page, seen }
+            Action::Reshape {
+                page,
+                seen,
+                how: Reshaping::Consolidate,
+            }
         }
         Question::Halve(page, is_stale) => {
             let seen = version_of(tree, page, is_stale);
-            Action::Halve { page, seen }
+            Action::Reshape {
+                page,
+                seen,
+                how: Reshaping::Halve,
+            }
         }
         Question::AddTerm(child) => Action::AddTerm { child },
     };
@@ -295,8 +303,14 @@ fn done_of(answers: &[Answer]) -> [u32; 5] {
         let kind = match action {
             Action::Change { .. } => 0,
             Action::Record { .. } => 1,
-            Action::Consolidate { .. } => 2,
-            Action::Halve { .. } => 3,
+            Action::Reshape {
+                how: Reshaping::Consolidate,
+                ..
+            } => 2,
+            Action::Reshape {
+                how: Reshaping::Halve,
+                ..
+            } => 3,
             Action::AddTerm { .. } => 4,
         };
         done[kind] = done[kind].wrapping_add(1);

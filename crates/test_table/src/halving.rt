@@ -5,7 +5,7 @@ use crate::at_once::{Answer, alike_answer, performed};
 use crate::rest::{FREED, FULL, MARKED, MERGED, SPLIT, after, three_leaves};
 use bw_delta::{NoMemory, Spare};
 use bw_keys::{Config, Fence, Key, Pid, Version};
-use bw_step::Denied;
+use bw_step::{Denied, Reshaping};
 use bw_table::{Action, Receipt, Refused, Stage, Table, Unperformed, View};
 use linked_list_allocator::LocalHeap;
 use std::alloc::Global;
@@ -162,9 +162,10 @@ fn halved_alike(
 ) -> Result<Option<Half>, NoMemory> {
     let (mut table, mut by_steps) = (table, by_steps);
     let version = Version(seen(&table, page).0.saturating_sub(older));
-    let action = Action::Halve {
+    let action = Action::Reshape {
         page: Pid(page),
         seen: version,
+        how: Reshaping::Halve,
     };
     let answer = table.perform(alloc, action, None);
     let wanted = halve_by_steps(alloc, &mut by_steps, page, version)?;
@@ -419,9 +420,10 @@ fn is_halved_in<'a>(
 ) -> Result<bool, Fail> {
     let mut table = three_leaves(machine, ample)?;
     let before = table.peek(Pid(3));
-    let action = Action::Halve {
+    let action = Action::Reshape {
         page: Pid(3),
         seen: seen(&table, 3),
+        how: Reshaping::Halve,
     };
     match table.perform(heap, action, None) {
         Ok(_) => Ok(true),

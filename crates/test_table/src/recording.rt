@@ -7,7 +7,7 @@ use crate::rest::{FREED, MARKED, MERGED, SPLIT, after, three_leaves};
 use crate::twins::Twins;
 use bw_delta::{NoMemory, Spare};
 use bw_keys::{Config, Key, Pid, Version};
-use bw_step::Denied;
+use bw_step::{Denied, Reshaping};
 use bw_table::{Action, Go, Receipt, Refused, Table, Unperformed, View, Wished};
 use linked_list_allocator::LocalHeap;
 use rand_core::{Rng, SeedableRng};
@@ -344,9 +344,10 @@ fn consolidated_alike(
 ) -> Result<Option<Result<Receipt, Unperformed>>, NoMemory> {
     let (mut table, mut by_steps) = (table, by_steps);
     let version = Version(seen(&table, page).0.saturating_sub(older));
-    let action = Action::Consolidate {
+    let action = Action::Reshape {
         page: Pid(page),
         seen: version,
+        how: Reshaping::Consolidate,
     };
     let answer = table.perform(alloc, action, None);
     let wanted = consolidate_by_steps(alloc, &mut by_steps, page, version)?;
@@ -394,9 +395,10 @@ fn is_consolidated_in<'a>(
 ) -> Result<bool, Fail> {
     let mut table = three_leaves(machine, ample)?;
     let before = table.peek(Pid(0));
-    let action = Action::Consolidate {
+    let action = Action::Reshape {
         page: Pid(0),
         seen: seen(&table, 0),
+        how: Reshaping::Consolidate,
     };
     match table.perform(heap, action, None) {
         Ok(_) => Ok(true),
@@ -486,9 +488,10 @@ impl Drawn {
 
     /// Consolidates a page, and returns whether the tables answer alike.
     fn consolidate(&mut self, alloc: Global, page: u32, version: Version) -> Result<bool, Fail> {
-        let action = Action::Consolidate {
+        let action = Action::Reshape {
             page: Pid(page),
             seen: version,
+            how: Reshaping::Consolidate,
         };
         let twins = &mut self.twins;
         let answer = twins.at_once.perform(alloc, action, None);
@@ -497,9 +500,10 @@ impl Drawn {
 
     /// Splits a page in half, and returns whether the tables answer alike.
     fn halve(&mut self, alloc: Global, page: u32, version: Version) -> Result<bool, Fail> {
-        let action = Action::Halve {
+        let action = Action::Reshape {
             page: Pid(page),
             seen: version,
+            how: Reshaping::Halve,
         };
         let answer = self.twins.at_once.perform(alloc, action, None);
         self.halved = self.halved.saturating_add(u32::from(answer.is_ok()));

@@ -6,6 +6,7 @@ ghost use Rattle.bw_delta.specs.Sound.{page_for};
 ghost use Rattle.bw_keys.specs.Reasons.{first_reason};
 ghost use Rattle.bw_chain.specs.Pages.Halves.{listed_middle_key};
 ghost use Rattle.bw_step.specs.declared.action.Action.TheVariants as actions;
+ghost use Rattle.bw_step.specs.declared.action.Reshaping.TheVariants as reshapings;
 ghost use Rattle.bw_step.specs.Stages.{is_in_row};
 ghost use Rattle.bw_law.specs.Refusals.{refusal};
 ghost use Rattle.bw_law.specs.Slots.{SlotValue, chain_in};
@@ -33,7 +34,7 @@ impl<A: Allocator + Copy> Table<A> {
         page: Pid,
         seen: Version,
     ) -> Result<Performed, Unperformed>
-        ensures { Performs (actions.Halve page seen) self.old result self.new }
+        ensures { Performs (actions.Reshape page seen reshapings.Halve) self.old result self.new }
     {
         let base = match self.page_to_halve(page, seen) {
             Ok(base) => base,

@@ -7,7 +7,7 @@ ghost use Rattle.bw_table.specs.Actions.{IsPerformed, IsWhyNot};
 use crate::table::Table;
 use bw_delta::Spare;
 use bw_keys::{Key, Pid};
-use bw_step::{Action, Performed, Receipt, Unperformed};
+use bw_step::{Action, Performed, Receipt, Reshaping, Unperformed};
 use std::alloc::Allocator;
 
 impl<A: Allocator + Copy> Table<A> {
@@ -28,8 +28,10 @@ impl<A: Allocator + Copy> Table<A> {
         match action {
             Action::Change { key, wished } => self.perform_change(key, wished),
             Action::Record { key, wished } => self.perform_record(key, wished, spare),
-            Action::Consolidate { page, seen } => self.perform_consolidation(alloc, page, seen),
-            Action::Halve { page, seen } => self.perform_halving(alloc, page, seen),
+            Action::Reshape { page, seen, how } => match how {
+                Reshaping::Consolidate => self.perform_consolidation(alloc, page, seen),
+                Reshaping::Halve => self.perform_halving(alloc, page, seen),
+            },
             Action::AddTerm { child } => self.perform_term(child, spare),
         }
     }

@@ -3,6 +3,7 @@
 ghost use Rattle.std.specs.Prelude.{◌≡◌, ◌++◌, ◌∷◌, [], option_map};
 ghost use Rattle.bw_step.specs.ProposalView.{proposal_of};
 ghost use Rattle.bw_step.specs.declared.action.Action.TheVariants as actions;
+ghost use Rattle.bw_step.specs.declared.action.Reshaping.TheVariants as reshapings;
 ghost use Rattle.bw_step.specs.declared.receipt.Receipt.TheVariants.{Looked};
 ghost use Rattle.bw_law.specs.Refusals.{open_reasons, worn};
 ghost use Rattle.bw_table.specs.Actions.{Performs};
@@ -59,7 +60,8 @@ impl<A: Allocator + Copy> Table<A> {
         page: Pid,
         seen: Version,
     ) -> Result<Performed, Unperformed>
-        ensures { Performs (actions.Consolidate page seen) self.old result self.new }
+        ensures { Performs (actions.Reshape page seen reshapings.Consolidate)
+            self.old result self.new }
     {
         let Some(slot) = self.slot(page) else {
             return Err(Unperformed::Denied(Denied::Refused(Refused::Absent)));

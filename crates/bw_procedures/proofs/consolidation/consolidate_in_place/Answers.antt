@@ -7,4 +7,4 @@ use Rattle.bw_procedures.proofs.consolidation.consolidate_in_place.Goals as goal
 pub returns-in-Ok-clause-consolidates : goal.returns-in-Ok-clause-consolidates
 returns-in-Ok-clause-consolidates g c =
     let performed = c.in-Ok.ensures.seen in
-    performed_reshapes _ _ _ _ (ap (λ (r : Receipt). without_shapes (r ∷ [])) performed.reported) performed
+    performed_reshapes _ _ _ _ (ap (λ (r : Receipt). without_shapes (r ∷ [])) performed.reported.1) performed

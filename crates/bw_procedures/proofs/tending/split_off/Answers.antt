@@ -9,7 +9,7 @@ pub returns-in-Shaped-default-default-Some-clause-tended : goal.returns-in-Shape
 returns-in-Shaped-default-default-Some-clause-tended g c =
     let before : (g.S.Steps.seen c.args.steps.now).effort < c.args.limit = grind (arith, common_steps) in
     let performed = c.in-Ok.ensures.seen in
-    performed_nears c.args.limit _ _ _ _ c.ranges.limit.fits before (ap (λ (r : Receipt). without_shapes (r ∷ [])) performed.reported.1) performed
+    performed_nears c.args.limit _ _ _ _ c.ranges.limit.fits before (ap (λ (r : Receipt). without_shapes (r ∷ [])) performed.reported.1.1) performed
 
 pub returns-in-Err-StepByStep-clause-follows : goal.returns-in-Err-StepByStep-clause-follows
 returns-in-Err-StepByStep-clause-follows g c = g.met.S.Steps.joins _ _ _ c.perform.ensures.follows c.split_by_copy-in-Err-StepByStep.ensures.follows

@@ -1,6 +1,7 @@
 use Rattle.std.proofs.Common.{[], ap, sym, ◌∙◌, append-nil}
 use Rattle.bw_law.specs.Tables.{TableValue}
-use Rattle.bw_alone.proofs.InPlaces.{performed_leads, performed_keeps_config, performed_reported}
+use Rattle.bw_table.proofs.Reports.{performed_reports}
+use Rattle.bw_alone.proofs.InPlaces.{performed_leads, performed_keeps_config}
 use Rattle.bw_procedures.proofs.Performing.{performs, unperformed_trail}
 use Rattle.bw_alone.proofs.sole.SoleStepsStep.perform.Goals as goal
 
@@ -17,7 +18,7 @@ returns-in-Ok-clause-follows g c =
 
 pub returns-in-Ok-clause-seen : goal.returns-in-Ok-clause-seen
 returns-in-Ok-clause-seen g c =
-    rw (c.performed.ensures, c.reserve_for.ensures.seen) (performs c.args.action c.in-Ok.done _ (performed_reported _ _ c.in-Ok.done c.args.action c.in-Ok.ensures.done))
+    rw (c.performed.ensures, c.reserve_for.ensures.seen) (performs c.args.action c.in-Ok.done _ (performed_reports _ _ c.in-Ok.done c.args.action c.in-Ok.ensures.done))
 
 pub returns-in-Err-clause-follows : goal.returns-in-Err-clause-follows
 returns-in-Err-clause-follows g c =

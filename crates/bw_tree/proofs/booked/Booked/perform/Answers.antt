@@ -1,5 +1,6 @@
 use Rattle.std.proofs.Common.{sym}
-use Rattle.bw_tree.proofs.AtOnce.{performed_counts, performed_reports}
+use Rattle.bw_table.proofs.Reports.{performed_reports}
+use Rattle.bw_tree.proofs.AtOnce.{performed_counts}
 use Rattle.bw_tree.proofs.booked.Booked.perform.Goals as goal
 
 pub invariant_of-self-2 : goal.invariant_of-self-2
