@@ -1,3 +1,4 @@
+pub mod Appends
 pub mod Ascending
 pub mod Bridges
 pub mod Firsts

@@ -1,5 +1,5 @@
 -- What a change in place makes of a chain, and the record with the same effect.
-use Rattle.std.specs.Prelude.{◌≡◌, ℕ, false, List, Option, Some, None}
+use Rattle.std.specs.Prelude.{◌≡◌, ℕ, false, List, [], ◌∷◌, Option, Some, None}
 use Rattle.bw_keys.specs.declared.page.Pid.{Pid}
 use Rattle.bw_delta.specs.declared.chain.Delta.{Delta}
 use Rattle.bw_delta.specs.declared.chain.Delta.TheVariants as deltas
@@ -30,6 +30,12 @@ pairs_with (Some delta) es = pairs_after delta es
 abbrev pub chain_with : Option Delta → Records → Records
 chain_with None chain = chain
 chain_with (Some delta) chain = bare (page_for (above delta chain))
+
+-- the chain with the pairs inserted one after the other, consolidated with each
+abbrev pub chain_with_each : List (ℕ × ℕ) → Records → Records
+chain_with_each [] chain = chain
+chain_with_each (pair ∷ pairs) chain =
+    chain_with_each pairs (chain_with (Some (deltas.Insert pair.0 pair.1)) chain)
 
 -- the chain of a base page and the record of its split
 abbrev pub split_page : ℕ → Pid → Page → Records

@@ -9,12 +9,14 @@
 //! of the others is written once for both.
 #![tactic(auto)]
 
+mod appending;
 mod entries;
 mod in_place;
 mod page;
 mod pass;
 mod search;
 
+pub use appending::append_in_place;
 pub use in_place::{
     InPlace, change_in_place, cut_in_place, join_in_place, route_in_place, unroute_in_place,
     upper_part_of,

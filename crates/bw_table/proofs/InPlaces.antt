@@ -154,10 +154,11 @@ module _ {table : TableValue} {room : ℕ} (whole : IsWhole table room) {page ke
   chain_raised : (delta : Delta) → chain_in (raised delta) ≡ above delta (chain_in (slot_at table page))
   chain_raised delta = rw chain_of.1.its_chain refl
 
+  pub leaf_here : is_leaf (chain_in (slot_at table page)) ≡ true
+  leaf_here = ap is_leaf chain_is ∙ chain_of.1.kind ∙ rw may.leaf.leaf refl
+
   is_leaf_still : (delta : Delta) → lists_pairs (base_with delta).listed ≡ true
-  is_leaf_still delta =
-      let leaf : is_leaf (chain_in (slot_at table page)) ≡ true = ap is_leaf chain_is ∙ chain_of.1.kind ∙ rw may.leaf.leaf refl in
-      rw leaf refl
+  is_leaf_still delta = rw leaf_here refl
 
   -- a step that puts the record on the page, and the consolidation after it
   both : (step : Proposal) (delta : Delta) (receipt : Receipt) → refusal table step ≡ None → receipt ≡ receipt_of table step → after table step ≡ noted (set table.slots page (raised delta)) receipt
@@ -201,7 +202,7 @@ module _ {table : TableValue} {room : ℕ} (whole : IsWhole table room) {page ke
       LooksOrTakes table page (Looked (number_of table.book) key had) (reported had delta) (noted (set table.slots page (slot_with delta (slot_at table page))) (reported had delta))
       (step_for page (slot_at table page).version key wished had)
 
-  inserts : (value : ℕ) → (slot_at table page).depth ≤ 1 → None ≡ at key (pairs_in (slot_at table page)) → TakesBoth table (insert page (slot_at table page).version key value) (reported None (Some (deltas.Insert key value))) page (noted (set table.slots page (slot_with (Some (deltas.Insert key value)) (slot_at table page))) (reported None (Some (deltas.Insert key value))))
+  pub inserts : (value : ℕ) → (slot_at table page).depth ≤ 1 → None ≡ at key (pairs_in (slot_at table page)) → TakesBoth table (insert page (slot_at table page).version key value) (reported None (Some (deltas.Insert key value))) page (noted (set table.slots page (slot_with (Some (deltas.Insert key value)) (slot_at table page))) (reported None (Some (deltas.Insert key value))))
   inserts value shallow none =
       both (insert page (slot_at table page).version key value) (deltas.Insert key value) (reported None (Some (deltas.Insert key value)))
       (insert_is_accepted (slot_at table page) (number_of table.book) key may.leaf may.version shallow may.number (sym none)) refl refl
@@ -259,16 +260,10 @@ tells_then_same (look number key found) old between new tells same =
     (tells.0, λ k value. (λ maps. (tells.1 k value).0 ((same k value).0 maps), λ maps. (same k value).1 ((tells.1 k value).1 maps)))
 tells_then_same shape old between new tells same = λ k value. (λ maps. (tells k value).0 ((same k value).0 maps), λ maps. (same k value).1 ((tells k value).1 maps))
 
--- what is reported of it is what it makes of the map
-pub tells_at_once : (table : TableValue) (room page key number : ℕ) (receipt : Receipt) (new : TableValue) (step : Option Proposal) → IsWhole table room → IsPostedLeaf (slot_at table page) key
-    → LooksOrTakes table page (Looked number key (at key (pairs_in (slot_at table page)))) receipt new step → TellsMap (telling_of receipt) table.slots new.slots
-tells_at_once table room page key number receipt new None whole leaf looks =
-    let Tells : Receipt → TableValue → Type 0 = λ r t. TellsMap (telling_of r) table.slots t.slots in
-    let maps : Tells (Looked number key (at key (pairs_in (slot_at table page)))) table =
-    (found_is_mapped table page key whole.lawful (rw (leaf.posted, leaf.leaf) refl) leaf.within, λ k value. (λ maps. maps, λ maps. maps))
-    in
-    subst (λ (t : TableValue). Tells receipt t) (sym looks.1) (subst (λ (r : Receipt). Tells r table) (sym looks.0) maps)
-tells_at_once table room page key number receipt new (Some step) whole leaf both =
+-- what is reported of a step is what it and the consolidation after it make of the map
+pub tells_both : (table : TableValue) (room page : ℕ) (receipt : Receipt) (new : TableValue) (step : Proposal) → IsWhole table room
+    → TakesBoth table step receipt page new → TellsMap (telling_of receipt) table.slots new.slots
+tells_both table room page receipt new step whole both =
     let takes = opened table step receipt page new both in
     let first = step_law table step whole.lawful whole.booked takes.accepted in
     let Whole : TableValue → Type 0 = λ t. IsWhole t room in
@@ -278,6 +273,17 @@ tells_at_once table room page key number receipt new (Some step) whole leaf both
     let reported : First receipt takes.between = subst (λ (r : Receipt). First r takes.between) (sym takes.changed.reported) (subst (λ (t : TableValue). First (receipt_of table step) t) (sym takes.changed.leads) first.map) in
     let same : SameMap takes.between.slots new.slots = subst (λ (t : TableValue). SameMap takes.between.slots t.slots) (sym takes.consolidated.leads) second.map in
     tells_then_same (telling_of receipt) table.slots takes.between.slots new.slots reported same
+
+-- what is reported of it is what it makes of the map
+pub tells_at_once : (table : TableValue) (room page key number : ℕ) (receipt : Receipt) (new : TableValue) (step : Option Proposal) → IsWhole table room → IsPostedLeaf (slot_at table page) key
+    → LooksOrTakes table page (Looked number key (at key (pairs_in (slot_at table page)))) receipt new step → TellsMap (telling_of receipt) table.slots new.slots
+tells_at_once table room page key number receipt new None whole leaf looks =
+    let Tells : Receipt → TableValue → Type 0 = λ r t. TellsMap (telling_of r) table.slots t.slots in
+    let maps : Tells (Looked number key (at key (pairs_in (slot_at table page)))) table =
+    (found_is_mapped table page key whole.lawful (rw (leaf.posted, leaf.leaf) refl) leaf.within, λ k value. (λ maps. maps, λ maps. maps))
+    in
+    subst (λ (t : TableValue). Tells receipt t) (sym looks.1) (subst (λ (r : Receipt). Tells r table) (sym looks.0) maps)
+tells_at_once table room page key number receipt new (Some step) whole leaf both = tells_both table room page receipt new step whole both
 
 -- a step, and the consolidation of a page that it raised
 two_steps : (table mid new : TableValue) (step : Proposal) (receipt : Receipt) (page : ℕ) (raised : SlotValue) (base : Page)

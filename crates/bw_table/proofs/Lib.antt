@@ -1,6 +1,7 @@
 mod Consolidating
 mod Halving
 pub mod Actions
+pub mod Appends
 pub mod InPlaces
 pub mod Mergings
 pub mod Doing

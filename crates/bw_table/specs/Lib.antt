@@ -1,5 +1,6 @@
 pub mod Actions
 pub mod Answers
+pub mod Appends
 pub mod InPlaces
 pub mod Codes
 pub mod FreeLists

@@ -7,6 +7,7 @@ ghost use Rattle.bw_law.specs.Refusals.{refusal};
 ghost use Rattle.bw_law.specs.Effects.{TakesStep};
 ghost use Rattle.bw_table.specs.Answers.{fine_unless};
 
+mod appending;
 mod at_once;
 mod consolidate;
 mod delete;

@@ -4,6 +4,8 @@ use Rattle.std.specs.Iterator.{Drains, Yields}
 use Rattle.bw_keys.specs.declared.config.Config.{Config}
 use Rattle.bw_keys.specs.Ranges.{key_count}
 use Rattle.bw_delta.specs.Entries.{rises}
+use Rattle.bw_law.specs.Tables.{TableValue}
+use Rattle.bw_table.specs.Appends.{AppendsInTurn}
 use Rattle.nifforan.specs.Maps.{PairList}
 use Rattle.nifforan.specs.Settings.{first_bad_setting, IsMapFault}
 use Rattle.nifforan.specs.declared.sorted.SortedFault.{SortedFault}
@@ -66,3 +68,14 @@ AppendsAll becomes steps pairs (Err (faults.Unsorted number)) new =
     StopsRising becomes steps pairs number
 AppendsAll becomes steps pairs (Err (faults.Put fault)) new = StartsRising becomes steps pairs
 AppendsAll becomes steps pairs (Err (faults.New fault)) new = ⊥
+
+-- the fault of the pair after these, whose key isn't above theirs: they were put, or one wasn't
+abbrev pub IsUnsortedBehind : PairList → SortedFault → Type 0
+IsUnsortedBehind pairs (faults.New _) = ⊥
+IsUnsortedBehind pairs (faults.Unsorted number) = number ≡ length pairs
+IsUnsortedBehind pairs (faults.Put _) = Unit {0}
+
+-- the pairs were put on some page in turn
+pub record IsAppended (old : TableValue) (pairs : PairList) (new : TableValue) : Type 0 where
+  pub page : ℕ
+  pub appends : AppendsInTurn old page pairs new

@@ -1,13 +1,17 @@
 //! The last leaf of a map, where pairs with ever greater keys go.
 
-ghost use Rattle.std.specs.Prelude.{◌≡◌, [], Some, IfSome, IfNone};
+ghost use Rattle.std.specs.Prelude.{◌≡◌, ◌≤◌, ◌++◌, [], Some, IfSome, IfNone, true, false};
 ghost use Rattle.bw_keys.specs.declared.wished.Wished.TheVariants as wishes;
+ghost use Rattle.bw_delta.specs.Slices.{list_of};
+ghost use Rattle.bw_chain.specs.Ascends.{IsAscending};
 ghost use Rattle.bw_step.specs.Tellings.{telling_of};
 ghost use Rattle.bw_law.specs.Tables.{ChangesKey, SameMap, TellsMap};
 ghost use Rattle.bw_procedures.specs.Writing.{IsReceiptFor};
-ghost use Rattle.nifforan.specs.Maps.{IsReady, before_set};
+ghost use Rattle.nifforan.specs.Maps.{IsReady, before_set, pairs_of};
+ghost use Rattle.nifforan.specs.Rising.{IsAppended};
 
 use crate::worker::Worker;
+use bw_delta::EntrySlice;
 use bw_keys::{Key, Pid};
 use bw_procedures::{Calls, Set};
 use bw_step::{Go, Todo};
@@ -54,6 +58,40 @@ impl Edge {
         Some(receipt)
     }
 
+    /// How many of so many pairs there is room for.
+    pub(crate) fn count_upto(&self, many: usize) -> usize
+        ensures { result ≤ many }
+    {
+        match usize::try_from(self.room) {
+            Ok(room) => room.min(many),
+            Err(_) => many,
+        }
+    }
+
+    /// Puts the pairs behind all of the leaf, if they belong to it and there is room.
+    fn append<A: Allocator + Copy>(
+        &mut self,
+        table: &mut Table<A>,
+        run: EntrySlice<'_, u64>,
+    ) -> bool
+        requires { IsAscending (list_of run) }
+        ensures done { result ≡ true → IsAppended table.old (list_of run.entry) table.new }
+        ensures unchanged { result ≡ false → table.new ≡ table.old }
+    {
+        let Some(leaf) = self.leaf else {
+            return false;
+        };
+        let count = run.len() as u64;
+        if self.room < count {
+            return false;
+        }
+        if !table.append_to_leaf(leaf, run) {
+            return false;
+        }
+        self.room -= count;
+        true
+    }
+
     /// The leaf, if it has no room.
     fn full_leaf(self) -> Option<Pid> {
         if self.room > 0 {
@@ -90,6 +128,23 @@ impl<A: Allocator + Copy> Worker<A> {
         let receipt = edge.set(&mut self.owner.table.value, key, value);
         self.owner.table.value.law();
         Some(Set::of(receipt?))
+    }
+
+    /// Puts the pairs behind all others, if they belong to the edge's leaf and there is room.
+    pub(crate) fn append_at_edge(&mut self, edge: &mut Edge, run: EntrySlice<'_, u64>) -> bool
+        requires empty { self.old.owner.account.seen.trail ≡ [] }
+        requires behind { IsAscending
+            (pairs_of self.old.owner.table.value.slots ++ list_of run) }
+        ensures puts { result ≡ true → pairs_of self.new.owner.table.value.slots
+            ≡ pairs_of self.old.owner.table.value.slots ++ list_of run.entry }
+        ensures ready { IsReady self.new.owner.table.value self.new.owner.account.seen.trail }
+        ensures config { self.new.owner.table.value.config ≡ self.old.owner.table.value.config }
+        ensures unchanged { result ≡ false → self.new ≡ self.old }
+    {
+        self.owner.table.value.law();
+        let done = edge.append(&mut self.owner.table.value, run);
+        self.owner.table.value.law();
+        done
     }
 
     /// Splits the edge's leaf, if it has no room, before its last pair, and goes on to the leaf of

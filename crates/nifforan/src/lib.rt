@@ -15,6 +15,7 @@ mod pairs;
 mod reserve;
 mod retain;
 mod room;
+mod run;
 mod sorted;
 mod usual;
 mod worker;

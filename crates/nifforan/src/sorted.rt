@@ -1,14 +1,20 @@
 //! A map of pairs whose keys rise, which fills its leaves from left to right.
 
-ghost use Rattle.std.specs.Prelude.{◌≡◌, ◌<◌, [], None, IfOk, IfErr, OnOk, true, false};
+ghost use Rattle.std.specs.Prelude.{◌≡◌, ◌<◌, ◌++◌, ◌∷◌, [], length, None, IfOk, IfErr, OnOk, true, false};
+ghost use Rattle.std.specs.Prelude.{IfSome, IfNone};
 ghost use Rattle.std.specs.Iterator.{IsFiniteIterable};
 ghost use Rattle.bw_keys.specs.Ranges.{key_count};
 ghost use Rattle.bw_delta.specs.Entries.{put};
-ghost use Rattle.nifforan.specs.Rising.{AppendsAll, HasAllOf, IsSortedFault, is_above};
+ghost use Rattle.bw_delta.specs.Slices.{list_of};
+ghost use Rattle.bw_chain.specs.Ascends.{IsAscending};
+ghost use Rattle.nifforan.specs.Rising.{AppendsAll, HasAllOf, IsSortedFault, IsUnsortedBehind};
+ghost use Rattle.nifforan.specs.Rising.{is_above};
 ghost use Rattle.nifforan.specs.Settings.{first_bad_setting};
 
 use crate::edge::Edge;
 use crate::map::Map;
+use crate::run::Run;
+use bw_delta::EntrySlice;
 use bw_keys::{Config, Key};
 use bw_procedures::Fault;
 use bw_table::NewFault;
@@ -70,32 +76,101 @@ impl<A: Allocator + Copy> Map<A> {
         let mut edge = Edge::none();
         let mut last = None;
         let mut left = pairs.into_iter();
+        let Ok(mut run) = Run::new(self.worker.machine) else {
+            return Err(SortedFault::Put(Fault::NoMemory));
+        };
         while let Some((key, value)) = left.next() {
             if !is_above(key, last) {
-                return Err(SortedFault::Unsorted(self.len()));
+                return Err(self.unsorted(&mut edge, run.as_slice()));
             }
-            if let Err(fault) = self.append(&mut edge, key, value) {
+            if let Err(fault) = self.keep(&mut edge, &mut run, key, value) {
                 return Err(SortedFault::Put(fault));
             }
             last = Some(key);
+        }
+        if let Err(fault) = self.append_each(&mut edge, run.as_slice()) {
+            return Err(SortedFault::Put(fault));
         }
         self.tend_edge(edge);
         Ok(())
     }
 
-    /// Sets the key to the value, in the edge's leaf where it belongs there.
-    #[inline(always)]
-    fn append(&mut self, edge: &mut Edge, key: Key, value: u64) -> Result<(), Fault>
-        ensures sets { OnOk result (self.new.pairs ≡ put key value self.old.pairs) }
+    /// Puts the pairs that were kept back, and returns the fault of the pair after them.
+    #[cold]
+    fn unsorted(&mut self, edge: &mut Edge, run: EntrySlice<'_, u64>) -> SortedFault
+        requires { IsAscending (self.old.pairs ++ list_of run) }
+        ensures fault { IsUnsortedBehind (self.old.pairs ++ list_of run.entry) result }
         ensures config { self.new.config ≡ self.old.config }
     {
-        if self.set_at_edge(edge, key, value) {
-            return Ok(());
+        match self.append_each(edge, run) {
+            Ok(()) => SortedFault::Unsorted(self.len()),
+            Err(fault) => SortedFault::Put(fault),
         }
-        self.append_behind(edge, key, value)
     }
 
-    /// The same where the edge's leaf has no room, or isn't known.
+    /// Keeps the pair back, once those that were are put where they are many.
+    #[inline(always)]
+    fn keep(&mut self, edge: &mut Edge, run: &mut Run, key: Key, value: u64) -> Result<(), Fault>
+        requires { IsAscending (self.old.pairs ++ run.old) }
+        ensures kept { OnOk result
+            (self.new.pairs ++ run.new ≡ self.old.pairs ++ (run.old ++ (key, value) ∷ [])) }
+        ensures config { self.new.config ≡ self.old.config }
+    {
+        if run.is_full() {
+            self.append_each(edge, run.as_slice())?;
+            run.clear();
+        }
+        match run.push(key, value) {
+            Ok(()) => Ok(()),
+            Err(_) => Err(Fault::NoMemory),
+        }
+    }
+
+    /// Puts the pairs behind all others.
+    #[inline(never)]
+    fn append_each(&mut self, edge: &mut Edge, run: EntrySlice<'_, u64>) -> Result<(), Fault>
+        requires { IsAscending (self.old.pairs ++ list_of run) }
+        ensures puts { OnOk result (self.new.pairs ≡ self.old.pairs ++ list_of run.entry) }
+        ensures config { self.new.config ≡ self.old.config }
+    {
+        let mut left = run;
+        'pairs: while let Some((pair, rest)) = left.split_first() {
+            match self.append_front(edge, left) {
+                Some(back) => left = back,
+                None => {
+                    self.append_behind(edge, pair.0, pair.1)?;
+                    left = rest;
+                }
+            }
+        }
+        Ok(())
+    }
+
+    /// Puts as many of the pairs as the edge's leaf has room for behind all others, and returns the
+    /// rest. Returns `None`, and changes nothing, where that are none.
+    fn append_front<'r>(
+        &mut self,
+        edge: &mut Edge,
+        run: EntrySlice<'r, u64>,
+    ) -> Option<EntrySlice<'r, u64>>
+        requires { IsAscending (self.old.pairs ++ list_of run) }
+        ensures puts { IfSome result (λ back.
+            self.new.pairs ++ list_of back ≡ self.old.pairs ++ list_of run.entry) }
+        ensures some { IfSome result (λ back. length (list_of back) < length (list_of run.entry)) }
+        ensures unchanged { IfNone result (self.new.pairs ≡ self.old.pairs) }
+        ensures config { self.new.config ≡ self.old.config }
+    {
+        let (front, back) = run.split_at(edge.count_upto(run.len()));
+        if front.is_empty() {
+            return None;
+        }
+        if !self.append_at_edge(edge, front) {
+            return None;
+        }
+        Some(back)
+    }
+
+    /// Sets the key to the value, where the edge's leaf has no room, or isn't known.
     #[inline(never)]
     fn append_behind(&mut self, edge: &mut Edge, key: Key, value: u64) -> Result<(), Fault>
         ensures sets { OnOk result (self.new.pairs ≡ put key value self.old.pairs) }
@@ -111,8 +186,17 @@ impl<A: Allocator + Copy> Map<A> {
         Ok(())
     }
 
+    /// Puts the pairs behind all others, if they belong to the edge's leaf and there is room.
+    fn append_at_edge(&mut self, edge: &mut Edge, run: EntrySlice<'_, u64>) -> bool
+        requires { IsAscending (self.old.pairs ++ list_of run) }
+        ensures puts { result ≡ true → self.new.pairs ≡ self.old.pairs ++ list_of run.entry }
+        ensures unchanged { result ≡ false → self.new.pairs ≡ self.old.pairs }
+        ensures config { self.new.config ≡ self.old.config }
+    {
+        self.worker.append_at_edge(edge, run)
+    }
+
     /// Sets the key to the value, if it belongs to the edge's leaf and there is room.
-    #[inline(always)]
     fn set_at_edge(&mut self, edge: &mut Edge, key: Key, value: u64) -> bool
         ensures sets { result ≡ true → self.new.pairs ≡ put key value self.old.pairs }
         ensures unchanged { result ≡ false → self.new.pairs ≡ self.old.pairs }

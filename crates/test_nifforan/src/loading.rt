@@ -13,8 +13,11 @@ use test_kit::{Rooms, growing_heaps};
 /// Fanout and chain.
 const TABLES: [(u32, u32); 6] = [(4, 1), (4, 3), (5, 1), (7, 32), (64, 1), (64, 8)];
 
-/// How many pairs: none, one, about as many as a leaf has, and trees of several levels.
-const COUNTS: [u64; 14] = [0, 1, 2, 3, 4, 5, 6, 8, 9, 64, 65, 66, 129, 1500];
+/// How many pairs: none, one, about as many as a leaf has, or as are put at once, and trees of
+/// several levels.
+const COUNTS: [u64; 18] = [
+    0, 1, 2, 3, 4, 5, 6, 8, 9, 63, 64, 65, 66, 127, 128, 129, 193, 1500,
+];
 
 fn config_of(fanout: u32, chain: u32) -> Config {
     Config {
@@ -172,11 +175,16 @@ fn a_map_that_runs_out_of_pages_has_all_rising_pairs(rt: HostRuntime) -> Result<
     Ok(())
 }
 
+/// How many pairs there are of which one isn't above the one before, and which it is.
+const MOST: usize = 140;
+
+const NUMBERS: [usize; 16] = [1, 2, 3, 4, 5, 6, 9, 10, 63, 64, 65, 66, 127, 128, 129, 139];
+
 /// Returns pairs with rising keys, but for the one with the number, whose key is that much less
 /// than that of the pair before.
 fn falling_at(machine: Global, number: usize, less: u64) -> Result<Vec<(u64, u64)>, AllocError> {
     let mut pairs = Vec::new(machine);
-    for place in 0..11usize {
+    for place in 0..MOST {
         let key = if place == number {
             (place as u64)
                 .saturating_mul(3)
@@ -192,7 +200,7 @@ fn falling_at(machine: Global, number: usize, less: u64) -> Result<Vec<(u64, u64
 #[test]
 fn the_first_pair_that_is_not_above_the_one_before_is_named(rt: HostRuntime) -> Result<(), Fail> {
     for less in [0, 1, 3] {
-        for number in 1..11usize {
+        for number in NUMBERS {
             let pairs = falling_at(rt.alloc(), number, less)?;
             let came = Map::from_sorted(rt.alloc(), rt.alloc(), config_of(4, 1), pairs);
             let fault = came.map(|map| map.len());
