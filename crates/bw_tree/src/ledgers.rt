@@ -120,13 +120,13 @@ impl<I: Ledger, D: Ledger> Ledgers<I, D> {
 
 /// Parts of both ledgers, with their amounts.
 #[derive(Drop)]
-struct Merged<I: Ledger, D: Ledger> {
-    insertions: ledger::Share<I>,
-    removals: ledger::Share<D>,
+pub(crate) struct Merged<I: Ledger, D: Ledger> {
+    pub(crate) insertions: ledger::Share<I>,
+    pub(crate) removals: ledger::Share<D>,
 }
 
 /// Merges the shares into one; returns none where there is no share.
-fn merge<I: Ledger, D: Ledger>(shares: Vec<Share<I, D>>) -> Option<Merged<I, D>>
+pub(crate) fn merge<I: Ledger, D: Ledger>(shares: Vec<Share<I, D>>) -> Option<Merged<I, D>>
     ensures insertions { IfSome result (λ m. m.insertions.parts ≡ length shares.items) }
     ensures removals { IfSome result (λ m. m.removals.parts ≡ length shares.items) }
     ensures inserted { IfSome result (λ m. m.insertions.amount ≡ (sum_of shares.items).inserted) }

@@ -4,18 +4,22 @@
 
 mod booked;
 mod fault;
+mod forest_blanks;
 mod ledgers;
 mod made_by;
 mod ordered;
 mod share;
 mod shared;
+mod stock;
 mod tree;
 
 pub use booked::Booked;
 pub use bw_step::{Denied, Proposes};
 pub use fault::{MissingShare, NewFault, Unshared};
+pub use forest_blanks::ForestBlanks;
 pub use made_by::MadeBy;
 pub use ordered::Ordered;
 pub use share::{Blanks, Share};
 pub use shared::Shared;
+pub use stock::{Endowment, Stock, Totals};
 pub use tree::Tree;

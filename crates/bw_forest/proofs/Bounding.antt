@@ -1,0 +1,82 @@
+-- Bounds and their ranges: which holds a key, and where bounds begin.
+use Rattle.std.proofs.Common.{◌≡◌, ℕ, zero, suc, ◌+◌, ◌-◌, ◌<◌, ◌≤◌, length, true, false, List, [], ◌∷◌, Option, Some, None, refl, sym, ap, subst, ◌∙◌, slice_get, leb, leb-true, arith}
+use Rattle.std.specs.Prelude.{slice_index, slice_index_or}
+use Rattle.std.specs.List.Sorted.{IsPartitionPoint, IsStrictlyIncreasing, IsNonDecreasing}
+use Rattle.std.proofs.lemmas.Bool.Decides.{nat_tests}
+use Rattle.std.proofs.lemmas.List.{get_or_default}
+use Rattle.std.proofs.lemmas.List.Sorted.{IsNonDecreasingBy-from_default}
+use Rattle.bw_keys.specs.declared.range.Fence.{Fence}
+use Rattle.bw_keys.specs.declared.range.Fence.TheVariants.{Key, Top}
+use Rattle.bw_keys.specs.Ranges.{end_of, key_count}
+use Rattle.bw_forest.specs.Bounds.{IsTreeOf, end_before, ranges_of}
+
+-- the keys don't fall
+some_more : (xs : List ℕ) → IsStrictlyIncreasing xs → (i n j : ℕ) → j ≡ i + n → j < length xs → slice_index xs i ≤ slice_index xs j
+some_more xs rise i zero j is less =
+    let same : j ≡ i = omega (arith, is) in subst (λ k. slice_index xs i ≤ slice_index xs k) (sym same) (omega arith)
+some_more xs rise i (suc n) j is less =
+    let before = some_more xs rise i n (i + n) refl (omega (arith, is, less)) in
+    let next = rise (i + n) (omega (arith, is, less)) in
+    let same : j ≡ i + n + 1 = omega (arith, is) in
+    subst (λ k. slice_index xs i ≤ slice_index xs k) (sym same) (omega (arith, before, next))
+
+pub not_falling : (xs : List ℕ) → IsStrictlyIncreasing xs → IsNonDecreasing xs
+not_falling xs rise = IsNonDecreasingBy-from_default (λ x. x) xs 0 (λ i j le less. some_more xs rise i (j - i) j (omega (arith, le)) less)
+
+-- where the range ends, by what begins next
+abbrev pub fence_at : Option ℕ → Fence
+fence_at None = Top
+fence_at (Some low) = Key low
+
+pub next_end : (lows : List ℕ) → end_before lows ≡ fence_at (slice_get lows 0)
+next_end [] = refl
+next_end (low ∷ lows) = refl
+
+pub range_at : (lows : List ℕ) (tree : ℕ) → tree < length lows
+    → slice_get (ranges_of lows) tree ≡ Some (record { low = slice_index lows tree; high = fence_at (slice_get lows (suc tree)) })
+range_at [] tree less = absurd (omega (arith, less))
+range_at (low ∷ lows) zero less = ap (λ end. Some (record { low = low; high = end })) (next_end lows)
+range_at (low ∷ lows) (suc n) less = range_at lows n (omega (arith, less))
+
+-- some range begins at or below each key
+pub some_before : (bounds : List ℕ) (key point : ℕ) → slice_get bounds 0 ≡ Some 0
+    → IsPartitionPoint (λ low. leb low key ≡ true) (λ low. leb low key ≡ false) bounds point → 1 ≤ point
+some_before bounds key (suc n) first point = omega arith
+some_before [] key zero first point = absurd (cc (first))
+some_before (low ∷ rest) key zero first point = let it = point.1 0 0 (omega arith) (omega arith) in grind (arith, nat_tests, first, it)
+
+below_next : (lows : List ℕ) (key point : ℕ) → key < key_count
+    → ((k d : ℕ) → point ≤ k → k < length lows → leb (slice_index_or lows k d) key ≡ false) → key < end_of (fence_at (slice_get lows point))
+below_next [] key point fits above = fits
+below_next (low ∷ lows) key zero fits above = let it = above 0 0 (omega arith) (omega arith) in grind (arith, nat_tests, it)
+below_next (low ∷ lows) key (suc n) fits above =
+    below_next lows key n fits (λ k d from less. above (suc k) d (omega (arith, from)) (omega (arith, less)))
+
+pub tree_at : (bounds : List ℕ) (key point : ℕ) → slice_get bounds 0 ≡ Some 0 → point ≤ length bounds → key < key_count
+    → IsPartitionPoint (λ low. leb low key ≡ true) (λ low. leb low key ≡ false) bounds point → IsTreeOf bounds key (point - 1)
+tree_at bounds key zero first bound fits parted = let some = some_before bounds key zero first parted in absurd (omega (arith, some))
+tree_at bounds key (suc n) first bound fits parted =
+    let same : suc n - 1 ≡ n = omega arith in
+    subst (IsTreeOf bounds key) (sym same) (
+      record { low = slice_index bounds n; high = fence_at (slice_get bounds (suc n)) },
+      range_at bounds n (omega (arith, bound)),
+      (leb-true _ _ (parted.0 n 0 (omega arith) (omega arith)), below_next bounds key (suc n) fits parted.1),
+    )
+
+pub got : (xs : List ℕ) (i x : ℕ) → i < length xs → x ≡ slice_index_or xs i x → slice_get xs i ≡ Some x
+got [] i x less is = absurd (omega (arith, less))
+got (y ∷ ys) zero x less is = ap Some (sym is)
+got (y ∷ ys) (suc n) x less is = got ys n x (omega (arith, less)) is
+
+pub got_none : (xs : List ℕ) (i : ℕ) → length xs ≤ i → slice_get xs i ≡ None
+got_none [] i past = refl
+got_none (y ∷ ys) zero past = absurd (omega (arith, past))
+got_none (y ∷ ys) (suc n) past = got_none ys n (omega (arith, past))
+
+pub range_from : (lows : List ℕ) (tree low : ℕ) (next : Option ℕ) (high : Fence) → tree < length lows → low ≡ slice_index_or lows tree low
+    → slice_get lows (suc tree) ≡ next → high ≡ fence_at next → slice_get (ranges_of lows) tree ≡ Some (record { low = low; high = high })
+range_from lows tree low next high less is after ends =
+    let same : slice_index lows tree ≡ low = get_or_default lows tree 0 low less ∙ sym is in
+    range_at lows tree less ∙ ap (λ n. Some (record { low = slice_index lows tree; high = fence_at n })) after
+    ∙ ap (λ (end : Fence). Some (record { low = slice_index lows tree; high = end })) (sym ends)
+    ∙ ap (λ l. Some (record { low = l; high = high })) same

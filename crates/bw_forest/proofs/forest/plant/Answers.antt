@@ -1,0 +1,22 @@
+use Rattle.std.proofs.Common.{rules, ◌≡◌, ◌+◌, ◌≤◌, length, arith}
+use Rattle.std.specs.Vec.{vec_len, vec_capacity}
+use Rattle.std.proofs.lemmas.List.Elements.{All-take}
+use Rattle.bw_tree.specs.Shares.{no_changes}
+use Rattle.bw_forest.proofs.Plotting.{new_within}
+use Rattle.bw_forest.proofs.forest.plant.Goals as goal
+
+pub new-requires-in-loop-i-clause-within : goal.new-requires-in-loop-i-clause-within
+new-requires-in-loop-i-clause-within g c =
+    new_within c.args.config c.range.result c.in-Ok.table c.in-Ok.ensures.ok c.requires.fine (omega arith)
+
+pub loop-i-preserved : goal.loop-i-preserved
+loop-i-preserved g c =
+    let inv = c.loop-i.invariant in
+    let left : length c.pop.new.self.items + (c.loop-i.i + 1) ≡ length c.args.bounds.now = search rules in
+    let room : (vec_len c.push_reserved.new.self ≡ c.loop-i.i + 1) × (length c.args.bounds.now ≤ vec_capacity c.push_reserved.new.self) =
+    search rules in
+    record {
+      left = left;
+      none = rw c.pop.ensures.rest (All-take (λ stock. stock ≡ no_changes) _ _ inv.none);
+      room = room;
+    }

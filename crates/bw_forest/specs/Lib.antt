@@ -1,0 +1,4 @@
+pub mod Bounds
+pub mod Ranges
+pub mod Plots
+pub mod Forests

@@ -1,0 +1,184 @@
+//! Where the ranges of a forest's trees begin, and which of them holds a key.
+
+ghost use Rattle.std.specs.Prelude.{◌≡◌, false, ◌<◌, ◌≤◌, ◌↔◌, [], Some, length, slice_get};
+ghost use Rattle.std.specs.Prelude.{IsOk, IfOk, IfErr, IsTrue, vec_capacity};
+ghost use Rattle.std.specs.List.Sorted.{IsNonDecreasing, IsStrictlyIncreasing};
+ghost use Rattle.bw_forest.specs.Bounds.{AreBounds, AreAtQuantiles, AreEven, AreOfSample, quantile};
+ghost use Rattle.bw_forest.specs.Bounds.{IsBad, IsBadNumber, IsTreeOf, is_bad_number, ranges_of};
+
+use crate::fault::BadBounds;
+use crate::limits::MAX_TREES;
+use bw_keys::{Fence, Key, Range};
+use std::alloc::Global;
+use std::marker::Model;
+
+/// The ranges of a forest's trees, which part the keys: the first begins at 0, each where the one
+/// before it ends, and the last has every key from its low on. Contracts see them as where they
+/// begin.
+#[derive(Drop)]
+pub struct Bounds {
+    lows: Vec<Key>,
+}
+
+impl Model for Bounds {
+    ghost use Rattle.std.specs.Prelude.{ℕ, List};
+    ghost use Rattle.std.specs.Coded.{coded_list, coded_ℕ};
+    ghost use Rattle.bw_forest.specs.Bounds.{AreBounds};
+
+    ghost Value = { List ℕ };
+
+    ghost coded = { coded_list coded_ℕ };
+
+    ghost view = { λ b. b.lows.items };
+
+    ghost invariant = { λ b. AreBounds b.lows.items };
+}
+
+impl Bounds {
+    /// Returns the ranges of 1 to `MAX_TREES` trees that begin at these keys: the first is 0, and each
+    /// is above the one before it.
+    pub fn of(lows: Vec<Key>) -> Result<Bounds, BadBounds>
+        ensures bounds { IfOk result (λ bounds. bounds ≡ lows.items) }
+        ensures fine { IsOk result → AreBounds lows.items }
+        ensures fault { IfErr result (IsBad lows.items) }
+    {
+        check_number(lows.len())?;
+        if lows[0] != 0 {
+            return Err(BadBounds::NotFromZero);
+        }
+        if !rise(lows.as_slice()) {
+            return Err(BadBounds::NotRising);
+        }
+        Ok(Bounds { lows })
+    }
+
+    /// Returns the ranges of 1 to `MAX_TREES` trees that have as many of the keys below `end` each,
+    /// but for the last, which has what is left over too. A range has one key at least.
+    pub fn even(machine: Global, trees: u32, end: Key) -> Result<Bounds, BadBounds>
+        ensures even { IfOk result (AreEven trees end) }
+        ensures fault { IfErr result (IsBadNumber trees) }
+    {
+        check_number(trees as usize)?;
+        let Ok(mut lows) = Vec::with_capacity(machine, trees as usize) else {
+            return Err(BadBounds::NoMemory);
+        };
+        let width = (end / trees as u64).max(1);
+        for i in 0..trees {
+            lows.push_reserved(i as u64 * width);
+        }
+        Ok(Bounds { lows })
+    }
+
+    /// Returns the ranges of 1 to `MAX_TREES` trees, or of fewer, that have as many of these keys each:
+    /// all but the first begin at a quantile of them. Where quantiles are equal there is one range for
+    /// them, since a key is in one range.
+    pub fn of_sample(machine: Global, keys: Vec<Key>, trees: u32) -> Result<Bounds, BadBounds>
+        ensures quantiles { IfOk result (AreOfSample keys.items trees) }
+        ensures fault { IfErr result (IsBadNumber trees) }
+    {
+        check_number(trees as usize)?;
+        let Ok(lows) = Vec::with_capacity(machine, trees as usize) else {
+            return Err(BadBounds::NoMemory);
+        };
+        let mut keys = keys;
+        keys.sort_unstable();
+        Ok(Bounds {
+            lows: quantiles(lows, keys.as_slice(), trees),
+        })
+    }
+
+    /// Returns how many trees there are.
+    pub fn trees(&self) -> u32
+        ensures count { result ≡ length self.now }
+        ensures bounds { AreBounds self.now }
+    {
+        self.lows.len() as u32
+    }
+
+    /// Returns where the ranges begin.
+    pub fn lows(&self) -> &[Key]
+        ensures { result.now ≡ self.now }
+    {
+        self.lows.as_slice()
+    }
+
+    /// Returns the range of the tree with the number.
+    pub fn range(&self, tree: usize) -> Range
+        requires there { tree < length self.now }
+        ensures range { slice_get (ranges_of self.now) tree ≡ Some result }
+    {
+        let high = match self.lows.get(tree + 1) {
+            Some(next) => Fence::Key(*next),
+            None => Fence::Top,
+        };
+        Range {
+            low: self.lows[tree],
+            high,
+        }
+    }
+
+    /// Returns the number of the tree whose range holds the key.
+    #[inline(always)]
+    pub fn tree_of(&self, key: Key) -> usize
+        ensures tree { IsTreeOf self.now key result }
+        ensures there { result < length self.now }
+    {
+        self.lows.partition_point(|low| *low <= key) - 1
+    }
+}
+
+fn check_number(trees: usize) -> Result<(), BadBounds>
+    ensures fine { IsOk result ↔ (is_bad_number trees ≡ false) }
+    ensures fault { IfErr result (λ fault. fault ≡ BadBounds.BadTrees) }
+{
+    if !(1..=MAX_TREES as usize).contains(&trees) {
+        return Err(BadBounds::BadTrees);
+    }
+    Ok(())
+}
+
+/// Reports whether each key is above the one before it.
+fn rise(lows: &[Key]) -> bool
+    ensures { IsTrue result ↔ IsStrictlyIncreasing lows.now }
+{
+    for i in 1..lows.len() {
+        if lows[i] <= lows[i - 1] {
+            return false;
+        }
+    }
+    true
+}
+
+/// Returns 0 and, above it, each quantile once.
+fn quantiles(lows: Vec<Key>, sorted: &[Key], trees: u32) -> Vec<Key>
+    requires empty { lows.items ≡ [] }
+    requires room { trees ≤ vec_capacity lows }
+    requires number { is_bad_number trees ≡ false }
+    requires sorted { IsNonDecreasing sorted.now }
+    ensures bounds { AreBounds result.items }
+    ensures quantiles { AreAtQuantiles sorted.now trees result.items }
+{
+    let mut lows = lows;
+    let mut last = 0;
+    lows.push_reserved(last);
+    for i in 1..trees as usize {
+        let low = quantile(sorted, i, trees as usize);
+        if last < low {
+            lows.push_reserved(low);
+            last = low;
+        }
+    }
+    lows
+}
+
+/// Returns the key at the tree's part of the way through the sorted keys, or 0 if there are none.
+fn quantile(sorted: &[Key], tree: usize, trees: usize) -> Key
+    requires { tree < trees }
+    ensures { result ≡ quantile sorted.now tree trees }
+{
+    let index = tree as u128 * sorted.len() as u128 / trees as u128;
+    match sorted.get(index as usize) {
+        Some(key) => *key,
+        None => 0,
+    }
+}

@@ -1,0 +1,29 @@
+use thiserror::Error;
+
+/// Why there are no such bounds: the first that applies, in the order in which they stand here.
+#[derive(Clone, Copy, Debug, PartialEq, Eq, Error)]
+pub enum BadBounds {
+    /// There are no trees, or more than [`MAX_TREES`](crate::MAX_TREES).
+    #[error("bad number of trees")]
+    BadTrees,
+    /// The first range doesn't begin at 0.
+    #[error("the first range does not begin at 0")]
+    NotFromZero,
+    /// A range doesn't begin above the one before it.
+    #[error("the ranges do not rise")]
+    NotRising,
+    #[error("out of memory")]
+    NoMemory,
+}
+
+/// Why a forest can't be closed.
+#[derive(Clone, Copy, Debug, PartialEq, Eq, Error)]
+pub enum ForestFault {
+    /// Fewer shares than all were gathered, so nothing is known of their sum.
+    #[error("a share is missing")]
+    MissingShare,
+    /// A tree has another range than the one that it was made for. This never comes; but what lies
+    /// under a lock is not known outside it, so it is looked at.
+    #[error("a tree has another range")]
+    OtherRange,
+}

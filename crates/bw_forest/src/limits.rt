@@ -1,0 +1,2 @@
+/// How many trees a forest has at most.
+pub const MAX_TREES: u32 = 1024;

@@ -1,0 +1,10 @@
+use Rattle.example_forest.proofs.main.Given as goal
+
+abbrev pub ghosts-fill_all-I-Ledger : goal.ghosts-fill_all-I-Ledger
+ghosts-fill_all-I-Ledger g a = record { name = a.blanks.insertions.name; parts = a.blanks.insertions.parts }
+
+abbrev pub ghosts-fill_all-D-Ledger : goal.ghosts-fill_all-D-Ledger
+ghosts-fill_all-D-Ledger g a = record { name = a.blanks.removals.name; parts = a.blanks.removals.parts }
+
+abbrev pub ghosts-fill_all-I-MadeBy : goal.ghosts-fill_all-I-MadeBy
+ghosts-fill_all-I-MadeBy g a = record { config = a.config }
