@@ -1,6 +1,7 @@
 //! Times the tree on the machine that it runs on: alone, as a map, shared by threads, and read without the lock.
 #![tactic(auto)]
 
+mod forest;
 mod maps;
 mod readers;
 mod request;
@@ -10,6 +11,7 @@ mod trees;
 mod work;
 mod zipf;
 
+use crate::forest::run_forest;
 use crate::readers::{Trial, try_readers};
 use crate::request::{Request, USAGE};
 use crate::task::{Task, Work};
@@ -136,6 +138,10 @@ fn answer<R: Clock + Threads + Wait + Sync + Send + Copy>(
             let Timed { seconds, .. } = structure.run(rt, alloc, &task)?;
             let rate = rate(task.count(), seconds);
             Ok(format!(in alloc; "{} {rate:.3}\n", structure.word())?)
+        }
+        Request::Forest { task, trees, keeps } => {
+            let Timed { seconds, .. } = run_forest(rt, alloc, &task, trees, keeps)?;
+            Ok(format!(in alloc; "forest {:.3}\n", rate(task.count(), seconds))?)
         }
         Request::Beside { task, every } => beside(rt, alloc, &task, every),
         Request::Puts { task, every } => {

@@ -3,10 +3,12 @@
 use crate::task::{Task, number};
 use crate::trees::{CONFIG, Structure};
 use bw_keys::Config;
+use nifforan_forest::MAX_TREES;
 
 /// The text that says which words the program takes.
 pub(crate) const USAGE: &str = "\
 usage: bench_tree STRUCTURE WORK WORKERS KEYS OPERATIONS
+       bench_tree forest keep|give TREES WORK WORKERS KEYS OPERATIONS
        bench_tree beside WORK READERS KEYS OPERATIONS CHANGES
        bench_tree puts KEYS CHANGES
        bench_tree pending WORK KEYS
@@ -17,6 +19,7 @@ only reads);
 WORK is load, rising, set, delete, scan, list, the percent of gets beside puts and deletes (100, 95, 50), the same by
 Zipf's distribution (zipf, zipf95, zipf50), eights are gets of eight keys at once, where the structure has such a call,
 and fill or fill-rising are scans after the one or other load;
+keep and give say what becomes of a forest's receipts, of 1 to 1024 TREES;
 a tree with readers is published every CHANGES changes;
 CHAIN is the most records of a page (1 to 32), FANOUT the most entries (4 to 64); 2 and 64 without these words.
 ";
@@ -25,6 +28,8 @@ CHAIN is the most records of a page (1 to 32), FANOUT the most entries (4 to 64)
 pub(crate) enum Request {
     /// The rate of a task on a structure.
     Rate(Structure, Task),
+    /// The rate of a task on a forest of so many trees, whose workers may keep their receipts.
+    Forest { task: Task, trees: u32, keeps: bool },
     /// The rate of a task of readers beside a writer that publishes once per `every` changes.
     Beside { task: Task, every: u32 },
     /// The rate of a load that is published once per `every` puts.
@@ -61,6 +66,7 @@ impl Request {
             "pending" => Request::read_pending(config, rest),
             "tallies" => Request::read_tallies(config, rest),
             "beside" => Request::read_beside(config, rest),
+            "forest" => Request::read_forest(config, rest),
             word => Request::read_rate(config, word, rest),
         }
     }
@@ -98,6 +104,22 @@ impl Request {
         Structure::Reader
             .is_for(&task)
             .then_some(Request::Beside { task, every })
+    }
+
+    fn read_forest(config: Config, words: &[&str]) -> Option<Request> {
+        let [receipts, trees, work, workers, keys, operations] = words else {
+            return None;
+        };
+        let keeps = match *receipts {
+            "keep" => true,
+            "give" => false,
+            _ => return None,
+        };
+        Some(Request::Forest {
+            task: Task::read(config, work, workers, keys, operations)?,
+            trees: number(trees, 1, MAX_TREES)?,
+            keeps,
+        })
     }
 
     fn read_rate(config: Config, word: &str, words: &[&str]) -> Option<Request> {

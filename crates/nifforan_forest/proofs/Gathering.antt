@@ -1,0 +1,50 @@
+-- What the workers of a forest bring back, one after the other.
+use Rattle.std.proofs.Common.{◌≡◌, ℕ, ◌+◌, ◌*◌, List, [], ◌∷◌, ◌++◌, length, map, refl, ap, sym, subst, ◌∙◌, append_assoc, append-nil, arith}
+use Rattle.std.specs.Prelude.{All}
+use Rattle.std.proofs.lemmas.List.{map-append}
+use Rattle.bw_step.specs.declared.receipt.Receipt.{Receipt}
+use Rattle.bw_tree.specs.Shares.{ShareValue}
+use Rattle.bw_crew.specs.Workers.{ByNumber, share_by}
+use Rattle.bw_crew.proofs.Workers.{one_more_has}
+use Rattle.nifforan_forest.specs.declared.returned.Returned.{Returned}
+use Rattle.nifforan_forest.specs.Workers.{trails_of}
+
+-- one trail more stands for the next hand's
+pub trails_more : {L H : Type 0}
+    → (added : L → List Receipt) (trail : H → List Receipt) (trails more : List L) (t : L) (hand : H) (rest : List H)
+    (all : List (List Receipt)) → more ≡ trails ++ t ∷ [] → added t ≡ trail hand → map added trails ++ map trail (hand ∷ rest) ≡ all
+    → map added more ++ map trail rest ≡ all
+trails_more added trail trails more t hand rest all grown same so_far =
+    rw grown (one_more_has added trails t (map trail rest) all (ap (λ (it : List Receipt). map added trails ++ it ∷ map trail rest) same
+    ∙ so_far))
+
+each_share : {L : Type 0} → (added : L → List Receipt) (trails : List L)
+    → map (λ trail. share_by (added trail)) trails ≡ map share_by (map added trails)
+each_share added [] = refl
+each_share added (trail ∷ trails) = ap (λ (rest : List ShareValue). share_by (added trail) ∷ rest) (each_share added trails)
+
+trails_then : {O L : Type 0} → (added : L → List Receipt) (workers : List (Returned O L)) (it : Returned O L)
+    → trails_of added (workers ++ it ∷ []) ≡ trails_of added workers ++ map added it.trails.items
+trails_then added [] it = append-nil (map added it.trails.items)
+trails_then added (w ∷ workers) it =
+    ap (λ (rest : List (List Receipt)). map added w.trails.items ++ rest) (trails_then added workers it) ∙ sym
+    (append_assoc (map added w.trails.items) (trails_of added workers) (map added it.trails.items))
+
+-- the shares of one worker more are the sums of its trails
+pub counted_then : {O L : Type 0}
+    → (added : L → List Receipt) (shares its : List ShareValue) (workers : List (Returned O L)) (it : Returned O L)
+    → shares ≡ map share_by (trails_of added workers) → its ≡ map (λ trail. share_by (added trail)) it.trails.items
+    → shares ++ its ≡ map share_by (trails_of added (workers ++ it ∷ []))
+counted_then added shares its workers it so_far own =
+    (λ j. so_far j ++ (own ∙ each_share added it.trails.items) j)
+    ∙ (sym (map-append share_by (trails_of added workers) (map added it.trails.items)) ∙ ap (map share_by)
+    (sym (trails_then added workers it)))
+
+-- what is so of what each thread brings is so of what is kept of it
+pub by_number_kept : {X Z : Type 0} → (fact : ℕ → Z → Type 0) (has : X → Z) (first : ℕ) (xs : List X) (zs : List Z) → zs ≡ map has xs
+    → ByNumber (λ worker x. fact worker (has x)) first xs → ByNumber fact first zs
+by_number_kept fact has first xs zs same all = subst (ByNumber fact first) (sym same) (kept first xs all)
+  where
+    kept : (first : ℕ) (xs : List _) → ByNumber (λ worker x. fact worker (has x)) first xs → ByNumber fact first (map has xs)
+    kept first [] all = tt
+    kept first (x ∷ xs) all = (all.0, kept (first + 1) xs all.1)

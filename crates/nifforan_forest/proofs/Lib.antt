@@ -1,0 +1,9 @@
+pub mod Places
+pub mod Reading
+pub mod Leaves
+pub mod Reaching
+pub mod Spending
+pub mod Sweeping
+pub mod Trees
+pub mod Asking
+pub mod Gathering

@@ -1,0 +1,13 @@
+use Rattle.std.proofs.Common.{◌≡◌, ◌+◌, ◌≤◌, [], length}
+use Rattle.std.specs.Prelude.{All, vec_capacity}
+use Rattle.bw_tree.specs.Shares.{no_changes}
+use Rattle.nifforan_forest.proofs.seat.seat_of.Given as goal
+
+abbrev pub invariant-loop-i : goal.invariant-loop-i
+invariant-loop-i g l = record {
+  shares : length l.shares.items + l.i ≡ length l.trees;
+  new : All (λ share. share ≡ no_changes) l.shares.items;
+  count : length l.hands.items ≡ l.i;
+  room : length l.trees ≤ vec_capacity l.hands;
+  quiet : All (λ hand. hand.trail ≡ []) l.hands.items;
+}

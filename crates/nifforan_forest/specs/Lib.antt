@@ -1,0 +1,7 @@
+pub mod Calls
+pub mod Workers
+pub mod Answers
+pub mod Clears
+pub mod Reads
+pub mod Scans
+pub mod Sharing

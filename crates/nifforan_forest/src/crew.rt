@@ -1,0 +1,208 @@
+//! The workers of a forest, each in a thread of its own.
+
+ghost use Rattle.std.specs.Prelude.{◌≡◌, ◌*◌, ◌<◌, ◌≤◌, [], All, IfOk, length, map, vec_capacity};
+ghost use Rattle.bw_tree.specs.Shares.{no_changes};
+ghost use Rattle.bw_crew.specs.Workers.{share_by};
+ghost use Rattle.nifforan_forest.specs.Workers.{AllReturn, trails_of};
+
+use crate::divides::Divides;
+use crate::hand::ForestHand;
+use crate::job::ForestJob;
+use crate::returned::Returned;
+use crate::seat::{Brought, Seat, bring_back, seat_of};
+use crate::worker::ForestWorker;
+use bw_crew::{CrewFault, Part, run_all};
+use bw_delta::NoMemory;
+use bw_forest::Bounds;
+use bw_procedures::Trail;
+use bw_step::Step;
+use bw_tree::{Ordered, Share};
+use std::alloc::Global;
+use std::sync::Wait;
+use std::sync::ledger::Ledger;
+use std::thread::Threads;
+
+/// A job on a forest that its workers share.
+#[derive(Drop)]
+struct OnForest<'j, J> {
+    job: &'j J,
+}
+
+impl<
+    'j,
+    't,
+    I: Divides,
+    D: Ledger,
+    O: Drop,
+    S: Ordered<Global, Step<Global>, Insertions = I, Removals = D>,
+    L: Trail,
+    J: ForestJob<Output = O, Trail = L>,
+> Part<Seat<'t, I, D, S, L>> for OnForest<'j, J> {
+    type Output = Brought<I, D, O, L>;
+
+    ghost given = { λ part worker seat. Unit {0} };
+
+    ghost promised = { λ part worker brought. J.promised part.job.now worker
+        brought.returned.output (map L.added brought.returned.trails.items) };
+
+    fn run(&self, worker: u32, seat: Seat<'t, I, D, S, L>) -> Brought<I, D, O, L> {
+        let Seat {
+            bounds,
+            hands,
+            room,
+        } = seat;
+        let (output, hands) = work_with(self.job, worker, bounds, hands);
+        bring_back(room, hands, output)
+    }
+}
+
+/// Does the job with these hands, and returns them with what the job returned.
+fn work_with<H: ForestHand, O: Drop, L: Trail, J: ForestJob<Output = O, Trail = L>>(
+    job: &J,
+    worker: u32,
+    bounds: &Bounds,
+    hands: Vec<H>,
+) -> (O, Vec<H>)
+    requires few { worker < 64 }
+    requires divided { bounds.now ≡ H.bounds }
+    requires each { length hands.items ≡ length bounds.now }
+    requires new { All (λ hand. (H.seen hand).trail ≡ []) hands.items }
+    ensures each { length result.1.items ≡ length H.bounds }
+    ensures promised { J.promised job.now worker result.0
+        (map (λ hand. (H.seen hand).trail) result.1.items) }
+{
+    let mut forest = ForestWorker { bounds, hands };
+    let output = job.work(worker, &mut forest);
+    let ForestWorker { hands, .. } = forest;
+    (output, hands)
+}
+
+/// All workers' shares at all trees, and what else the workers brought back, by their numbers.
+#[derive(Drop)]
+pub(crate) struct Gathered<I: Divides, D: Ledger, O, L: Trail> {
+    pub(crate) shares: Vec<Share<I, D>>,
+    pub(crate) workers: Vec<Returned<O, L>>,
+    ghost each: { length shares.items ≡ length workers.items * length I.bounds },
+    ghost trailed: { All (λ it. length it.trails.items ≡ length I.bounds) workers.items },
+    ghost counted: { shares.items ≡ map share_by (trails_of L.added workers.items) },
+}
+
+/// Does the job with each list of shares, one at each tree, side by side, each in a thread of its own.
+///
+/// Fails where memory is wanting before the first thread starts, and where a thread can't be
+/// started: those that were started do their part to the end.
+pub(crate) fn work_all<
+    I: Divides + Send + Sync,
+    D: Ledger + Send + Sync,
+    O: Drop + Send,
+    L: Trail + Send,
+    S: Ordered<Global, Step<Global>, Insertions = I, Removals = D> + Sync,
+    J: ForestJob<Output = O, Trail = L> + Sync,
+    R: Threads + Wait + Sync,
+>(
+    rt: &R,
+    machine: Global,
+    bounds: &Bounds,
+    trees: &[S],
+    shares: Vec<Vec<Share<I, D>>>,
+    job: &J,
+) -> Result<Gathered<I, D, O, L>, CrewFault>
+    requires divided { bounds.now ≡ I.bounds }
+    requires trees { length trees.now ≡ length bounds.now }
+    requires few { length shares.items ≤ 64 }
+    requires each { All (λ its. length its.items ≡ length bounds.now) shares.items }
+    requires new { All (λ its. All (λ share. share ≡ no_changes) its.items) shares.items }
+    ensures count { IfOk result (λ all. length all.workers.items ≡ length shares.items) }
+    ensures promised { IfOk result (λ all.
+        AllReturn L.added (J.promised job.now) all.workers.items) }
+{
+    let room = room_for(machine, shares.len(), trees.len())?;
+    let seats = seats_of(machine, bounds, trees, shares)?;
+    let part = OnForest { job };
+    let all = run_all(rt, machine, &part, seats)?;
+    Ok(gather(room, all))
+}
+
+/// Returns a seat for each list of shares.
+fn seats_of<
+    't,
+    I: Divides,
+    D: Ledger,
+    S: Ordered<Global, Step<Global>, Insertions = I, Removals = D>,
+    L: Trail,
+>(
+    machine: Global,
+    bounds: &'t Bounds,
+    trees: &'t [S],
+    shares: Vec<Vec<Share<I, D>>>,
+) -> Result<Vec<Seat<'t, I, D, S, L>>, NoMemory>
+    requires divided { bounds.now ≡ I.bounds }
+    requires trees { length trees.now ≡ length bounds.now }
+    requires few { length shares.items ≤ 64 }
+    requires each { All (λ its. length its.items ≡ length bounds.now) shares.items }
+    requires new { All (λ its. All (λ share. share ≡ no_changes) its.items) shares.items }
+    ensures count { IfOk result (λ seats. length seats.items ≡ length shares.items) }
+{
+    let mut seats = Vec::with_capacity(machine, shares.len())?;
+    let mut worker = 0u32;
+    for its in shares {
+        seats.push(seat_of(machine, bounds, trees, its, worker)?)?;
+        worker += 1;
+    }
+    Ok(seats)
+}
+
+/// Room for what the workers bring back.
+#[derive(Drop)]
+struct Room<I: Divides, D: Ledger, O, L: Trail> {
+    shares: Vec<Share<I, D>>,
+    workers: Vec<Returned<O, L>>,
+}
+
+fn room_for<I: Divides, D: Ledger, O: Drop, L: Trail>(
+    machine: Global,
+    workers: usize,
+    trees: usize,
+) -> Result<Room<I, D, O, L>, NoMemory>
+    requires few { workers ≤ 64 }
+    requires not_many { trees ≤ 1024 }
+    ensures no_shares { IfOk result (λ room. room.shares.items ≡ []) }
+    ensures no_workers { IfOk result (λ room. room.workers.items ≡ []) }
+    ensures shares_fit { IfOk result (λ room. workers * trees ≤ vec_capacity room.shares) }
+    ensures workers_fit { IfOk result (λ room. workers ≤ vec_capacity room.workers) }
+{
+    Ok(Room {
+        shares: Vec::with_capacity(machine, workers * trees)?,
+        workers: Vec::with_capacity(machine, workers)?,
+    })
+}
+
+/// Sorts what the workers bring back into the room. Asks for no memory, so that what was done isn't
+/// given up for want of it.
+fn gather<I: Divides, D: Ledger, O: Drop, L: Trail>(
+    room: Room<I, D, O, L>,
+    all: Vec<Brought<I, D, O, L>>,
+) -> Gathered<I, D, O, L>
+    requires no_shares { room.shares.items ≡ [] }
+    requires no_workers { room.workers.items ≡ [] }
+    requires shares_fit { length all.items * length I.bounds ≤ vec_capacity room.shares }
+    requires workers_fit { length all.items ≤ vec_capacity room.workers }
+    ensures workers { result.workers.items ≡ map (λ brought. brought.returned) all.items }
+{
+    let Room {
+        mut shares,
+        mut workers,
+    } = room;
+    for brought in all {
+        let Brought {
+            shares: its,
+            returned,
+        } = brought;
+        let mut its = its;
+        let Ok(()) = shares.append(&mut its) else {
+            unreachable!()
+        };
+        workers.push_reserved(returned);
+    }
+    Gathered { shares, workers }
+}

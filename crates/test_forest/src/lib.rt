@@ -1,0 +1,7 @@
+//! Tests of a forest that workers share, beside the kit's map.
+#![tactic(auto)]
+
+mod alone;
+mod many;
+mod numbers;
+mod plain;
