@@ -11,3 +11,4 @@ pub mod Accounts
 pub mod Clearing
 pub mod Reported
 pub mod Texts
+pub mod Packed

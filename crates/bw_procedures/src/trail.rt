@@ -8,8 +8,9 @@ use bw_step::Receipt;
 use std::alloc::Global;
 use std::mem;
 
-/// What becomes of the receipts of a worker's steps. A list keeps each of them, for the auditor, and
-/// [`GivenUp`] none. What contracts say of a worker's receipts is the same for both.
+/// What becomes of the receipts of a worker's steps. A list keeps each of them, for the auditor,
+/// [`Packed`](crate::Packed) what it takes to make such a list, and [`GivenUp`] none. What contracts
+/// say of a worker's receipts is the same for all.
 pub trait Trail: Drop {
     ghost use Rattle.std.specs.Prelude.{◌≡◌, ◌+◌, ◌<◌, ◌≤◌, ℕ, List, [], ◌∷◌, ◌++◌, OnOk, length};
     ghost use Rattle.bw_step.specs.declared.receipt.Receipt.{Receipt as Reported};
@@ -17,7 +18,7 @@ pub trait Trail: Drop {
     // all receipts that were added, in their order
     ghost added: { Self → List Reported };
 
-    // which receipts of such a list are kept: all of them, or none
+    // which receipts of such a list are kept as they are: all of them, or none
     ghost kept: { List Reported → List Reported };
 
     // how many receipts there is room for
@@ -31,7 +32,7 @@ pub trait Trail: Drop {
     fn count(&self) -> usize
         ensures { result ≡ length (added self.now) };
 
-    /// Returns the receipts that are kept, in their order.
+    /// Returns the receipts that are kept as they are, in their order.
     fn receipts(&self) -> &[Receipt]
         ensures { result.now ≡ kept (added self.now) };
 

@@ -24,7 +24,8 @@ use std::alloc::{Allocator, Global};
 /// gets, one after the other and with that of [`finish`](Hand::finish) as the last, are the trail
 /// that `finish` alone would have returned. An auditor wants all of them. Where nobody will ask for
 /// the receipts, a worker [with a trail](Hand::with_trail) of [`GivenUp`](crate::GivenUp)
-/// takes the same steps and asks for no memory for them.
+/// takes the same steps and asks for no memory for them. One of [`Packed`](crate::Packed) receipts
+/// writes to a third or half of it, and unpacks them later.
 ///
 /// The tree's `close` wants the share of each worker. A worker that returns early, as by a `?`
 /// between two calls, drops its hand with the share in it. So have a function do the work with a

@@ -10,8 +10,8 @@ mod queries;
 
 pub use bw_alone::Alone;
 pub use bw_procedures::{
-    Act, Calls, Cleared, Del, Done, Ends, Fault, GivenUp, Keep, Put, Reply, Set, Slice, Steps,
-    Trail, do_act,
+    Act, Calls, Cleared, Del, Done, Ends, Fault, GivenUp, Keep, Packed, Put, Reply, Set, Slice,
+    Steps, Trail, do_act,
 };
 pub use calls::{clear, delete, get, help, page_from, put, set, tend};
 pub use gate::{Gate, Open};

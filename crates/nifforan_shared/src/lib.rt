@@ -18,7 +18,9 @@ mod worker;
 
 pub use bw_delta::NoMemory;
 pub use bw_keys::{BadConfig, Config, Fence, Field, Key, MAX_WORKERS};
-pub use bw_procedures::{Calls, Cleared, Del, Done, Fault, GivenUp, Put, Set, Slice, Steps, Trail};
+pub use bw_procedures::{
+    Calls, Cleared, Del, Done, Fault, GivenUp, Packed, Put, Set, Slice, Steps, Trail,
+};
 pub use bw_snap::{Closed, MAX_READERS, ScanFault};
 pub use bw_step::Receipt;
 pub use bw_table::Table;

@@ -15,6 +15,8 @@ mod held;
 #[cfg(test)]
 mod memory;
 #[cfg(test)]
+mod packed;
+#[cfg(test)]
 mod plain;
 #[cfg(test)]
 mod rows;
