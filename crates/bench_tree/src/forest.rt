@@ -176,7 +176,7 @@ fn work<H: ForestHand>(
 ) -> Result<Tally, Stop> {
     match task.work {
         Work::Load(_) | Work::Delete => each_key(forest, task, worker, keys),
-        Work::Mix { gets } | Work::Zipf { gets } => mix(forest, task, worker, gets, keys),
+        Work::Mix { gets } | Work::Zipf { gets, .. } => mix(forest, task, worker, gets, keys),
         Work::Eights => mix(forest, task, worker, 100, keys),
         Work::Set => set_often(forest, task, worker),
         Work::Fill(_) | Work::Scan | Work::List => scan_often(forest, alloc, task, worker),

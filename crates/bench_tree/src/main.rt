@@ -123,6 +123,8 @@ fn tallies<R: Clock + Threads + Wait + Sync + Send + Copy>(
             let Timed { tally, .. } = structure.run(rt, alloc, &task)?;
             writeln!(text, "{} {name}: {tally}", structure.word())?;
         }
+        let Timed { tally, .. } = run_forest(rt, alloc, &task, 4, false)?;
+        writeln!(text, "forest {name}: {tally}")?;
     }
     Ok(text)
 }

@@ -49,7 +49,7 @@ fn work_on(map: &mut Map<Global>, alloc: Global, task: &Task, keys: &[u32]) -> R
     match task.work {
         Work::Load(_) => load(map, keys),
         Work::Delete => delete_each(map, keys),
-        Work::Mix { gets } | Work::Zipf { gets } => mix(map, task, gets, keys),
+        Work::Mix { gets } | Work::Zipf { gets, .. } => mix(map, task, gets, keys),
         Work::Eights => Ok(get_by_eights(map, task)),
         Work::Set => set_often(map, task),
         Work::Fill(_) | Work::Scan | Work::List => scan_often(map, alloc, task),

@@ -17,8 +17,9 @@ usage: bench_tree STRUCTURE WORK WORKERS KEYS OPERATIONS
 STRUCTURE is alone, map (one worker both), hand, giving-up (hands that keep no receipt), or reader (at most 16, for what
 only reads);
 WORK is load, rising, set, delete, scan, list, the percent of gets beside puts and deletes (100, 95, 50), the same by
-Zipf's distribution (zipf, zipf95, zipf50), eights are gets of eight keys at once, where the structure has such a call,
-and fill or fill-rising are scans after the one or other load;
+Zipf's distribution (zipf, zipf95, zipf50; near and near50 where keys that are drawn often lie side by side), eights
+are gets of eight keys at once, where the structure has such a call, and fill or fill-rising are scans after the one
+or other load;
 keep and give say what becomes of a forest's receipts, of 1 to 1024 TREES;
 a tree with readers is published every CHANGES changes;
 CHAIN is the most records of a page (1 to 32), FANOUT the most entries (4 to 64); 2 and 64 without these words.

@@ -25,8 +25,9 @@ pub(crate) enum Work {
     Fill(Order),
     /// Gets in this number of a hundred operations. Half of the others are puts, half deletes.
     Mix { gets: u32 },
-    /// The same by Zipf's distribution, so that a few keys are drawn often.
-    Zipf { gets: u32 },
+    /// The same by Zipf's distribution, so that a few keys are drawn often. They lie apart, or side by
+    /// side.
+    Zipf { gets: u32, are_near: bool },
     /// Gets, eight at once where the structure has a call for that.
     Eights,
     /// Replaces values.
@@ -41,7 +42,7 @@ pub(crate) enum Work {
 
 impl Work {
     /// The kinds that `bench/compare` times in its maps, by their words.
-    pub(crate) const ALL: [(&'static str, Work); 14] = [
+    pub(crate) const ALL: [(&'static str, Work); 16] = [
         ("load", Work::Load(Order::Drawn)),
         ("rising", Work::Load(Order::Rising)),
         ("fill", Work::Fill(Order::Drawn)),
@@ -50,9 +51,41 @@ impl Work {
         ("eights", Work::Eights),
         ("95", Work::Mix { gets: 95 }),
         ("50", Work::Mix { gets: 50 }),
-        ("zipf", Work::Zipf { gets: 100 }),
-        ("zipf95", Work::Zipf { gets: 95 }),
-        ("zipf50", Work::Zipf { gets: 50 }),
+        (
+            "zipf",
+            Work::Zipf {
+                gets: 100,
+                are_near: false,
+            },
+        ),
+        (
+            "zipf95",
+            Work::Zipf {
+                gets: 95,
+                are_near: false,
+            },
+        ),
+        (
+            "zipf50",
+            Work::Zipf {
+                gets: 50,
+                are_near: false,
+            },
+        ),
+        (
+            "near",
+            Work::Zipf {
+                gets: 100,
+                are_near: true,
+            },
+        ),
+        (
+            "near50",
+            Work::Zipf {
+                gets: 50,
+                are_near: true,
+            },
+        ),
         ("set", Work::Set),
         ("delete", Work::Delete),
         ("scan", Work::Scan),
@@ -62,7 +95,7 @@ impl Work {
     pub(crate) fn only_reads(self) -> bool {
         match self {
             Work::Load(_) | Work::Set | Work::Delete => false,
-            Work::Mix { gets } | Work::Zipf { gets } => gets == 100,
+            Work::Mix { gets } | Work::Zipf { gets, .. } => gets == 100,
             Work::Eights | Work::Fill(_) | Work::Scan | Work::List => true,
         }
     }
@@ -158,7 +191,7 @@ impl Task {
     ) -> Result<Vec<u32>, AllocError> {
         match self.work {
             Work::Load(_) | Work::Delete => Ok(order),
-            Work::Zipf { .. } => zipf::draw(alloc, self.end(), self.count()),
+            Work::Zipf { are_near, .. } => { zipf::draw(alloc, self.end(), self.count(), are_near) }
             _ => Ok(Vec::new(alloc)),
         }
     }

@@ -40,7 +40,7 @@ pub(crate) fn work<S: Steps<Global, Step<Global>>>(
 ) -> Result<Tally, Stop> {
     match task.work {
         Work::Load(_) | Work::Delete => each_key(steps, task, worker, keys),
-        Work::Mix { gets } | Work::Zipf { gets } => mix(steps, task, worker, gets, keys),
+        Work::Mix { gets } | Work::Zipf { gets, .. } => mix(steps, task, worker, gets, keys),
         Work::Eights => mix(steps, task, worker, 100, keys),
         Work::Set => set_often(steps, task, worker),
         Work::Fill(_) | Work::Scan | Work::List => scan_often(steps, alloc, task, worker),

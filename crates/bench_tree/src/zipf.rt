@@ -11,13 +11,24 @@ const FIRST_WEIGHT: u64 = 1 << 54;
 /// A prime above every `end`, so that the ranks times this, modulo `end`, are all the keys.
 const STEP: u64 = 2_654_435_761;
 
-/// Returns `count` drawn keys, each below `end`.
-pub(crate) fn draw(alloc: Global, end: u32, count: u32) -> Result<Vec<u32>, AllocError> {
+/// Returns `count` drawn keys, each below `end`. Those that are drawn often are the least ones, or
+/// don't lie side by side.
+pub(crate) fn draw(
+    alloc: Global,
+    end: u32,
+    count: u32,
+    are_near: bool,
+) -> Result<Vec<u32>, AllocError> {
     let sums = cumulative_weights(alloc, end)?;
     let mut rng = Pcg32::new(0, 2);
     let mut keys = Vec::new(alloc);
     for _ in 0..count {
-        keys.push(key_of(drawn_rank(&mut rng, sums.as_slice()), end))?;
+        let rank = drawn_rank(&mut rng, sums.as_slice());
+        keys.push(if are_near {
+            rank as u32
+        } else {
+            scattered(rank, end)
+        })?;
     }
     Ok(keys)
 }
@@ -51,6 +62,6 @@ fn drawn_rank(rng: &mut Pcg32, sums: &[u64]) -> usize {
 }
 
 /// Returns the key of a rank. Keys that are drawn often don't lie side by side.
-fn key_of(rank: usize, end: u32) -> u32 {
+fn scattered(rank: usize, end: u32) -> u32 {
     ((rank as u64).saturating_mul(STEP) % u64::from(end.max(1))) as u32
 }

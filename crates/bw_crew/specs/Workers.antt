@@ -11,8 +11,8 @@ use Rattle.bw_procedures.specs.Seen.{Seen, Looked}
 abbrev pub Promised : Type 0 → Type 1
 Promised O = ℕ → O → List Receipt → Type 0
 
--- What is promised where the jobs are by the workers' numbers: what the worker's own job
--- promises. A worker past the last job brings nothing back, and its trail stays empty.
+-- What is promised where the jobs are by the workers' numbers: what the worker's own job promises.
+-- A worker past the last job brings nothing back, and its trail stays empty.
 abbrev pub promised_of_each : {J O : Type 0} → (J → Promised O) → List J → Promised (Option O)
 promised_of_each promised jobs worker output trail =
     MatchOption (slice_get jobs worker) ((output ≡ None) × (trail ≡ []))

@@ -38,10 +38,11 @@ fn main(rt: HostRuntime) -> Result<()> {
         worker.output?;
     }
     for tree in shared.forest.trees().iter() {
+        let book = tree.table().book();
         println!(rt;
             "from {}: {} pairs",
-            tree.range.low,
-            tree.table.book().inserted - tree.table.book().removed
+            tree.range().low,
+            book.inserted - book.removed
         )?;
     }
     let pairs = shared.forest.pairs(rt.alloc())?;

@@ -1,6 +1,6 @@
 -- What the workers of a forest bring back, one after the other.
-use Rattle.std.proofs.Common.{◌≡◌, ℕ, ◌+◌, ◌*◌, List, [], ◌∷◌, ◌++◌, length, map, refl, ap, sym, subst, ◌∙◌, append_assoc, append-nil, arith}
-use Rattle.std.specs.Prelude.{All}
+use Rattle.std.proofs.Common.{◌≡◌, ℕ, ◌+◌, Result, Ok, Err, List, [], ◌∷◌, ◌++◌, map, refl, ap, sym, ◌∙◌, append_assoc, append-nil}
+use Rattle.std.specs.Prelude.{IsOk}
 use Rattle.std.proofs.lemmas.List.{map-append}
 use Rattle.bw_step.specs.declared.receipt.Receipt.{Receipt}
 use Rattle.bw_tree.specs.Shares.{ShareValue}
@@ -40,11 +40,12 @@ counted_then added shares its workers it so_far own =
     ∙ (sym (map-append share_by (trails_of added workers) (map added it.trails.items)) ∙ ap (map share_by)
     (sym (trails_then added workers it)))
 
--- what is so of what each thread brings is so of what is kept of it
-pub by_number_kept : {X Z : Type 0} → (fact : ℕ → Z → Type 0) (has : X → Z) (first : ℕ) (xs : List X) (zs : List Z) → zs ≡ map has xs
-    → ByNumber (λ worker x. fact worker (has x)) first xs → ByNumber fact first zs
-by_number_kept fact has first xs zs same all = subst (ByNumber fact first) (sym same) (kept first xs all)
-  where
-    kept : (first : ℕ) (xs : List _) → ByNumber (λ worker x. fact worker (has x)) first xs → ByNumber fact first (map has xs)
-    kept first [] all = tt
-    kept first (x ∷ xs) all = (all.0, kept (first + 1) xs all.1)
+-- what is so whatever the worker is so of each
+pub all_so : {A X : Type 0} → (first : ℕ) (xs : List X) → A → ByNumber (λ worker x. A) first xs
+all_so first [] a = tt
+all_so first (x ∷ xs) a = (a, all_so (first + 1) xs a)
+
+-- a call that has room can't fail
+pub has_no_room : {E : Type 0} → (result : Result (Unit {0}) E) → IsOk result → ((all : Unit {0}) → result ≡ Ok all → ⊥) → ⊥
+has_no_room (Ok all) fine not_ok = not_ok all refl
+has_no_room (Err why) fine not_ok = absurd (cc)

@@ -7,3 +7,4 @@ pub mod Sweeping
 pub mod Trees
 pub mod Asking
 pub mod Gathering
+pub mod Crossing

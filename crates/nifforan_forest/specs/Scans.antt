@@ -6,8 +6,7 @@ use Rattle.bw_procedures.specs.Seen.{Seen}
 use Rattle.nifforan_forest.specs.Reads.{Reads}
 
 -- Pairs were added to the list, no more than the limit: those from the low on up to where the scan
--- came, which is the end unless a fault ended it
--- or there were as many as the limit.
+-- came, which is the end unless a fault ended it or there were as many as the limit.
 pub record Scans (there : ℕ → Option ℕ → Type 0) (low end limit : ℕ)
     (result : Result (Unit {0}) Fault) (old new : List (ℕ × ℕ)) : Type 0 where
   pub added : List (ℕ × ℕ)

@@ -14,16 +14,15 @@ use Rattle.nifforan_forest.specs.declared.outcome.ForestOutcome.{ForestOutcome}
 use Rattle.nifforan_forest.specs.Workers.{AllReturn, PromisedOf, trails_of}
 
 -- What a forest comes to that workers shared: a closed one, of the same ranges, which has as many
--- pairs as all trails have insertions, less their
--- removals; and of each worker an output and a trail at each tree, of which the promise holds. A
--- trail has the receipts that were added to it,
+-- pairs as all trails have insertions, less their removals; and of each worker an output and a
+-- trail at each tree, of which the promise holds. A trail has the receipts that were added to it,
 -- whether or not they were kept.
 pub record IsForestShared {O L : Type 0} (added : L → List Receipt) (promise : PromisedOf O)
     (bounds : List ℕ) (config : Config) (workers : ℕ) (outcome : ForestOutcome O L) : Type 0 where
-  pub bounds : outcome.forest.bounds ≡ bounds
+  pub ranges : outcome.forest.bounds ≡ bounds
   pub closed : IsClosedForest config (map share_by (trails_of added outcome.workers.items))
       outcome.forest
-  pub workers : length outcome.workers.items ≡ workers
+  pub returned : length outcome.workers.items ≡ workers
   pub trails : All (λ it. length it.trails.items ≡ length bounds) outcome.workers.items
   pub promised : AllReturn added promise outcome.workers.items
 

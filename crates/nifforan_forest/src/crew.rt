@@ -2,14 +2,14 @@
 
 ghost use Rattle.std.specs.Prelude.{◌≡◌, ◌*◌, ◌<◌, ◌≤◌, [], All, IfOk, length, map, vec_capacity};
 ghost use Rattle.bw_tree.specs.Shares.{no_changes};
-ghost use Rattle.bw_crew.specs.Workers.{share_by};
+ghost use Rattle.bw_crew.specs.Workers.{ByNumber, share_by};
 ghost use Rattle.nifforan_forest.specs.Workers.{AllReturn, trails_of};
 
 use crate::divides::Divides;
 use crate::hand::ForestHand;
 use crate::job::ForestJob;
 use crate::returned::Returned;
-use crate::seat::{Brought, Seat, bring_back, seat_of};
+use crate::seat::{Brought, Seat, bring_back, hands_of, seat_of};
 use crate::worker::ForestWorker;
 use bw_crew::{CrewFault, Part, run_all};
 use bw_delta::NoMemory;
@@ -24,12 +24,14 @@ use std::thread::Threads;
 
 /// A job on a forest that its workers share.
 #[derive(Drop)]
-struct OnForest<'j, J> {
-    job: &'j J,
+struct OnForest<'t, S, J> {
+    machine: Global,
+    bounds: &'t Bounds,
+    trees: &'t [S],
+    job: &'t J,
 }
 
 impl<
-    'j,
     't,
     I: Divides,
     D: Ledger,
@@ -37,22 +39,20 @@ impl<
     S: Ordered<Global, Step<Global>, Insertions = I, Removals = D>,
     L: Trail,
     J: ForestJob<Output = O, Trail = L>,
-> Part<Seat<'t, I, D, S, L>> for OnForest<'j, J> {
-    type Output = Brought<I, D, O, L>;
+> Part<Seat<I, D, L>> for OnForest<'t, S, J> {
+    type Output = Result<Brought<I, D, O, L>, NoMemory>;
 
-    ghost given = { λ part worker seat. Unit {0} };
+    ghost given = { λ part worker seat. (part.bounds.now ≡ I.bounds)
+        × (length part.trees.now ≡ length I.bounds) };
 
-    ghost promised = { λ part worker brought. J.promised part.job.now worker
-        brought.returned.output (map L.added brought.returned.trails.items) };
+    ghost promised = { λ part worker result. IfOk result (λ brought. J.promised part.job.now
+        worker brought.returned.output (map L.added brought.returned.trails.items)) };
 
-    fn run(&self, worker: u32, seat: Seat<'t, I, D, S, L>) -> Brought<I, D, O, L> {
-        let Seat {
-            bounds,
-            hands,
-            room,
-        } = seat;
-        let (output, hands) = work_with(self.job, worker, bounds, hands);
-        bring_back(room, hands, output)
+    fn run(&self, worker: u32, seat: Seat<I, D, L>) -> Result<Brought<I, D, O, L>, NoMemory> {
+        let Seat { shares, room } = seat;
+        let hands = hands_of(self.machine, self.trees, shares, worker)?;
+        let (output, hands) = work_with(self.job, worker, self.bounds, hands);
+        Ok(bring_back(room, hands, output))
     }
 }
 
@@ -89,8 +89,8 @@ pub(crate) struct Gathered<I: Divides, D: Ledger, O, L: Trail> {
 
 /// Does the job with each list of shares, one at each tree, side by side, each in a thread of its own.
 ///
-/// Fails where memory is wanting before the first thread starts, and where a thread can't be
-/// started: those that were started do their part to the end.
+/// Fails where memory is wanting before the first thread starts or for a worker's hands, and where a
+/// thread can't be started: the other workers that were started do their part to the end.
 pub(crate) fn work_all<
     I: Divides + Send + Sync,
     D: Ledger + Send + Sync,
@@ -108,46 +108,38 @@ pub(crate) fn work_all<
     job: &J,
 ) -> Result<Gathered<I, D, O, L>, CrewFault>
     requires divided { bounds.now ≡ I.bounds }
-    requires trees { length trees.now ≡ length bounds.now }
+    requires trees { length trees.now ≡ length I.bounds }
     requires few { length shares.items ≤ 64 }
-    requires each { All (λ its. length its.items ≡ length bounds.now) shares.items }
+    requires each { All (λ its. length its.items ≡ length I.bounds) shares.items }
     requires new { All (λ its. All (λ share. share ≡ no_changes) its.items) shares.items }
     ensures count { IfOk result (λ all. length all.workers.items ≡ length shares.items) }
     ensures promised { IfOk result (λ all.
         AllReturn L.added (J.promised job.now) all.workers.items) }
 {
     let room = room_for(machine, shares.len(), trees.len())?;
-    let seats = seats_of(machine, bounds, trees, shares)?;
-    let part = OnForest { job };
+    let seats = seats_of(machine, shares)?;
+    let part = OnForest {
+        machine,
+        bounds,
+        trees,
+        job,
+    };
     let all = run_all(rt, machine, &part, seats)?;
-    Ok(gather(room, all))
+    Ok(gather(room, job, all)?)
 }
 
 /// Returns a seat for each list of shares.
-fn seats_of<
-    't,
-    I: Divides,
-    D: Ledger,
-    S: Ordered<Global, Step<Global>, Insertions = I, Removals = D>,
-    L: Trail,
->(
+fn seats_of<I: Divides, D: Ledger, L: Drop>(
     machine: Global,
-    bounds: &'t Bounds,
-    trees: &'t [S],
     shares: Vec<Vec<Share<I, D>>>,
-) -> Result<Vec<Seat<'t, I, D, S, L>>, NoMemory>
-    requires divided { bounds.now ≡ I.bounds }
-    requires trees { length trees.now ≡ length bounds.now }
-    requires few { length shares.items ≤ 64 }
-    requires each { All (λ its. length its.items ≡ length bounds.now) shares.items }
+) -> Result<Vec<Seat<I, D, L>>, NoMemory>
+    requires each { All (λ its. length its.items ≡ length I.bounds) shares.items }
     requires new { All (λ its. All (λ share. share ≡ no_changes) its.items) shares.items }
     ensures count { IfOk result (λ seats. length seats.items ≡ length shares.items) }
 {
     let mut seats = Vec::with_capacity(machine, shares.len())?;
-    let mut worker = 0u32;
     for its in shares {
-        seats.push(seat_of(machine, bounds, trees, its, worker)?)?;
-        worker += 1;
+        seats.push(seat_of(machine, its)?)?;
     }
     Ok(seats)
 }
@@ -164,45 +156,52 @@ fn room_for<I: Divides, D: Ledger, O: Drop, L: Trail>(
     workers: usize,
     trees: usize,
 ) -> Result<Room<I, D, O, L>, NoMemory>
-    requires few { workers ≤ 64 }
-    requires not_many { trees ≤ 1024 }
     ensures no_shares { IfOk result (λ room. room.shares.items ≡ []) }
     ensures no_workers { IfOk result (λ room. room.workers.items ≡ []) }
     ensures shares_fit { IfOk result (λ room. workers * trees ≤ vec_capacity room.shares) }
     ensures workers_fit { IfOk result (λ room. workers ≤ vec_capacity room.workers) }
 {
+    let Some(all) = workers.checked_mul(trees) else {
+        return Err(NoMemory);
+    };
     Ok(Room {
-        shares: Vec::with_capacity(machine, workers * trees)?,
+        shares: Vec::with_capacity(machine, all)?,
         workers: Vec::with_capacity(machine, workers)?,
     })
 }
 
-/// Sorts what the workers bring back into the room. Asks for no memory, so that what was done isn't
-/// given up for want of it.
-fn gather<I: Divides, D: Ledger, O: Drop, L: Trail>(
+/// Sorts what the workers bring back into the room. Fails where one had no memory for its hands; asks
+/// for none itself, so that what was done isn't given up for want of it.
+fn gather<I: Divides, D: Ledger, O: Drop, L: Trail, J: ForestJob<Output = O, Trail = L>>(
     room: Room<I, D, O, L>,
-    all: Vec<Brought<I, D, O, L>>,
-) -> Gathered<I, D, O, L>
+    job: &J,
+    all: Vec<Result<Brought<I, D, O, L>, NoMemory>>,
+) -> Result<Gathered<I, D, O, L>, NoMemory>
     requires no_shares { room.shares.items ≡ [] }
     requires no_workers { room.workers.items ≡ [] }
     requires shares_fit { length all.items * length I.bounds ≤ vec_capacity room.shares }
     requires workers_fit { length all.items ≤ vec_capacity room.workers }
-    ensures workers { result.workers.items ≡ map (λ brought. brought.returned) all.items }
+    requires promised { ByNumber (λ worker result. IfOk result (λ brought. J.promised job.now
+        worker brought.returned.output (map L.added brought.returned.trails.items))) 0 all.items }
+    ensures count { IfOk result (λ gathered.
+        length gathered.workers.items ≡ length all.items) }
+    ensures promised { IfOk result (λ gathered.
+        AllReturn L.added (J.promised job.now) gathered.workers.items) }
 {
     let Room {
         mut shares,
         mut workers,
     } = room;
-    for brought in all {
+    for result in all {
+        let brought = result?;
         let Brought {
-            shares: its,
+            shares: mut its,
             returned,
         } = brought;
-        let mut its = its;
         let Ok(()) = shares.append(&mut its) else {
             unreachable!()
         };
         workers.push_reserved(returned);
     }
-    Gathered { shares, workers }
+    Ok(Gathered { shares, workers })
 }

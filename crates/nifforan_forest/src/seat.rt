@@ -8,7 +8,6 @@ use crate::divides::Divides;
 use crate::returned::Returned;
 use bw_crew::Member;
 use bw_delta::NoMemory;
-use bw_forest::Bounds;
 use bw_procedures::Trail;
 use bw_step::Step;
 use bw_tree::{Ordered, Share};
@@ -16,22 +15,14 @@ use bw_work::Open;
 use std::alloc::Global;
 use std::sync::ledger::Ledger;
 
-/// What a worker begins with: a hand on each tree, none of which has done anything, and room for what
+/// What a worker begins with: a share at each tree, of one that has changed nothing, and room for what
 /// it brings back.
 #[derive(Drop)]
-pub(crate) struct Seat<
-    't,
-    I: Divides,
-    D: Ledger,
-    S: Ordered<Global, Step<Global>, Insertions = I, Removals = D>,
-    L: Trail,
-> {
-    pub(crate) bounds: &'t Bounds,
-    pub(crate) hands: Vec<Member<'t, S, Open, L>>,
+pub(crate) struct Seat<I: Divides, D: Ledger, L> {
+    pub(crate) shares: Vec<Share<I, D>>,
     pub(crate) room: Room<I, D, L>,
-    ghost divided: { bounds.now ≡ I.bounds },
-    ghost each: { length hands.items ≡ length bounds.now },
-    ghost new: { All (λ hand. hand.trail ≡ []) hands.items },
+    ghost each: { length shares.items ≡ length I.bounds },
+    ghost new: { All (λ share. share ≡ no_changes) shares.items },
 }
 
 /// Room for the shares and the trails of one worker at all trees.
@@ -55,8 +46,23 @@ pub(crate) struct Brought<I: Divides, D: Ledger, O, L: Trail> {
         ≡ map (λ trail. share_by (L.added trail)) returned.trails.items },
 }
 
-/// Makes the hands of the worker with this number, and room for what it brings back.
-pub(crate) fn seat_of<
+/// Makes the seat of a worker with these shares.
+pub(crate) fn seat_of<I: Divides, D: Ledger, L: Drop>(
+    machine: Global,
+    shares: Vec<Share<I, D>>,
+) -> Result<Seat<I, D, L>, NoMemory>
+    requires each { length shares.items ≡ length I.bounds }
+    requires new { All (λ share. share ≡ no_changes) shares.items }
+{
+    let room = Room {
+        shares: Vec::with_capacity(machine, shares.len())?,
+        trails: Vec::with_capacity(machine, shares.len())?,
+    };
+    Ok(Seat { shares, room })
+}
+
+/// Makes the hands of the worker with this number, one on each tree.
+pub(crate) fn hands_of<
     't,
     I: Divides,
     D: Ledger,
@@ -64,20 +70,15 @@ pub(crate) fn seat_of<
     L: Trail,
 >(
     machine: Global,
-    bounds: &'t Bounds,
     trees: &'t [S],
     shares: Vec<Share<I, D>>,
     worker: u32,
-) -> Result<Seat<'t, I, D, S, L>, NoMemory>
-    requires divided { bounds.now ≡ I.bounds }
-    requires trees { length trees.now ≡ length bounds.now }
-    requires shares { length shares.items ≡ length bounds.now }
+) -> Result<Vec<Member<'t, S, Open, L>>, NoMemory>
+    requires shares { length shares.items ≡ length trees.now }
     requires new { All (λ share. share ≡ no_changes) shares.items }
+    ensures each { IfOk result (λ hands. length hands.items ≡ length trees.now) }
+    ensures new { IfOk result (λ hands. All (λ hand. hand.trail ≡ []) hands.items) }
 {
-    let room = Room {
-        shares: Vec::with_capacity(machine, trees.len())?,
-        trails: Vec::with_capacity(machine, trees.len())?,
-    };
     let mut shares = shares;
     let mut hands = Vec::with_capacity(machine, trees.len())?;
     for i in 0..trees.len() {
@@ -86,11 +87,7 @@ pub(crate) fn seat_of<
         };
         hands.push_reserved(Member::new(machine, &trees[i], share, worker, &Open));
     }
-    Ok(Seat {
-        bounds,
-        hands,
-        room,
-    })
+    Ok(hands)
 }
 
 /// Takes the hands apart. Asks for no memory, so that what was done isn't given up for want of it.

@@ -1,4 +1,4 @@
-use Rattle.std.proofs.Common.{◌≡◌, ◌+◌, ◌≤◌, length}
+use Rattle.std.proofs.Common.{◌≡◌, ◌+◌, length}
 use Rattle.std.specs.Prelude.{All}
 use Rattle.bw_tree.specs.Shares.{no_changes}
 use Rattle.nifforan_forest.proofs.crew.seats_of.Given as goal
@@ -6,7 +6,6 @@ use Rattle.nifforan_forest.proofs.crew.seats_of.Given as goal
 abbrev pub invariant-loop-its : goal.invariant-loop-its
 invariant-loop-its g l = record {
   count : length l.seats.items + length l.its-iterator.rest.items ≡ length l.fn.shares.items;
-  worker : l.worker ≡ length l.seats.items;
-  each : All (λ its. length its.items ≡ length l.bounds) l.its-iterator.rest.items;
+  each : All (λ its. length its.items ≡ length g.I.Divides.bounds) l.its-iterator.rest.items;
   new : All (λ its. All (λ share. share ≡ no_changes) its.items) l.its-iterator.rest.items;
 }

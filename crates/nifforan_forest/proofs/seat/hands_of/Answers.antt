@@ -1,0 +1,18 @@
+use Rattle.std.proofs.Common.{rules, ◌≡◌, ◌∷◌, ◌+◌, [], length, ap, arith, length-append}
+use Rattle.std.proofs.lemmas.List.Elements.{All-push, All-take}
+use Rattle.bw_tree.specs.Shares.{no_changes}
+use Rattle.nifforan_forest.proofs.seat.hands_of.Goals as goal
+
+pub loop-i-preserved : goal.loop-i-preserved
+loop-i-preserved g c =
+    let inv = c.loop-i.invariant in
+    let pushed = c.push_reserved.ensures.items in
+    let more : length c.push_reserved.new.self.items ≡ length c.loop-i.hands.items + 1 =
+    omega (arith, ap length pushed, length-append c.loop-i.hands.items (c.new.result ∷ [])) in
+    record {
+      shares = search rules;
+      new = rw c.pop.ensures.rest (All-take (λ share. share ≡ no_changes) _ c.loop-i.shares.items inv.new);
+      count = omega (arith, more, inv.count);
+      room = rw c.push_reserved.ensures.capacity inv.room;
+      quiet = rw pushed (All-push (λ hand. hand.trail ≡ []) c.loop-i.hands.items c.new.result inv.quiet c.new.ensures);
+    }
