@@ -4,7 +4,7 @@ use nifforan_handle::status_text;
 use std::test::Fail;
 
 /// The text of each status, by its number, and that of a number past them.
-static TEXTS: [&str; 17] = [
+static TEXTS: [&str; 18] = [
     "done",
     "the handle is closed",
     "the handle is open",
@@ -21,6 +21,7 @@ static TEXTS: [&str; 17] = [
     "the map is frozen",
     "the map is not frozen",
     "other handles have the map too",
+    "a key is not above the one before",
     "no status of this library",
 ];
 
