@@ -170,7 +170,7 @@ fn try_alone<R: Threads + Wait + Sync + Send + Copy>(
 }
 
 #[test]
-fn one_worker_has_what_a_plain_map_has(rt: TestRuntime) -> Result<(), Fail> {
+fn one_worker_has_what_a_plain_map_has(rt: HostRuntime) -> Result<(), Fail> {
     for lows in LOWS {
         for fanout in [4, 64] {
             try_alone(rt, rt.alloc(), lows, fanout)?;

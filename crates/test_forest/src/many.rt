@@ -86,7 +86,7 @@ fn try_many<R: Threads + Wait + Sync + Send + Copy>(
 }
 
 #[test]
-fn workers_have_what_they_did(rt: TestRuntime) -> Result<(), Fail> {
+fn workers_have_what_they_did(rt: HostRuntime) -> Result<(), Fail> {
     for (trees, workers) in [(1, 4), (4, 1), (16, 4), (64, 8), (3, 64)] {
         try_many(rt, rt.alloc(), trees, workers)?;
     }

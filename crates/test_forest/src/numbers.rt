@@ -28,7 +28,7 @@ const BAD: [(&[Key], BadBounds); 4] = [
 ];
 
 #[test]
-fn bad_bounds_are_refused(rt: TestRuntime) -> Result<(), Fail> {
+fn bad_bounds_are_refused(rt: HostRuntime) -> Result<(), Fail> {
     for (lows, fault) in BAD {
         let mut list = Vec::new(rt.alloc());
         list.extend_from_slice(lows)?;
@@ -40,7 +40,7 @@ fn bad_bounds_are_refused(rt: TestRuntime) -> Result<(), Fail> {
 }
 
 #[test]
-fn numbers_of_workers(rt: TestRuntime) -> Result<(), Fail> {
+fn numbers_of_workers(rt: HostRuntime) -> Result<(), Fail> {
     for (workers, fault) in [
         (0, Some(ShareForestFault::BadWorkers)),
         (1, None),
