@@ -52,16 +52,17 @@ fn clear<H: ForestHand>(
         None => Fence::Top,
     };
     let cleared = forest.clear(machine, low, high);
-    let mut removed = 0;
-    let mut next = first_from(plain, low);
-    while let Some((key, _)) = next {
+    let before = plain.map.len();
+    for _ in 0..before {
+        let Some((key, _)) = first_from(plain, low) else {
+            break;
+        };
         if !high.is_above(key) {
             break;
         }
         let _old = plain.map.remove(&key);
-        removed += 1;
-        next = first_from(plain, low);
     }
+    let removed = before.wrapping_sub(plain.map.len()) as u64;
     hold(
         cleared.fault.is_none() && cleared.removed == removed,
         "a clear counts",

@@ -48,22 +48,22 @@ fn try_many<R: Threads + Wait + Sync + Send + Copy>(
     trees: u32,
     workers: u32,
 ) -> Result<(), Fail> {
-    let bounds = Bounds::even(machine, trees, KEYS * u64::from(workers))?;
+    let bounds = Bounds::even(machine, trees, KEYS.saturating_mul(u64::from(workers)))?;
     let job = Many {
         machine,
         workers,
         calls: 20_000 / workers.max(1),
     };
     let shared = share_forest(rt, machine, bounds, config(), workers, &job)?;
-    let mut count = 0;
+    let mut count = 0u64;
     let mut inserted = 0u64;
     let mut deleted = 0u64;
     for worker in shared.workers {
         for trail in worker.trails.iter() {
             for receipt in trail.iter() {
                 match receipt {
-                    Receipt::Inserted { .. } => inserted += 1,
-                    Receipt::Deleted { .. } => deleted += 1,
+                    Receipt::Inserted { .. } => inserted = inserted.wrapping_add(1),
+                    Receipt::Deleted { .. } => deleted = deleted.wrapping_add(1),
                     _ => {}
                 }
             }
@@ -72,14 +72,14 @@ fn try_many<R: Threads + Wait + Sync + Send + Copy>(
             return Err("a trail at each tree".into());
         }
         let plain = worker.output?;
-        count += plain.map.len() as u64;
+        count = count.wrapping_add(plain.map.len() as u64);
         for (key, value) in plain.map.iter() {
             if shared.forest.get(*key) != Some(*value) {
                 return Err("a pair is missing".into());
             }
         }
     }
-    if shared.forest.len() != count || inserted != count + deleted {
+    if shared.forest.len() != count || inserted != count.wrapping_add(deleted) {
         return Err("the number of pairs".into());
     }
     Ok(())
