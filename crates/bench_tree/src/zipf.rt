@@ -25,7 +25,7 @@ pub(crate) fn draw(
     for _ in 0..count {
         let rank = drawn_rank(&mut rng, sums.as_slice());
         keys.push(if are_near {
-            rank as u32
+            near(rank, end)
         } else {
             scattered(rank, end)
         })?;
@@ -59,6 +59,11 @@ fn drawn_rank(rng: &mut Pcg32, sums: &[u64]) -> usize {
     let total = sums.last().copied().unwrap_or(1).max(1);
     let drawn = rng.next_u64() % total;
     sums.partition_point(|sum| *sum <= drawn)
+}
+
+/// Returns the key of a rank. Keys that are drawn often lie side by side.
+fn near(rank: usize, end: u32) -> u32 {
+    (rank as u64 % u64::from(end.max(1))) as u32
 }
 
 /// Returns the key of a rank. Keys that are drawn often don't lie side by side.
