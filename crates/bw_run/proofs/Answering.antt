@@ -9,8 +9,8 @@ use Rattle.bw_step.specs.Trails.{lists_of}
 use Rattle.bw_procedures.specs.declared.act.Act.{Act}
 use Rattle.bw_procedures.specs.Reported.{GoWith}
 use Rattle.bw_texts.specs.declared.trace.row.Row.{Row}
-use Rattle.nifforan_shared.specs.Workers.{AreAsPromised, ByNumber}
-use Rattle.nifforan_shared.proofs.Workers.{by_number_promised}
+use Rattle.bw_crew.specs.Workers.{AreAsPromised, ByNumber}
+use Rattle.bw_crew.proofs.Workers.{by_number_promised}
 use Rattle.bw_run.specs.declared.answers.Answers.{Answers}
 use Rattle.bw_run.specs.Answers.{AreAnswered, AreAnswersTo, StopsIn, columns_of}
 use Rattle.bw_run.specs.Rows.{ArePlanned, acts_of}

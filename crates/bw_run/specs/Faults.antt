@@ -8,8 +8,8 @@ use Rattle.bw_audit.specs.declared.verdict.Verdict.TheVariants.{No}
 use Rattle.bw_tree.specs.Trees.{MayBeMade, is_bad_number}
 use Rattle.bw_run.specs.declared.fault.RunFault.{RunFault}
 use Rattle.bw_run.specs.declared.fault.RunFault.TheVariants.{Config as BadConfig, Workers, Readers, NoReader, Threads, Memory, Stopped, Audit}
-use Rattle.nifforan_shared.specs.declared.fault.CrewFault.{CrewFault}
-use Rattle.nifforan_shared.specs.declared.fault.CrewFault.TheVariants.{NoMemory, NoThread}
+use Rattle.bw_crew.specs.declared.fault.CrewFault.{CrewFault}
+use Rattle.bw_crew.specs.declared.fault.CrewFault.TheVariants.{NoMemory, NoThread}
 use Rattle.bw_texts.specs.declared.trace.row.Row.{Row}
 use Rattle.bw_run.specs.Rows.{IsRowOf}
 

@@ -7,7 +7,7 @@ use Rattle.bw_tree.specs.Trees.{IsTree, CountsPairs}
 use Rattle.bw_audit.specs.Legal.{IsLegal}
 use Rattle.bw_procedures.specs.Reported.{GoWith}
 use Rattle.bw_texts.specs.declared.trace.row.Row.{Row}
-use Rattle.nifforan_shared.specs.Workers.{changes_in}
+use Rattle.bw_crew.specs.Workers.{changes_in}
 use Rattle.bw_run.specs.declared.ending.Finished.{Finished}
 use Rattle.bw_run.specs.Rows.{acts_of, replies_to}
 

@@ -4,7 +4,7 @@ ghost use Rattle.std.specs.Prelude.{◌≡◌, ◌<◌, IfOk, IfErr, length};
 ghost use Rattle.std.specs.List.{AllByRecursion};
 ghost use Rattle.bw_step.specs.Trails.{lists_of};
 ghost use Rattle.bw_tree.specs.Trees.{IsTree, CountsPairs};
-ghost use Rattle.nifforan_shared.specs.Workers.{changes_in};
+ghost use Rattle.bw_crew.specs.Workers.{changes_in};
 ghost use Rattle.bw_run.specs.Answers.{AreAnswered, columns_of};
 ghost use Rattle.bw_run.specs.Beside.{count_beside};
 ghost use Rattle.bw_run.specs.Faults.{EndsBadly};

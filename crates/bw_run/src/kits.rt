@@ -2,7 +2,7 @@
 
 ghost use Rattle.std.specs.Prelude.{◌≡◌, ◌<◌, ◌≤◌, [], IfOk, length, map, vec_len, vec_capacity};
 ghost use Rattle.std.specs.List.{AllByRecursion};
-ghost use Rattle.nifforan_shared.specs.Workers.{ByNumber};
+ghost use Rattle.bw_crew.specs.Workers.{ByNumber};
 ghost use Rattle.bw_run.specs.Reads.{handed_out};
 ghost use Rattle.bw_run.specs.Rows.{acts_of};
 

@@ -5,7 +5,7 @@ ghost use Rattle.std.specs.List.{AllByRecursion};
 ghost use Rattle.bw_step.specs.Trails.{lists_of};
 ghost use Rattle.bw_tree.specs.Trees.{OpensFor};
 ghost use Rattle.bw_tree.specs.Trees.{IsTree, CountsPairs, MayBeMade};
-ghost use Rattle.nifforan_shared.specs.Workers.{changes_in};
+ghost use Rattle.bw_crew.specs.Workers.{changes_in};
 ghost use Rattle.bw_run.specs.Faults.{IsRunFault, MayRun};
 ghost use Rattle.bw_run.specs.Runs.{IsRunOf, IsLegalRun, TellsItsReplies};
 

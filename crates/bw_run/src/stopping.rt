@@ -1,7 +1,7 @@
 //! Which worker stopped, and at which row.
 
 ghost use Rattle.std.specs.Prelude.{◌≡◌, ◌-◌, ◌<◌, ℕ, Bool, None, OnOk, IfErr, All, length, take};
-ghost use Rattle.nifforan_shared.specs.Workers.{ByNumber};
+ghost use Rattle.bw_crew.specs.Workers.{ByNumber};
 ghost use Rattle.bw_run.specs.Answers.{StopsIn};
 ghost use Rattle.bw_run.specs.Faults.{StopsWithin};
 ghost use Rattle.bw_run.specs.Rows.{IsRowOf, acts_of};

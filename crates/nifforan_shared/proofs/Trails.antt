@@ -5,7 +5,7 @@ use Rattle.bw_law.specs.Tables.{TableValue, new_table}
 use Rattle.bw_step.specs.declared.receipt.Receipt.{Receipt}
 use Rattle.bw_tree.specs.Shares.{ShareValue, no_changes, share_of, shared_in, sum_of, together}
 use Rattle.bw_tree.specs.Trees.{IsTree, CountsPairs}
-use Rattle.nifforan_shared.specs.Workers.{changes_in, share_by}
+use Rattle.bw_crew.specs.Workers.{changes_in, share_by}
 
 each_list : {L : Type 0} → (added : L → List Receipt) (trails : List L) → map (λ trail. share_by (added trail)) trails ≡ map share_by (map added trails)
 each_list added [] = refl

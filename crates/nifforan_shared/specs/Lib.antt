@@ -1,2 +1,1 @@
-pub mod Workers
 pub mod Sharing

@@ -8,11 +8,11 @@ use Rattle.bw_tree.specs.declared.fault.Unshared.{Unshared}
 use Rattle.bw_tree.specs.Shares.{shared_in, together}
 use Rattle.bw_tree.specs.Trees.{IsTree, CountsPairs}
 use Rattle.nifforan_shared.specs.declared.outcome.Outcome.{Outcome}
-use Rattle.nifforan_shared.specs.declared.fault.CrewFault.{CrewFault}
-use Rattle.nifforan_shared.specs.declared.fault.CrewFault.TheVariants as crew
+use Rattle.bw_crew.specs.declared.fault.CrewFault.{CrewFault}
+use Rattle.bw_crew.specs.declared.fault.CrewFault.TheVariants as crew
 use Rattle.nifforan_shared.specs.declared.fault.ShareFault.{ShareFault}
 use Rattle.nifforan_shared.specs.declared.fault.ShareFault.TheVariants.{BadConfig, BadWorkers, NoMemory, NoThread}
-use Rattle.nifforan_shared.specs.Workers.{Promised, AllAsPromised, changes_in}
+use Rattle.bw_crew.specs.Workers.{Promised, AllAsPromised, changes_in}
 
 -- What a tree comes to that workers shared: a lawful table, made by the configuration; an output and a trail of each worker, of which the
 -- promise holds; and as many pairs as all trails have insertions, less their removals. A trail has the receipts that were added to it, whether or

@@ -2,7 +2,7 @@
 
 use crate::job::{Job, ReadingJob};
 use crate::reading::Reads;
-use crate::worker::Worker;
+use bw_crew::Worker;
 
 /// Jobs by the workers' numbers: worker `i` does the job at `i`, and brings back what that returns.
 /// A worker past the last job does nothing, and brings back `None`.
@@ -14,7 +14,7 @@ pub struct Each<'j, J> {
 }
 
 impl<'j, J: Job> Job for Each<'j, J> {
-    ghost use Rattle.nifforan_shared.specs.Workers.{promised_of_each};
+    ghost use Rattle.bw_crew.specs.Workers.{promised_of_each};
 
     type Output = Option<J::Output>;
 
@@ -30,7 +30,7 @@ impl<'j, J: Job> Job for Each<'j, J> {
 }
 
 impl<'j, J: ReadingJob> ReadingJob for Each<'j, J> {
-    ghost use Rattle.nifforan_shared.specs.Workers.{promised_of_each};
+    ghost use Rattle.bw_crew.specs.Workers.{promised_of_each};
 
     type Output = Option<J::Output>;
 

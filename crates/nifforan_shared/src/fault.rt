@@ -1,49 +1,13 @@
 //! Why a tree wasn't shared.
 
 ghost use Rattle.std.specs.Prelude.{◌≡◌};
-ghost use Rattle.nifforan_shared.specs.declared.fault.CrewFault.TheVariants as crew;
 ghost use Rattle.nifforan_shared.specs.declared.fault.ShareFault.TheVariants as faults;
 
+use bw_crew::CrewFault;
 use bw_delta::NoMemory as Want;
 use bw_keys::BadConfig;
-use std::alloc::{AllocError, AllocFailed};
+use std::alloc::AllocError;
 use thiserror::Error;
-
-/// Why the workers of a crew didn't do their task. Those whose threads were started did it, and
-/// what they did is given up.
-#[derive(Clone, Copy, Debug, PartialEq, Eq, Error)]
-pub enum CrewFault {
-    /// There was no room for what the workers bring back.
-    #[error("out of memory")]
-    NoMemory,
-    /// A worker's thread couldn't be started.
-    #[error("threads")]
-    NoThread,
-}
-
-impl From<Want> for CrewFault {
-    ghost from_gives = { λ _ fault. fault ≡ crew.NoMemory };
-
-    fn from(_: Want) -> CrewFault {
-        CrewFault::NoMemory
-    }
-}
-
-impl From<AllocError> for CrewFault {
-    ghost from_gives = { λ _ fault. fault ≡ crew.NoMemory };
-
-    fn from(_: AllocError) -> CrewFault {
-        CrewFault::NoMemory
-    }
-}
-
-impl<T: Drop> From<AllocFailed<T>> for CrewFault {
-    ghost from_gives = { λ _ fault. fault ≡ crew.NoMemory };
-
-    fn from(_: AllocFailed<T>) -> CrewFault {
-        CrewFault::NoMemory
-    }
-}
 
 /// Why a tree wasn't shared. The first two are found before any thread starts, in this order.
 #[derive(Clone, Copy, Debug, PartialEq, Eq, Error)]

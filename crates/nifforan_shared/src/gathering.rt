@@ -1,7 +1,7 @@
 //! What all workers bring back.
 
 ghost use Rattle.std.specs.Prelude.{◌≡◌, ◌<◌, ◌≤◌, [], IfOk, length, map, vec_capacity};
-ghost use Rattle.nifforan_shared.specs.Workers.{share_by};
+ghost use Rattle.bw_crew.specs.Workers.{share_by};
 
 use bw_delta::NoMemory;
 use bw_procedures::Trail;

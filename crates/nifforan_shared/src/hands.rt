@@ -2,14 +2,12 @@
 
 ghost use Rattle.std.specs.Prelude.{◌≡◌, ◌<◌, ◌≤◌, IfOk, All, length, vec_capacity};
 ghost use Rattle.bw_tree.specs.Shares.{no_changes};
-ghost use Rattle.nifforan_shared.specs.Workers.{AllAsPromised, ByNumber};
+ghost use Rattle.bw_crew.specs.Workers.{AllAsPromised, ByNumber};
 
-use crate::crew::{Part, run_all};
-use crate::fault::CrewFault;
 use crate::gathering::{Gathered, Worked, gather};
-use crate::member::Member;
 use crate::seats::{Seat, seats_of};
 use crate::task::Task;
+use bw_crew::{CrewFault, Member, Part, run_all};
 use bw_procedures::Trail;
 use bw_step::Step;
 use bw_tree::{Ordered, Share};

@@ -1,13 +1,13 @@
 //! What the workers of a shared tree are to do.
 
 use crate::reading::Reads;
-use crate::worker::Worker;
+use bw_crew::Worker;
 use bw_procedures::Trail;
 
 /// What each worker of a tree does, in a thread of its own.
 pub trait Job {
     ghost use Rattle.std.specs.Prelude.{◌≡◌, ◌<◌, []};
-    ghost use Rattle.nifforan_shared.specs.Workers.{Promised};
+    ghost use Rattle.bw_crew.specs.Workers.{Promised};
 
     /// What a worker brings back.
     type Output: Drop;
@@ -31,7 +31,7 @@ pub trait Job {
 /// What each worker of a tree with readers does, in a thread of its own.
 pub trait ReadingJob {
     ghost use Rattle.std.specs.Prelude.{◌≡◌, ◌<◌, []};
-    ghost use Rattle.nifforan_shared.specs.Workers.{Promised};
+    ghost use Rattle.bw_crew.specs.Workers.{Promised};
 
     /// What a worker brings back.
     type Output: Drop;

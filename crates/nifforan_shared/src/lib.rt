@@ -2,20 +2,18 @@
 //! worker, joins them all, and hands the table out.
 #![tactic(auto)]
 
-mod crew;
 mod each;
 mod fault;
 mod gathering;
 mod hands;
 mod job;
-mod member;
 mod outcome;
 mod reading;
 mod seats;
 mod sharing;
 mod task;
-mod worker;
 
+pub use bw_crew::{CrewFault, Notes, Worker};
 pub use bw_delta::NoMemory;
 pub use bw_keys::{BadConfig, Config, Fence, Field, Key, MAX_WORKERS};
 pub use bw_procedures::{
@@ -27,7 +25,7 @@ pub use bw_table::Table;
 pub use bw_tree::Unshared;
 pub use bw_work::{Pages, Queries};
 pub use each::Each;
-pub use fault::{CrewFault, ShareFault};
+pub use fault::ShareFault;
 pub use gathering::Gathered;
 pub use hands::work_all;
 pub use job::{Job, ReadingJob};
@@ -35,4 +33,3 @@ pub use outcome::Outcome;
 pub use reading::{Reading, Reads, readings_of};
 pub use sharing::{share, share_table, share_with_readers};
 pub use task::Task;
-pub use worker::{Notes, Worker};

@@ -4,15 +4,16 @@ ghost use Rattle.std.specs.Prelude.{◌≡◌, ◌+◌, ◌<◌, ◌≤◌, IsOk
 ghost use Rattle.bw_tree.specs.Shares.{no_changes};
 ghost use Rattle.bw_tree.specs.Trees.{OpensFor};
 ghost use Rattle.nifforan_shared.specs.Sharing.{IsShared, IsTableShared, IsBack, MayShare, IsShareFault};
-ghost use Rattle.nifforan_shared.specs.Workers.{AllAsPromised};
+ghost use Rattle.bw_crew.specs.Workers.{AllAsPromised};
 
-use crate::fault::{CrewFault, ShareFault};
+use crate::fault::ShareFault;
 use crate::gathering::Gathered;
 use crate::hands::work_all;
 use crate::job::{Job, ReadingJob};
 use crate::outcome::Outcome;
 use crate::reading::readings_of;
 use crate::task::{ByHand, WithReader};
+use bw_crew::CrewFault;
 use bw_keys::{Config, MAX_WORKERS};
 use bw_procedures::Trail;
 use bw_snap::{Announcements, MAX_READERS, Naming, ReadTree};

@@ -2,7 +2,7 @@
 
 use crate::job::{Job, ReadingJob};
 use crate::reading::Reading;
-use crate::worker::Notes;
+use bw_crew::Notes;
 use bw_procedures::Trail;
 use bw_snap::Naming;
 use std::sync::Wait;
@@ -11,7 +11,7 @@ use std::sync::ledger::Ledger;
 /// A job with what else each worker is given for it, its kit.
 pub trait Task<K> {
     ghost use Rattle.std.specs.Prelude.{◌≡◌, ◌<◌, ℕ, []};
-    ghost use Rattle.nifforan_shared.specs.Workers.{Promised};
+    ghost use Rattle.bw_crew.specs.Workers.{Promised};
 
     /// What a worker brings back.
     type Output: Drop;

@@ -1,7 +1,7 @@
 //! Each call of a job's worker and of its reader, with what it answers, and each fault of the numbers.
 
 ghost use Rattle.std.specs.Prelude.{◌≡◌, ◌<◌, IfOk};
-ghost use Rattle.nifforan_shared.specs.Workers.{AreNumbered};
+ghost use Rattle.bw_crew.specs.Workers.{AreNumbered};
 
 use nifforan_shared::{
     Calls as _, Config, Del, Done, Fault, Fence, GivenUp, Job, Outcome, Put, ReadingJob, Reads,

@@ -1,6 +1,6 @@
 use Rattle.std.proofs.Common.{rules, ◌≡◌, ◌∷◌, suc, length, ap, sym, ◌∙◌}
 use Rattle.std.proofs.lemmas.List.{nil_from_length}
-use Rattle.nifforan_shared.proofs.Workers.{one_more_has}
+use Rattle.bw_crew.proofs.Workers.{one_more_has}
 use Rattle.bw_run.proofs.Readers.{handed_next, none_left}
 use Rattle.bw_run.proofs.kits.kits_of.Goals as goal
 

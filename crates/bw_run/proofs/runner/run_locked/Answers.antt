@@ -5,7 +5,7 @@ use Rattle.std.specs.List.{AllByRecursion}
 use Rattle.nifforan_shared.proofs.Crossing.{Tree-sync}
 use Rattle.bw_texts.specs.declared.trace.row.Row.{Row}
 use Rattle.nifforan_shared.proofs.Trails.{counts_trails}
-use Rattle.nifforan_shared.proofs.Workers.{few_workers}
+use Rattle.bw_crew.proofs.Workers.{few_workers}
 use Rattle.bw_run.proofs.runner.run_locked.Goals as goal
 
 pub do_rows-requires-sync-T : goal.do_rows-requires-sync-T

@@ -1,5 +1,5 @@
 use Rattle.std.proofs.Common.{rules, ◌≡◌, ◌∷◌, ◌+◌, [], length, map, ap, ◌∙◌, append_assoc, arith, length-append}
-use Rattle.nifforan_shared.proofs.Workers.{counted_more}
+use Rattle.bw_crew.proofs.Workers.{counted_more}
 use Rattle.nifforan_shared.proofs.gathering.gather.Goals as goal
 
 pub loop-worked-preserved : goal.loop-worked-preserved

@@ -1,6 +1,6 @@
 use Rattle.std.proofs.Common.{◌≡◌, ◌+◌, ◌++◌, ◌<◌, ◌≤◌, length, map}
 use Rattle.std.specs.Prelude.{vec_capacity}
-use Rattle.nifforan_shared.specs.Workers.{share_by}
+use Rattle.bw_crew.specs.Workers.{share_by}
 use Rattle.nifforan_shared.proofs.gathering.gather.Given as goal
 
 abbrev pub invariant-loop-worked : goal.invariant-loop-worked

@@ -1,4 +1,4 @@
-use Rattle.nifforan_shared.proofs.Workers.{all_as_promised, by_number_of}
+use Rattle.bw_crew.proofs.Workers.{all_as_promised, by_number_of}
 use Rattle.nifforan_shared.proofs.hands.work_all.Goals as goal
 
 pub run_all-requires-clause-given : goal.run_all-requires-clause-given

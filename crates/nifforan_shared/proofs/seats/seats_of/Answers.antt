@@ -1,7 +1,7 @@
 use Rattle.std.proofs.Common.{rules, ◌≡◌, ◌∷◌}
 use Rattle.std.proofs.lemmas.List.Elements.{All-take}
 use Rattle.bw_tree.specs.Shares.{no_changes}
-use Rattle.nifforan_shared.proofs.Workers.{one_more_has}
+use Rattle.bw_crew.proofs.Workers.{one_more_has}
 use Rattle.nifforan_shared.proofs.seats.seats_of.Goals as goal
 
 pub loop-kit-preserved : goal.loop-kit-preserved

@@ -3,7 +3,7 @@ use Rattle.std.proofs.Common.{rules, ◌≡◌, length, ◌∙◌}
 use Rattle.std.proofs.Crossing.{crosses}
 use Rattle.bw_snap.proofs.Crossing.{Reader-send, ReadTree-sync}
 use Rattle.nifforan_shared.proofs.Trails.{counts_trails}
-use Rattle.nifforan_shared.proofs.Workers.{nothing_asked}
+use Rattle.bw_crew.proofs.Workers.{nothing_asked}
 use Rattle.nifforan_shared.proofs.sharing.share_read.Goals as goal
 
 pub work_all-requires-send-K : goal.work_all-requires-send-K

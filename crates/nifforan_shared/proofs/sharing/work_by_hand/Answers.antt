@@ -1,7 +1,7 @@
 use denote.Param.Send.{sendable}
 use Rattle.std.proofs.Crossing.{crosses}
 use Rattle.nifforan_shared.proofs.Crossing.{Tree-sync}
-use Rattle.nifforan_shared.proofs.Workers.{nothing_asked}
+use Rattle.bw_crew.proofs.Workers.{nothing_asked}
 use Rattle.nifforan_shared.proofs.sharing.work_by_hand.Goals as goal
 
 pub work_all-requires-sync-T : goal.work_all-requires-sync-T

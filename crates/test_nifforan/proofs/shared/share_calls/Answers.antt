@@ -1,5 +1,5 @@
 use Rattle.std.proofs.lemmas.Result.{IfOk-weaker}
-use Rattle.nifforan_shared.proofs.Workers.{numbered_by_promise}
+use Rattle.bw_crew.proofs.Workers.{numbered_by_promise}
 use Rattle.test_nifforan.proofs.shared.share_calls.Goals as goal
 
 pub returns : goal.returns
