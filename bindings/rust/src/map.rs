@@ -103,7 +103,11 @@ impl Map {
         settings: &Settings,
         pairs: impl IntoIterator<Item = (u64, u64)>,
     ) -> Result<Map, Fault> {
+        let pairs = pairs.into_iter();
         let mut array = Vec::new();
+        array
+            .try_reserve(pairs.size_hint().0)
+            .map_err(|_| Fault::NoMemory)?;
         for pair in pairs {
             array.try_reserve(1).map_err(|_| Fault::NoMemory)?;
             array.push(ffi::Pair::of(pair));
