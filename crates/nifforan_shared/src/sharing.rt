@@ -189,7 +189,7 @@ fn share_locked<
 }
 
 /// Does the job with each share, without readers.
-#[tactic(auto, using(crate::proofs::Workers::few_workers))]
+#[tactic(auto, using(bw_crew::proofs::Workers::few_workers))]
 fn work_by_hand<
     I: MadeBy + Send + Sync,
     D: Ledger + Send + Sync,
@@ -216,7 +216,7 @@ fn work_by_hand<
 }
 
 /// Shares a tree with a reader for each worker, with these blank ledgers and announcements.
-#[tactic(auto, using(crate::proofs::Workers::few_workers))]
+#[tactic(auto, using(bw_crew::proofs::Workers::few_workers))]
 fn share_read<
     N: Naming + Send + Sync,
     D: Ledger + Send + Sync,
