@@ -2,7 +2,7 @@ use crate::entry::Entry;
 use crate::ffi::{self, High};
 use crate::iter::{IntoIter, IntoKeys, IntoValues, Iter};
 use crate::reads::{ends, reads};
-use crate::walk::Window;
+use crate::walk::{Window, ROOM};
 use crate::{Fault, Frozen, OccupiedEntry, Reads, Settings, Unfinished, Unfrozen};
 use std::ops::RangeBounds;
 
@@ -314,6 +314,45 @@ impl Map {
             low = read.has_next.then_some(read.next);
         }
         Ok(removed)
+    }
+
+    /// Gives each pair of a range the value that the function makes of it. Each is asked about once, by rising keys; one
+    /// that keeps its value isn't set. Where it ends early, a first part of the pairs have their new values, the others are
+    /// as they were, and what the function made of up to 64 of these is lost.
+    ///
+    /// ```
+    /// let mut map: nifforan::Map = (0..100).map(|key| (key, key)).collect();
+    /// map.update(10..=20, |key, value| if key % 2 == 0 { value + 1000 } else { value })?;
+    /// assert_eq!(map.range(9..13).collect::<Vec<_>>(), [(9, 9), (10, 1010), (11, 11), (12, 1012)]);
+    /// assert_eq!(map.range(20..22).collect::<Vec<_>>(), [(20, 1020), (21, 21)]);
+    /// # Ok::<(), nifforan::Fault>(())
+    /// ```
+    pub fn update(
+        &mut self,
+        keys: impl RangeBounds<u64>,
+        mut new: impl FnMut(u64, u64) -> u64,
+    ) -> Result<(), Fault> {
+        self.care = ffi::OK;
+        let Some((low, high)) = ends(&keys) else {
+            return Ok(());
+        };
+        let mut window = Window::empty();
+        let mut next = Some(low);
+        while let Some(from) = next {
+            let read = window.read(&self.reads, from, high);
+            let mut altered = [const { ffi::Pair { key: 0, value: 0 } }; ROOM];
+            let mut count = 0;
+            for pair in window.left() {
+                let value = new(pair.key, pair.value);
+                if value != pair.value {
+                    altered[count] = ffi::Pair::of((pair.key, value));
+                    count += 1;
+                }
+            }
+            self.also(|map| map.set_each(&altered[..count]))?;
+            next = read.has_next.then_some(read.next);
+        }
+        Ok(())
     }
 
     /// Sets each pair. Where it ends early, the pairs before that are in the map.

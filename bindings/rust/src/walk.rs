@@ -5,7 +5,7 @@ use crate::Reads;
 use std::mem::MaybeUninit;
 
 /// How many pairs are read at once.
-const ROOM: usize = 64;
+pub(crate) const ROOM: usize = 64;
 
 /// Pairs that were read. Those that were not given out yet stand from `first` on and below `end`.
 #[derive(Clone, Copy)]

@@ -79,7 +79,8 @@ impl Both {
             9770..9800 => self.upsert(key, value),
             9800..9900 => self.pop(value.is_multiple_of(2)),
             9900..9995 => self.extend(key, value),
-            9995..9999 => self.parts(dice),
+            9995..9998 => self.parts(dice),
+            9998..9999 => self.update(key, value),
             _ => self.retain(|_, it| it % 4 != value % 4),
         }
     }
@@ -364,6 +365,37 @@ impl Both {
         }
         let out: Vec<Pair> = asked.into_iter().filter(|it| !keep(it.0, it.1)).collect();
         self.took_out(&out, answer);
+        self.same_pairs();
+    }
+
+    /// Gives two pairs in three of a range other values. Where the map is full, a first part of them has these.
+    fn update(&mut self, key: u64, value: u64) {
+        let (low, high) = (key, key + value % 1000);
+        let made = |key: u64, had: u64| {
+            if key % 3 == value % 3 {
+                had
+            } else {
+                had ^ value
+            }
+        };
+        let there: Vec<Pair> = self.plain.range(low..high).map(owned).collect();
+        let mut asked = Vec::new();
+        let answer = self.map.update(low..high, |key, had| {
+            asked.push((key, had));
+            made(key, had)
+        });
+        let has = |pair: &&Pair| self.map.get(pair.0) == Some(made(pair.0, pair.1));
+        let done = match answer {
+            Ok(()) => asked.len(),
+            Err(_) => there.iter().take_while(has).count(),
+        };
+        assert!(there.starts_with(&asked) && done <= asked.len());
+        assert!(answer.is_err() || asked == there);
+        let new = there[..done]
+            .iter()
+            .map(|&(key, had)| (key, made(key, had)));
+        self.plain.extend(new);
+        self.is_done(answer, ());
         self.same_pairs();
     }
 

@@ -1,6 +1,6 @@
 -- Pairs after all others, whose keys rise.
 use Rattle.std.proofs.Common.{◌≡◌, ℕ, ◌+◌, ◌<◌, ◌≤◌, Bool, true, false, [], ◌∷◌, ◌++◌, Option, Some, None, length, suc, refl, sym, ap, subst, ◌∙◌, arith, append_assoc, append-nil}
-use Rattle.std.specs.Prelude.{option_map, unwrap_or, nat_lt, nat_le, ◌&&◌, Result, Err}
+use Rattle.std.specs.Prelude.{option_map, unwrap_or, nat_lt, nat_le, ◌&&◌, Err}
 use Rattle.std.specs.Iterator.{Drains, Yields}
 use Rattle.std.proofs.lemmas.Bool.Decides.{nat_tests}
 use Rattle.bw_keys.specs.Ranges.{key_count}

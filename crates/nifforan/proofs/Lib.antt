@@ -14,3 +14,4 @@ pub mod Rooms
 pub mod Growing
 pub mod Settings
 pub mod Appending
+pub mod Updates

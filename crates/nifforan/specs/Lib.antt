@@ -7,3 +7,4 @@ pub mod Reading
 pub mod Retaining
 pub mod Settings
 pub mod Rising
+pub mod Updating

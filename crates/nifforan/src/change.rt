@@ -97,7 +97,12 @@ impl<A: Allocator + Copy> Map<A> {
 
     /// Sets the key, which was looked up, to the value.
     #[inline(always)]
-    fn set_found(&mut self, found: Found, key: Key, value: u64) -> Result<Done<Set>, Fault>
+    pub(crate) fn set_found(
+        &mut self,
+        found: Found,
+        key: Key,
+        value: u64,
+    ) -> Result<Done<Set>, Fault>
         ensures sets { IfOk result (λ done.
             Sets key value (before_set done.reply) self.old.pairs self.new.pairs) }
         ensures unchanged { OnErr result (self.new.pairs ≡ self.old.pairs) }

@@ -21,6 +21,19 @@ pub(crate) struct Found {
     leaf: Option<Pid>,
 }
 
+impl Found {
+    /// The value of a key that was read in this leaf.
+    #[inline(always)]
+    pub(crate) fn in_leaf(leaf: Pid, value: u64) -> Found
+        ensures { result.value ≡ Some value }
+    {
+        Found {
+            value: Some(value),
+            leaf: Some(leaf),
+        }
+    }
+}
+
 /// A change that was made at once.
 #[derive(Clone, Copy)]
 struct Made {

@@ -17,6 +17,7 @@ mod retain;
 mod room;
 mod run;
 mod sorted;
+mod update;
 mod usual;
 mod worker;
 

@@ -33,4 +33,6 @@ mod shared;
 #[cfg(test)]
 mod texts;
 #[cfg(test)]
+mod updating;
+#[cfg(test)]
 mod walks;
