@@ -1,9 +1,10 @@
 -- The last entry below a bound, by what stands at each key.
-use Rattle.std.proofs.Common.{◌≡◌, ℕ, ◌+◌, ◌<◌, ◌≤◌, true, List, [], ◌∷◌, refl, arith}
-use Rattle.std.specs.Prelude.{Some}
+use Rattle.std.proofs.Common.{◌≡◌, ◌↔◌, ℕ, ◌+◌, ◌<◌, ◌≤◌, true, false, IsTrue, List, [], ◌∷◌, Some, None, refl, ap, ⊎_elim, arith}
+use Rattle.std.specs.Prelude.{IsSome}
+use Rattle.std.proofs.lemmas.Bool.{cases_lt}
 use Rattle.std.proofs.lemmas.Bool.Decides.{nat_tests}
-use Rattle.bw_delta.specs.Entries.{at, rises, below, last_below, last_entry}
-use Rattle.bw_chain.proofs.Firsts.{at-before}
+use Rattle.bw_delta.specs.Entries.{at, rises, below, first_entry, first_from, last_below, last_entry}
+use Rattle.bw_chain.proofs.Firsts.{at-before, from_past}
 
 module _ {X : Type 0} where
   pub below_zero : (es : List (ℕ × X)) → below 0 es ≡ []
@@ -51,3 +52,30 @@ module _ {X : Type 0} where
       let more = rises-last (d.0 + 1) past bound e (c ∷ es) rest last less in
       let later : d.0 + 1 ≤ e.0 = last_upto_end (d.0 + 1) past e (c ∷ es) rest last in
       grind (arith, nat_tests)
+
+  some_upto_last : (key : ℕ) (last : ℕ × X) (es : List (ℕ × X)) → last_entry es ≡ Some last → key ≤ last.0 → IsSome (first_from key es)
+  some_upto_last key last [] is upto = cc
+  some_upto_last key last (d ∷ []) is upto =
+      let same : d ≡ last = cc in
+      let here : key ≤ d.0 = rw same upto in
+      grind (arith, nat_tests)
+  some_upto_last key last (d ∷ c ∷ es) is upto =
+      let rest : last_entry (c ∷ es) ≡ Some last = cc in
+      grind (arith, nat_tests, some_upto_last key last (c ∷ es) rest upto)
+
+  none_past_last : (low past key : ℕ) (last : ℕ × X) (es : List (ℕ × X)) → rises low past es ≡ true → last_entry es ≡ Some last → last.0 < key → first_from key es ≡ None
+  none_past_last low past key last es h is less = ap first_entry (from_past low key key es (rises-last low past key last es h is less) (omega arith))
+
+  -- an entry lies at the key or past it just where the last one does
+  pub some_from : (low past key : ℕ) (last : ℕ × X) (es : List (ℕ × X)) → rises low past es ≡ true → last_entry es ≡ Some last → (key ≤ last.0) ↔ IsSome (first_from key es)
+  some_from low past key last es h is = (
+    (λ upto. some_upto_last key last es is upto),
+    (λ some. ⊎_elim
+        (λ (less : last.0 < key). absurd (cc (none_past_last low past key last es h is less, some)))
+        (λ (upto : key ≤ last.0). upto)
+        (cases_lt last.0 key)),
+  )
+
+  pub none_from_none : (key : ℕ) (es : List (ℕ × X)) → last_entry es ≡ None → IsSome (first_from key es) → IsTrue false
+  none_from_none key [] is some = some
+  none_from_none key (d ∷ es) is some = cc

@@ -24,6 +24,6 @@ pub use in_place::{
 pub use page::{HalveFault, depth, fences, halve, is_leaf, middle_key};
 pub use pass::{append_first_pairs, append_pairs, consolidate, count, is_upper_part, same};
 pub use search::{
-    child, child_page, find, is_later_key, next_at, pairs_from, pairs_upto, previous_at, route_at,
-    route_before,
+    child, child_page, find, has_pair_from, is_later_key, next_at, pairs_from, pairs_upto,
+    previous_at, route_at, route_before,
 };

@@ -11,15 +11,16 @@ mod reach;
 mod separator;
 mod stretch;
 
-ghost use Rattle.std.specs.Prelude.{◌≡◌, option_map};
+ghost use Rattle.std.specs.Prelude.{◌≡◌, ◌↔◌, option_map, IsTrue, IsSome};
 ghost use Rattle.bw_delta.specs.Entries.{at, first_from, last_below, last_upto};
 ghost use Rattle.bw_delta.specs.Pairs.{pairs, routes};
 ghost use Rattle.bw_delta.specs.Sound.{IsSound};
 
+use crate::entries::value::EntryValue;
 use crate::search::entry::find_entry;
 use crate::search::greatest::{last_upto, last_value_upto};
 use crate::search::least::first_from;
-use bw_delta::Chain;
+use bw_delta::{Chain, Node};
 use bw_keys::{Fence, Key, Pid};
 pub use separator::is_later_key;
 use std::alloc::Allocator;
@@ -44,6 +45,23 @@ pub fn next_at<A: Allocator + Copy>(chain: &Chain<A>, key: Key) -> Option<(Key, 
     ensures { result ≡ first_from key (pairs chain.now) }
 {
     first_from(chain, Fence::Key(key))
+}
+
+/// Reports whether there is a pair at the key or past it. Of a chain without records it reads the
+/// last key alone.
+#[tactic(auto, using(crate::proofs::Bridges::both_kinds))]
+#[inline(always)]
+pub fn has_pair_from<A: Allocator + Copy>(chain: &Chain<A>, key: Key) -> bool
+    requires sound { IsSound chain.now }
+    ensures { IsTrue result ↔ IsSome (first_from key (pairs chain.now)) }
+{
+    match &chain.node {
+        Node::Bare(base) => match u64::entries_on(base).last() {
+            Some(last) => key <= last.0,
+            None => false,
+        },
+        Node::Above(_, _) | Node::Merged(_, _, _) => next_at(chain, key).is_some(),
+    }
 }
 
 /// Returns the pair with the greatest key at or below the key. Where no deletion and no merge is in

@@ -1,22 +1,24 @@
 -- The next pair and the one before, found leaf by leaf.
-use Rattle.std.proofs.Common.{◌≡◌, ◌↔◌, ℕ, ◌+◌, ◌-◌, ◌<◌, ◌≤◌, true, List, [], ◌∷◌, length, Option, Some, None, refl, sym, ap, subst, arith, ⊎_elim}
+use Rattle.std.proofs.Common.{◌≡◌, ◌↔◌, ℕ, ◌+◌, ◌-◌, ◌<◌, ◌≤◌, true, List, [], ◌∷◌, length, Option, Some, None, refl, sym, ap, ◌∙◌, subst, arith, ⊎_elim}
 use Rattle.std.proofs.lemmas.Bool.{cases_lt}
 use Rattle.std.proofs.lemmas.Bool.Decides.{nat_tests}
+use Rattle.bw_keys.specs.declared.page.Pid.{Pid}
 use Rattle.bw_keys.specs.Ranges.{key_count, end_of}
 use Rattle.bw_delta.specs.Entries.{at, rises, first_from, last_below, last_upto}
 use Rattle.bw_chain.proofs.Firsts.{at-before, first_from-bound}
 use Rattle.bw_chain.proofs.Lasts.{last_from_low, last_below-bound}
 use Rattle.bw_chain.proofs.Overlays.{same_entries}
+use Rattle.bw_step.specs.Stages.{is_in_row}
 use Rattle.bw_law.specs.Laws.{IsLeafOf, IsTheMap}
 use Rattle.bw_law.specs.Slots.{SlotValue, pairs_in}
 use Rattle.bw_law.specs.Tables.{TableValue, slot_at, outlines, Lawful, Booked, Maps, joined_pairs}
 use Rattle.bw_law.proofs.Count.{joined_count}
-use Rattle.bw_law.proofs.Facts.{leaf_decides}
+use Rattle.bw_law.proofs.Facts.{leaf_decides, range_is_among_keys, range_is_not_empty, right_is_next}
 use Rattle.bw_law.proofs.Lists.{found_within}
 use Rattle.bw_law.proofs.MapAndTerms.{map_law, leaf_pairs_rise}
 use Rattle.bw_law.proofs.RowList.{row_of}
 use Rattle.bw_law.proofs.Shares.{leaf_pairs_in_row}
-use Rattle.bw_table.specs.Orders.{HasNoKeyWithin, IsNextAt, IsPreviousAt, ArePairsWithin, HasPairs}
+use Rattle.bw_table.specs.Orders.{HasNoKeyWithin, IsNextAt, IsPreviousAt, IsRightSibling, ArePairsWithin, HasPairs}
 
 -- Lists.
 
@@ -74,6 +76,28 @@ module _ (table : TableValue) where
     rise = subst (λ (es : List (ℕ × ℕ)). rises (slot_at table page).low (end_of (slot_at table page).high) es ≡ true) (leaf_pairs_in_row (slot_at table page) leaf.in_row leaf.is_leaf) (leaf_pairs_rise table law page leaf.in_row leaf.is_leaf);
     same = λ k value from below. let decides = leaf_decides table law page k value leaf.in_row leaf.is_leaf (from, below) in (decides.1, decides.0);
   })
+
+  -- the leaf to which the right link of a leaf leads is the one on its right
+  pub right_sibling_is : Lawful table → (page : ℕ) (right : Pid) (slot : SlotValue) → is_in_row (slot_at table page).stage ≡ true → (slot_at table page).level ≡ 0 → (slot_at table page).right ≡ Some right → slot ≡ slot_at table right.0
+      → IsRightSibling table page (record { pid = right; low = slot.low; high = slot.high; pairs = pairs_in slot })
+  right_sibling_is law page right slot here leaf link is =
+      let next = right_is_next table law page right here link in
+      let found : IsLeafOf table (end_of (slot_at table page).high) right.0 = record {
+        in_row = next.0;
+        is_leaf = next.1 ∙ leaf;
+        spans = (omega (arith, next.2), omega (arith, next.2, range_is_not_empty table law right.0 next.0));
+      } in record {
+        found = found;
+        lent = ap (λ (s : SlotValue). record { pid = right; low = s.low; high = s.high; pairs = pairs_in s }) is;
+        begins = ap (λ (s : SlotValue). s.low) is ∙ next.2;
+        pairs = leaf_has_pairs_within law (end_of (slot_at table page).high) right.0 slot found is;
+      }
+
+  -- and a leaf with one doesn't end at the top
+  pub is_not_last : Lawful table → (page : ℕ) (right : Pid) → is_in_row (slot_at table page).stage ≡ true → (slot_at table page).right ≡ Some right → end_of (slot_at table page).high < key_count
+  is_not_last law page right here link =
+      let next = right_is_next table law page right here link in
+      omega (arith, next.2, range_is_not_empty table law right.0 next.0, range_is_among_keys table law right.0 next.0)
 
   -- two ranges that meet
   pub none_within_both : (low middle end : ℕ) → HasNoKeyWithin table low middle → HasNoKeyWithin table middle end → HasNoKeyWithin table low end

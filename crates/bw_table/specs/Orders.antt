@@ -5,9 +5,9 @@ use Rattle.bw_keys.specs.declared.range.Fence.{Fence}
 use Rattle.bw_keys.specs.declared.page.Pid.{Pid}
 use Rattle.bw_keys.specs.contracts.range.Fence as fence
 use Rattle.bw_keys.specs.contracts.page.Pid as pid
-use Rattle.bw_keys.specs.Ranges.{key_count}
+use Rattle.bw_keys.specs.Ranges.{key_count, end_of}
 use Rattle.bw_delta.specs.Entries.{at, rises}
-use Rattle.bw_law.specs.Laws.{IsTheMap}
+use Rattle.bw_law.specs.Laws.{IsLeafOf, IsTheMap}
 use Rattle.bw_law.specs.Slots.{pairs_in}
 use Rattle.bw_law.specs.Tables.{TableValue, Maps, slot_at}
 
@@ -53,6 +53,14 @@ abbrev pub leaf_at : TableValue → Pid → LeafValue
 leaf_at table page =
     let slot = slot_at table page.0 in
     record { pid = page; low = slot.low; high = slot.high; pairs = pairs_in slot }
+
+-- the leaf is the one on the right of the page: it begins where the page ends, so it is where
+-- the search for that key ends
+pub record IsRightSibling (table : TableValue) (page : ℕ) (leaf : LeafValue) : Type 0 where
+  pub found : IsLeafOf table (end_of (slot_at table page).high) leaf.pid.0
+  pub lent : leaf ≡ leaf_at table leaf.pid
+  pub begins : leaf.low ≡ end_of (slot_at table page).high
+  pub pairs : ArePairsWithin table leaf.low (end_of leaf.high) leaf.pairs
 
 abbrev pub leaf_code : Coded LeafValue
 leaf_code =

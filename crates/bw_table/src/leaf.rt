@@ -1,16 +1,18 @@
 //! Leaves, lent for reading in the order of the keys.
 
-ghost use Rattle.std.specs.Prelude.{◌≡◌, ◌+◌, ◌<◌, ◌≤◌};
-ghost use Rattle.bw_keys.specs.Ranges.{end_of};
+ghost use Rattle.std.specs.Prelude.{◌≡◌, ◌↔◌, ◌+◌, ◌<◌, ◌≤◌, true, None, IsTrue, IsSome, IfSome};
+ghost use Rattle.bw_keys.specs.Ranges.{end_of, key_count};
 ghost use Rattle.bw_chain.specs.Passing.Heads.{BeginsWith, EndsWith};
 ghost use Rattle.bw_delta.specs.Entries.{below, first_from, from, last_upto};
 ghost use Rattle.bw_delta.specs.Slices.{list_of};
+ghost use Rattle.bw_step.specs.Stages.{is_in_row};
 ghost use Rattle.bw_law.specs.Laws.{IsLeafOf};
-ghost use Rattle.bw_table.specs.Orders.{ArePairsWithin, leaf_at};
+ghost use Rattle.bw_law.specs.Tables.{slot_at};
+ghost use Rattle.bw_table.specs.Orders.{ArePairsWithin, IsRightSibling, leaf_at};
 
 use crate::slot::Slot;
 use crate::table::Table;
-use bw_chain::{pairs_from, pairs_upto};
+use bw_chain::{has_pair_from, pairs_from, pairs_upto};
 use bw_delta::EntrySlice;
 use bw_keys::{Fence, Key, Pid};
 use std::alloc::Allocator;
@@ -80,6 +82,18 @@ impl<'t, A: Allocator + Copy> LeafRef<'t, A> {
         self.slot.next_at(key)
     }
 
+    /// Reports whether the leaf has a pair at the key or past it. It takes no memory.
+    #[inline(always)]
+    pub fn has_pair_from(&self, key: Key) -> bool
+        ensures { IsTrue result ↔ IsSome (first_from key self.now.pairs) }
+    {
+        let slot = self.slot;
+        match &slot.chain {
+            Some(chain) => has_pair_from(chain, key),
+            None => false,
+        }
+    }
+
     /// Returns pairs of the leaf from the key on, as they lie side by side: all of them, unless a
     /// record of the leaf names one of their keys; then those before the least such key, which may be
     /// none. It takes no memory.
@@ -133,5 +147,24 @@ impl<A: Allocator + Copy> Table<A> {
             pid,
             slot: self.slot_in_row(pid),
         }
+    }
+
+    /// Lends the leaf on the right of a leaf, whose range begins where that one's ends; none if that
+    /// one is the last. It is the page that the leaf's side link names, so no search leads there
+    /// (Lehman and Yao, "Efficient Locking for Concurrent Operations on B-Trees", TODS 1981). It
+    /// takes no memory.
+    #[inline(always)]
+    pub fn right_sibling(&self, pid: Pid) -> Option<LeafRef<'_, A>>
+        requires in_row { is_in_row (slot_at self.now pid.0).stage ≡ true }
+        requires leaf { (slot_at self.now pid.0).level ≡ 0 }
+        ensures sibling { IfSome result (IsRightSibling self.now pid.0) }
+        ensures last { (result ≡ None) ↔ (end_of (slot_at self.now pid.0).high ≡ key_count) }
+    {
+        let leaf = self.slot_in_row(pid);
+        let right = leaf.summary.right?;
+        Some(LeafRef {
+            pid: right,
+            slot: self.slot_in_row(right),
+        })
     }
 }

@@ -191,5 +191,5 @@ leaf_is_held table leaf end None taken held last below = subst (λ (o : Option (
 leaf_is_held table leaf end (Some pair) taken held last below = subst (λ (o : Option (ℕ × ℕ)). IsLeafFor table leaf (end_past o)) (sym below) (by_test (nat_lt pair.0 end))
   where
     by_test : (test : Bool) → IsLeafFor table leaf (end_past (cond test (Some pair) None))
-    by_test true = record { lawful = held.lawful; pairs = held.pairs; begins = omega (arith, held.begins) }
+    by_test true = record { lawful = held.lawful; in_row = held.in_row; is_leaf = held.is_leaf; lent = held.lent; pairs = held.pairs; begins = omega (arith, held.begins) }
     by_test false = last

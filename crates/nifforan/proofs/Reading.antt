@@ -1,14 +1,14 @@
 -- The next pair from a key on, found leaf by leaf from the one that is held.
-use Rattle.std.proofs.Common.{◌≡◌, ℕ, ◌+◌, ◌-◌, ◌*◌, ◌<◌, ◌≤◌, true, cond, ltb, List, [], ◌∷◌, drop, Some, None, ap, subst, ⊎_elim, arith}
-use Rattle.std.specs.Prelude.{max}
+use Rattle.std.proofs.Common.{◌≡◌, ◌↔◌, ℕ, ◌+◌, ◌-◌, ◌<◌, ◌≤◌, Bool, true, false, IsTrue, List, [], ◌∷◌, drop, Option, Some, None, IsSome, refl, ap, sym, ◌∙◌, subst, ⊎_elim, arith}
+use Rattle.std.specs.Prelude.{max, IfSome, IfNone}
 use Rattle.std.proofs.lemmas.Bool.{cases_lt}
-use Rattle.std.proofs.lemmas.Bool.Decides.{nat_tests}
 use Rattle.bw_keys.specs.Ranges.{key_count, end_of}
 use Rattle.bw_delta.specs.Entries.{rises, first_entry, first_from, from}
 use Rattle.bw_chain.specs.Passing.Heads.{BeginsWith}
 use Rattle.bw_chain.proofs.Firsts.{first_from-bound, from_step}
-use Rattle.bw_law.specs.Tables.{TableValue}
-use Rattle.bw_table.specs.Orders.{HasNoKeyWithin, IsNextAt, LeafValue}
+use Rattle.bw_law.specs.Tables.{TableValue, slot_at}
+use Rattle.bw_law.proofs.Facts.{range_is_among_keys, range_is_not_empty}
+use Rattle.bw_table.specs.Orders.{HasNoKeyWithin, IsNextAt, IsRightSibling, LeafValue}
 use Rattle.bw_table.proofs.Orders.{next_in_leaf, none_in_leaf}
 use Rattle.nifforan.specs.Reading.{IsLeafFor}
 
@@ -38,9 +38,9 @@ pub record IsSearch (table : TableValue) (leaf : LeafValue) (key from : ℕ) : T
   pub none : HasNoKeyWithin table key from
   pub held : IsLeafFor table leaf from
 
--- how many keys are left, each twice, and one more where the leaf doesn't reach to the next of them
-abbrev pub search_left : LeafValue → ℕ → ℕ
-search_left leaf from = (key_count - from) * 2 + cond (ltb from (end_of leaf.high)) 0 1
+-- how many keys are left from the leaf on
+abbrev pub keys_left : LeafValue → ℕ
+keys_left leaf = key_count - leaf.low
 
 module _ (table : TableValue) (leaf : LeafValue) (key from : ℕ) (search : IsSearch table leaf key from) where
   pub next_is_here : (pair : ℕ × ℕ) → first_from from leaf.pairs ≡ Some pair → IsNextAt table key pair
@@ -57,13 +57,50 @@ module _ (table : TableValue) (leaf : LeafValue) (key from : ℕ) (search : IsSe
 
   -- the leaf serves for later keys too
   pub held_for : (next : ℕ) → from ≤ next → IsLeafFor table leaf next
-  held_for next later = record { lawful = search.held.lawful; pairs = search.held.pairs; begins = omega (arith, search.held.begins, later) }
+  held_for next later = let held = search.held in
+      record { lawful = held.lawful; in_row = held.in_row; is_leaf = held.is_leaf; lent = held.lent; pairs = held.pairs; begins = omega (arith, held.begins, later) }
 
-pub less_left : (leaf other : LeafValue) (from next : ℕ) → from < key_count → next < key_count → next ≡ max from (end_of leaf.high) → next < end_of other.high → search_left other next < search_left leaf from
-less_left leaf other from next is_key next_is_key is inside = ⊎_elim
-    (λ (reaches : from < end_of leaf.high). grind (arith, nat_tests))
-    (λ (ends : end_of leaf.high ≤ from). grind (arith, nat_tests))
-    (cases_lt from (end_of leaf.high))
+  pub next_is_found : (found : Option (ℕ × ℕ)) → found ≡ first_from from leaf.pairs → IfSome found (IsNextAt table key)
+  next_is_found None is = tt
+  next_is_found (Some pair) is = next_is_here pair (sym is)
+
+  pub found_is_held : (found : Option (ℕ × ℕ)) → found ≡ first_from from leaf.pairs → IfSome found (λ pair. IsLeafFor table leaf pair.0)
+  found_is_held None is = tt
+  found_is_held (Some pair) is = held_for pair.0 (first_from-bound from pair leaf.pairs (sym is))
+
+  -- the high of the leaf is that of its page
+  same_high : end_of (slot_at table leaf.pid.0).high ≡ end_of leaf.high
+  same_high = sym (ap (λ (l : LeafValue). end_of l.high) search.held.lent)
+
+  -- where nothing is left in the leaf, the search goes on in the one on its right
+  pub goes_right : (sibling : LeafValue) (next : ℕ) → IsRightSibling table leaf.pid.0 sibling → next < key_count → next ≡ max from sibling.low → first_from from leaf.pairs ≡ None → IsSearch table sibling key next
+  goes_right sibling next right is_key is first =
+      let begins : sibling.low ≡ end_of leaf.high = right.begins ∙ same_high in
+      let high : max from (end_of leaf.high) ≡ next = ap (max from) (sym begins) ∙ sym is in record {
+        later = omega (arith, search.later, is);
+        is_key = is_key;
+        none = subst (HasNoKeyWithin table key) high (none_before_next first);
+        held = record { lawful = search.held.lawful; in_row = right.found.in_row; is_leaf = right.found.is_leaf; lent = right.lent; pairs = right.pairs; begins = omega (arith, is) };
+      }
+
+  pub fewer_left : (sibling : LeafValue) → IsRightSibling table leaf.pid.0 sibling → keys_left sibling < keys_left leaf
+  fewer_left sibling right =
+      let begins : sibling.low ≡ end_of leaf.high = right.begins ∙ same_high in
+      let low : leaf.low ≡ (slot_at table leaf.pid.0).low = ap (λ (l : LeafValue). l.low) search.held.lent in
+      omega (arith, begins, low, same_high, range_is_not_empty table search.held.lawful leaf.pid.0 search.held.in_row, range_is_among_keys table search.held.lawful leaf.pid.0 search.held.in_row)
+
+  -- there is none on the right of the last leaf
+  pub none_is_left : end_of (slot_at table leaf.pid.0).high ≡ key_count → first_from from leaf.pairs ≡ None → HasNoKeyWithin table key key_count
+  none_is_left top first = subst (HasNoKeyWithin table key) (sym same_high ∙ top) (none_is_here first)
+
+-- what has none from the key on says so
+pub none_from : {X : Type 0} (answer : Bool) (first : Option X) → (IsTrue answer ↔ IsSome first) → answer ≡ false → first ≡ None
+none_from answer None tells denied = refl
+none_from answer (Some x) tells denied = absurd (cc (tells.1 refl, denied))
+
+pub where_none : {X : Type 0} (P : Type 0) (found : Option X) → P → IfNone found P
+where_none P None holds = holds
+where_none P (Some x) holds = tt
 
 -- a search begins at the key
 pub at_once : (table : TableValue) (leaf : LeafValue) (key : ℕ) → key < key_count → IsLeafFor table leaf key → IsSearch table leaf key key

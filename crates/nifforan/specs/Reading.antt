@@ -1,16 +1,20 @@
 -- The leaves that are held while a range is read from both ends.
-use Rattle.std.specs.Prelude.{ℕ, ◌+◌, ◌<◌, ◌≤◌, nat_lt, nat_le, if◌then◌else◌, List, Option, Some, None}
+use Rattle.std.specs.Prelude.{◌≡◌, ℕ, ◌+◌, ◌<◌, ◌≤◌, nat_lt, nat_le, if◌then◌else◌, true, List, Option, Some, None}
 use Rattle.bw_keys.specs.Ranges.{key_count, end_of}
 use Rattle.bw_delta.specs.Slices.{list_of}
 use Rattle.bw_delta.specs.Entries.{from, below}
 use Rattle.bw_chain.specs.Passing.Heads.{BeginsWith, EndsWith}
-use Rattle.bw_law.specs.Tables.{TableValue, Lawful}
-use Rattle.bw_table.specs.Orders.{LeafValue, ArePairsWithin}
+use Rattle.bw_step.specs.Stages.{is_in_row}
+use Rattle.bw_law.specs.Tables.{TableValue, Lawful, slot_at}
+use Rattle.bw_table.specs.Orders.{LeafValue, ArePairsWithin, leaf_at}
 use Rattle.nifforan.specs.declared.back.Back.{Back}
 
 -- the leaf is one of the table's, and none of its keys is needed that lies before it
 pub record IsLeafFor (table : TableValue) (leaf : LeafValue) (next : ℕ) : Type 0 where
   pub lawful : Lawful table
+  pub in_row : is_in_row (slot_at table leaf.pid.0).stage ≡ true
+  pub is_leaf : (slot_at table leaf.pid.0).level ≡ 0
+  pub lent : leaf ≡ leaf_at table leaf.pid
   pub pairs : ArePairsWithin table leaf.low (end_of leaf.high) leaf.pairs
   pub begins : leaf.low ≤ next
 

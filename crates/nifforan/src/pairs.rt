@@ -17,9 +17,10 @@ use std::marker::Model;
 
 /// The pairs of a map whose keys lie in a range, in the order of their keys, from either end.
 ///
-/// Takes no memory: it holds a leaf of the map, and walks along the leaf's own list. It searches
-/// only at the leaf's end, and for each key that a record of the leaf names. At the back it holds
-/// another leaf, which it searches for when the first pair is taken there.
+/// Takes no memory: it holds a leaf of the map, and walks along the leaf's own list. At the leaf's
+/// end it goes on in the leaf on the right. It searches only for each key that a record of the leaf
+/// names. At the back it holds another leaf, which it searches for when the first pair is taken
+/// there, and whenever no pair of it is left.
 #[derive(Drop)]
 pub struct Pairs<'m, A: Allocator + Copy> {
     pub(crate) table: &'m Table<A>,
@@ -239,19 +240,15 @@ fn searched_from<'m, A: Allocator + Copy>(
 {
     let mut from = key;
     'leaves: loop {
-        *lent = leaf.pairs_from(from);
-        if let Some(pair) = take_first(lent) {
-            return Some(pair);
-        }
-        if let Some(pair) = leaf.next_at(from) {
-            return Some(pair);
-        }
-        match leaf.high() {
-            Fence::Key(high) => {
-                from = from.max(high);
-                *leaf = table.leaf_of(from);
+        if leaf.has_pair_from(from) {
+            *lent = leaf.pairs_from(from);
+            if let Some(pair) = take_first(lent) {
+                return Some(pair);
             }
-            Fence::Top => return None,
+            return leaf.next_at(from);
         }
+        let sibling = table.right_sibling(leaf.pid())?;
+        from = from.max(sibling.low());
+        *leaf = sibling;
     }
 }
