@@ -8,7 +8,7 @@ use Rattle.bw_law.specs.Tables.{TableValue, pair_count}
 use Rattle.bw_tree.specs.Shares.{ShareValue, shared_in, sum_of}
 use Rattle.bw_tree.specs.Trees.{IsTree}
 use Rattle.bw_forest.specs.Bounds.{ranges_of}
-use Rattle.bw_forest.specs.Forests.{pairs_of, ranges_in, tables_of}
+use Rattle.bw_forest.specs.Forests.{books_of, pairs_of, ranges_in, tables_of}
 use Rattle.bw_forest.specs.Plots.{PlotValue}
 
 pub all_more : {X : Type 0} → (P : X → Type 0) (xs more : List X) (x : X) → more ≡ xs ++ x ∷ [] → All P xs → P x → All P more
@@ -26,10 +26,8 @@ pub books_more : (tables more : List TableValue) (stocks : List ShareValue) (tab
 books_more tables more stocks table stock grown same is =
     rw (grown, map-append (λ (t : TableValue). shared_in t.book) tables (table ∷ []), same, is) refl
 
-abbrev books_of : List TableValue → List ShareValue
-books_of tables = map (λ (table : TableValue). shared_in table.book) tables
-
-sum_pairs : (tables : List TableValue) → All IsTree tables
+-- the pairs of all trees, by their books
+pub sum_pairs : (tables : List TableValue) → All IsTree tables
     → pairs_of tables + sum_by (λ (s : ShareValue). s.removed) (books_of tables) ≡ sum_by (λ (s : ShareValue). s.inserted) (books_of tables)
 sum_pairs [] all = refl
 sum_pairs (table ∷ tables) all =

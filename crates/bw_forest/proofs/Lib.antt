@@ -1,7 +1,9 @@
 mod Bounding
 mod Closing
+mod Fits
 mod Joining
 mod Mapping
+mod Opening
 mod Plotting
 mod Quantiles
 mod Staying

@@ -2,6 +2,7 @@
 use Rattle.std.specs.Prelude.{◌≡◌, ◌↔◌, ℕ, ◌+◌, true, List, [], ◌∷◌, ◌++◌, ◌⊎◌, All, Option, Some, map, sum_by, refl}
 use Rattle.std.specs.Coded.{Coded, code_by, coded×, coded_ℕ, coded_list}
 use Rattle.bw_keys.specs.declared.config.Config.{Config}
+use Rattle.bw_keys.specs.Limits.{usual_config}
 use Rattle.bw_keys.specs.Ranges.{key_count}
 use Rattle.bw_delta.specs.Entries.{at, rises}
 use Rattle.bw_law.specs.Laws.{IsTheMap}
@@ -21,17 +22,31 @@ ranges_in trees = map (λ tree. tree.range) trees
 abbrev pub tables_of : List PlotValue → List TableValue
 tables_of trees = map (λ tree. tree.table) trees
 
+-- the configuration that the first of the tables was made by
+abbrev pub config_of : List TableValue → Config
+config_of [] = usual_config
+config_of (table ∷ tables) = table.config
+
+-- one configuration made all tables
+abbrev pub AreAlike : List TableValue → Type 0
+AreAlike tables = All (λ table. table.config ≡ config_of tables) tables
+
+-- what the shares hold of each table's book
+abbrev pub books_of : List TableValue → List ShareValue
+books_of tables = map (λ table. shared_in table.book) tables
+
 -- the tree's pairs lie in its range
 abbrev pub HasPairsWithin : PlotValue → Type 0
 HasPairsWithin tree = LiesIn tree.range tree.table.slots
 
--- what is true of a closed forest: its trees have the ranges that
--- begin at the bounds, and each has its pairs in its own
+-- what is true of a closed forest: its trees have the ranges that begin at the bounds, each has its
+-- pairs in its own, and one configuration made all
 pub record IsForest (bounds : List ℕ) (trees : List PlotValue) : Type 0 where
   pub are_bounds : AreBounds bounds
   pub ranges : ranges_in trees ≡ ranges_of bounds
   pub each : All IsTree (tables_of trees)
   pub within : All HasPairsWithin trees
+  pub alike : AreAlike (tables_of trees)
 
 -- where the ranges begin, and the tables of their trees
 pub record ForestValue : Type 0 where

@@ -2,3 +2,4 @@ pub mod Bounds
 pub mod Ranges
 pub mod Plots
 pub mod Forests
+pub mod Fitting

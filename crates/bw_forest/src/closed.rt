@@ -5,12 +5,12 @@ ghost use Rattle.bw_tree.specs.Stocks.{most};
 ghost use Rattle.bw_tree.specs.Trees.{IsTree};
 ghost use Rattle.bw_forest.specs.Bounds.{ranges_of};
 ghost use Rattle.bw_forest.specs.Forests.{HasForestMap, IsForest, IsForestMap, IsForestValueAt};
-ghost use Rattle.bw_forest.specs.Forests.{pairs_of, ranges_in, tables_of};
+ghost use Rattle.bw_forest.specs.Forests.{AreAlike, config_of, pairs_of, ranges_in, tables_of};
 
 use crate::bounds::Bounds;
 use crate::closed_tree::ClosedTree;
 use bw_delta::NoMemory;
-use bw_keys::{Fence, Key};
+use bw_keys::{Config, Fence, Key};
 use std::alloc::{Allocator, Global};
 use std::marker::Model;
 
@@ -49,6 +49,14 @@ impl<A: Allocator + Copy> ClosedForest<A> {
         ensures { result.now ≡ self.now.bounds }
     {
         &self.bounds
+    }
+
+    /// Returns the configuration that all trees were made by.
+    pub fn config(&self) -> Config
+        ensures first { result ≡ config_of self.now.tables }
+        ensures all { AreAlike self.now.tables }
+    {
+        self.trees[0].table().config()
     }
 
     /// Returns the trees, in the order of their ranges.
@@ -101,7 +109,9 @@ impl<A: Allocator + Copy> ClosedForest<A> {
         ensures bounds { result.0 ≡ self.bounds }
         ensures tables { tables_of result.1.items ≡ self.tables }
         ensures ranges { ranges_in result.1.items ≡ ranges_of self.bounds }
+        ensures count { length result.1.items ≡ length self.bounds }
         ensures trees { All IsTree self.tables }
+        ensures alike { AreAlike self.tables }
     {
         let ClosedForest { bounds, trees } = self;
         (bounds, trees)

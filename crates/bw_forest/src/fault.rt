@@ -16,6 +16,23 @@ pub enum BadBounds {
     NoMemory,
 }
 
+/// Why tables don't make a closed forest: the first that applies, in the order in which they stand
+/// here.
+#[derive(Clone, Copy, Debug, PartialEq, Eq, Error)]
+pub enum BadTables {
+    /// There are more tables than ranges, or fewer.
+    #[error("not a table for each range")]
+    BadNumber,
+    /// The table with this number is the first that was made by another configuration than table 0.
+    #[error("table {0} was made by another configuration")]
+    OtherConfig(usize),
+    /// The table with this number is the first that has a pair out of its range.
+    #[error("table {0} has a pair out of its range")]
+    PairOutside(usize),
+    #[error("out of memory")]
+    NoMemory,
+}
+
 /// Why a forest can't be closed.
 #[derive(Clone, Copy, Debug, PartialEq, Eq, Error)]
 pub enum ForestFault {

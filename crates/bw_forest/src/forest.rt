@@ -1,19 +1,21 @@
 //! The trees of a forest, by ranges of keys, and one exact count over all of them.
 
-ghost use Rattle.std.specs.Prelude.{◌≡◌, ◌≢◌, ◌*◌, ◌≤◌, ◌↔◌, Err, None, All, length, map};
-ghost use Rattle.std.specs.Prelude.{IsOk, IfOk, IfErr, IsTrue, vec_capacity};
+ghost use Rattle.std.specs.Prelude.{◌≡◌, ◌≢◌, ◌+◌, ◌-◌, ◌*◌, ◌≤◌, ◌↔◌, Err, None, [], All, length, map};
+ghost use Rattle.std.specs.Prelude.{IsOk, IfOk, IfErr, OnOk, IfSome, IsTrue, vec_capacity};
 ghost use Rattle.bw_keys.specs.Limits.{first_bad_field};
 ghost use Rattle.bw_tree.specs.Shares.{no_changes, shared_in, sum_of};
 ghost use Rattle.bw_tree.specs.Stocks.{OpensForest};
 ghost use Rattle.bw_tree.specs.Trees.{IsTree, IsNewFault, MayBeMade};
 ghost use Rattle.bw_forest.specs.Bounds.{AreBounds, ranges_of};
 ghost use Rattle.bw_forest.specs.Forests.{IsClosedForest, HasPairsWithin, ranges_in, tables_of};
+ghost use Rattle.bw_forest.specs.Forests.{AreAlike, books_of, config_of, pairs_of};
 
 use crate::bounds::Bounds;
 use crate::closed::ClosedForest;
 use crate::closed_tree::ClosedTree;
 use crate::fault::ForestFault;
 use crate::forest_tree::ForestTree;
+use crate::given_back::Unopened;
 use bw_delta::NoMemory;
 use bw_keys::{Config, Fence, MAX_WORKERS, Range};
 use bw_table::Table;
@@ -37,11 +39,60 @@ pub struct Forest<R: Wait + Drop, A: Allocator + Copy, I: MadeBy, D: Ledger> {
         × (length trees.items ≤ vec_capacity room.stocks) },
 }
 
+/// Trees under their locks, and what their tables' books had before.
+#[derive(Drop)]
+struct Planted<R: Wait + Drop, A: Allocator + Copy, I: MadeBy, D: Ledger> {
+    trees: Vec<ForestTree<R, A, I, D>>,
+    opening: Vec<Share<I, D>>,
+}
+
 /// Trees that were taken out of their locks, and their stocks.
 #[derive(Drop)]
 struct Felled<A: Allocator + Copy, I: MadeBy, D: Ledger> {
     trees: Vec<ClosedTree<A>>,
     stocks: Vec<Stock<I, D>>,
+}
+
+impl<R: Wait + Drop, A: Allocator + Copy, I: MadeBy, D: Ledger> Planted<R, A, I, D> {
+    fn with_room(machine: Global, trees: usize) -> Result<Planted<R, A, I, D>, NoMemory>
+        ensures empty { IfOk result (λ it.
+            (it.trees.items ≡ []) × (it.opening.items ≡ [])) }
+        ensures enough { IfOk result (λ it.
+            (trees ≤ vec_capacity it.trees) × (trees ≤ vec_capacity it.opening)) }
+    {
+        Ok(Planted {
+            trees: Vec::with_capacity(machine, trees)?,
+            opening: Vec::with_capacity(machine, trees)?,
+        })
+    }
+}
+
+impl<A: Allocator + Copy, I: MadeBy, D: Ledger> Felled<A, I, D> {
+    fn with_room(machine: Global, trees: usize) -> Result<Felled<A, I, D>, NoMemory>
+        ensures empty { IfOk result (λ it.
+            (length it.trees.items ≡ 0) × (length it.stocks.items ≡ 0)) }
+        ensures enough { IfOk result (λ it.
+            (trees ≤ vec_capacity it.trees) × (trees ≤ vec_capacity it.stocks)) }
+    {
+        Ok(Felled {
+            trees: Vec::with_capacity(machine, trees)?,
+            stocks: Vec::with_capacity(machine, trees)?,
+        })
+    }
+}
+
+/// Returns the first fault of a forest's arguments, in the order of [`NewFault`].
+fn check(config: &Config, workers: u32) -> Result<(), NewFault>
+    ensures fine { OnOk result (MayBeMade config.now workers) }
+    ensures fault { IfErr result (IsNewFault config.now workers) }
+{
+    if let Err(bad) = config.check() {
+        return Err(NewFault::BadConfig(bad));
+    }
+    if !(1..=MAX_WORKERS).contains(&workers) {
+        return Err(NewFault::BadWorkers);
+    }
+    Ok(())
 }
 
 impl<R: Wait + Drop + Copy, A: Allocator + Copy, I: MadeBy, D: Ledger> Forest<R, A, I, D> {
@@ -68,16 +119,76 @@ impl<R: Wait + Drop + Copy, A: Allocator + Copy, I: MadeBy, D: Ledger> Forest<R,
         ensures fine { IsOk result → MayBeMade config blanks.workers }
         ensures fault { IfErr result (IsNewFault config blanks.workers) }
     {
-        if let Err(bad) = config.check() {
-            return Err(NewFault::BadConfig(bad));
-        }
-        if !(1..=MAX_WORKERS).contains(&blanks.workers) {
-            return Err(NewFault::BadWorkers);
-        }
+        check(&config, blanks.workers)?;
         match Forest::make(rt, machine, alloc, config, bounds, blanks) {
             Ok(made) => Ok(made),
             Err(NoMemory) => Err(NewFault::NoMemory),
         }
+    }
+
+    /// Returns a forest with the closed one's ranges and pairs, for each worker, 1 to `MAX_WORKERS`, a
+    /// list with a share of nothing at each tree, and the opening shares, which are no worker's: at
+    /// each tree, all that its table's book has already. The blank ledgers are those of one worker more
+    /// than there are, for the opening shares, which [`close`](Forest::close) wants too.
+    ///
+    /// Where it fails, the closed forest comes back as it was.
+    pub fn from_closed(
+        rt: R,
+        machine: Global,
+        forest: ClosedForest<A>,
+        blanks: ForestBlanks,
+    ) -> Result<(Forest<R, A, I, D>, Vec<Vec<Share<I, D>>>, Vec<Share<I, D>>), Unopened<A>>
+        requires ledgers { OpensForest I.Ledger I.config D.Ledger (config_of forest.tables) blanks }
+        requires trees { blanks.trees ≡ length forest.bounds }
+        ensures bounds { IfOk result (λ made. made.0.bounds ≡ forest.bounds) }
+        ensures all { IfOk result (λ made. made.0.totals.workers ≡ blanks.workers) }
+        ensures workers { IfOk result (λ made. length made.1.items + 1 ≡ blanks.workers) }
+        ensures each { IfOk result (λ made.
+            All (λ its. length its.items ≡ length forest.bounds) made.1.items) }
+        ensures shares { IfOk result (λ made.
+            All (λ its. All (λ share. share ≡ no_changes) its.items) made.1.items) }
+        ensures at_each { IfOk result (λ made. length made.2.items ≡ length forest.bounds) }
+        ensures opening { IfOk result (λ made. made.2.items ≡ books_of forest.tables) }
+        ensures there { IfOk result (λ made. pairs_of forest.tables
+            + (sum_of made.2.items).removed ≡ (sum_of made.2.items).inserted) }
+        ensures fine { IsOk result
+            → MayBeMade (config_of forest.tables) (blanks.workers - 1) }
+        ensures fault { IfErr result (λ it.
+            IsNewFault (config_of forest.tables) (blanks.workers - 1) it.fault) }
+        ensures back { IfErr result (λ it. it.forest ≡ forest) }
+    {
+        let config = forest.config();
+        if let Err(fault) = check(&config, blanks.workers.saturating_sub(1)) {
+            return Err(Unopened { fault, forest });
+        }
+        let number = blanks.trees as usize;
+        let (Ok(room), Ok(planted), Ok(endowment)) = (
+            Felled::with_room(machine, number),
+            Planted::with_room(machine, number),
+            Endowment::open(machine, blanks),
+        ) else {
+            return Err(Unopened {
+                fault: NewFault::NoMemory,
+                forest,
+            });
+        };
+        let Endowment {
+            totals,
+            stocks,
+            mut shares,
+        } = endowment;
+        let Some(opening) = shares.pop() else {
+            unreachable!()
+        };
+        let (bounds, closed) = forest.into_parts();
+        let Planted { trees, opening } = replant(rt, config, closed, stocks, opening, planted);
+        let forest = Forest {
+            bounds,
+            trees,
+            totals,
+            room,
+        };
+        Ok((forest, shares, opening))
     }
 
     /// Returns what `new` does, where the configuration and the number of workers are fine.
@@ -106,10 +217,7 @@ impl<R: Wait + Drop + Copy, A: Allocator + Copy, I: MadeBy, D: Ledger> Forest<R,
             shares,
         } = Endowment::open(machine, blanks)?;
         let trees = plant(rt, machine, alloc, config, &bounds, stocks)?;
-        let room = Felled {
-            trees: Vec::with_capacity(machine, trees.len())?,
-            stocks: Vec::with_capacity(machine, trees.len())?,
-        };
+        let room = Felled::with_room(machine, trees.len())?;
         let forest = Forest {
             bounds,
             trees,
@@ -149,6 +257,50 @@ fn plant<R: Wait + Drop + Copy, A: Allocator + Copy, I: MadeBy, D: Ledger>(
     Ok(trees)
 }
 
+/// Puts each closed tree under a lock again, with a stock that counted what its table's book has, as
+/// its opening share did.
+fn replant<R: Wait + Drop + Copy, A: Allocator + Copy, I: MadeBy, D: Ledger>(
+    rt: R,
+    config: Config,
+    closed: Vec<ClosedTree<A>>,
+    stocks: Vec<Stock<I, D>>,
+    shares: Vec<Share<I, D>>,
+    room: Planted<R, A, I, D>,
+) -> Planted<R, A, I, D>
+    requires made { I.config ≡ config }
+    requires alike { All (λ table. table.config ≡ config) (tables_of closed.items) }
+    requires stocks { length stocks.items ≡ length closed.items }
+    requires none_counted { All (λ stock. stock ≡ no_changes) stocks.items }
+    requires shares { length shares.items ≡ length closed.items }
+    requires none_changed { All (λ share. share ≡ no_changes) shares.items }
+    requires empty { (room.trees.items ≡ []) × (room.opening.items ≡ []) }
+    requires enough { (length closed.items ≤ vec_capacity room.trees)
+        × (length closed.items ≤ vec_capacity room.opening) }
+    ensures count { length result.trees.items ≡ length closed.items }
+    ensures at_each { length result.opening.items ≡ length closed.items }
+    ensures opening { result.opening.items ≡ books_of (tables_of closed.items) }
+{
+    let (mut stocks, mut shares) = (stocks, shares);
+    let Planted {
+        mut trees,
+        mut opening,
+    } = room;
+    for tree in closed {
+        let Some(mut stock) = stocks.pop() else {
+            unreachable!()
+        };
+        let Some(mut share) = shares.pop() else {
+            unreachable!()
+        };
+        let range = tree.range();
+        let table = tree.into_table();
+        stock.begin(&mut share, table.book());
+        opening.push_reserved(share);
+        trees.push_reserved(ForestTree::new(rt, config, table, stock, range));
+    }
+    Planted { trees, opening }
+}
+
 impl<R: Wait + Drop, A: Allocator + Copy, I: MadeBy, D: Ledger> Forest<R, A, I, D> {
     /// Returns the ranges of the trees.
     #[inline(always)]
@@ -164,6 +316,26 @@ impl<R: Wait + Drop, A: Allocator + Copy, I: MadeBy, D: Ledger> Forest<R, A, I, 
         ensures each { length result.now ≡ length self.now.bounds }
     {
         self.trees.as_slice()
+    }
+
+    /// Returns the trees' tables with their ranges, and asks for no share. So nothing ties their books
+    /// to the shares. It takes no memory. None where a tree has another range than it was made for,
+    /// which never comes.
+    pub fn into_closed(self) -> Option<ClosedForest<A>>
+        ensures bounds { IfSome result (λ closed. closed.bounds ≡ self.bounds) }
+        ensures config { IfSome result (λ closed. config_of closed.tables ≡ I.config) }
+    {
+        let Forest {
+            bounds,
+            trees,
+            room,
+            ..
+        } = self;
+        let Felled { trees, .. } = fell(trees, room);
+        if !have_ranges(trees.as_slice(), &bounds) {
+            return None;
+        }
+        Some(ClosedForest::new(bounds, trees))
     }
 
     /// Returns the trees' tables with their ranges. Their books together are the sum of the shares, of
@@ -202,6 +374,7 @@ fn fell<R: Wait + Drop, A: Allocator + Copy, I: MadeBy, D: Ledger>(
         × (length trees.items ≤ vec_capacity room.stocks) }
     ensures trees { All IsTree (tables_of result.trees.items) }
     ensures config { All (λ table. table.config ≡ I.config) (tables_of result.trees.items) }
+    ensures alike { AreAlike (tables_of result.trees.items) }
     ensures within { All HasPairsWithin result.trees.items }
     ensures books { map (λ table. shared_in table.book) (tables_of result.trees.items)
         ≡ result.stocks.items }

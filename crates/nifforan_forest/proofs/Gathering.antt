@@ -1,9 +1,10 @@
 -- What the workers of a forest bring back, one after the other.
-use Rattle.std.proofs.Common.{◌≡◌, ℕ, ◌+◌, Result, Ok, Err, List, [], ◌∷◌, ◌++◌, map, refl, ap, sym, ◌∙◌, append_assoc, append-nil}
+use Rattle.std.proofs.Common.{◌≡◌, ℕ, ◌+◌, Result, Ok, Err, List, [], ◌∷◌, ◌++◌, map, refl, ap, sym, ◌∙◌, append_assoc, append-nil, arith}
 use Rattle.std.specs.Prelude.{IsOk}
 use Rattle.std.proofs.lemmas.List.{map-append}
+use Rattle.std.proofs.lemmas.List.Sums.{sum_by-append}
 use Rattle.bw_step.specs.declared.receipt.Receipt.{Receipt}
-use Rattle.bw_tree.specs.Shares.{ShareValue}
+use Rattle.bw_tree.specs.Shares.{ShareValue, sum_of}
 use Rattle.bw_crew.specs.Workers.{ByNumber, share_by}
 use Rattle.bw_crew.proofs.Workers.{one_more_has}
 use Rattle.nifforan_forest.specs.declared.returned.Returned.{Returned}
@@ -39,6 +40,16 @@ counted_then added shares its workers it so_far own =
     (λ j. so_far j ++ (own ∙ each_share added it.trails.items) j)
     ∙ (sym (map-append share_by (trails_of added workers) (map added it.trails.items)) ∙ ap (map share_by)
     (sym (trails_then added workers it)))
+
+-- the pairs of a forest whose books were counted before, and of which the trails tell the rest
+pub pairs_again : (pairs before : ℕ) (opening told : List ShareValue)
+    → before + (sum_of opening).removed ≡ (sum_of opening).inserted
+    → pairs + (sum_of (opening ++ told)).removed ≡ (sum_of (opening ++ told)).inserted
+    → pairs + (sum_of told).removed ≡ before + (sum_of told).inserted
+pairs_again pairs before opening told was are =
+    let inserted = sum_by-append (λ (s : ShareValue). s.inserted) opening told in
+    let removed = sum_by-append (λ (s : ShareValue). s.removed) opening told in
+    omega (arith, was, are, inserted, removed)
 
 -- what is so whatever the worker is so of each
 pub all_so : {A X : Type 0} → (first : ℕ) (xs : List X) → A → ByNumber (λ worker x. A) first xs

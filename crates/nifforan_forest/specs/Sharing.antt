@@ -1,14 +1,15 @@
 -- What a forest comes to that workers shared, and which fault says what.
-use Rattle.std.specs.Prelude.{◌≡◌, ℕ, List, All, length, map}
+use Rattle.std.specs.Prelude.{◌≡◌, ℕ, ◌+◌, ◌++◌, List, All, length, map, Some, MatchOption}
 use Rattle.bw_keys.specs.declared.config.Config.{Config}
 use Rattle.bw_step.specs.declared.receipt.Receipt.{Receipt}
-use Rattle.bw_forest.specs.Forests.{IsClosedForest}
+use Rattle.bw_forest.specs.Forests.{ForestValue, IsClosedForest, books_of, config_of, pairs_of}
 use Rattle.bw_crew.specs.declared.fault.CrewFault.{CrewFault}
 use Rattle.bw_crew.specs.declared.fault.CrewFault.TheVariants as crew
-use Rattle.bw_crew.specs.Workers.{share_by}
+use Rattle.bw_crew.specs.Workers.{changes_in, share_by}
 use Rattle.bw_tree.specs.Trees.{IsNewFault, MayBeMade}
 use Rattle.bw_tree.specs.declared.fault.NewFault.TheVariants as new
 use Rattle.nifforan_forest.specs.declared.fault.ShareForestFault.{ShareForestFault}
+use Rattle.nifforan_forest.specs.declared.unshared.UnsharedForest.{UnsharedForest}
 use Rattle.nifforan_forest.specs.declared.fault.ShareForestFault.TheVariants.{BadConfig, BadWorkers, NoMemory, NoThread, OtherRange}
 use Rattle.nifforan_forest.specs.declared.outcome.ForestOutcome.{ForestOutcome}
 use Rattle.nifforan_forest.specs.Workers.{AllReturn, PromisedOf, trails_of}
@@ -26,6 +27,35 @@ pub record IsForestShared {O L : Type 0} (added : L → List Receipt) (promise :
   pub trails : All (λ it. length it.trails.items ≡ length bounds) outcome.workers.items
   pub promised : AllReturn added promise outcome.workers.items
 
+-- What a closed forest comes to that workers shared: one of the same ranges, made by the same
+-- configuration, whose books have what the given trees' had and what all trails tell. So its pairs
+-- are those that were there and as many as the trails have insertions, less their removals. And of
+-- each worker an output and a trail at each tree, of which the promise holds.
+pub record IsClosedForestShared {O L : Type 0} (added : L → List Receipt) (promise : PromisedOf O)
+    (given : ForestValue) (workers : ℕ) (outcome : ForestOutcome O L) : Type 0 where
+  pub ranges : outcome.forest.bounds ≡ given.bounds
+  pub closed : IsClosedForest (config_of given.tables)
+      (books_of given.tables ++ map share_by (trails_of added outcome.workers.items))
+      outcome.forest
+  pub pairs : let changes = changes_in (trails_of added outcome.workers.items) in
+      pairs_of outcome.forest.tables + changes.removed ≡ pairs_of given.tables + changes.inserted
+  pub returned : length outcome.workers.items ≡ workers
+  pub trails : All (λ it. length it.trails.items ≡ length given.bounds) outcome.workers.items
+  pub promised : AllReturn added promise outcome.workers.items
+
+-- a forest that wasn't shared comes back with these ranges and this configuration, unless one of
+-- its trees has another range
+abbrev pub ComesBack : List ℕ → Config → UnsharedForest → Type 0
+ComesBack bounds config unshared =
+    MatchOption unshared.forest (unshared.fault ≡ OtherRange)
+    (λ forest. (forest.bounds ≡ bounds) × (config_of forest.tables ≡ config))
+
+-- so does a closed forest that wasn't shared, and where the workers were too few or too many it is
+-- as it was
+pub record IsForestBack (given : ForestValue) (unshared : UnsharedForest) : Type 0 where
+  pub back : ComesBack given.bounds (config_of given.tables) unshared
+  pub same : unshared.fault ≡ BadWorkers → unshared.forest ≡ Some given
+
 -- the first fault that applies
 abbrev pub IsShareForestFault : Config → ℕ → ShareForestFault → Type 0
 IsShareForestFault config workers (BadConfig bad) = IsNewFault config workers (new.BadConfig bad)
@@ -33,6 +63,14 @@ IsShareForestFault config workers BadWorkers = IsNewFault config workers new.Bad
 IsShareForestFault config workers NoMemory = MayBeMade config workers
 IsShareForestFault config workers NoThread = MayBeMade config workers
 IsShareForestFault config workers OtherRange = MayBeMade config workers
+
+-- a fault that comes once the configuration and the number of workers were found fine
+abbrev pub IsLate : ShareForestFault → Type 0
+IsLate (BadConfig bad) = ⊥
+IsLate BadWorkers = ⊥
+IsLate NoMemory = Unit {0}
+IsLate NoThread = Unit {0}
+IsLate OtherRange = Unit {0}
 
 -- what a fault of the crew is to the forest that it was to share
 abbrev pub share_fault_of : CrewFault → ShareForestFault

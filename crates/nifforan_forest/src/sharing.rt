@@ -1,19 +1,28 @@
 //! Forests that are shared for the length of one call.
 
-ghost use Rattle.std.specs.Prelude.{◌≡◌, IsOk, IfOk, IfErr, length};
+ghost use Rattle.std.specs.Prelude.{◌≡◌, ◌+◌, ◌*◌, ◌≤◌, ◌++◌, All, IsOk, IfOk, IfErr, OnOk};
+ghost use Rattle.std.specs.Prelude.{length, map, vec_capacity};
+ghost use Rattle.bw_crew.specs.Workers.{share_by};
+ghost use Rattle.bw_forest.specs.Forests.{IsClosedForest, config_of};
+ghost use Rattle.bw_tree.specs.Shares.{no_changes};
 ghost use Rattle.bw_tree.specs.Stocks.{OpensForest};
 ghost use Rattle.bw_tree.specs.Trees.{MayBeMade};
-ghost use Rattle.nifforan_forest.specs.Sharing.{IsForestShared, IsShareForestFault};
+ghost use Rattle.nifforan_forest.specs.Sharing.{ComesBack, IsClosedForestShared, IsForestBack};
+ghost use Rattle.nifforan_forest.specs.Sharing.{IsForestShared, IsLate, IsShareForestFault};
+ghost use Rattle.nifforan_forest.specs.Workers.{AllReturn, trails_of};
 
 use crate::crew::{Gathered, work_all};
 use crate::divides::Divides;
 use crate::fault::ShareForestFault;
 use crate::job::ForestJob;
 use crate::outcome::ForestOutcome;
-use bw_forest::{Bounds, Forest, ForestFault};
-use bw_keys::Config;
+use crate::unshared::UnsharedForest;
+use bw_crew::CrewFault;
+use bw_delta::NoMemory;
+use bw_forest::{Bounds, ClosedForest, Forest, ForestFault};
+use bw_keys::{Config, MAX_WORKERS};
 use bw_procedures::Trail;
-use bw_tree::{ForestBlanks, NewFault};
+use bw_tree::{ForestBlanks, MadeBy, NewFault, Share};
 use std::alloc::Global;
 use std::marker::Brand;
 use std::sync::Wait;
@@ -48,11 +57,59 @@ pub fn share_forest<
     ensures fault { IfErr result (IsShareForestFault config workers) }
 {
     let blanks = ForestBlanks::new(bounds.trees(), workers);
-    share_by::<Brand, Brand, O, L, J, R>(rt, machine, bounds, config, blanks, job)
+    share_new::<Brand, Brand, O, L, J, R>(rt, machine, bounds, config, blanks, job)
 }
 
-/// Shares a forest with these blank ledgers.
-fn share_by<
+/// Shares a forest that was closed, as [`share_forest`] does a new one: its trees go on with the pairs
+/// that they have. Tables that came from elsewhere are one by [`ClosedForest::of`].
+///
+/// Where it fails, the forest comes back: as it was, or where a thread couldn't be started, with what
+/// was done by those that were.
+pub fn share_closed_forest<
+    O: Drop + Send,
+    L: Trail + Send,
+    J: ForestJob<Output = O, Trail = L> + Sync,
+    R: Threads + Wait + Sync + Send + Copy,
+>(
+    rt: R,
+    machine: Global,
+    forest: ClosedForest<Global>,
+    workers: u32,
+    job: &J,
+) -> Result<ForestOutcome<O, L>, UnsharedForest>
+    ensures shared { IfOk result
+        (IsClosedForestShared L.added (J.promised job.now) forest workers) }
+    ensures fine { IsOk result → MayBeMade (config_of forest.tables) workers }
+    ensures fault { IfErr result (λ it.
+        IsShareForestFault (config_of forest.tables) workers it.fault) }
+    ensures back { IfErr result (IsForestBack forest) }
+{
+    if let Err(fault) = check(forest.config(), workers) {
+        return Err(UnsharedForest {
+            fault,
+            forest: Some(forest),
+        });
+    }
+    let blanks = ForestBlanks::new(forest.bounds().trees(), workers + 1);
+    share_again::<Brand, Brand, O, L, J, R>(rt, machine, forest, workers, blanks, job)
+}
+
+/// Returns the first fault that is there before any thread starts, want of memory apart.
+fn check(config: Config, workers: u32) -> Result<(), ShareForestFault>
+    ensures fine { OnOk result (MayBeMade config workers) }
+    ensures fault { IfErr result (IsShareForestFault config workers) }
+{
+    if let Err(bad) = config.check() {
+        return Err(ShareForestFault::BadConfig(bad));
+    }
+    if !(1..=MAX_WORKERS).contains(&workers) {
+        return Err(ShareForestFault::BadWorkers);
+    }
+    Ok(())
+}
+
+/// Shares a new forest with these blank ledgers.
+fn share_new<
     I: Divides + Send + Sync,
     D: Ledger + Send + Sync,
     O: Drop + Send,
@@ -82,17 +139,158 @@ fn share_by<
         Err(NewFault::BadWorkers) => return Err(ShareForestFault::BadWorkers),
         Err(NewFault::NoMemory) => return Err(ShareForestFault::NoMemory),
     };
-    let Gathered { shares, workers } = work_all(
-        &rt,
-        machine,
-        forest.bounds(),
-        forest.trees(),
-        shares,
-        job,
-    )?;
-    match forest.close(shares) {
+    match share_open(rt, machine, forest, shares, Vec::new(machine), job) {
+        Ok(outcome) => Ok(outcome),
+        Err(unshared) => Err(unshared.fault),
+    }
+}
+
+/// Shares a closed forest with these blank ledgers, which are those of one worker more.
+fn share_again<
+    I: Divides + Send + Sync,
+    D: Ledger + Send + Sync,
+    O: Drop + Send,
+    L: Trail + Send,
+    J: ForestJob<Output = O, Trail = L> + Sync,
+    R: Threads + Wait + Sync + Send + Copy,
+>(
+    rt: R,
+    machine: Global,
+    forest: ClosedForest<Global>,
+    workers: u32,
+    blanks: ForestBlanks,
+    job: &J,
+) -> Result<ForestOutcome<O, L>, UnsharedForest>
+    requires ledgers { OpensForest I.Ledger I.config D.Ledger (config_of forest.tables) blanks }
+    requires trees { blanks.trees ≡ length forest.bounds }
+    requires workers { blanks.workers ≡ workers + 1 }
+    requires divided { forest.bounds ≡ I.bounds }
+    requires fine { MayBeMade (config_of forest.tables) workers }
+    ensures shared { IfOk result
+        (IsClosedForestShared L.added (J.promised job.now) forest workers) }
+    ensures fault { IfErr result (λ it.
+        IsShareForestFault (config_of forest.tables) workers it.fault) }
+    ensures back { IfErr result (IsForestBack forest) }
+{
+    let made = Forest::<R, Global, I, D>::from_closed(rt, machine, forest, blanks);
+    let (forest, shares, opening) = match made {
+        Ok(made) => made,
+        Err(unopened) => {
+            return Err(UnsharedForest {
+                fault: ShareForestFault::NoMemory,
+                forest: Some(unopened.forest),
+            });
+        }
+    };
+    match share_open(rt, machine, forest, shares, opening, job) {
+        Ok(outcome) => Ok(outcome),
+        Err(unshared) => Err(unshared),
+    }
+}
+
+/// Does the job with each list of shares, and closes the forest with them and the opening ones.
+fn share_open<
+    I: Divides + Send + Sync,
+    D: Ledger + Send + Sync,
+    O: Drop + Send,
+    L: Trail + Send,
+    J: ForestJob<Output = O, Trail = L> + Sync,
+    R: Threads + Wait + Sync + Send + Copy,
+>(
+    rt: R,
+    machine: Global,
+    forest: Forest<R, Global, I, D>,
+    shares: Vec<Vec<Share<I, D>>>,
+    opening: Vec<Share<I, D>>,
+    job: &J,
+) -> Result<ForestOutcome<O, L>, UnsharedForest>
+    requires divided { forest.bounds ≡ I.bounds }
+    requires fine { MayBeMade I.config (length shares.items) }
+    requires each { All (λ its. length its.items ≡ length I.bounds) shares.items }
+    requires new { All (λ its. All (λ share. share ≡ no_changes) its.items) shares.items }
+    requires whole { length opening.items + length shares.items * length I.bounds
+        ≡ forest.totals.workers * length I.bounds }
+    ensures ranges { IfOk result (λ shared. shared.forest.bounds ≡ I.bounds) }
+    ensures closed { IfOk result (λ shared. IsClosedForest I.config
+        (opening.items ++ map share_by (trails_of L.added shared.workers.items))
+        shared.forest) }
+    ensures returned { IfOk result (λ shared.
+        length shared.workers.items ≡ length shares.items) }
+    ensures trails { IfOk result (λ shared.
+        All (λ it. length it.trails.items ≡ length I.bounds) shared.workers.items) }
+    ensures promised { IfOk result (λ shared.
+        AllReturn L.added (J.promised job.now) shared.workers.items) }
+    ensures late { IfErr result (λ it. IsLate it.fault) }
+    ensures back { IfErr result (ComesBack I.bounds I.config) }
+{
+    let Ok(opening) = with_room(opening, shares.len(), forest.trees().len()) else {
+        return Err(give_back(forest, CrewFault::NoMemory));
+    };
+    let gathered = work_all(&rt, machine, forest.bounds(), forest.trees(), shares, job);
+    let Gathered { shares, workers } = match gathered {
+        Ok(gathered) => gathered,
+        Err(fault) => return Err(give_back(forest, fault)),
+    };
+    match forest.close(joined(opening, shares)) {
         Ok(forest) => Ok(ForestOutcome { forest, workers }),
         Err(ForestFault::MissingShare) => unreachable!(),
-        Err(ForestFault::OtherRange) => Err(ShareForestFault::OtherRange),
+        Err(ForestFault::OtherRange) => Err(UnsharedForest {
+            fault: ShareForestFault::OtherRange,
+            forest: None,
+        }),
+    }
+}
+
+/// Takes room behind the opening shares for those of all workers at all trees, so that nothing that was
+/// done is given up for want of it.
+fn with_room<I: MadeBy, D: Ledger>(
+    opening: Vec<Share<I, D>>,
+    workers: usize,
+    trees: usize,
+) -> Result<Vec<Share<I, D>>, NoMemory>
+    ensures same { IfOk result (λ shares. shares.items ≡ opening.items) }
+    ensures room { IfOk result (λ shares.
+        length opening.items + workers * trees ≤ vec_capacity shares) }
+{
+    let Some(more) = workers.checked_mul(trees) else {
+        return Err(NoMemory);
+    };
+    let mut opening = opening;
+    opening.reserve(more)?;
+    Ok(opening)
+}
+
+/// Puts the workers' shares behind the opening ones.
+fn joined<I: MadeBy, D: Ledger>(
+    opening: Vec<Share<I, D>>,
+    shares: Vec<Share<I, D>>,
+) -> Vec<Share<I, D>>
+    requires room { length opening.items + length shares.items ≤ vec_capacity opening }
+    ensures { result.items ≡ opening.items ++ shares.items }
+{
+    let (mut all, mut shares) = (opening, shares);
+    let Ok(()) = all.append(&mut shares) else {
+        unreachable!()
+    };
+    all
+}
+
+/// Takes the forest from a crew that failed.
+fn give_back<R: Wait + Drop, I: MadeBy, D: Ledger>(
+    forest: Forest<R, Global, I, D>,
+    fault: CrewFault,
+) -> UnsharedForest
+    ensures late { IsLate result.fault }
+    ensures back { ComesBack forest.bounds I.config result }
+{
+    match forest.into_closed() {
+        Some(forest) => UnsharedForest {
+            fault: ShareForestFault::from(fault),
+            forest: Some(forest),
+        },
+        None => UnsharedForest {
+            fault: ShareForestFault::OtherRange,
+            forest: None,
+        },
     }
 }

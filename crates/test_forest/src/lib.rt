@@ -2,6 +2,8 @@
 #![tactic(auto)]
 
 #[cfg(test)]
+mod again;
+#[cfg(test)]
 mod alone;
 #[cfg(test)]
 mod many;
@@ -9,3 +11,5 @@ mod many;
 mod numbers;
 #[cfg(test)]
 mod plain;
+#[cfg(test)]
+mod tables;

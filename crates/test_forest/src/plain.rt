@@ -54,7 +54,12 @@ impl Plain {
         }
     }
 
-    fn insert(&mut self, key: Key, value: u64) -> Result<Option<u64>, Wrong> {
+    /// Reports whether the key is the worker's.
+    pub(crate) fn owns(&self, key: Key) -> bool {
+        key.min(u64::MAX - key) % self.workers.max(1) == self.worker
+    }
+
+    pub(crate) fn insert(&mut self, key: Key, value: u64) -> Result<Option<u64>, Wrong> {
         match self.map.insert(key, value) {
             Ok(old) => Ok(old),
             Err(_) => Err("memory"),

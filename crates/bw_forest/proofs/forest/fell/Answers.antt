@@ -3,6 +3,7 @@ use Rattle.bw_law.specs.Tables.{TableValue}
 use Rattle.bw_tree.specs.Trees.{IsTree}
 use Rattle.bw_forest.specs.Forests.{HasPairsWithin, tables_of}
 use Rattle.bw_forest.proofs.Closing.{all_more, books_more, tables_more}
+use Rattle.bw_forest.proofs.Fits.{alike}
 use Rattle.bw_forest.proofs.forest.fell.Goals as goal
 
 pub loop-tree-preserved : goal.loop-tree-preserved
@@ -30,3 +31,6 @@ loop-tree-preserved g c =
       books = books_more
           (tables_of before) _ c.loop-tree.stocks.items tree.table stock tables inv.books c.apart-tree.ensures.book ∙ sym stocks;
     }
+
+pub returns-clause-alike : goal.returns-clause-alike
+returns-clause-alike g c = alike g.I.MadeBy.config _ c.loop-tree.invariant.config

@@ -1,0 +1,6 @@
+use Rattle.std.proofs.Common.{ℕ, ◌<◌}
+use Rattle.bw_forest.specs.Fitting.{LiesInItsRange}
+use Rattle.bw_forest.proofs.fitting.first_outside.Given as goal
+
+abbrev pub invariant-loop-i : goal.invariant-loop-i
+invariant-loop-i g l = (k : ℕ) → k < l.i → LiesInItsRange l.bounds l.tables k

@@ -1,0 +1,11 @@
+use crate::fault::ShareForestFault;
+use bw_forest::ClosedForest;
+use std::alloc::Global;
+
+/// A closed forest that wasn't shared, and why.
+#[derive(Drop)]
+pub struct UnsharedForest {
+    pub fault: ShareForestFault,
+    /// The forest. None where a tree has another range than it was made for, which never comes.
+    pub forest: Option<ClosedForest<Global>>,
+}
