@@ -33,9 +33,10 @@ module _ {H : Type 0} (seen : H → Seen) (follows : H → H → Type 0) where
 
   -- what a hand of the list spent
   pub spent_at : (olds news : List H) (tree : ℕ) (now : H) → slice_get news tree ≡ Some now → EachSpends seen follows olds news
-      → (first : H) × (slice_get olds tree ≡ Some first) × follows first now
+      → (first : H) × (slice_get olds tree ≡ Some first) × follows first now × OnlySpends (seen first) (seen now)
   spent_at [] [] tree now is all = absurd (cc)
   spent_at [] (n ∷ news) tree now is all = absurd all
   spent_at (o ∷ olds) [] tree now is all = absurd all
-  spent_at (o ∷ olds) (n ∷ news) zero now is all = (o, refl, subst (follows o) (some_is n now is) all.0)
+  spent_at (o ∷ olds) (n ∷ news) zero now is all =
+      let same = some_is n now is in (o, refl, subst (follows o) same all.0, subst (λ (h : H). OnlySpends (seen o) (seen h)) same all.1)
   spent_at (o ∷ olds) (n ∷ news) (suc tree) now is all = spent_at olds news tree now is all.2

@@ -8,8 +8,10 @@ use Rattle.bw_step.specs.Tellings.{Reported, reported_in}
 use Rattle.bw_forest.specs.Bounds.{IsTreeOf}
 use Rattle.bw_procedures.specs.Clearing.{AddsRemovals, AreRemovals, HasRemovalOf, IsSwept, removals_in}
 use Rattle.bw_procedures.specs.Seen.{Seen}
+use Rattle.bw_procedures.proofs.Removals.{grow_then, removals_lower, spent_grows}
 use Rattle.nifforan_forest.specs.Clears.{Removes, SweepsKey, Together}
 use Rattle.nifforan_forest.proofs.Places.{set_there, set_elsewhere, some_is}
+use Rattle.nifforan_forest.proofs.Spending.{spends_none}
 
 pub together_none : {H : Type 0} → (does : ℕ → H → H → Type 0) → ((h : H) → does 0 h h) → (hands : List H) → Together does hands hands 0
 together_none does same [] = refl
@@ -42,17 +44,13 @@ together_more {H = H} does more so (o ∷ olds) (n ∷ news) zero count own old 
 together_more does more so (o ∷ olds) (n ∷ news) (suc tree) count own old now is did all =
     (all.0, all.1 + own, so all.0 o n all.2, together_more does more so olds news tree all.1 own old now is did all.3, omega (arith, all.4))
 
-lower : (low at high : ℕ) (xs : List Reported) → low ≤ at → AreRemovals at high xs → AreRemovals low high xs
-lower low at high [] le are = tt
-lower low at high (x ∷ xs) le are = (are.0, are.1, omega (arith, le, are.2), are.3, are.4)
-
 higher : (low high end : ℕ) (xs : List Reported) → high ≤ end → AreRemovals low high xs → AreRemovals low end xs
 higher low high end [] le are = tt
 higher low high end (x ∷ xs) le are = (are.0, are.1, are.2, omega (arith, le, are.3), higher (are.0 + 1) high end xs le are.4)
 
 removals_then : (low middle at high : ℕ) (xs ys : List Reported) → low ≤ at → middle ≤ at → middle ≤ high → AreRemovals low middle xs
     → AreRemovals at high ys → AreRemovals low high (xs ++ ys)
-removals_then low middle at high [] ys le before within first then = lower low at high ys le then
+removals_then low middle at high [] ys le before within first then = removals_lower low at high ys le then
 removals_then low middle at high (x ∷ xs) ys le before within first then = (
   first.0,
   first.1,
@@ -84,6 +82,7 @@ module _ {H : Type 0} (seen : H → Seen) (follows : H → H → Type 0) where
   removes_none stays low end h =
       record {
         followed = stays h;
+        grows = spent_grows (seen h) (seen h) (spends_none (seen h));
         receipts = record {
           added = [];
           trail = sym (append-nil (reported_in (seen h).trail));
@@ -96,6 +95,7 @@ module _ {H : Type 0} (seen : H → Seen) (follows : H → H → Type 0) where
   removes_wider low high end n a b le did =
       record {
         followed = did.followed;
+        grows = did.grows;
         receipts = record {
           added = did.receipts.added;
           trail = did.receipts.trail;
@@ -107,19 +107,23 @@ module _ {H : Type 0} (seen : H → Seen) (follows : H → H → Type 0) where
 
   -- a hand removed keys of one part of the range after those of another
   pub removes_then : ((a b c : H) → follows a b → follows b c → follows a c) → (low middle at high n m : ℕ) (a b c : H) → low ≤ at
-      → middle ≤ at → middle ≤ high → Removes seen follows low middle n a b → follows b c → AddsRemovals at high m (seen b) (seen c)
+      → middle ≤ at → middle ≤ high → Removes seen follows low middle n a b → Removes seen follows at high m b c
       → Removes seen follows low high (n + m) a c
-  removes_then joins low middle at high n m a b c le before within first then more = record {
-    followed = joins a b c first.followed then;
-    receipts = record {
-      added = first.receipts.added ++ more.added;
-      trail =
-          since_then (reported_in (seen a).trail) (reported_in (seen b).trail) (reported_in (seen c).trail) first.receipts.added more.added
-          first.receipts.trail more.trail;
-      removals = removals_then low middle at high first.receipts.added more.added le before within first.receipts.removals more.removals;
-      count = omega (arith, removals_in_both first.receipts.added more.added, first.receipts.count, more.count);
-    };
-  }
+  removes_then joins low middle at high n m a b c le before within first then =
+      let one = first.receipts in
+      let more = then.receipts in
+      record {
+        followed = joins a b c first.followed then.followed;
+        grows = grow_then (seen a) (seen b) (seen c) first.grows then.grows;
+        receipts = record {
+          added = one.added ++ more.added;
+          trail =
+              since_then (reported_in (seen a).trail) (reported_in (seen b).trail) (reported_in (seen c).trail) one.added more.added
+              one.trail more.trail;
+          removals = removals_then low middle at high one.added more.added le before within one.removals more.removals;
+          count = omega (arith, removals_in_both one.added more.added, one.count, more.count);
+        };
+      }
 
 module _ {H : Type 0} (bounds : List ℕ) (seen : H → Seen) (follows : H → H → Type 0) (shows : H → ℕ → ℕ → List (ℕ × ℕ) → Type 0)
     (joins : (a b c : H) → follows a b → follows b c → follows a c) (olds news : List H) (tree : ℕ) (old now : H) where

@@ -2,7 +2,7 @@
 use Rattle.std.specs.Prelude.{◌≡◌, ℕ, ◌+◌, List, [], ◌∷◌, Some, slice_get}
 use Rattle.bw_forest.specs.Bounds.{IsTreeOf}
 use Rattle.bw_procedures.specs.Clearing.{AddsRemovals, IsSwept}
-use Rattle.bw_procedures.specs.Seen.{Seen}
+use Rattle.bw_procedures.specs.Seen.{Seen, Grows}
 
 -- what each hand does, by a count of its own, and all counts together
 abbrev pub Together : {H : Type 0} → (ℕ → H → H → Type 0) → List H → List H → ℕ → Type 0
@@ -15,6 +15,7 @@ Together does olds news count = ⊥
 pub record Removes {H : Type 0} (seen : H → Seen) (follows : H → H → Type 0) (low end removed : ℕ)
     (old new : H) : Type 0 where
   pub followed : follows old new
+  pub grows : Grows (seen old) (seen new)
   pub receipts : AddsRemovals low end removed (seen old) (seen new)
 
 -- at a moment of the call, the tree whose range holds the key had none, or the key was deleted

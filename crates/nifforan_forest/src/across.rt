@@ -1,11 +1,12 @@
 //! The calls of a worker of a forest that go over several trees.
 
-ghost use Rattle.std.specs.Prelude.{◌≡◌, ◌-◌, ◌<◌, ◌≤◌, ℕ, None, IfSome, min};
+ghost use Rattle.std.specs.Prelude.{◌≡◌, ◌-◌, ◌<◌, ◌≤◌, ℕ, None, IfSome, IfErr, min};
 ghost use Rattle.bw_forest.specs.Bounds.{IsTreeOf};
 ghost use Rattle.bw_keys.specs.Ranges.{end_of, key_count};
 ghost use Rattle.bw_tree.specs.Stocks.{most};
 ghost use Rattle.nifforan_forest.specs.Answers.{HaveTogether, IsFirstAnswer, IsLastAnswer};
 ghost use Rattle.nifforan_forest.specs.Clears.{Removes, SweepsKey, Together};
+ghost use Rattle.nifforan_forest.specs.Faults.{EarnsInATree};
 ghost use Rattle.nifforan_forest.specs.Reads.{WasThereInItsTree};
 ghost use Rattle.nifforan_forest.specs.Scans.{EachSpends, Scans};
 
@@ -21,7 +22,8 @@ impl<'b, H: ForestHand> ForestWorker<'b, H> {
     /// Deletes the keys from the low on and below the high, as [`clear`](bw_procedures::Calls::clear)
     /// does, tree by tree in the order of their ranges, and returns how many it deleted, or 2^64 - 1
     /// where it deleted more. Copies of leaves lie in the machine's memory. The first fault ends the
-    /// call; what was deleted by then stays so.
+    /// call; what was deleted by then stays so. It comes where one tree's `clear` would end with it,
+    /// so each tree's part has the effort of a call.
     ///
     /// Without a fault, each key of the range was missing in a copy of its leaf, or was deleted since.
     pub fn clear(&mut self, machine: Global, low: Key, high: Fence) -> Cleared
@@ -32,6 +34,8 @@ impl<'b, H: ForestHand> ForestWorker<'b, H> {
         ensures swept { result.fault ≡ None → (key : ℕ) → low ≤ key → key < end_of high
             → SweepsKey H.bounds H.seen H.follows H.shows key
             self.old.hands.items self.new.hands.items }
+        ensures fault { IfSome result.fault (EarnsInATree H.bounds H.seen low (end_of high)
+            self.old.hands.items self.new.hands.items) }
     {
         let mut removed = 0u64;
         let mut at = low;
@@ -69,12 +73,14 @@ impl<'b, H: ForestHand> ForestWorker<'b, H> {
     /// # Errors
     ///
     /// [`Fault::Contended`] where the effort of a read is spent before a leaf is copied, and
-    /// [`Fault::NoMemory`]. The pairs up to there are on the list.
+    /// [`Fault::NoMemory`], each in one tree. The pairs up to there are on the list.
     pub fn scan(&mut self, low: Key, limit: usize, list: &mut Vec<(Key, u64)>) -> Result<(), Fault>
         ensures scans { Scans (λ key found. WasThereInItsTree H.bounds H.follows H.shows key found
             self.old.hands.items self.new.hands.items)
             low key_count limit result list.old.items list.new.items }
         ensures spends { EachSpends H.seen H.follows self.old.hands.items self.new.hands.items }
+        ensures fault { IfErr result (EarnsInATree H.bounds H.seen low key_count
+            self.old.hands.items self.new.hands.items) }
     {
         let mut left = limit;
         let mut at = low;

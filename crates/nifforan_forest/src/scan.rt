@@ -1,8 +1,8 @@
 //! The pairs of one tree in the order of their keys, leaf by leaf.
 
-ghost use Rattle.std.specs.Prelude.{◌≡◌, ◌+◌, ◌++◌, ◌<◌, ◌≤◌, IfOk, OnErr, length, take, drop};
+ghost use Rattle.std.specs.Prelude.{◌≡◌, ◌+◌, ◌++◌, ◌<◌, ◌≤◌, IfOk, IfErr, OnErr, length, take, drop};
 ghost use Rattle.bw_keys.specs.Ranges.{end_of};
-ghost use Rattle.bw_procedures.specs.Calls.{OnlySpends};
+ghost use Rattle.bw_procedures.specs.Calls.{Earned, OnlySpends};
 ghost use Rattle.bw_procedures.specs.Clearing.{LieBelow, StartFrom};
 ghost use Rattle.nifforan_forest.specs.Reads.{WasThere};
 ghost use Rattle.nifforan_forest.specs.Scans.{Scans, uncounted};
@@ -29,6 +29,7 @@ pub(crate) fn scan_tree<H: ForestHand>(
         (λ count. length list.new.items ≡ length list.old.items + count) }
     ensures scans { Scans (λ key found. WasThere H.follows H.shows key found hand.old hand.new)
         low (end_of high) limit (uncounted result) list.old.items list.new.items }
+    ensures fault { IfErr result (Earned (H.seen hand.old) (H.seen hand.new)) }
 {
     let mut count = 0;
     let mut at = low;

@@ -1,6 +1,7 @@
 //! A forest that is shared again and again, by other numbers of workers.
 
-use crate::plain::{KEYS, Plain, Wrong};
+use crate::own::{Own, drawn_keys, edges_of};
+use crate::plain::{Plain, Wrong};
 use nifforan_forest::{
     Bounds, ClosedForest, Config, ForestHand, ForestJob, ForestOutcome, ForestWorker, Key, Receipt,
     ShareForestFault, share_closed_forest, share_forest,
@@ -16,6 +17,8 @@ use std::thread::Threads;
 struct Again<'t> {
     machine: Global,
     workers: u32,
+    /// The keys at the trees' edges.
+    edges: &'t [Key],
     before: &'t BTreeMap<Key, u64>,
 }
 
@@ -29,7 +32,11 @@ impl<'t> ForestJob for Again<'t> {
         worker: u32,
         forest: &mut ForestWorker<'_, H>,
     ) -> Result<Plain, Wrong> {
-        let mut plain = Plain::new(self.machine, worker, self.workers);
+        let own = Own::OneOf {
+            workers: self.workers.into(),
+            worker: worker.into(),
+        };
+        let mut plain = Plain::new(self.machine, worker.into(), own, self.edges)?;
         for (key, value) in self.before.iter() {
             if plain.owns(*key) {
                 plain.insert(*key, *value)?;
@@ -91,11 +98,14 @@ fn try_again<R: Threads + Wait + Sync + Send + Copy>(
         fanout: 4,
         ..Config::default()
     };
-    let bounds = Bounds::even(machine, trees, KEYS.saturating_mul(u64::from(workers)))?;
+    let lows = drawn_keys(machine, trees, trees.into())?;
+    let edges = edges_of(machine, &lows)?;
+    let bounds = Bounds::of(lows)?;
     let none = BTreeMap::new(machine);
     let job = Again {
         machine,
         workers,
+        edges: &edges,
         before: &none,
     };
     let shared = share_forest(rt, machine, bounds, config, workers, &job)?;
@@ -104,6 +114,7 @@ fn try_again<R: Threads + Wait + Sync + Send + Copy>(
         let job = Again {
             machine,
             workers,
+            edges: &edges,
             before: &before,
         };
         let shared = match share_closed_forest(rt, machine, forest, workers, &job) {
@@ -133,6 +144,7 @@ fn a_forest_that_is_not_shared_comes_back(rt: HostRuntime) -> Result<(), Fail> {
     let job = Again {
         machine,
         workers: 2,
+        edges: &[0, 999, 1000],
         before: &none,
     };
     let bounds = Bounds::even(machine, 3, 1000)?;

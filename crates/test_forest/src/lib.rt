@@ -1,14 +1,18 @@
-//! Tests of a forest that workers share, beside the kit's map.
+//! Tests of a forest that workers share, beside the kit's map, and by the auditor.
 #![tactic(auto)]
 
 #[cfg(test)]
 mod again;
 #[cfg(test)]
-mod alone;
+mod calls;
 #[cfg(test)]
-mod many;
+mod drawn;
+#[cfg(test)]
+mod judge;
 #[cfg(test)]
 mod numbers;
+#[cfg(test)]
+mod own;
 #[cfg(test)]
 mod plain;
 #[cfg(test)]

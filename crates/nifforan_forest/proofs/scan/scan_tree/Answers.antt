@@ -3,10 +3,12 @@ use Rattle.std.proofs.lemmas.List.{length-take-le}
 use Rattle.std.specs.Prelude.{IsErr}
 use Rattle.bw_keys.specs.Ranges.{end_of}
 use Rattle.bw_procedures.specs.Slices.{end_of_slice}
-use Rattle.bw_procedures.proofs.Parts.{spends_more}
+use Rattle.bw_procedures.proofs.Parts.{earned_behind, spends_more}
+use Rattle.bw_procedures.proofs.Removals.{spent_grows}
 use Rattle.nifforan_forest.proofs.Leaves.{leaf_ended, leaf_ends, leaf_read, not_fine, read_on}
 use Rattle.nifforan_forest.proofs.Reading.{reads_none, stop_of}
 use Rattle.nifforan_forest.proofs.Spending.{spends_none}
+use Rattle.nifforan_forest.proofs.Trees.{passed_on}
 use Rattle.nifforan_forest.proofs.scan.scan_tree.Goals as goal
 
 pub leaves-init : goal.leaves-init
@@ -144,3 +146,9 @@ leaves-preserved g c =
         ),
       );
     }
+
+pub returns-in_err-slice-clause-fault : goal.returns-in_err-slice-clause-fault
+returns-in_err-slice-clause-fault g c =
+    passed_on _ _ _ c.from_residual.ensures.1
+    (earned_behind _ (g.H.Steps.seen c.args.hand.now) (g.H.Steps.seen c.leaves.hand) (g.H.Steps.seen c.page_from.new.self)
+    (spent_grows _ _ c.leaves.invariant.spends) c.in_err-slice.ensures.fault)

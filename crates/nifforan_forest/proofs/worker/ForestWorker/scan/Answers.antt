@@ -1,12 +1,14 @@
 use Rattle.std.proofs.Common.{rules, ◌≡◌, ◌∙◌, ◌<◌, ◌++◌, [], Some, length, refl, sym, ap, append-nil, append_assoc, length-append, arith}
-use Rattle.std.specs.Prelude.{IsErr, slice_get}
+use Rattle.std.specs.Prelude.{IsErr, slice_get, slice_set}
 use Rattle.std.proofs.lemmas.Option.{slice_get_read}
-use Rattle.bw_keys.specs.Ranges.{end_of}
+use Rattle.bw_keys.specs.Ranges.{end_of, key_count}
 use Rattle.bw_forest.specs.Bounds.{IsTreeOf, ranges_of}
+use Rattle.bw_procedures.proofs.Removals.{spent_grows}
+use Rattle.nifforan_forest.specs.Faults.{EarnsInATree}
 use Rattle.nifforan_forest.proofs.Leaves.{no_end}
 use Rattle.nifforan_forest.proofs.Reading.{reads_none}
-use Rattle.nifforan_forest.proofs.Spending.{none_spend, one_spends}
-use Rattle.nifforan_forest.proofs.Trees.{ends_past, tree_read}
+use Rattle.nifforan_forest.proofs.Spending.{none_spend, one_spends, spent_at}
+use Rattle.nifforan_forest.proofs.Trees.{ends_past, passed_on, tree_earned, tree_read}
 use Rattle.nifforan_forest.proofs.worker.ForestWorker.scan.Goals as goal
 
 pub trees-init : goal.trees-init
@@ -149,3 +151,24 @@ returns-in_default-clause-spends g c =
     let is : slice_get hands tree ≡ Some hand = slice_get_read hands (length hands) tree hand refl less c.index_mut.ensures.value in
     one_spends g.H.Steps.seen g.H.Steps.follows g.met.H.Steps.joins c.args.self.now.hands.items hands tree hand c.scan_tree.new.hand is
     c.scan_tree.ensures.follows c.scan_tree.ensures.spends inv.spends
+
+pub returns-in_err-left-clause-fault : goal.returns-in_err-left-clause-fault
+returns-in_err-left-clause-fault g c =
+    let inv = c.trees.invariant in
+    let bounds = g.H.ForestHand.bounds in
+    let olds = c.args.self.now.hands.items in
+    let hands = c.trees.self.hands.items in
+    let tree = c.tree_of-tree.result in
+    let range = c.range-end.result in
+    let hand = c.index_mut.result.now in
+    let now = c.scan_tree.new.hand in
+    let here : slice_get (ranges_of bounds) tree ≡ Some range = rw c.trees.self.divided at c.range-end.ensures.range in
+    let holds : IsTreeOf bounds c.trees.at tree = rw c.trees.self.divided at c.tree_of-tree.ensures.tree in
+    let less : tree < length hands = omega (arith, c.tree_of-tree.ensures.there, c.trees.self.each) in
+    let is : slice_get hands tree ≡ Some hand = slice_get_read hands (length hands) tree hand refl less c.index_mut.ensures.value in
+    let past = ends_past bounds c.trees.at tree range here holds in
+    let first = spent_at g.H.Steps.seen g.H.Steps.follows olds hands tree hand is inv.spends in
+    passed_on (EarnsInATree bounds g.H.Steps.seen c.args.low key_count olds (slice_set hands tree now)) _ _ c.from_residual.ensures.1
+    (tree_earned bounds g.H.Steps.seen g.H.Steps.follows g.H.Steps.shows g.met.H.Steps.joins olds hands tree range hand now
+    c.args.low key_count c.trees.at _ first.0 inv.from_low (omega (arith, past.1, c.end_among_keys.ensures)) holds first.1 is
+    (spent_grows _ _ first.3) c.in_err-left.ensures.fault)
