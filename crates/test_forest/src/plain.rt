@@ -76,10 +76,15 @@ impl Plain {
         self.rng.next_u32().checked_rem(bound).unwrap_or(0)
     }
 
+    fn edge(&self, drawn: u32) -> Key {
+        let place = drawn.checked_rem(self.edges.len() as u32).unwrap_or(0);
+        self.edges.get(place as usize).copied().unwrap_or(0)
+    }
+
     /// Draws one of the worker's keys, at an edge or near it.
     fn key(&mut self) -> Key {
-        let place = self.below(self.edges.len() as u32);
-        let edge = self.edges.get(place as usize).copied().unwrap_or(0);
+        let drawn = self.rng.next_u32();
+        let edge = self.edge(drawn);
         let far = u64::from(self.below(self.spread));
         let key = match self.below(4) {
             0..2 => edge,
