@@ -63,11 +63,14 @@ module _ {X : Type 0} where
       let rest : last_entry (c ∷ es) ≡ Some last = cc in
       grind (arith, nat_tests, some_upto_last key last (c ∷ es) rest upto)
 
-  none_past_last : (low past key : ℕ) (last : ℕ × X) (es : List (ℕ × X)) → rises low past es ≡ true → last_entry es ≡ Some last → last.0 < key → first_from key es ≡ None
-  none_past_last low past key last es h is less = ap first_entry (from_past low key key es (rises-last low past key last es h is less) (omega arith))
+  none_past_last : (low past key : ℕ) (last : ℕ × X) (es : List (ℕ × X)) → rises low past es ≡ true → last_entry es ≡ Some last
+      → last.0 < key → first_from key es ≡ None
+  none_past_last low past key last es h is less = ap first_entry
+      (from_past low key key es (rises-last low past key last es h is less) (omega arith))
 
   -- an entry lies at the key or past it just where the last one does
-  pub some_from : (low past key : ℕ) (last : ℕ × X) (es : List (ℕ × X)) → rises low past es ≡ true → last_entry es ≡ Some last → (key ≤ last.0) ↔ IsSome (first_from key es)
+  pub some_from : (low past key : ℕ) (last : ℕ × X) (es : List (ℕ × X)) → rises low past es ≡ true → last_entry es ≡ Some last →
+      (key ≤ last.0) ↔ IsSome (first_from key es)
   some_from low past key last es h is = (
     (λ upto. some_upto_last key last es is upto),
     (λ some. ⊎_elim

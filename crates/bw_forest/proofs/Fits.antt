@@ -31,7 +31,8 @@ first_config made (t ∷ ts) some all = All-head (λ (t : TableValue). t.config 
 pub alike : (made : Config) (tables : List TableValue) → All (λ (t : TableValue). t.config ≡ made) tables → AreAlike tables
 alike made [] all = λ k d less. absurd (omega (arith, less))
 alike made (t ∷ ts) all =
-    subst (λ (c : Config). All (λ (x : TableValue). x.config ≡ c) (t ∷ ts)) (sym (All-head (λ (x : TableValue). x.config ≡ made) t ts all)) all
+    subst (λ (c : Config). All (λ (x : TableValue). x.config ≡ c) (t ∷ ts))
+        (sym (All-head (λ (x : TableValue). x.config ≡ made) t ts all)) all
 
 pub config_at_first : (tables : List TableValue) (table : TableValue) → Some table ≡ slice_get tables 0 → config_of tables ≡ table.config
 config_at_first [] table is = absurd (cc (is))

@@ -78,7 +78,8 @@ module _ (table : TableValue) where
   })
 
   -- the leaf to which the right link of a leaf leads is the one on its right
-  pub right_sibling_is : Lawful table → (page : ℕ) (right : Pid) (slot : SlotValue) → is_in_row (slot_at table page).stage ≡ true → (slot_at table page).level ≡ 0 → (slot_at table page).right ≡ Some right → slot ≡ slot_at table right.0
+  pub right_sibling_is : Lawful table → (page : ℕ) (right : Pid) (slot : SlotValue) → is_in_row (slot_at table page).stage ≡ true →
+      (slot_at table page).level ≡ 0 → (slot_at table page).right ≡ Some right → slot ≡ slot_at table right.0
       → IsRightSibling table page (record { pid = right; low = slot.low; high = slot.high; pairs = pairs_in slot })
   right_sibling_is law page right slot here leaf link is =
       let next = right_is_next table law page right here link in
@@ -94,7 +95,8 @@ module _ (table : TableValue) where
       }
 
   -- and a leaf with one doesn't end at the top
-  pub is_not_last : Lawful table → (page : ℕ) (right : Pid) → is_in_row (slot_at table page).stage ≡ true → (slot_at table page).right ≡ Some right → end_of (slot_at table page).high < key_count
+  pub is_not_last : Lawful table → (page : ℕ) (right : Pid) → is_in_row (slot_at table page).stage ≡ true →
+      (slot_at table page).right ≡ Some right → end_of (slot_at table page).high < key_count
   is_not_last law page right here link =
       let next = right_is_next table law page right here link in
       omega (arith, next.2, range_is_not_empty table law right.0 next.0, range_is_among_keys table law right.0 next.0)

@@ -58,7 +58,8 @@ module _ (table : TableValue) (leaf : LeafValue) (key from : ℕ) (search : IsSe
   -- the leaf serves for later keys too
   pub held_for : (next : ℕ) → from ≤ next → IsLeafFor table leaf next
   held_for next later = let held = search.held in
-      record { lawful = held.lawful; in_row = held.in_row; is_leaf = held.is_leaf; lent = held.lent; pairs = held.pairs; begins = omega (arith, held.begins, later) }
+      record { lawful = held.lawful; in_row = held.in_row; is_leaf = held.is_leaf; lent = held.lent; pairs = held.pairs; begins = omega
+          (arith, held.begins, later) }
 
   pub next_is_found : (found : Option (ℕ × ℕ)) → found ≡ first_from from leaf.pairs → IfSome found (IsNextAt table key)
   next_is_found None is = tt
@@ -73,7 +74,8 @@ module _ (table : TableValue) (leaf : LeafValue) (key from : ℕ) (search : IsSe
   same_high = sym (ap (λ (l : LeafValue). end_of l.high) search.held.lent)
 
   -- where nothing is left in the leaf, the search goes on in the one on its right
-  pub goes_right : (sibling : LeafValue) (next : ℕ) → IsRightSibling table leaf.pid.0 sibling → next < key_count → next ≡ max from sibling.low → first_from from leaf.pairs ≡ None → IsSearch table sibling key next
+  pub goes_right : (sibling : LeafValue) (next : ℕ) → IsRightSibling table leaf.pid.0 sibling → next < key_count
+      → next ≡ max from sibling.low → first_from from leaf.pairs ≡ None → IsSearch table sibling key next
   goes_right sibling next right is_key is first =
       let begins : sibling.low ≡ end_of leaf.high = right.begins ∙ same_high in
       let high : max from (end_of leaf.high) ≡ next = ap (max from) (sym begins) ∙ sym is in record {
@@ -87,10 +89,12 @@ module _ (table : TableValue) (leaf : LeafValue) (key from : ℕ) (search : IsSe
   fewer_left sibling right =
       let begins : sibling.low ≡ end_of leaf.high = right.begins ∙ same_high in
       let low : leaf.low ≡ (slot_at table leaf.pid.0).low = ap (λ (l : LeafValue). l.low) search.held.lent in
-      omega (arith, begins, low, same_high, range_is_not_empty table search.held.lawful leaf.pid.0 search.held.in_row, range_is_among_keys table search.held.lawful leaf.pid.0 search.held.in_row)
+      omega (arith, begins, low, same_high, range_is_not_empty table search.held.lawful leaf.pid.0 search.held.in_row, range_is_among_keys
+          table search.held.lawful leaf.pid.0 search.held.in_row)
 
   -- there is none on the right of the last leaf
-  pub none_is_left : end_of (slot_at table leaf.pid.0).high ≡ key_count → first_from from leaf.pairs ≡ None → HasNoKeyWithin table key key_count
+  pub none_is_left : end_of (slot_at table leaf.pid.0).high ≡ key_count → first_from from leaf.pairs ≡ None
+      → HasNoKeyWithin table key key_count
   none_is_left top first = subst (HasNoKeyWithin table key) (sym same_high ∙ top) (none_is_here first)
 
 -- what has none from the key on says so

@@ -15,7 +15,8 @@ rises_lower low from end [] le rise = refl
 rises_lower low from end (d ∷ es) le rise = grind (arith, nat_tests)
 
 -- the pairs within a range rise in it
-within_rises_from : (low past bound from end : ℕ) (es : PairList) → rises low past es ≡ true → bound ≤ low → rises bound end (within from end es) ≡ true
+within_rises_from : (low past bound from end : ℕ) (es : PairList) → rises low past es ≡ true → bound ≤ low → rises bound end
+    (within from end es) ≡ true
 within_rises_from low past bound from end [] rise le = refl
 within_rises_from low past bound from end (d ∷ es) rise le =
     let ahead = within_rises_from (d.0 + 1) past (d.0 + 1) from end es (grind (arith, nat_tests)) (omega arith) in
@@ -42,7 +43,8 @@ put_first : (low end key value : ℕ) (es : PairList) → rises low end es ≡ t
 put_first low end key value [] rise below = refl
 put_first low end key value (d ∷ es) rise below = grind (arith, nat_tests)
 
-within_put : (low past from end key value : ℕ) (es : PairList) → rises low past es ≡ true → from ≤ key → key < end → within from end (put key value es) ≡ put key value (within from end es)
+within_put : (low past from end key value : ℕ) (es : PairList) → rises low past es ≡ true → from ≤ key → key < end → within from end
+    (put key value es) ≡ put key value (within from end es)
 within_put low past from end key value [] rise le under = grind (arith, nat_tests)
 within_put low past from end key value (d ∷ es) rise le under =
     let later = within_put (d.0 + 1) past from end key value es (grind (arith, nat_tests)) le under in
@@ -58,20 +60,24 @@ within_rising from low end (d ∷ es) rise le = grind (arith, nat_tests, within_
 module _ (end : ℕ) (key had : ℕ) (rest : PairList) where
   past_key : (low : ℕ) (front : PairList) → rises low end (front ++ (key, had) ∷ rest) ≡ true → low ≤ key
   past_key low [] rise = grind (arith, nat_tests)
-  past_key low (d ∷ front) rise = let behind : d.0 + 1 ≤ key = past_key (d.0 + 1) front (grind (arith, nat_tests)) in grind (arith, nat_tests)
+  past_key low (d ∷ front) rise = let behind : d.0 + 1 ≤ key = past_key (d.0 + 1) front (grind (arith, nat_tests)) in grind
+      (arith, nat_tests)
 
   under_end : (low : ℕ) (front : PairList) → rises low end (front ++ (key, had) ∷ rest) ≡ true → key < end
   under_end low [] rise = grind (arith, nat_tests)
   under_end low (d ∷ front) rise = under_end (d.0 + 1) front (grind (arith, nat_tests))
 
-  put_there : (value low : ℕ) (front : PairList) → rises low end (front ++ (key, had) ∷ rest) ≡ true → put key value (front ++ (key, had) ∷ rest) ≡ front ++ (key, value) ∷ rest
+  put_there : (value low : ℕ) (front : PairList) → rises low end (front ++ (key, had) ∷ rest) ≡ true → put key value
+      (front ++ (key, had) ∷ rest) ≡ front ++ (key, value) ∷ rest
   put_there value low [] rise = grind (arith, nat_tests)
   put_there value low (d ∷ front) rise =
       let behind : d.0 + 1 ≤ key = past_key (d.0 + 1) front (grind (arith, nat_tests)) in
       let those = put_there value (d.0 + 1) front (grind (arith, nat_tests)) in grind (arith, nat_tests)
 
-  within_past : (value low : ℕ) (front : PairList) → rises low end (front ++ (key, had) ∷ rest) ≡ true → within (key + 1) end (front ++ (key, value) ∷ rest) ≡ rest
-  within_past value low [] rise = let those = within_rising (key + 1) (key + 1) end rest (grind (arith, nat_tests)) (omega arith) in grind (arith, nat_tests)
+  within_past : (value low : ℕ) (front : PairList) → rises low end (front ++ (key, had) ∷ rest) ≡ true → within (key + 1) end
+      (front ++ (key, value) ∷ rest) ≡ rest
+  within_past value low [] rise = let those = within_rising (key + 1) (key + 1) end rest (grind (arith, nat_tests)) (omega arith) in grind
+      (arith, nat_tests)
   within_past value low (d ∷ front) rise =
       let behind : d.0 + 1 ≤ key = past_key (d.0 + 1) front (grind (arith, nat_tests)) in
       let those = within_past value (d.0 + 1) front (grind (arith, nat_tests)) in grind (arith, nat_tests)
@@ -79,7 +85,8 @@ module _ (end : ℕ) (key had : ℕ) (rest : PairList) where
 -- A function's values.
 
 module _ {F : Type 0} (new : F → ℕ × ℕ → ℕ → F → Type 0) where
-  makes_more : (f g h : F) (first made more also : PairList) → Makes new f first made g → Makes new g more also h → Makes new f (first ++ more) (made ++ also) h
+  makes_more : (f g h : F) (first made more also : PairList) → Makes new f first made g → Makes new g more also h → Makes new f
+      (first ++ more) (made ++ also) h
   makes_more f g h [] made more also is then =
       subst (λ (l : PairList). Makes new f more (l ++ also) h) (sym is.0) (subst (λ (s : F). Makes new s more also h) (sym is.1) then)
   makes_more f g h (pair ∷ first) made more also (value, mid, rest, makes, those, is) then =
@@ -96,19 +103,24 @@ module _ {F : Type 0} (new : F → ℕ × ℕ → ℕ → F → Type 0) where
     pub makes : new mid (key, had) value g
 
   -- the first pair is the one, or is left as it is
-  pub alters_first : (f g : F) (key had value : ℕ) (pairs rest : PairList) → pairs ≡ (key, had) ∷ rest → new f (key, had) value g → value == had ≡ false → Alters new (Some (key, value)) f pairs g
+  pub alters_first : (f g : F) (key had value : ℕ) (pairs rest : PairList) → pairs ≡ (key, had) ∷ rest → new f (key, had) value g
+      → value == had ≡ false → Alters new (Some (key, value)) f pairs g
   alters_first f g key had value pairs rest is makes differs =
-      let other : MatchBool (value == had) (Alters new (Some (key, value)) g rest g) ((◌≡◌ {A = Option (ℕ × ℕ)} (Some (key, value)) (Some (key, value))) × (g ≡ g)) = rw differs (refl, refl) in
+      let other : MatchBool (value == had) (Alters new (Some (key, value)) g rest g)
+          ((◌≡◌ {A = Option (ℕ × ℕ)} (Some (key, value)) (Some (key, value))) × (g ≡ g)) = rw differs (refl, refl) in
       subst (λ (l : PairList). Alters new (Some (key, value)) f l g) (sym is) (value, g, makes, other)
 
-  pub alters_behind : (found : Option (ℕ × ℕ)) (f mid g : F) (key had value : ℕ) (pairs rest : PairList) → pairs ≡ (key, had) ∷ rest → new f (key, had) value mid → value == had ≡ true → Alters new found mid rest g → Alters new found f pairs g
+  pub alters_behind : (found : Option (ℕ × ℕ)) (f mid g : F) (key had value : ℕ) (pairs rest : PairList) → pairs ≡ (key, had) ∷ rest
+      → new f (key, had) value mid → value == had ≡ true → Alters new found mid rest g → Alters new found f pairs g
   alters_behind found f mid g key had value pairs rest is makes same those =
       let more : MatchBool (value == had) (Alters new found mid rest g) ((found ≡ Some (key, value)) × (mid ≡ g)) = rw same those in
       subst (λ (l : PairList). Alters new found f l g) (sym is) (value, mid, makes, more)
 
-  altered_next : (key made value : ℕ) (same : Bool) (f mid g : F) (pair : ℕ × ℕ) (pairs : PairList) → value == pair.1 ≡ same → new f pair value mid
+  altered_next : (key made value : ℕ) (same : Bool) (f mid g : F) (pair : ℕ × ℕ) (pairs : PairList) → value == pair.1 ≡ same
+      → new f pair value mid
       → ((ahead : Alters new (Some (key, made)) mid pairs g) → IsAltered key made mid pairs g)
-      → MatchBool same (Alters new (Some (key, made)) mid pairs g) ((◌≡◌ {A = Option (ℕ × ℕ)} (Some (key, made)) (Some (pair.0, value))) × (mid ≡ g)) → IsAltered key made f (pair ∷ pairs) g
+      → MatchBool same (Alters new (Some (key, made)) mid pairs g)
+          ((◌≡◌ {A = Option (ℕ × ℕ)} (Some (key, made)) (Some (pair.0, value))) × (mid ≡ g)) → IsAltered key made f (pair ∷ pairs) g
   altered_next key made value true f mid g pair pairs equal makes ahead those =
       let then = ahead those in
       let its : value ≡ pair.1 = grind (arith, nat_tests) in record {
@@ -130,23 +142,28 @@ module _ {F : Type 0} (new : F → ℕ × ℕ → ℕ → F → Type 0) where
         mid = f;
         is = ap (λ (k : ℕ). (k, pair.1) ∷ pairs) its;
         before = (refl, refl);
-        makes = subst (λ (k : ℕ). new f (k, pair.1) made g) its (subst (λ (v : ℕ). new f pair v g) it (subst (λ (s : F). new f pair value s) those.1 makes));
+        makes = subst (λ (k : ℕ). new f (k, pair.1) made g) its
+            (subst (λ (v : ℕ). new f pair v g) it (subst (λ (s : F). new f pair value s) those.1 makes));
       }
 
   pub altered : (key made : ℕ) (f g : F) (pairs : PairList) → Alters new (Some (key, made)) f pairs g → IsAltered key made f pairs g
   altered key made f g [] of = absurd (cc (of.0))
-  altered key made f g (pair ∷ pairs) (value, mid, makes, those) = altered_next key made value (value == pair.1) f mid g pair pairs refl makes (altered key made mid g pairs) those
+  altered key made f g (pair ∷ pairs) (value, mid, makes, those) = altered_next key made value
+      (value == pair.1) f mid g pair pairs refl makes (altered key made mid g pairs) those
 
   none_next : (value : ℕ) (same : Bool) (f mid g : F) (pair : ℕ × ℕ) (pairs : PairList) → value == pair.1 ≡ same → new f pair value mid
       → (Alters new None mid pairs g → Makes new mid pairs pairs g)
-      → MatchBool same (Alters new None mid pairs g) ((◌≡◌ {A = Option (ℕ × ℕ)} None (Some (pair.0, value))) × (mid ≡ g)) → Makes new f (pair ∷ pairs) (pair ∷ pairs) g
+      → MatchBool same (Alters new None mid pairs g) ((◌≡◌ {A = Option (ℕ × ℕ)} None (Some (pair.0, value))) × (mid ≡ g)) → Makes new f
+          (pair ∷ pairs) (pair ∷ pairs) g
   none_next value true f mid g pair pairs equal makes ahead those =
-      let its : value ≡ pair.1 = grind (arith, nat_tests) in (value, mid, pairs, makes, ahead those, ap (λ (v : ℕ). (pair.0, v) ∷ pairs) (sym its))
+      let its : value ≡ pair.1 = grind (arith, nat_tests) in
+          (value, mid, pairs, makes, ahead those, ap (λ (v : ℕ). (pair.0, v) ∷ pairs) (sym its))
   none_next value false f mid g pair pairs equal makes ahead those = absurd (cc (those.0))
 
   pub none_altered : (f g : F) (pairs : PairList) → Alters new None f pairs g → Makes new f pairs pairs g
   none_altered f g [] of = (refl, of.1)
-  none_altered f g (pair ∷ pairs) (value, mid, makes, those) = none_next value (value == pair.1) f mid g pair pairs refl makes (none_altered mid g pairs) those
+  none_altered f g (pair ∷ pairs) (value, mid, makes, those) = none_next value (value == pair.1) f mid g pair pairs refl makes
+      (none_altered mid g pairs) those
 
   -- how far it went: the function is f now, and of the range it wasn't asked of the pairs from the next key on
   pub record IsUpdated (start f : F) (low end next : ℕ) (old pairs : PairList) : Type 0 where
@@ -159,7 +176,8 @@ module _ {F : Type 0} (new : F → ℕ × ℕ → ℕ → F → Type 0) where
     pub ahead : low ≤ next
 
   pub none_updated : (f : F) (low end : ℕ) (pairs : PairList) → IsUpdated f f low end low pairs pairs
-  none_updated f low end pairs = record { first = []; made = []; had = refl; has = refl; others = refl; makes = (refl, refl); ahead = omega arith }
+  none_updated f low end pairs = record { first = []; made = []; had = refl; has = refl; others = refl; makes =
+      (refl, refl); ahead = omega arith }
 
   module _ (start f g : F) (low end next : ℕ) (old pairs : PairList) (so : IsUpdated start f low end next old pairs) where
     -- all others have what the function makes of them
@@ -216,7 +234,8 @@ module _ {F : Type 0} (new : F → ℕ × ℕ → ℕ → F → Type 0) where
           range_is =
               ap (within low end) sets
               ∙ (within_put 0 past low end key value pairs rise (omega (arith, so.ahead, from_next)) under
-              ∙ (ap (put key value) (so.has ∙ split so.made) ∙ put_there end key at_key.had at_key.rest value low (so.made ++ at_key.front) range_rises))
+              ∙ (ap (put key value) (so.has ∙ split so.made) ∙ put_there end key at_key.had at_key.rest value low
+                  (so.made ++ at_key.front) range_rises))
 
           part_is : within next end then ≡ at_key.front ++ (key, value) ∷ at_key.rest
           part_is =
@@ -227,26 +246,33 @@ module _ {F : Type 0} (new : F → ℕ × ℕ → ℕ → F → Type 0) where
           left_is : within after end then ≡ at_key.rest
           left_is =
               sym (within_part next after end then (omega (arith, from_next, behind)))
-              ∙ (ap (within after end) part_is ∙ (ap (λ (n : ℕ). within n end (at_key.front ++ (key, value) ∷ at_key.rest)) behind ∙ within_past end key at_key.had at_key.rest value next at_key.front part_rises))
+              ∙ (ap (within after end) part_is ∙ (ap (λ (n : ℕ). within n end (at_key.front ++ (key, value) ∷ at_key.rest)) behind
+                  ∙ within_past end key at_key.had at_key.rest value next at_key.front part_rises))
 
           others_are : outside low end then ≡ outside low end old
-          others_are = ap (outside low end) sets ∙ (outside_put low end key value pairs (omega (arith, so.ahead, from_next)) under ∙ so.others)
+          others_are = ap (outside low end) sets ∙
+              (outside_put low end key value pairs (omega (arith, so.ahead, from_next)) under ∙ so.others)
 
           pub fewer_left : length (within after end then) < length (within next end pairs)
           fewer_left = omega (arith, ap length left_is, ap length at_key.is, length-append at_key.front ((key, at_key.had) ∷ at_key.rest))
 
-          with_it : Makes new start ((so.first ++ at_key.front) ++ (key, at_key.had) ∷ []) ((so.made ++ at_key.front) ++ (key, value) ∷ []) g
+          with_it : Makes new start ((so.first ++ at_key.front) ++ (key, at_key.had) ∷ [])
+              ((so.made ++ at_key.front) ++ (key, value) ∷ []) g
           with_it =
-              let one : Makes new at_key.mid ((key, at_key.had) ∷ []) ((key, value) ∷ []) g = (value, g, [], at_key.makes, (refl, refl), refl) in
-              makes_more start at_key.mid g (so.first ++ at_key.front) (so.made ++ at_key.front) ((key, at_key.had) ∷ []) ((key, value) ∷ []) front_first one
+              let one : Makes new at_key.mid ((key, at_key.had) ∷ []) ((key, value) ∷ []) g =
+                  (value, g, [], at_key.makes, (refl, refl), refl) in
+              makes_more start at_key.mid g (so.first ++ at_key.front) (so.made ++ at_key.front) ((key, at_key.had) ∷ [])
+                  ((key, value) ∷ []) front_first one
 
           -- it goes on after the key
           pub updates_on : IsUpdated start g low end after old then
           updates_on = record {
             first = (so.first ++ at_key.front) ++ (key, at_key.had) ∷ [];
             made = (so.made ++ at_key.front) ++ (key, value) ∷ [];
-            had = so.had ∙ (split so.first ∙ (sym (append_assoc (so.first ++ at_key.front) ((key, at_key.had) ∷ []) at_key.rest) ∙ ap (λ (l : PairList). ((so.first ++ at_key.front) ++ (key, at_key.had) ∷ []) ++ l) (sym left_is)));
-            has = range_is ∙ (sym (append_assoc (so.made ++ at_key.front) ((key, value) ∷ []) at_key.rest) ∙ ap (λ (l : PairList). ((so.made ++ at_key.front) ++ (key, value) ∷ []) ++ l) (sym left_is));
+            had = so.had ∙ (split so.first ∙ (sym (append_assoc (so.first ++ at_key.front) ((key, at_key.had) ∷ []) at_key.rest) ∙ ap
+                (λ (l : PairList). ((so.first ++ at_key.front) ++ (key, at_key.had) ∷ []) ++ l) (sym left_is)));
+            has = range_is ∙ (sym (append_assoc (so.made ++ at_key.front) ((key, value) ∷ []) at_key.rest) ∙ ap
+                (λ (l : PairList). ((so.made ++ at_key.front) ++ (key, value) ∷ []) ++ l) (sym left_is));
             others = others_are;
             makes = with_it;
             ahead = omega (arith, so.ahead, from_next, behind);
