@@ -58,9 +58,9 @@ impl Plain {
         edges.dedup();
         let width = match own {
             Own::Between { .. } => 1,
-            Own::OneOf { workers, .. } => workers as u32,
+            Own::OneOf { workers, .. } => workers.min(64) as u32,
         };
-        let few = 2048u32.checked_div(edges.len() as u32).unwrap_or(1);
+        let few = 2048usize.checked_div(edges.len()).unwrap_or(1).min(2048) as u32;
         Ok(Plain {
             machine,
             rng: Pcg32::seed_from_u64(seed),
@@ -77,8 +77,8 @@ impl Plain {
     }
 
     fn edge(&self, drawn: u32) -> Key {
-        let place = drawn.checked_rem(self.edges.len() as u32).unwrap_or(0);
-        self.edges.get(place as usize).copied().unwrap_or(0)
+        let place = (drawn as usize).checked_rem(self.edges.len()).unwrap_or(0);
+        self.edges.get(place).copied().unwrap_or(0)
     }
 
     /// Draws one of the worker's keys, at an edge or near it.

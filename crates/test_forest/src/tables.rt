@@ -112,7 +112,10 @@ fn a_table_by_another_configuration_is_refused(rt: HostRuntime) -> Result<(), Fa
     };
     tables.push(last)?;
     match ClosedForest::of(machine, bounds_of(machine, &[0, 100, 200])?, tables) {
-        Err(unclosed) if unclosed.fault == BadTables::OtherConfig(2) => Ok(()),
-        _ => Err("another configuration".into()),
+        Ok(_forest) => Err("tables of two configurations".into()),
+        Err(unclosed) => match unclosed.fault {
+            BadTables::OtherConfig(2) => Ok(()),
+            _other => Err("another fault".into()),
+        },
     }
 }
