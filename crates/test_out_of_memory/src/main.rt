@@ -6,7 +6,6 @@
 
 mod acts;
 mod ending;
-mod forests;
 mod plain;
 mod readers;
 mod replays;
@@ -14,7 +13,6 @@ mod runs;
 mod workers;
 
 use crate::ending::{Ending, Stop};
-use crate::forests::forest_of;
 use crate::readers::{beside_readers, changes_at_once, publications};
 use crate::replays::replays;
 use crate::runs::run_with;
@@ -50,8 +48,6 @@ fn run_trial<R: Threads + Wait + Sync + Send + Copy>(
         "replays" => replays(machine),
         "run" => run_with(rt, machine, 0),
         "run_with_reader" => run_with(rt, machine, 1),
-        "forest" => forest_of(rt, machine, 1),
-        "forest_of_two" => forest_of(rt, machine, 2),
         _ => Err(Stop::Broken("no such trial")),
     }
 }

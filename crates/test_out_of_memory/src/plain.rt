@@ -111,29 +111,20 @@ impl Plain {
         }
     }
 
-    /// Returns how many keys have a value.
-    pub(crate) fn len(&self) -> usize {
-        self.values.iter().flatten().count()
-    }
-
-    /// Returns what follows its pairs, in the order of their keys, which lie so much higher. None if
-    /// the pairs don't begin with them.
-    pub(crate) fn strip<'p>(&self, base: Key, pairs: &'p [(Key, u64)]) -> Option<&'p [(Key, u64)]> {
+    /// Returns whether these are its pairs, in the order of their keys.
+    pub(crate) fn has(&self, pairs: &[(Key, u64)]) -> bool {
         let mut rest = pairs;
         for key in 0..KEYS as u64 {
             if let Some(value) = self.get(key) {
-                let (first, others) = rest.split_first()?;
-                if *first != (base.saturating_add(key), value) {
-                    return None;
+                let Some((first, others)) = rest.split_first() else {
+                    return false;
+                };
+                if *first != (key, value) {
+                    return false;
                 }
                 rest = others;
             }
         }
-        Some(rest)
-    }
-
-    /// Returns whether these are its pairs, in the order of their keys.
-    pub(crate) fn has(&self, pairs: &[(Key, u64)]) -> bool {
-        self.strip(0, pairs).is_some_and(|rest| rest.is_empty())
+        rest.is_empty()
     }
 }
