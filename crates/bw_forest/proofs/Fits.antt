@@ -32,7 +32,7 @@ pub alike : (made : Config) (tables : List TableValue) → All (λ (t : TableVal
 alike made [] all = λ k d less. absurd (omega (arith, less))
 alike made (t ∷ ts) all =
     subst (λ (c : Config). All (λ (x : TableValue). x.config ≡ c) (t ∷ ts))
-        (sym (All-head (λ (x : TableValue). x.config ≡ made) t ts all)) all
+    (sym (All-head (λ (x : TableValue). x.config ≡ made) t ts all)) all
 
 pub config_at_first : (tables : List TableValue) (table : TableValue) → Some table ≡ slice_get tables 0 → config_of tables ≡ table.config
 config_at_first [] table is = absurd (cc (is))

@@ -58,8 +58,15 @@ module _ (table : TableValue) (leaf : LeafValue) (key from : ℕ) (search : IsSe
   -- the leaf serves for later keys too
   pub held_for : (next : ℕ) → from ≤ next → IsLeafFor table leaf next
   held_for next later = let held = search.held in
-      record { lawful = held.lawful; in_row = held.in_row; is_leaf = held.is_leaf; lent = held.lent; pairs = held.pairs; begins = omega
-          (arith, held.begins, later) }
+      record {
+        lawful = held.lawful;
+        in_row = held.in_row;
+        is_leaf = held.is_leaf;
+        lent = held.lent;
+        pairs = held.pairs;
+        begins = omega
+            (arith, held.begins, later);
+      }
 
   pub next_is_found : (found : Option (ℕ × ℕ)) → found ≡ first_from from leaf.pairs → IfSome found (IsNextAt table key)
   next_is_found None is = tt
@@ -89,8 +96,15 @@ module _ (table : TableValue) (leaf : LeafValue) (key from : ℕ) (search : IsSe
   fewer_left sibling right =
       let begins : sibling.low ≡ end_of leaf.high = right.begins ∙ same_high in
       let low : leaf.low ≡ (slot_at table leaf.pid.0).low = ap (λ (l : LeafValue). l.low) search.held.lent in
-      omega (arith, begins, low, same_high, range_is_not_empty table search.held.lawful leaf.pid.0 search.held.in_row, range_is_among_keys
-          table search.held.lawful leaf.pid.0 search.held.in_row)
+      omega (
+        arith,
+        begins,
+        low,
+        same_high,
+        range_is_not_empty table search.held.lawful leaf.pid.0 search.held.in_row,
+        range_is_among_keys
+            table search.held.lawful leaf.pid.0 search.held.in_row,
+      )
 
   -- there is none on the right of the last leaf
   pub none_is_left : end_of (slot_at table leaf.pid.0).high ≡ key_count → first_from from leaf.pairs ≡ None

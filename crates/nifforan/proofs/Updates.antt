@@ -107,7 +107,7 @@ module _ {F : Type 0} (new : F → ℕ × ℕ → ℕ → F → Type 0) where
       → value == had ≡ false → Alters new (Some (key, value)) f pairs g
   alters_first f g key had value pairs rest is makes differs =
       let other : MatchBool (value == had) (Alters new (Some (key, value)) g rest g)
-          ((◌≡◌ {A = Option (ℕ × ℕ)} (Some (key, value)) (Some (key, value))) × (g ≡ g)) = rw differs (refl, refl) in
+      ((◌≡◌ {A = Option (ℕ × ℕ)} (Some (key, value)) (Some (key, value))) × (g ≡ g)) = rw differs (refl, refl) in
       subst (λ (l : PairList). Alters new (Some (key, value)) f l g) (sym is) (value, g, makes, other)
 
   pub alters_behind : (found : Option (ℕ × ℕ)) (f mid g : F) (key had value : ℕ) (pairs rest : PairList) → pairs ≡ (key, had) ∷ rest
@@ -120,7 +120,7 @@ module _ {F : Type 0} (new : F → ℕ × ℕ → ℕ → F → Type 0) where
       → new f pair value mid
       → ((ahead : Alters new (Some (key, made)) mid pairs g) → IsAltered key made mid pairs g)
       → MatchBool same (Alters new (Some (key, made)) mid pairs g)
-          ((◌≡◌ {A = Option (ℕ × ℕ)} (Some (key, made)) (Some (pair.0, value))) × (mid ≡ g)) → IsAltered key made f (pair ∷ pairs) g
+      ((◌≡◌ {A = Option (ℕ × ℕ)} (Some (key, made)) (Some (pair.0, value))) × (mid ≡ g)) → IsAltered key made f (pair ∷ pairs) g
   altered_next key made value true f mid g pair pairs equal makes ahead those =
       let then = ahead those in
       let its : value ≡ pair.1 = grind (arith, nat_tests) in record {
@@ -154,10 +154,10 @@ module _ {F : Type 0} (new : F → ℕ × ℕ → ℕ → F → Type 0) where
   none_next : (value : ℕ) (same : Bool) (f mid g : F) (pair : ℕ × ℕ) (pairs : PairList) → value == pair.1 ≡ same → new f pair value mid
       → (Alters new None mid pairs g → Makes new mid pairs pairs g)
       → MatchBool same (Alters new None mid pairs g) ((◌≡◌ {A = Option (ℕ × ℕ)} None (Some (pair.0, value))) × (mid ≡ g)) → Makes new f
-          (pair ∷ pairs) (pair ∷ pairs) g
+      (pair ∷ pairs) (pair ∷ pairs) g
   none_next value true f mid g pair pairs equal makes ahead those =
       let its : value ≡ pair.1 = grind (arith, nat_tests) in
-          (value, mid, pairs, makes, ahead those, ap (λ (v : ℕ). (pair.0, v) ∷ pairs) (sym its))
+      (value, mid, pairs, makes, ahead those, ap (λ (v : ℕ). (pair.0, v) ∷ pairs) (sym its))
   none_next value false f mid g pair pairs equal makes ahead those = absurd (cc (those.0))
 
   pub none_altered : (f g : F) (pairs : PairList) → Alters new None f pairs g → Makes new f pairs pairs g
@@ -176,8 +176,16 @@ module _ {F : Type 0} (new : F → ℕ × ℕ → ℕ → F → Type 0) where
     pub ahead : low ≤ next
 
   pub none_updated : (f : F) (low end : ℕ) (pairs : PairList) → IsUpdated f f low end low pairs pairs
-  none_updated f low end pairs = record { first = []; made = []; had = refl; has = refl; others = refl; makes =
-      (refl, refl); ahead = omega arith }
+  none_updated f low end pairs = record {
+    first = [];
+    made = [];
+    had = refl;
+    has = refl;
+    others = refl;
+    makes =
+        (refl, refl);
+    ahead = omega arith;
+  }
 
   module _ (start f g : F) (low end next : ℕ) (old pairs : PairList) (so : IsUpdated start f low end next old pairs) where
     -- all others have what the function makes of them
@@ -235,7 +243,7 @@ module _ {F : Type 0} (new : F → ℕ × ℕ → ℕ → F → Type 0) where
               ap (within low end) sets
               ∙ (within_put 0 past low end key value pairs rise (omega (arith, so.ahead, from_next)) under
               ∙ (ap (put key value) (so.has ∙ split so.made) ∙ put_there end key at_key.had at_key.rest value low
-                  (so.made ++ at_key.front) range_rises))
+              (so.made ++ at_key.front) range_rises))
 
           part_is : within next end then ≡ at_key.front ++ (key, value) ∷ at_key.rest
           part_is =
@@ -247,7 +255,7 @@ module _ {F : Type 0} (new : F → ℕ × ℕ → ℕ → F → Type 0) where
           left_is =
               sym (within_part next after end then (omega (arith, from_next, behind)))
               ∙ (ap (within after end) part_is ∙ (ap (λ (n : ℕ). within n end (at_key.front ++ (key, value) ∷ at_key.rest)) behind
-                  ∙ within_past end key at_key.had at_key.rest value next at_key.front part_rises))
+              ∙ within_past end key at_key.had at_key.rest value next at_key.front part_rises))
 
           others_are : outside low end then ≡ outside low end old
           others_are = ap (outside low end) sets ∙
@@ -260,9 +268,9 @@ module _ {F : Type 0} (new : F → ℕ × ℕ → ℕ → F → Type 0) where
               ((so.made ++ at_key.front) ++ (key, value) ∷ []) g
           with_it =
               let one : Makes new at_key.mid ((key, at_key.had) ∷ []) ((key, value) ∷ []) g =
-                  (value, g, [], at_key.makes, (refl, refl), refl) in
+              (value, g, [], at_key.makes, (refl, refl), refl) in
               makes_more start at_key.mid g (so.first ++ at_key.front) (so.made ++ at_key.front) ((key, at_key.had) ∷ [])
-                  ((key, value) ∷ []) front_first one
+              ((key, value) ∷ []) front_first one
 
           -- it goes on after the key
           pub updates_on : IsUpdated start g low end after old then

@@ -23,7 +23,7 @@ new-requires g c =
     let there : slice_get c.args.tables.items (length trees) ≡ Some table =
     subst (λ (n : ℕ). slice_get c.args.tables.items n ≡ Some table) many
     (subst (λ (ts : List TableValue). slice_get ts (length (tables_of trees)) ≡ Some table) whole
-        (got_behind (tables_of trees) rest table)) in
+    (got_behind (tables_of trees) rest table)) in
     let range : slice_get (ranges_of c.args.bounds.now) (length trees) ≡ Some c.range-range.result = search rules in
     c.requires.fit.within (length trees) c.range-range.result table range there
 
@@ -45,11 +45,11 @@ loop-table-preserved g c =
     let there : slice_get c.args.tables.items (length trees) ≡ Some table =
     subst (λ (n : ℕ). slice_get c.args.tables.items n ≡ Some table) many
     (subst (λ (ts : List TableValue). slice_get ts (length (tables_of trees)) ≡ Some table) whole
-        (got_behind (tables_of trees) rest table)) in
+    (got_behind (tables_of trees) rest table)) in
     let tree_is : IsTree tree.table =
     subst IsTree (sym c.new.ensures.table) (is_tree table c.law.ensures.lawful c.law.ensures.booked) in
     let lies : HasPairsWithin tree = rw (c.new.ensures.table, c.new.ensures.range)
-        (c.requires.fit.within (length trees) c.range-range.result table range there) in
+    (c.requires.fit.within (length trees) c.range-range.result table range there) in
     record {
       count = omega (arith, ap length split, longer, inv.count);
       each = all_more IsTree (tables_of trees) _ tree.table more inv.each tree_is;

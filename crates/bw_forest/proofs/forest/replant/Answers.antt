@@ -31,7 +31,7 @@ loop-tree-preserved g c =
     let shares_left : length c.pop-in-loop-tree.new.self.items ≡ length rest = search rules in
     let book : c.begin.new.share ≡ shared_in tree.table.book =
     c.begin.ensures.share ∙ (ap shared_in c.book.ensures.book ∙ ap
-        (λ (t : TableValue). shared_in t.book) c.into_table-table.ensures.same) in
+    (λ (t : TableValue). shared_in t.book) c.into_table-table.ensures.same) in
     record {
       left = omega (arith, ap length split, inv.left, ap length trees, other);
       count = omega (arith, inv.count, ap length opening, one, ap length trees, other);

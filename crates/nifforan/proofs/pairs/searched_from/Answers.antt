@@ -27,9 +27,9 @@ pub leaves-preserved : goal.leaves-preserved
 leaves-preserved g c =
     let right = rw c.pid.ensures at c.in_ok-sibling.ensures.sibling in
     goes_right c.args.table.now c.leaves.leaf c.args.key c.leaves.from c.leaves.invariant c.in_ok-sibling.sibling c.max-from.result right
-        (omega (arith, c.max-from.type_inv))
+    (omega (arith, c.max-from.type_inv))
     (c.max-from.ensures ∙ ap (max c.leaves.from) c.low.ensures)
-        (none_from c.has_pair_from.result _ c.has_pair_from.ensures c.if-has_pair_from.false)
+    (none_from c.has_pair_from.result _ c.has_pair_from.ensures c.if-has_pair_from.false)
 
 pub leaves-smaller : goal.leaves-smaller
 leaves-smaller g c = fewer_left c.args.table.now c.leaves.leaf c.args.key c.leaves.from c.leaves.invariant c.in_ok-sibling.sibling
@@ -48,4 +48,4 @@ returns-in_err-sibling-clause-none g c =
     let top = rw c.pid.ensures at (c.right_sibling.ensures.last.0 c.in_err-sibling.was) in
     where_none (HasNoKeyWithin c.args.table.now c.args.key key_count) c.from_residual.result
     (none_is_left c.args.table.now c.leaves.leaf c.args.key c.leaves.from c.leaves.invariant top
-        (none_from c.has_pair_from.result _ c.has_pair_from.ensures c.if-has_pair_from.false))
+    (none_from c.has_pair_from.result _ c.has_pair_from.ensures c.if-has_pair_from.false))

@@ -11,7 +11,7 @@ abbrev pub invariant-loop-pair : goal.invariant-loop-pair
 invariant-loop-pair g l =
     always_mut g.F.FnMut l.new
     × IsUpdated (λ f pair value h. goal.F-step g f pair.0 pair.1 value h) l.fn.new l.new (end_of l.fn.low) (end_of l.fn.high)
-        (end_of l.next) l.fn.self.pairs l.self.pairs
+    (end_of l.next) l.fn.self.pairs l.self.pairs
     × (l.self.config ≡ l.fn.self.config) × (l.fn.self.pages ≤ l.self.pages) × (l.fault ≡ Some faults.TableFull → HasAllPages l.self)
 
 abbrev pub decreases-loop-pair : goal.decreases-loop-pair
