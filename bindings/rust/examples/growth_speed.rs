@@ -79,6 +79,9 @@ fn print_sorted(rounds: usize) {
     println!("| `Map::from_sorted` | {made:.0} |\n| `BTreeMap::from_iter` | {theirs:.0} |\n| rising puts of a `Map` | {puts:.0} |\n");
 }
 
+/// The key that comes at a place.
+type Order = fn(u64) -> u64;
+
 /// The seconds of a load of the keys by `put`, and the longest of these in milliseconds, by the clock on the wall.
 fn load(keys: impl Iterator<Item = u64>, mut put: impl FnMut(u64)) -> (f64, f64) {
     let start = processor_time();
@@ -93,7 +96,7 @@ fn load(keys: impl Iterator<Item = u64>, mut put: impl FnMut(u64)) -> (f64, f64)
 
 fn print_loads(pairs: u64) {
     println!("| {pairs} puts | `Map`, s | longest, ms | `BTreeMap`, s | longest, ms |\n|---|---|---|---|---|");
-    let orders: [(&str, fn(u64) -> u64); 3] = [
+    let orders: [(&str, Order); 3] = [
         ("rising", |n| n),
         ("falling", |n| u64::MAX - n),
         ("random", mixed),
