@@ -23,12 +23,13 @@ use bw_step::{Place, Stage, Summary, Todo, View};
 use std::alloc::Allocator;
 use std::marker::Model;
 
-/// An entry of the mapping table: the summary of a page, and its chain.
+/// An entry of the mapping table: the summary of a page, and its chain. What a change writes beside
+/// the chain, the count and the version, lies side by side, and so does what a walk reads before it.
 #[derive(Drop)]
 pub(crate) struct Slot<A: Allocator> {
-    pub(crate) version: u64,
     pub(crate) stage: Stage,
     pub(crate) summary: Summary,
+    pub(crate) version: u64,
     pub(crate) chain: Option<Chain<A>>,
 }
 

@@ -22,12 +22,15 @@ use std::marker::Model;
 
 /// The mapping table: an entry for each page id, the ids that are free, the root, and the book of
 /// the map's changes. The law of the tree is a fact of this type.
+///
+/// The book comes first, as each change writes it: so it is beside a lock that stands before the
+/// table, in the cache line that whoever takes the lock has to have.
 #[derive(Drop)]
 pub struct Table<A: Allocator> {
+    pub(crate) book: Book,
+    pub(crate) root: u32,
     pub(crate) slots: Vec<Slot<A>>,
     pub(crate) free: FreeList,
-    pub(crate) root: u32,
-    pub(crate) book: Book,
     pub(crate) config: Config,
 }
 

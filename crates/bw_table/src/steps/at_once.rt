@@ -400,10 +400,32 @@ impl<A: Allocator + Copy> Slot<A> {
         let done = change_in_place(chain, key, wished)?;
         if let Some(delta) = done.delta {
             self.version += 2;
-            self.summary.count = count_after(delta, self.summary.count);
-            self.summary.depth = 0;
+            let count = count_after(delta, self.summary.count);
+            settle(&mut self.summary.count, count);
+            settle_depth(&mut self.summary.depth);
         }
         Some(done)
+    }
+}
+
+/// Writes the number where another one stands. A cache line that isn't written stays with the other
+/// processors that read it.
+#[inline(always)]
+fn settle(number: &mut u64, value: u64)
+    ensures { number.new ≡ value }
+{
+    if *number != value {
+        *number = value;
+    }
+}
+
+/// Writes 0 where another depth stands, as [`settle`] does.
+#[inline(always)]
+fn settle_depth(depth: &mut u8)
+    ensures { depth.new ≡ 0 }
+{
+    if *depth != 0 {
+        *depth = 0;
     }
 }
 
