@@ -8,7 +8,7 @@ use Rattle.std.proofs.lemmas.List.Sorted.{IsNonDecreasingBy-from_default}
 use Rattle.bw_keys.specs.declared.range.Fence.{Fence}
 use Rattle.bw_keys.specs.declared.range.Fence.TheVariants.{Key, Top}
 use Rattle.bw_keys.specs.Ranges.{end_of, key_count}
-use Rattle.bw_forest.specs.Bounds.{IsTreeOf, end_before, ranges_of}
+use Rattle.bw_forest.specs.Bounds.{IsTreeOf, begun, end_before, ranges_of}
 
 -- the keys don't fall
 some_more : (xs : List ℕ) → IsStrictlyIncreasing xs → (i n j : ℕ) → j ≡ i + n → j < length xs → slice_index xs i ≤ slice_index xs j
@@ -37,6 +37,58 @@ pub range_at : (lows : List ℕ) (tree : ℕ) → tree < length lows
 range_at [] tree less = absurd (omega (arith, less))
 range_at (low ∷ lows) zero less = ap (λ end. Some (record { low = low; high = end })) (next_end lows)
 range_at (low ∷ lows) (suc n) less = range_at lows n (omega (arith, less))
+
+rest_rises : (low : ℕ) (lows : List ℕ) → IsStrictlyIncreasing (low ∷ lows) → IsStrictlyIncreasing lows
+rest_rises low lows rise k less =
+    let next = rise (suc k) (omega (arith, less)) in
+    let same : suc k + 1 ≡ suc (k + 1) = omega arith in
+    subst (λ j. slice_index lows k < slice_index (low ∷ lows) j) same next
+
+-- a bound at or below the key is counted, and one above it isn't
+none_begun : (key : ℕ) (lows : List ℕ) → IsStrictlyIncreasing lows → key < slice_index_or lows 0 (suc key) → begun key lows ≡ 0
+none_begun key [] rise above = refl
+none_begun key (low ∷ []) rise above = grind (arith, nat_tests, above)
+none_begun key (low ∷ next ∷ lows) rise above =
+    let next_above : key < next = omega (arith, above, rise 0 (omega arith)) in
+    let rest = none_begun key (next ∷ lows) (rest_rises low (next ∷ lows) rise) next_above in
+    grind (arith, nat_tests, above, rest)
+
+pub begun_few : (key : ℕ) (lows : List ℕ) → begun key lows ≤ length lows
+begun_few key [] = omega arith
+begun_few key (low ∷ lows) = grind (arith, nat_tests, begun_few key lows)
+
+pub begun_upto : (key place low : ℕ) (lows : List ℕ) → IsStrictlyIncreasing lows → place < length lows
+    → low ≡ slice_index_or lows place low → low ≤ key → place < begun key lows
+begun_upto key place low [] rise inside is upto = absurd (omega (arith, inside))
+begun_upto key zero low (first ∷ lows) rise inside is upto = grind (arith, nat_tests, is, upto)
+begun_upto key (suc n) low (first ∷ lows) rise inside is upto =
+    let so = begun_upto key n low lows (rest_rises first lows rise) (omega (arith, inside)) is upto in
+    let same = get_or_default (first ∷ lows) (suc n) 0 low inside in
+    let before = some_more (first ∷ lows) rise 0 (suc n) (suc n) (omega arith) inside in
+    grind (arith, nat_tests, so, same, is, before, upto)
+
+pub begun_below : (key place low : ℕ) (lows : List ℕ) → IsStrictlyIncreasing lows → place < length lows
+    → low ≡ slice_index_or lows place low → key < low → begun key lows ≤ place
+begun_below key place low [] rise inside is above = absurd (omega (arith, inside))
+begun_below key zero low (first ∷ lows) rise inside is above =
+    let none = none_begun key (first ∷ lows) rise (omega (arith, is, above)) in omega (arith, none)
+begun_below key (suc n) low (first ∷ lows) rise inside is above =
+    let so = begun_below key n low lows (rest_rises first lows rise) (omega (arith, inside)) is above in
+    grind (arith, nat_tests, so)
+
+pub begun_parts : (key : ℕ) (lows : List ℕ) → IsStrictlyIncreasing lows
+    → IsPartitionPoint (λ low. leb low key ≡ true) (λ low. leb low key ≡ false) lows (begun key lows)
+begun_parts key lows rise = (
+  λ k d from less.
+      let inside : k < length lows = omega (arith, less, begun_few key lows) in
+      let low = slice_index_or lows k d in
+      let past = begun_below key k low lows rise inside (get_or_default lows k d low inside) in
+      grind (arith, nat_tests, past, less),
+  λ k d from inside.
+      let low = slice_index_or lows k d in
+      let upto = begun_upto key k low lows rise inside (get_or_default lows k d low inside) in
+      grind (arith, nat_tests, upto, from),
+)
 
 -- some range begins at or below each key
 pub some_before : (bounds : List ℕ) (key point : ℕ) → slice_get bounds 0 ≡ Some 0

@@ -1,5 +1,5 @@
 -- Ranges that part the keys, each by where it begins.
-use Rattle.std.specs.Prelude.{◌≡◌, ℕ, ◌*◌, ◌/◌, ◌<◌, ◌≤◌, Bool, true, false, List, [], ◌∷◌, length, max, Some, slice_get, slice_index, Contains}
+use Rattle.std.specs.Prelude.{◌≡◌, ℕ, ◌*◌, ◌/◌, ◌<◌, ◌≤◌, Bool, true, false, List, [], ◌∷◌, length, max, Some, slice_get, slice_index, Contains, filter, nat_le}
 use Rattle.std.specs.List.Sorted.{IsStrictlyIncreasing, IsNonDecreasing, IsPermutation}
 use Rattle.bw_keys.specs.declared.range.Fence.{Fence}
 use Rattle.bw_keys.specs.declared.range.Fence.TheVariants.{Key, Top}
@@ -33,6 +33,10 @@ ranges_of (low ∷ lows) = record { low = low; high = end_before lows } ∷ rang
 abbrev pub IsTreeOf : List ℕ → ℕ → ℕ → Type 0
 IsTreeOf bounds key tree =
     (range : Range) × (slice_get (ranges_of bounds) tree ≡ Some range) × Holds range key
+
+-- how many of the ranges begin at or below the key
+abbrev pub begun : ℕ → List ℕ → ℕ
+begun key bounds = length (filter (λ low. nat_le low key) bounds)
 
 -- why there are no bounds that begin at these keys
 abbrev pub IsBad : List ℕ → BadBounds → Type 0

@@ -1,10 +1,10 @@
 //! Where the ranges of a forest's trees begin, and which of them holds a key.
 
-ghost use Rattle.std.specs.Prelude.{◌≡◌, false, ◌<◌, ◌≤◌, ◌↔◌, [], Some, length, slice_get};
+ghost use Rattle.std.specs.Prelude.{◌≡◌, false, ◌<◌, ◌≤◌, ◌↔◌, ◌+◌, ◌-◌, ◌*◌, ◌^◌, [], Some, length, min, slice_get};
 ghost use Rattle.std.specs.Prelude.{IsOk, IfOk, IfErr, IsTrue, vec_capacity};
 ghost use Rattle.std.specs.List.Sorted.{IsNonDecreasing, IsStrictlyIncreasing};
 ghost use Rattle.bw_forest.specs.Bounds.{AreBounds, AreAtQuantiles, AreEven, AreOfSample, quantile};
-ghost use Rattle.bw_forest.specs.Bounds.{IsBad, IsBadNumber, IsTreeOf, is_bad_number, ranges_of};
+ghost use Rattle.bw_forest.specs.Bounds.{IsBad, IsBadNumber, IsTreeOf, begun, is_bad_number, ranges_of};
 
 use crate::fault::BadBounds;
 use crate::limits::MAX_TREES;
@@ -123,8 +123,69 @@ impl Bounds {
         ensures tree { IsTreeOf self.now key result }
         ensures there { result < length self.now }
     {
-        self.lows.partition_point(|low| *low <= key) - 1
+        count_begun(self.lows.as_slice(), key) - 1
     }
+}
+
+/// Counts the bounds at or below the key. Each step looks at three of those that are left, and takes what
+/// the comparisons say without a branch, as no processor can predict it.
+#[inline(always)]
+fn count_begun(lows: &[Key], key: Key) -> usize
+    requires rise { IsStrictlyIncreasing lows.now }
+    ensures { result ≡ begun key lows.now }
+{
+    let mut passed = 0;
+    let mut left = lows.len();
+    'quarters: while left > 3 {
+        let quarter = left / 4;
+        passed += count_quarters(lows, passed, quarter, key);
+        left -= 3 * quarter;
+    }
+    passed + count_few(lows, passed, left, key)
+}
+
+/// Counts those from the place on that lie at or below the key, in whole quarters, of which it looks
+/// at three.
+#[inline(always)]
+fn count_quarters(lows: &[Key], place: usize, quarter: usize, key: Key) -> usize
+    requires rise { IsStrictlyIncreasing lows.now }
+    requires some { 0 < quarter }
+    requires inside { place + 3 * quarter ≤ length lows.now }
+    requires fits { place + 3 * quarter < 2 ^ 64 }
+    requires from { place ≤ begun key lows.now }
+    ensures three { result ≤ 3 * quarter }
+    ensures least { place + result ≤ begun key lows.now }
+    ensures most { result < 3 * quarter → begun key lows.now < place + result + quarter }
+{
+    let first = one_if_begun(lows, place + quarter - 1, key);
+    let second = one_if_begun(lows, place + 2 * quarter - 1, key);
+    let third = one_if_begun(lows, place + 3 * quarter - 1, key);
+    (first + second + third) * quarter
+}
+
+/// Counts as many from the place on one by one.
+#[inline(always)]
+fn count_few(lows: &[Key], place: usize, left: usize, key: Key) -> usize
+    requires rise { IsStrictlyIncreasing lows.now }
+    requires inside { place + left ≤ length lows.now }
+    requires fits { place + left < 2 ^ 64 }
+    ensures { result ≡ min (begun key lows.now - place) left }
+{
+    let mut count = 0;
+    for number in 0..left {
+        count += one_if_begun(lows, place + number, key);
+    }
+    count
+}
+
+/// Returns 1 if the bound at the place is at or below the key, and 0 if not.
+#[inline(always)]
+fn one_if_begun(lows: &[Key], place: usize, key: Key) -> usize
+    requires rise { IsStrictlyIncreasing lows.now }
+    requires inside { place < length lows.now }
+    ensures { result ≡ min (begun key lows.now - place) 1 }
+{
+    usize::from(lows[place] <= key)
 }
 
 fn check_number(trees: usize) -> Result<(), BadBounds>

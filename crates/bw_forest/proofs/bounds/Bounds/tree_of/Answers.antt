@@ -1,24 +1,32 @@
-use Rattle.std.proofs.Common.{rules, ◌-◌, leb, sym, subst}
-use Rattle.std.proofs.lemmas.List.Sorted.{IsPartitionPoint-from_clause, IsPartitionedBy-leb}
-use Rattle.bw_forest.specs.Bounds.{AreBounds, IsTreeOf}
-use Rattle.bw_forest.proofs.Bounding.{not_falling, some_before, tree_at}
+use Rattle.std.proofs.Common.{◌-◌, length, ap, sym, subst, arith}
+use Rattle.bw_forest.specs.Bounds.{AreBounds, IsTreeOf, begun}
+use Rattle.bw_forest.proofs.Bounding.{begun_few, begun_parts, some_before, tree_at}
 use Rattle.bw_forest.proofs.bounds.Bounds.tree_of.Goals as goal
+
+pub count_begun-requires : goal.count_begun-requires
+count_begun-requires c =
+    let are : AreBounds c.as_slice.result.now = subst AreBounds (sym c.as_slice.ensures.value) c.self.invariant in
+    record { rise = are.rise }
 
 pub overflow_sub-result : goal.overflow_sub-result
 overflow_sub-result c =
-    let are : AreBounds c.deref.result.now = subst AreBounds (sym c.deref.ensures.value) c.self.invariant in
-    let parted = IsPartitionedBy-leb (λ low. low) _ c.args.key (not_falling _ are.rise) in
-    let point =
-    IsPartitionPoint-from_clause (λ low. leb low c.args.key) _ _ c.partition_point.ensures.partitioned parted
-    (λ a r q k. search rules) in
-    some_before _ c.args.key _ are.from_zero point
+    let are : AreBounds c.as_slice.result.now = subst AreBounds (sym c.as_slice.ensures.value) c.self.invariant in
+    let some = some_before _ c.args.key _ are.from_zero (begun_parts c.args.key _ are.rise) in
+    omega (arith, some, c.count_begun.ensures)
+
+pub returns-clause-there : goal.returns-clause-there
+returns-clause-there c =
+    let are : AreBounds c.as_slice.result.now = subst AreBounds (sym c.as_slice.ensures.value) c.self.invariant in
+    let some = some_before _ c.args.key _ are.from_zero (begun_parts c.args.key _ are.rise) in
+    let few = begun_few c.args.key c.as_slice.result.now in
+    let same = ap length c.as_slice.ensures.value in
+    rw (sym c.self.view_is) (omega (arith, some, few, same, c.count_begun.ensures))
 
 pub returns-clause-tree : goal.returns-clause-tree
 returns-clause-tree c =
-    let are : AreBounds c.deref.result.now = subst AreBounds (sym c.deref.ensures.value) c.self.invariant in
-    let parted = IsPartitionedBy-leb (λ low. low) _ c.args.key (not_falling _ are.rise) in
-    let point =
-    IsPartitionPoint-from_clause (λ low. leb low c.args.key) _ _ c.partition_point.ensures.partitioned parted
-    (λ a r q k. search rules) in
-    rw (sym c.self.view_is) (subst (λ bounds. IsTreeOf bounds c.args.key (c.partition_point.result - 1)) c.deref.ensures.value
-    (tree_at _ c.args.key _ are.from_zero c.partition_point.ensures.bound c.ranges.key.fits point))
+    let are : AreBounds c.as_slice.result.now = subst AreBounds (sym c.as_slice.ensures.value) c.self.invariant in
+    let parted = begun_parts c.args.key _ are.rise in
+    let few = begun_few c.args.key c.as_slice.result.now in
+    let tree = begun c.args.key c.as_slice.result.now - 1 in
+    let there = tree_at _ c.args.key _ are.from_zero few c.ranges.key.fits parted in
+    rw (sym c.self.view_is, c.count_begun.ensures) (subst (λ bounds. IsTreeOf bounds c.args.key tree) c.as_slice.ensures.value there)
