@@ -83,66 +83,82 @@ impl<'t, S: Shared<Global, Step<Global>>, G: Gate, L: Trail> Steps<Global, Step<
 
     ghost narrows = { λ m low key end pairs le shown. tt };
 
+    #[inline(always)]
     fn config(&self) -> Config {
         self.hand.config()
     }
 
+    #[inline(always)]
     fn alloc(&self) -> Global {
         self.hand.alloc()
     }
 
+    #[inline(always)]
     fn root(&self) -> Place {
         self.hand.root()
     }
 
+    #[inline(always)]
     fn leaf_at_once(&self, key: Key) -> Option<View> {
         self.hand.leaf_at_once(key)
     }
 
+    #[inline(always)]
     fn look_at_once(&mut self, key: Key, keep: Keep) -> Result<Option<Look>, NoMemory> {
         self.hand.look_at_once(key, keep)
     }
 
+    #[inline(always)]
     fn records_at_once(&self) -> bool {
         self.hand.records_at_once()
     }
 
+    #[inline(always)]
     fn perform(&mut self, action: Action) -> Result<Performed, Unperformed> {
         self.hand.perform(action)
     }
 
+    #[inline(always)]
     fn visit(&mut self, place: Place, key: Key, goal: u8) -> Next {
         self.hand.visit(place, key, goal)
     }
 
+    #[inline(always)]
     fn peek(&mut self, pid: Pid) -> Option<View> {
         self.hand.peek(pid)
     }
 
+    #[inline(always)]
     fn look(&mut self, pid: Pid, key: Key, keep: Keep) -> Result<Option<Look>, NoMemory> {
         self.hand.look(pid, key, keep)
     }
 
+    #[inline(always)]
     fn copy_page(&mut self, pid: Pid, version: Version) -> Result<Chain<Global>, CopyFault> {
         self.hand.copy_page(pid, version)
     }
 
+    #[inline(always)]
     fn install(&mut self, step: Step<Global>) -> Result<Receipt, Denied> {
         self.hand.install(step)
     }
 
+    #[inline(always)]
     fn idle(&mut self) {
         self.hand.idle();
     }
 
+    #[inline(always)]
     fn effort(&self) -> u64 {
         self.hand.effort()
     }
 
+    #[inline(always)]
     fn ends(&self) -> Ends {
         self.hand.ends()
     }
 
+    #[inline(always)]
     fn trail(&self) -> &[Receipt] {
         self.hand.trail()
     }
