@@ -1,5 +1,5 @@
-//! Runs: the rows of a trace, done by worker threads on one shared tree, with the replies, and a
-//! history that was audited.
+//! Runs: the rows of a trace, done by worker threads on one shared tree or on a forest, with the
+//! replies, and with histories that were audited.
 #![tactic(auto)]
 
 mod acts;
@@ -7,6 +7,7 @@ mod answers;
 mod beside;
 mod ending;
 mod fault;
+mod forest;
 mod judgement;
 mod kits;
 mod looks;
@@ -17,9 +18,11 @@ mod rows;
 mod runner;
 mod stopping;
 
+pub use beside::count_beside;
 pub use bw_procedures::{Act, Reply, do_act};
 pub use bw_texts::{Row, is_trace_for};
 pub use ending::Finished;
 pub use fault::RunFault;
+pub use forest::{FinishedForest, run_forest};
 pub use progress::Progress;
 pub use runner::{run, run_counted};
