@@ -20,14 +20,21 @@ use Rattle.nifforan_forest.specs.declared.returned.Returned.{Returned}
 use Rattle.nifforan_forest.specs.Sharing.{IsShareForestFault}
 use Rattle.nifforan_forest.specs.Workers.{trails_of}
 use Rattle.bw_run.specs.declared.fault.RunFault.{RunFault}
-use Rattle.bw_run.specs.declared.fault.RunFault.TheVariants.{NoReader, Threads, Memory, Stopped, Audit}
-use Rattle.bw_run.specs.Faults.{EndsBadly, StopsWithin}
+use Rattle.bw_run.specs.declared.fault.RunFault.TheVariants.{Config as BadConfig, Workers, NoReader, Threads, Memory, Stopped, Audit}
+use Rattle.bw_run.specs.Faults.{EndsBadly, IsCrewFault, StopsWithin}
 use Rattle.bw_run.specs.ForestAnswers.{ToldBy}
 use Rattle.bw_run.specs.ForestFaults.{EndsForest, IsForestRunFault, MayRunForest, run_fault_of_share}
 use Rattle.bw_run.specs.ForestRuns.{by_trees, in_a_row}
 use Rattle.bw_run.proofs.ForestColumns.{Have, each_by_trees, length_by_trees, row_of, sum_by_trees}
 use Rattle.bw_run.proofs.ForestLeaves.{read_many}
 use Rattle.bw_run.proofs.ForestDone.{all_map, all_of_map}
+
+-- a fault of the crew is one of the run
+pub crew_in_forest_run : (config : Config) (workers trees : ℕ) (rows : List Row) (fault : RunFault)
+    → IsCrewFault config workers fault → IsForestRunFault config workers trees rows fault
+crew_in_forest_run config workers trees rows (BadConfig bad) is = is
+crew_in_forest_run config workers trees rows Workers is = is
+crew_in_forest_run config workers trees rows fault is = absurd is
 
 -- a worker that stopped is one of the run's, and there are no readers
 pub stops_end : (n workers : ℕ) (rows : List Row) (fault : RunFault) → n ≡ workers → StopsWithin false n rows fault

@@ -28,12 +28,19 @@ pub record IsBadHistory (workers worker receipt : ℕ) : Type 0 where
   pub count : length trails ≡ workers
   pub verdict : verdict_of trails pairs ≡ No worker receipt
 
--- the first bad field; bad workers where there is none; bad readers where the workers are good; and
--- all else in a run that may begin, a reader that isn't there, or reads nothing, only where there
--- are readers; there is one tree, of all keys
+-- the first bad field, or bad workers where there is none
+abbrev pub IsCrewFault : Config → ℕ → RunFault → Type 0
+IsCrewFault config workers (BadConfig bad) = first_bad_field config ≡ Some bad.0
+IsCrewFault config workers Workers =
+    (first_bad_field config ≡ None) × (is_bad_number workers ≡ true)
+IsCrewFault config workers _ = ⊥
+
+-- what the crew's faults are; bad readers where the crew is good; and all else in a run that may
+-- begin, a reader that isn't there, or reads nothing, only where there are readers; there is one
+-- tree, of all keys
 abbrev pub IsRunFault : Config → ℕ → ℕ → List Row → RunFault → Type 0
-IsRunFault config workers readers rows (BadConfig bad) = first_bad_field config ≡ Some bad.0
-IsRunFault config workers readers rows Workers = (first_bad_field config ≡ None) × (is_bad_number workers ≡ true)
+IsRunFault config workers readers rows (BadConfig bad) = IsCrewFault config workers (BadConfig bad)
+IsRunFault config workers readers rows Workers = IsCrewFault config workers Workers
 IsRunFault config workers readers rows Readers = MayBeMade config workers × (most_readers workers < readers)
 IsRunFault config workers readers rows Trees = ⊥
 IsRunFault config workers readers rows OtherRange = ⊥

@@ -1,30 +1,28 @@
 -- When a run on a forest may begin, and which fault says what.
-use Rattle.std.specs.Prelude.{◌≡◌, ℕ, ◌<◌, true, false, List, None, Some}
+use Rattle.std.specs.Prelude.{◌≡◌, ℕ, ◌<◌, true, false, List}
 use Rattle.bw_keys.specs.declared.config.Config.{Config}
-use Rattle.bw_keys.specs.Limits.{first_bad_field}
-use Rattle.bw_tree.specs.Trees.{MayBeMade, is_bad_number}
-use Rattle.bw_forest.specs.Bounds.{is_bad_number as is_bad_number_of_trees}
+use Rattle.bw_tree.specs.Trees.{MayBeMade}
+use Rattle.bw_forest.specs.Bounds.{is_bad_number}
 use Rattle.bw_texts.specs.declared.trace.row.Row.{Row}
 use Rattle.nifforan_forest.specs.declared.fault.ShareForestFault.{ShareForestFault}
 use Rattle.nifforan_forest.specs.declared.fault.ShareForestFault.TheVariants as share
 use Rattle.bw_run.specs.declared.fault.RunFault.{RunFault}
 use Rattle.bw_run.specs.declared.fault.RunFault.TheVariants.{Config as BadConfig, Workers, Readers, Trees, NoReader, Threads, Memory, Stopped, Audit, OtherRange}
-use Rattle.bw_run.specs.Faults.{IsBadHistory}
+use Rattle.bw_run.specs.Faults.{IsBadHistory, IsCrewFault}
 use Rattle.bw_run.specs.Rows.{IsRowOf}
 
 -- the configuration and the numbers of workers and of trees are good
 abbrev pub MayRunForest : Config → ℕ → ℕ → Type 0
-MayRunForest config workers trees =
-    MayBeMade config workers × (is_bad_number_of_trees trees ≡ false)
+MayRunForest config workers trees = MayBeMade config workers × (is_bad_number trees ≡ false)
 
--- the first bad field; bad workers where there is none; bad trees where the workers are good; and
--- all else in a run that may begin; there are no readers
+-- what the crew's faults are; bad trees where the crew is good; and all else in a run that may
+-- begin; there are no readers
 abbrev pub IsForestRunFault : Config → ℕ → ℕ → List Row → RunFault → Type 0
-IsForestRunFault config workers trees rows (BadConfig bad) = first_bad_field config ≡ Some bad.0
-IsForestRunFault config workers trees rows Workers =
-    (first_bad_field config ≡ None) × (is_bad_number workers ≡ true)
+IsForestRunFault config workers trees rows (BadConfig bad) =
+    IsCrewFault config workers (BadConfig bad)
+IsForestRunFault config workers trees rows Workers = IsCrewFault config workers Workers
 IsForestRunFault config workers trees rows Trees =
-    MayBeMade config workers × (is_bad_number_of_trees trees ≡ true)
+    MayBeMade config workers × (is_bad_number trees ≡ true)
 IsForestRunFault config workers trees rows Readers = ⊥
 IsForestRunFault config workers trees rows NoReader = ⊥
 IsForestRunFault config workers trees rows Threads = MayRunForest config workers trees

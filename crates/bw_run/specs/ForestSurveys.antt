@@ -8,7 +8,7 @@ use Rattle.bw_keys.specs.Ranges.{end_of, key_count}
 use Rattle.bw_step.specs.declared.survey.Book.{Book}
 use Rattle.bw_step.specs.declared.survey.Leaf.{Leaf}
 use Rattle.bw_step.specs.declared.survey.Survey.{Survey}
-use Rattle.bw_law.specs.Tables.{TableValue, outlines}
+use Rattle.bw_law.specs.Tables.{TableValue, outlines, slot_at}
 use Rattle.bw_law.specs.Walks.{IsRowOf}
 use Rattle.bw_table.specs.Views.{leaf_at}
 use Rattle.bw_tree.specs.Stocks.{most}
@@ -49,9 +49,24 @@ with_book one other = record {
   modified = min (one.modified + other.modified) most;
 }
 
--- the leaves of all trees, and what their books have together
+-- how many levels the tree has
+abbrev pub levels_of : TableValue → ℕ
+levels_of table = (slot_at table table.root).level + 1
+
+-- those of the highest tree
+abbrev pub most_levels : List TableValue → ℕ
+most_levels [] = 0
+most_levels (table ∷ tables) = max (levels_of table) (most_levels tables)
+
+-- what the counts of all trees are together, as far as it can be written
+abbrev pub capped_sum : (TableValue → ℕ) → List TableValue → ℕ
+capped_sum count tables = min (sum_by count tables) most
+
+-- the leaves of all trees, the levels of the highest one, and what their books have together
 pub record IsForestSurvey (ranges : List Range) (tables : List TableValue)
     (survey : Survey) : Type 0 where
   pub leaves : AreLeavesInARow ranges tables survey.leaves.items
-  pub inserted : survey.book.inserted ≡ min (sum_by (λ table. table.book.inserted) tables) most
-  pub removed : survey.book.removed ≡ min (sum_by (λ table. table.book.removed) tables) most
+  pub levels : survey.levels ≡ most_levels tables
+  pub inserted : survey.book.inserted ≡ capped_sum (λ table. table.book.inserted) tables
+  pub removed : survey.book.removed ≡ capped_sum (λ table. table.book.removed) tables
+  pub modified : survey.book.modified ≡ capped_sum (λ table. table.book.modified) tables

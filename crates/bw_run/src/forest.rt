@@ -17,6 +17,7 @@ mod sample;
 mod survey;
 mod trails;
 
+use crate::checks::check_crew;
 use crate::fault::RunFault;
 use crate::forest::ending::finish_forest;
 use crate::forest::job::ForestRows;
@@ -24,7 +25,7 @@ use crate::forest::sample::bounds_for;
 use crate::plan::share_out;
 use crate::progress::Progress;
 use bw_forest::MAX_TREES;
-use bw_keys::{Config, MAX_WORKERS};
+use bw_keys::Config;
 use bw_texts::Row;
 pub use ending::FinishedForest;
 use nifforan_forest::share_forest;
@@ -78,16 +79,12 @@ pub fn run_forest<R: Threads + Wait + Sync + Send + Copy>(
 }
 
 /// Returns the first fault that is there before any worker starts, want of memory apart.
+#[tactic(auto, using(crate::proofs::ForestEnds::crew_in_forest_run))]
 fn check(config: Config, workers: u32, trees: u32) -> Result<(), RunFault>
     ensures fine { OnOk result (MayRunForest config workers trees) }
     ensures fault { IfErr result (IsForestRunFault config workers trees []) }
 {
-    if let Err(bad) = config.check() {
-        return Err(RunFault::Config(bad));
-    }
-    if !(1..=MAX_WORKERS).contains(&workers) {
-        return Err(RunFault::Workers);
-    }
+    check_crew(config, workers)?;
     if !(1..=MAX_TREES).contains(&trees) {
         return Err(RunFault::Trees);
     }

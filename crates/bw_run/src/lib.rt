@@ -5,6 +5,7 @@
 mod acts;
 mod answers;
 mod beside;
+mod checks;
 mod ending;
 mod fault;
 mod forest;

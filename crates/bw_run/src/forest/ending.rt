@@ -5,14 +5,12 @@ ghost use Rattle.std.specs.List.{AllByRecursion};
 ghost use Rattle.bw_step.specs.Trails.{lists_of};
 ghost use Rattle.bw_tree.specs.Shares.{sum_of};
 ghost use Rattle.bw_crew.specs.Workers.{ByNumber, share_by};
-ghost use Rattle.bw_run.specs.Beside.{count_beside};
 ghost use Rattle.bw_run.specs.ForestAnswers.{AreForestAnswersTo};
 ghost use Rattle.bw_run.specs.ForestFaults.{EndsForest};
 ghost use Rattle.bw_run.specs.ForestRuns.{EachIsLegal, TellsByTrees, in_a_row, shares_at, trails_at};
 ghost use Rattle.bw_run.specs.Rows.{acts_of};
 
 use crate::answers::Answers;
-use crate::beside::count_beside;
 use crate::fault::RunFault;
 use crate::forest::histories::judge_each;
 use crate::forest::trails::{Sorted, sort_out};
@@ -20,7 +18,7 @@ use crate::merging::merge;
 use crate::stopping::check_stops;
 use bw_delta::NoMemory;
 use bw_forest::ClosedForest;
-use bw_procedures::{Fault, Reply};
+use bw_procedures::Reply;
 use bw_step::Receipt;
 use bw_texts::Row;
 use nifforan_forest::ForestOutcome;
@@ -36,15 +34,6 @@ pub struct FinishedForest {
     pub replies: Vec<Reply>,
     /// At each tree, each worker's receipts there, in their order.
     pub trails: Vec<Vec<Vec<Receipt>>>,
-}
-
-impl FinishedForest {
-    /// Returns how many rows have a reply with this fault beside it.
-    pub fn rows_with(&self, fault: Fault) -> usize
-        ensures { result ≡ count_beside fault self.now.replies.items }
-    {
-        count_beside(&self.replies, fault)
-    }
 }
 
 /// Ends a run on a forest, of which this was brought back: audits each tree's history, and brings the

@@ -27,8 +27,8 @@ pub(crate) fn judge_each(
     ensures fault { IfErr result (λ fault. (workers : ℕ)
         → All (λ its. length its.items ≡ workers) trails.now → EndsBadly workers fault) }
 {
-    for tree in 0..trees.len() {
-        judge(machine, trees[tree].table(), &trails[tree])?;
+    for (tree, its) in trees.iter().zip(trails) {
+        judge(machine, tree.table(), its)?;
     }
     Ok(())
 }

@@ -29,12 +29,10 @@ impl FinishedForest {
         ensures { IfOk result (IsForestSurvey (ranges_of self.now.forest.bounds)
             self.now.forest.tables) }
     {
-        let trees = self.forest.trees();
         let mut leaves = Vec::new(machine);
         let mut levels = 0;
         let mut book = NOTHING;
-        for i in 0..trees.len() {
-            let tree = &trees[i];
+        for tree in self.forest.trees() {
             let own = tree.table().survey(machine)?;
             append_within(&mut leaves, tree.range(), &own.leaves)?;
             levels = levels.max(own.levels);

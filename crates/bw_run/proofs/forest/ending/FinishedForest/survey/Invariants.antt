@@ -1,13 +1,13 @@
-use Rattle.std.proofs.Common.{◌≡◌, min, take}
-use Rattle.std.specs.Prelude.{sum_by}
+use Rattle.std.proofs.Common.{◌≡◌, take}
 use Rattle.bw_forest.specs.Bounds.{ranges_of}
-use Rattle.bw_tree.specs.Stocks.{most}
-use Rattle.bw_run.specs.ForestSurveys.{AreLeavesInARow}
+use Rattle.bw_run.specs.ForestSurveys.{AreLeavesInARow, capped_sum, most_levels}
 use Rattle.bw_run.proofs.forest.ending.FinishedForest.survey.Given as goal
 
-abbrev pub invariant-loop-i : goal.invariant-loop-i
-invariant-loop-i l = record {
-  leaves : AreLeavesInARow (take l.i (ranges_of l.self.forest.bounds)) (take l.i l.self.forest.tables) l.leaves.items;
-  inserted : l.book.inserted ≡ min (sum_by (λ table. table.book.inserted) (take l.i l.self.forest.tables)) most;
-  removed : l.book.removed ≡ min (sum_by (λ table. table.book.removed) (take l.i l.self.forest.tables)) most;
+abbrev pub invariant-loop-tree : goal.invariant-loop-tree
+invariant-loop-tree l = record {
+  leaves : AreLeavesInARow (take l.tree-index (ranges_of l.self.forest.bounds)) (take l.tree-index l.self.forest.tables) l.leaves.items;
+  levels : l.levels ≡ most_levels (take l.tree-index l.self.forest.tables);
+  inserted : l.book.inserted ≡ capped_sum (λ table. table.book.inserted) (take l.tree-index l.self.forest.tables);
+  removed : l.book.removed ≡ capped_sum (λ table. table.book.removed) (take l.tree-index l.self.forest.tables);
+  modified : l.book.modified ≡ capped_sum (λ table. table.book.modified) (take l.tree-index l.self.forest.tables);
 }
