@@ -1,11 +1,23 @@
 //! What a worker does beside a plain map.
 
-use crate::ending::{Ending, Stop, hold};
+use crate::ending::{Deviation, Ending};
 use crate::plain::{KEYS, Plain};
-use bw_keys::{Fence, Key};
+use bw_keys::Fence;
 use bw_step::Step;
-use bw_work::{Act, Calls, Fault, Steps, do_act};
+use bw_work::{Act, Fault, Reply, Steps, do_act};
 use std::alloc::Global;
+
+/// A worker of a tree, or of a forest.
+pub(crate) trait Acting {
+    /// Does the act, with copies of leaves in the machine's memory, and returns its reply.
+    fn act(&mut self, machine: Global, act: Act) -> Result<Reply, Fault>;
+}
+
+impl<S: Steps<Global, Step<Global>>> Acting for S {
+    fn act(&mut self, machine: Global, act: Act) -> Result<Reply, Fault> {
+        do_act(self, machine, act)
+    }
+}
 
 /// The acts of each worker of a trial. The puts split a leaf twice, and the deletes merge one. The
 /// range that is removed twice may be left in part by the first removal.
@@ -36,66 +48,66 @@ pub(crate) const ACTS: [Act; 18] = [
     Act::Get { key: 0 },
 ];
 
-/// Fails unless each key has in the tree what it has in the plain map.
-fn see_all<S: Steps<Global, Step<Global>>>(steps: &mut S, plain: &Plain) -> Result<(), Stop> {
+/// Fails unless each key has for the worker what it has in the plain map.
+fn see_all<W: Acting>(worker: &mut W, machine: Global, plain: &Plain) -> Result<(), Deviation> {
     for key in 0..KEYS as u64 {
-        hold(
-            steps.get(key) == Ok(plain.get(key)),
-            "the pairs are the script's",
-        )?;
+        if worker.act(machine, Act::Get { key }) != Ok(Reply::Get(plain.get(key))) {
+            return Err(Deviation::Pairs);
+        }
     }
     Ok(())
 }
 
 /// Does the act. If memory was refused, checks the pairs, and if it was refused whole, does it
 /// again.
-fn act_once<S: Steps<Global, Step<Global>>>(
-    steps: &mut S,
+fn act_once<W: Acting>(
+    worker: &mut W,
     machine: Global,
     act: Act,
     plain: &mut Plain,
-) -> Result<Ending, Stop> {
-    match do_act(steps, machine, act) {
+) -> Result<Ending, Deviation> {
+    match worker.act(machine, act) {
         Ok(reply) => {
             let ending = plain.take(act, reply)?;
             if ending == Ending::Refused {
-                see_all(steps, plain)?;
+                see_all(worker, machine, plain)?;
             }
             Ok(ending)
         }
         Err(Fault::NoMemory) => {
-            see_all(steps, plain)?;
-            act_again(steps, machine, act, plain)
+            see_all(worker, machine, plain)?;
+            act_again(worker, machine, act, plain)
         }
-        Err(_) => Err(Stop::Broken("memory alone is wanting")),
+        Err(_) => Err(Deviation::Fault),
     }
 }
 
 /// Does once more an act that was refused.
-fn act_again<S: Steps<Global, Step<Global>>>(
-    steps: &mut S,
+fn act_again<W: Acting>(
+    worker: &mut W,
     machine: Global,
     act: Act,
     plain: &mut Plain,
-) -> Result<Ending, Stop> {
-    let Ok(reply) = do_act(steps, machine, act) else {
-        return Err(Stop::Broken("memory is refused once"));
+) -> Result<Ending, Deviation> {
+    let Ok(reply) = worker.act(machine, act) else {
+        return Err(Deviation::Refusal);
     };
-    let ending = plain.take(act, reply)?;
-    hold(ending == Ending::Whole, "memory is refused once")?;
-    Ok(Ending::Refused)
+    match plain.take(act, reply)? {
+        Ending::Whole => Ok(Ending::Refused),
+        Ending::Refused => Err(Deviation::Refusal),
+    }
 }
 
 /// Does the acts.
-pub(crate) fn act_all<S: Steps<Global, Step<Global>>>(
-    steps: &mut S,
+pub(crate) fn act_all<W: Acting>(
+    worker: &mut W,
     machine: Global,
     acts: &[Act],
     plain: &mut Plain,
-) -> Result<Ending, Stop> {
+) -> Result<Ending, Deviation> {
     let mut ending = Ending::Whole;
     for act in acts {
-        ending = ending.and(act_once(steps, machine, *act, plain)?);
+        ending = ending.and(act_once(worker, machine, *act, plain)?);
     }
     Ok(ending)
 }

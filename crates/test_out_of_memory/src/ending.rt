@@ -33,6 +33,31 @@ pub(crate) enum Stop {
     Broken(&'static str),
 }
 
+/// What a worker does otherwise than the plain map beside it. It is no sentence, as the borrow checker
+/// covers no call with a worker of two lifetimes whose result names `'static`, too.
+#[derive(Clone, Copy, Debug, PartialEq, Eq)]
+pub(crate) enum Deviation {
+    /// A reply isn't the map's.
+    Reply,
+    /// The pairs aren't the map's.
+    Pairs,
+    /// A fault isn't want of memory.
+    Fault,
+    /// Memory is refused a second time.
+    Refusal,
+}
+
+impl From<Deviation> for Stop {
+    fn from(deviation: Deviation) -> Stop {
+        Stop::Broken(match deviation {
+            Deviation::Reply => "a reply is a plain map's",
+            Deviation::Pairs => "the pairs are the script's",
+            Deviation::Fault => "memory alone is wanting",
+            Deviation::Refusal => "memory is refused once",
+        })
+    }
+}
+
 impl From<NoMemory> for Stop {
     fn from(_: NoMemory) -> Stop {
         Stop::Memory

@@ -6,6 +6,7 @@
 
 mod acts;
 mod ending;
+mod forests;
 mod plain;
 mod readers;
 mod replays;
@@ -13,6 +14,7 @@ mod runs;
 mod workers;
 
 use crate::ending::{Ending, Stop};
+use crate::forests::{forest, forest_of_two};
 use crate::readers::{beside_readers, changes_at_once, publications};
 use crate::replays::replays;
 use crate::runs::run_with;
@@ -48,6 +50,8 @@ fn run_trial<R: Threads + Wait + Sync + Send + Copy>(
         "replays" => replays(machine),
         "run" => run_with(rt, machine, 0),
         "run_with_reader" => run_with(rt, machine, 1),
+        "forest" => forest(rt, machine),
+        "forest_of_two" => forest_of_two(rt, machine),
         _ => Err(Stop::Broken("no such trial")),
     }
 }

@@ -1,6 +1,6 @@
 //! A plain map beside a tree.
 
-use crate::ending::{Ending, Stop, hold};
+use crate::ending::{Deviation, Ending};
 use bw_keys::{Fence, Key};
 use bw_work::{Act, Cleared, Del, Fault, Put, Reply, Set};
 
@@ -85,8 +85,8 @@ impl Plain {
     }
 
     /// Takes over the act that a tree replied to, and returns whether memory was refused after the
-    /// reply. Broken if it is another reply than this map's, or another fault.
-    pub(crate) fn take(&mut self, act: Act, reply: Reply) -> Result<Ending, Stop> {
+    /// reply. Fails if it is another reply than this map's, or another fault.
+    pub(crate) fn take(&mut self, act: Act, reply: Reply) -> Result<Ending, Deviation> {
         let (is_right, fault) = match (act, reply) {
             (Act::Put { key, value }, Reply::Put(done)) => {
                 (self.put(key, value) == done.reply, done.fault)
@@ -103,28 +103,39 @@ impl Plain {
             (Act::Get { key }, Reply::Get(found)) => (self.get(key) == found, None),
             _ => (false, None),
         };
-        hold(is_right, "a reply is a plain map's")?;
+        if !is_right {
+            return Err(Deviation::Reply);
+        }
         match fault {
             None => Ok(Ending::Whole),
             Some(Fault::NoMemory) => Ok(Ending::Refused),
-            Some(_) => Err(Stop::Broken("memory alone is wanting")),
+            Some(_) => Err(Deviation::Fault),
         }
     }
 
-    /// Returns whether these are its pairs, in the order of their keys.
-    pub(crate) fn has(&self, pairs: &[(Key, u64)]) -> bool {
+    /// Returns how many keys have a value.
+    pub(crate) fn len(&self) -> usize {
+        self.values.iter().flatten().count()
+    }
+
+    /// Returns what follows its pairs, in the order of their keys, which lie so much higher. None if
+    /// the pairs don't begin with them.
+    pub(crate) fn strip<'p>(&self, base: Key, pairs: &'p [(Key, u64)]) -> Option<&'p [(Key, u64)]> {
         let mut rest = pairs;
         for key in 0..KEYS as u64 {
             if let Some(value) = self.get(key) {
-                let Some((first, others)) = rest.split_first() else {
-                    return false;
-                };
-                if *first != (key, value) {
-                    return false;
+                let (first, others) = rest.split_first()?;
+                if *first != (base.saturating_add(key), value) {
+                    return None;
                 }
                 rest = others;
             }
         }
-        rest.is_empty()
+        Some(rest)
+    }
+
+    /// Returns whether these are its pairs, in the order of their keys.
+    pub(crate) fn has(&self, pairs: &[(Key, u64)]) -> bool {
+        self.strip(0, pairs).is_some_and(|rest| rest.is_empty())
     }
 }

@@ -7,7 +7,7 @@ use crate::acts::{ACTS, act_all};
 use crate::ending::{Ending, Stop, hold};
 use crate::plain::Plain;
 use bw_audit::{Verdict, audit, is_ascending};
-use bw_keys::Config;
+use bw_keys::{Config, Key};
 use bw_step::{Receipt, Survey};
 use bw_table::Table;
 use bw_tree::{Blanks, MadeBy, Share, Tree};
@@ -18,6 +18,29 @@ use std::sync::Wait;
 use std::sync::ledger::Ledger;
 use test_kit::{SMALL, partition_the_keys};
 
+/// Returns the table's pairs. Fails unless its book counts them, its leaves partition the keys, and
+/// the audit explains the trails.
+pub(crate) fn audited(
+    machine: Global,
+    table: &Table<Global>,
+    trails: &[Vec<Receipt>],
+) -> Result<Vec<(Key, u64)>, Stop> {
+    let pairs = table.pairs(machine)?;
+    let Survey { leaves, book, .. } = table.survey(machine)?;
+    let counted = book.inserted.checked_sub(book.removed);
+    hold(
+        counted == Some(pairs.len() as u64),
+        "the book counts the pairs",
+    )?;
+    hold(partition_the_keys(&leaves), "the leaves partition the keys")?;
+    if !is_ascending(&pairs) {
+        return Err(Stop::Broken("the pairs' keys rise"));
+    }
+    let verdict = audit(machine, trails, &pairs)?;
+    hold(verdict == Verdict::Yes, "the audit says yes")?;
+    Ok(pairs)
+}
+
 /// Fails unless the table has the map's pairs, in leaves that partition the keys and by its book,
 /// and the audit explains the trail.
 pub(crate) fn judge(
@@ -26,19 +49,8 @@ pub(crate) fn judge(
     trail: Vec<Receipt>,
     plain: &Plain,
 ) -> Result<(), Stop> {
-    let pairs = table.pairs(machine)?;
-    let Survey { leaves, book, .. } = table.survey(machine)?;
-    let counted = book.inserted.checked_sub(book.removed);
-    hold(
-        plain.has(&pairs) && counted == Some(pairs.len() as u64),
-        "the pairs are the script's, and the book counts them",
-    )?;
-    hold(partition_the_keys(&leaves), "the leaves partition the keys")?;
-    if !is_ascending(&pairs) {
-        return Err(Stop::Broken("the pairs' keys rise"));
-    }
-    let verdict = audit(machine, &[trail], &pairs)?;
-    hold(verdict == Verdict::Yes, "the audit says yes")
+    let pairs = audited(machine, table, &[trail])?;
+    hold(plain.has(&pairs), "the pairs are the script's")
 }
 
 /// The trial of a worker that has its table for itself.

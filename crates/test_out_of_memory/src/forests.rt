@@ -1,0 +1,311 @@
+//! Workers that share a forest and are refused memory.
+
+use crate::acts::{ACTS, Acting, act_all};
+use crate::ending::{Ending, Stop, hold};
+use crate::plain::{KEYS, Plain};
+use crate::workers::audited;
+use bw_keys::{Fence, Key};
+use bw_step::Receipt;
+use bw_work::{Act, Fault, Reply};
+use nifforan_forest::{
+    BadTables, Bounds, ClosedForest, ForestHand, ForestJob, ForestOutcome, ForestWorker, Returned,
+    ShareForestFault, share_closed_forest, share_forest,
+};
+use std::alloc::Global;
+use std::mem::replace;
+use std::sync::Wait;
+use std::sync::atomic::{AtomicU32, Ordering};
+use std::thread::Threads;
+use test_kit::SMALL;
+
+/// Where the trees begin, two for each worker. The range that is cleared goes over both.
+const LOWS: [Key; 4] = [0, 6, 16, 22];
+
+/// Returns where the keys of a worker begin, which no other worker uses.
+fn base_of(worker: u32) -> Key {
+    u64::from(worker) * KEYS as u64
+}
+
+/// A worker whose acts are of keys that lie so much higher.
+#[derive(Drop)]
+struct Above<'f, 'b, H: ForestHand> {
+    forest: &'f mut ForestWorker<'b, H>,
+    base: Key,
+}
+
+impl<'f, 'b, H: ForestHand> Acting for Above<'f, 'b, H> {
+    fn act(&mut self, machine: Global, act: Act) -> Result<Reply, Fault> {
+        let base = self.base;
+        match act {
+            Act::Put { key, value } => {
+                let done = self.forest.put(base.saturating_add(key), value)?;
+                Ok(Reply::Put(done))
+            }
+            Act::Set { key, value } => {
+                let done = self.forest.set(base.saturating_add(key), value)?;
+                Ok(Reply::Set(done))
+            }
+            Act::Delete { key } => {
+                let done = self.forest.delete(base.saturating_add(key))?;
+                Ok(Reply::Delete(done))
+            }
+            Act::Get { key } => Ok(Reply::Get(self.forest.get(base.saturating_add(key))?)),
+            Act::Clear { low, high } => {
+                let high = match high {
+                    Fence::Key(high) => Fence::Key(base.saturating_add(high)),
+                    Fence::Top => Fence::Top,
+                };
+                let low = base.saturating_add(low);
+                Ok(Reply::Clear(self.forest.clear(machine, low, high)))
+            }
+        }
+    }
+}
+
+/// What a worker leaves at its keys, and how it ended.
+type Left = Result<(Plain, Ending), Stop>;
+
+type Outcome = ForestOutcome<Left, Vec<Receipt>>;
+
+/// Each worker's acts, and a scan of what they leave.
+#[derive(Drop)]
+struct Trial {
+    machine: Global,
+    /// What each worker finds at its keys.
+    found: Plain,
+    begun: AtomicU32,
+}
+
+impl ForestJob for Trial {
+    type Output = Left;
+
+    type Trail = Vec<Receipt>;
+
+    fn work<H: ForestHand>(&self, worker: u32, forest: &mut ForestWorker<'_, H>) -> Left {
+        self.begun.fetch_add(1, Ordering::SeqCst);
+        let base = base_of(worker);
+        let mut plain = self.found;
+        let mut above = Above {
+            forest: &mut *forest,
+            base,
+        };
+        let acted = act_all(&mut above, self.machine, &ACTS, &mut plain)?;
+        let scanned = scan(self.machine, forest, base, &plain)?;
+        Ok((plain, acted.and(scanned)))
+    }
+}
+
+/// Scans the worker's keys. If memory was refused, the list has the first of the pairs, and a further
+/// scan has all of them.
+fn scan<H: ForestHand>(
+    machine: Global,
+    forest: &mut ForestWorker<'_, H>,
+    base: Key,
+    plain: &Plain,
+) -> Result<Ending, Stop> {
+    let mut list = Vec::new(machine);
+    let mut ending = Ending::Whole;
+    if let Err(fault) = forest.scan(base, plain.len(), &mut list) {
+        hold(fault == Fault::NoMemory, "memory alone is wanting")?;
+        let first = replace(&mut list, Vec::new(machine));
+        let again = forest.scan(base, plain.len(), &mut list);
+        hold(again.is_ok(), "memory is refused once")?;
+        hold(
+            list.starts_with(first.as_slice()),
+            "a refused scan lists the first pairs",
+        )?;
+        ending = Ending::Refused;
+    }
+    let rest = plain.strip(base, &list);
+    hold(
+        rest.is_some_and(|rest| rest.is_empty()),
+        "a scan lists all pairs",
+    )?;
+    Ok(ending)
+}
+
+impl Trial {
+    fn new(machine: Global, found: Plain) -> Trial {
+        Trial {
+            machine,
+            found,
+            begun: AtomicU32::new(0),
+        }
+    }
+
+    /// Fails unless memory was wanting, and that before each worker had begun.
+    fn see_fault(&self, fault: ShareForestFault, workers: u32) -> Result<(), Stop> {
+        hold(
+            fault == ShareForestFault::NoMemory || fault == ShareForestFault::NoThread,
+            "memory alone is wanting",
+        )?;
+        hold(
+            self.begun.load(Ordering::SeqCst) < workers,
+            "a sharing fails only where a worker couldn't begin",
+        )
+    }
+
+    /// Shares a new forest.
+    fn share<R: Threads + Wait + Sync + Send + Copy>(
+        &self,
+        rt: R,
+        workers: u32,
+    ) -> Result<Outcome, Stop> {
+        let mut lows = Vec::new(self.machine);
+        lows.extend_from_slice(&LOWS)?;
+        let Ok(bounds) = Bounds::of(lows) else {
+            return Err(Stop::Broken("the trees' ranges part the keys"));
+        };
+        match share_forest(rt, self.machine, bounds, SMALL, workers, self) {
+            Ok(outcome) => Ok(outcome),
+            Err(fault) => {
+                self.see_fault(fault, workers)?;
+                Err(Stop::Memory)
+            }
+        }
+    }
+
+    /// Shares a closed forest with one worker. If memory was refused, the forest comes back as it was,
+    /// and is shared then.
+    fn share_closed<R: Threads + Wait + Sync + Send + Copy>(
+        &self,
+        rt: R,
+        forest: ClosedForest<Global>,
+    ) -> Result<(Outcome, Ending), Stop> {
+        let unshared = match share_closed_forest(rt, self.machine, forest, 1, self) {
+            Ok(outcome) => return Ok((outcome, Ending::Whole)),
+            Err(unshared) => unshared,
+        };
+        self.see_fault(unshared.fault, 1)?;
+        let Some(forest) = unshared.forest else {
+            return Err(Stop::Broken("a forest that isn't shared comes back"));
+        };
+        hold(
+            self.found.has(&forest.pairs(self.machine)?),
+            "a forest that isn't shared is as it was",
+        )?;
+        match share_closed_forest(rt, self.machine, forest, 1, self) {
+            Ok(outcome) => Ok((outcome, Ending::Refused)),
+            Err(_) => Err(Stop::Broken("memory is refused once")),
+        }
+    }
+}
+
+/// Takes the forest apart, and makes a forest of its tables again. If memory was refused, the tables
+/// come back, and make one then.
+fn reclose(
+    machine: Global,
+    forest: ClosedForest<Global>,
+) -> Result<(ClosedForest<Global>, Ending), Stop> {
+    let (bounds, trees) = forest.into_parts();
+    let mut tables = Vec::with_capacity(machine, trees.len())?;
+    for tree in trees {
+        tables.push(tree.into_table())?;
+    }
+    let unclosed = match ClosedForest::of(machine, bounds, tables) {
+        Ok(forest) => return Ok((forest, Ending::Whole)),
+        Err(unclosed) => unclosed,
+    };
+    hold(
+        unclosed.fault == BadTables::NoMemory,
+        "memory alone is wanting",
+    )?;
+    match ClosedForest::of(machine, unclosed.bounds, unclosed.tables) {
+        Ok(forest) => Ok((forest, Ending::Refused)),
+        Err(_) => Err(Stop::Broken("memory is refused once")),
+    }
+}
+
+/// Fails unless the forest has the pairs of all workers' maps. Returns how the workers ended.
+fn see_pairs(
+    machine: Global,
+    forest: &ClosedForest<Global>,
+    workers: &[Returned<Left, Vec<Receipt>>],
+) -> Result<Ending, Stop> {
+    let pairs = forest.pairs(machine)?;
+    let mut rest = Some(pairs.as_slice());
+    let mut ending = Ending::Whole;
+    for (worker, returned) in workers.iter().enumerate() {
+        let (plain, ended) = returned.output?;
+        rest = rest.and_then(|rest| plain.strip(base_of(worker as u32), rest));
+        ending = ending.and(ended);
+    }
+    hold(
+        rest.is_some_and(|rest| rest.is_empty()) && forest.len() == pairs.len() as u64,
+        "the pairs are the scripts'",
+    )?;
+    Ok(ending)
+}
+
+/// Takes each worker's trail at the last tree of which it has one.
+fn last_trails(
+    machine: Global,
+    workers: &mut [Returned<Left, Vec<Receipt>>],
+) -> Result<Vec<Vec<Receipt>>, Stop> {
+    let mut trails = Vec::new(machine);
+    for worker in workers {
+        if let Some(trail) = worker.trails.pop() {
+            trails.push(trail)?;
+        }
+    }
+    Ok(trails)
+}
+
+/// Fails unless the trees have the pairs of all workers' maps, and the audit explains the trails at
+/// each tree. Returns how the workers ended.
+fn judge(machine: Global, outcome: Outcome) -> Result<Ending, Stop> {
+    let ForestOutcome {
+        forest,
+        mut workers,
+    } = outcome;
+    let ending = see_pairs(machine, &forest, &workers)?;
+    for tree in forest.trees().iter().rev() {
+        let trails = last_trails(machine, &mut workers)?;
+        audited(machine, tree.table(), &trails)?;
+    }
+    Ok(ending)
+}
+
+/// The trial of two workers, of whom each has trees of its own, so that they request as much memory
+/// whatever the order in which they come.
+pub(crate) fn forest_of_two<R: Threads + Wait + Sync + Send + Copy>(
+    rt: R,
+    machine: Global,
+) -> Result<Ending, Stop> {
+    judge(machine, Trial::new(machine, Plain::EMPTY).share(rt, 2)?)
+}
+
+/// Returns the trails at each tree with those that follow them.
+fn joined(
+    trails: Vec<Vec<Receipt>>,
+    following: Vec<Vec<Receipt>>,
+) -> Result<Vec<Vec<Receipt>>, Stop> {
+    let mut trails = trails;
+    for (trail, mut rest) in trails.iter_mut().zip(following) {
+        trail.append(&mut rest)?;
+    }
+    Ok(trails)
+}
+
+/// The trial of a worker on a forest that is taken apart, put together and shared once more.
+pub(crate) fn forest<R: Threads + Wait + Sync + Send + Copy>(
+    rt: R,
+    machine: Global,
+) -> Result<Ending, Stop> {
+    let mut shared = Trial::new(machine, Plain::EMPTY).share(rt, 1)?;
+    let Some(first) = shared.workers.pop() else {
+        return Err(Stop::Broken("a forest has its worker"));
+    };
+    let (plain, ended) = first.output?;
+    let (forest, reclosed) = reclose(machine, shared.forest)?;
+    let (mut again, reshared) = Trial::new(machine, plain).share_closed(rt, forest)?;
+    let Some(second) = again.workers.pop() else {
+        return Err(Stop::Broken("a forest has its worker"));
+    };
+    again.workers.push(Returned {
+        output: second.output,
+        trails: joined(first.trails, second.trails)?,
+    })?;
+    let ended = ended.and(judge(machine, again)?);
+    Ok(ended.and(reclosed).and(reshared))
+}
