@@ -1,7 +1,6 @@
 //! The report of a run.
 
-use bw_run::Reply;
-use bw_step::Survey;
+use bw_run::{Finished, Reply};
 use bw_texts::OutFault;
 use std::alloc::Global;
 use std::io;
@@ -12,14 +11,15 @@ use std::io::{BufWriter, Write};
 pub(crate) fn write_report<W: Write>(
     alloc: Global,
     output: &mut W,
-    survey: &Survey,
-    replies: Option<&[Reply]>,
+    finished: &Finished,
+    has_replies: bool,
 ) -> Result<(), OutFault> {
+    let survey = finished.table.survey(alloc)?;
     let Ok(mut lines) = BufWriter::new(alloc, output) else {
         return Err(OutFault::Memory);
     };
-    if let Some(replies) = replies {
-        write_replies(&mut lines, replies)?;
+    if has_replies {
+        write_replies(&mut lines, &finished.replies)?;
     }
     writeln!(lines, "{survey}")?;
     lines.flush()?;
