@@ -26,7 +26,7 @@
  * below the key 9, and NIFFORAN_TOP past all keys. It is so in each call with a high, in C, C++ and Rattle; Rust says so
  * itself, by `..9` and `..=9`. A range whose high doesn't lie above its low has no keys.
  *
- * Link with libnifforan_c.a and liblibc_c.a; bindings/check shows how they are made. */
+ * bindings/build FOLDER makes a folder with libnifforan_c.a, which is all that a program links, and a file for pkg-config. */
 #ifndef NIFFORAN_H
 #define NIFFORAN_H
 
