@@ -225,9 +225,9 @@ fn see_pairs(
     let pairs = forest.pairs(machine)?;
     let mut rest = Some(pairs.as_slice());
     let mut ending = Ending::Whole;
-    for (worker, returned) in workers.iter().enumerate() {
+    for (returned, worker) in workers.iter().zip(0u32..) {
         let (plain, ended) = returned.output?;
-        rest = rest.and_then(|rest| plain.strip(base_of(worker as u32), rest));
+        rest = rest.and_then(|rest| plain.strip(base_of(worker), rest));
         ending = ending.and(ended);
     }
     hold(
