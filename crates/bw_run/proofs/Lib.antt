@@ -6,3 +6,9 @@ pub mod Verdicts
 pub mod Numbers
 pub mod Runs
 pub mod Readers
+pub mod ForestColumns
+pub mod ForestTold
+pub mod ForestDone
+pub mod ForestLeaves
+pub mod ForestEnds
+pub mod ForestLegal

@@ -7,7 +7,7 @@ use Rattle.bw_audit.specs.Verdicts.{verdict_of}
 use Rattle.bw_audit.specs.declared.verdict.Verdict.TheVariants.{No}
 use Rattle.bw_tree.specs.Trees.{MayBeMade, is_bad_number}
 use Rattle.bw_run.specs.declared.fault.RunFault.{RunFault}
-use Rattle.bw_run.specs.declared.fault.RunFault.TheVariants.{Config as BadConfig, Workers, Readers, NoReader, Threads, Memory, Stopped, Audit}
+use Rattle.bw_run.specs.declared.fault.RunFault.TheVariants.{Config as BadConfig, Workers, Readers, Trees, NoReader, Threads, Memory, Stopped, Audit, OtherRange}
 use Rattle.bw_crew.specs.declared.fault.CrewFault.{CrewFault}
 use Rattle.bw_crew.specs.declared.fault.CrewFault.TheVariants.{NoMemory, NoThread}
 use Rattle.bw_texts.specs.declared.trace.row.Row.{Row}
@@ -28,12 +28,22 @@ pub record IsBadHistory (workers worker receipt : ℕ) : Type 0 where
   pub count : length trails ≡ workers
   pub verdict : verdict_of trails pairs ≡ No worker receipt
 
--- the first bad field; bad workers where there is none; bad readers where the workers are good; and all else in a run that may begin, a
--- reader that isn't there, or reads nothing, only where there are readers
+-- the first bad field, or bad workers where there is none
+abbrev pub IsCrewFault : Config → ℕ → RunFault → Type 0
+IsCrewFault config workers (BadConfig bad) = first_bad_field config ≡ Some bad.0
+IsCrewFault config workers Workers =
+    (first_bad_field config ≡ None) × (is_bad_number workers ≡ true)
+IsCrewFault config workers _ = ⊥
+
+-- what the crew's faults are; bad readers where the crew is good; and all else in a run that may
+-- begin, a reader that isn't there, or reads nothing, only where there are readers; there is one
+-- tree, of all keys
 abbrev pub IsRunFault : Config → ℕ → ℕ → List Row → RunFault → Type 0
-IsRunFault config workers readers rows (BadConfig bad) = first_bad_field config ≡ Some bad.0
-IsRunFault config workers readers rows Workers = (first_bad_field config ≡ None) × (is_bad_number workers ≡ true)
+IsRunFault config workers readers rows (BadConfig bad) = IsCrewFault config workers (BadConfig bad)
+IsRunFault config workers readers rows Workers = IsCrewFault config workers Workers
 IsRunFault config workers readers rows Readers = MayBeMade config workers × (most_readers workers < readers)
+IsRunFault config workers readers rows Trees = ⊥
+IsRunFault config workers readers rows OtherRange = ⊥
 IsRunFault config workers readers rows NoReader = MayRun config workers readers × (0 < readers)
 IsRunFault config workers readers rows Threads = MayRun config workers readers
 IsRunFault config workers readers rows Memory = MayRun config workers readers

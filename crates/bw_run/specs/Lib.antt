@@ -5,3 +5,7 @@ pub mod Answers
 pub mod Beside
 pub mod Faults
 pub mod Runs
+pub mod ForestAnswers
+pub mod ForestRuns
+pub mod ForestFaults
+pub mod ForestSurveys

@@ -1,7 +1,8 @@
 -- A trace as its workers see it.
-use Rattle.std.specs.Prelude.{◌≡◌, ℕ, ◌-◌, ◌<◌, ◌≤◌, ◌==◌, if◌then◌else◌, List, [], ◌∷◌, ◌++◌, length, slice_index_or}
+use Rattle.std.specs.Prelude.{◌≡◌, ℕ, ◌-◌, ◌<◌, ◌≤◌, ◌==◌, if◌then◌else◌, List, [], ◌∷◌, ◌++◌, length, map, slice_index_or}
 use Rattle.bw_procedures.specs.declared.reply.Reply.{Reply}
 use Rattle.bw_procedures.specs.declared.act.Act.{Act}
+use Rattle.bw_procedures.specs.declared.act.Act.TheVariants as acts
 use Rattle.bw_texts.specs.declared.trace.row.Row.{Row}
 
 -- the acts of a worker's rows, in their order
@@ -41,3 +42,15 @@ AreFull rows columns = (worker : ℕ) → worker < length columns → length (sl
 pub record IsMerged (rows : List Row) (columns : List (List Reply)) (merged : List Reply) : Type 0 where
   pub count : length merged ≡ length rows
   pub own : (worker : ℕ) → worker < length columns → replies_to worker rows merged ≡ slice_index_or columns worker []
+
+-- the key that an act names, and where it clears a range the least one of that
+abbrev pub key_of : Act → ℕ
+key_of (acts.Put key value) = key
+key_of (acts.Set key value) = key
+key_of (acts.Get key) = key
+key_of (acts.Delete key) = key
+key_of (acts.Clear low high) = low
+
+-- the key that each row names
+abbrev pub keys_of : List Row → List ℕ
+keys_of rows = map (λ row. key_of row.act) rows

@@ -6,7 +6,7 @@ ghost use Rattle.bw_run.specs.Beside.{count_beside, fault_beside, is_beside};
 use bw_procedures::{Fault, Reply};
 
 /// Returns how many of the replies stand beside the fault.
-pub(crate) fn count_beside(replies: &[Reply], fault: Fault) -> usize
+pub fn count_beside(replies: &[Reply], fault: Fault) -> usize
     ensures { result ≡ count_beside fault replies.now }
 {
     replies

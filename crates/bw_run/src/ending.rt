@@ -6,16 +6,14 @@ ghost use Rattle.bw_step.specs.Trails.{lists_of};
 ghost use Rattle.bw_tree.specs.Trees.{IsTree, CountsPairs};
 ghost use Rattle.bw_crew.specs.Workers.{changes_in};
 ghost use Rattle.bw_run.specs.Answers.{AreAnswered, columns_of};
-ghost use Rattle.bw_run.specs.Beside.{count_beside};
 ghost use Rattle.bw_run.specs.Faults.{EndsBadly};
 ghost use Rattle.bw_run.specs.Runs.{IsRunOf};
 
 use crate::answers::Answers;
-use crate::beside::count_beside;
 use crate::fault::RunFault;
 use crate::judgement::judge;
 use crate::merging::merge;
-use bw_procedures::{Fault, Reply};
+use bw_procedures::Reply;
 use bw_step::Receipt;
 use bw_table::Table;
 use bw_texts::Row;
@@ -29,15 +27,6 @@ pub struct Finished {
     pub replies: Vec<Reply>,
     /// Each worker's receipts, in their order.
     pub trails: Vec<Vec<Receipt>>,
-}
-
-impl Finished {
-    /// Returns how many rows have a reply with this fault beside it.
-    pub fn rows_with(&self, fault: Fault) -> usize
-        ensures { result ≡ count_beside fault self.now.replies.items }
-    {
-        count_beside(&self.replies, fault)
-    }
 }
 
 /// Ends a run of which this table, and each worker's answers and trail, are left: audits its

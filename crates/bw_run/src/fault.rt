@@ -6,10 +6,12 @@ ghost use Rattle.bw_run.specs.declared.fault.RunFault.TheVariants as run_fault;
 use bw_delta::NoMemory;
 use bw_keys::BadConfig;
 use bw_procedures::Fault;
+use nifforan_forest::ShareForestFault;
 use nifforan_shared::CrewFault;
 use thiserror::Error;
 
-/// Why a run has no end to show. The first three are found before any worker starts, in this order.
+/// Why a run has no end to show. The first four are found before any worker starts, in
+/// this order.
 #[derive(Clone, Copy, Debug, PartialEq, Eq, Hash, Error)]
 pub enum RunFault {
     /// A field of the configuration is out of its range.
@@ -21,6 +23,9 @@ pub enum RunFault {
     /// There are more readers than workers, or more than `MAX_READERS`.
     #[error("bad readers")]
     Readers,
+    /// There are no trees, or more than `MAX_TREES`.
+    #[error("bad trees")]
+    Trees,
     /// There was no place for a reader, or a reader found no table to read.
     #[error("reader")]
     NoReader,
@@ -36,6 +41,10 @@ pub enum RunFault {
     /// The receipts have no order that explains them: see [`Verdict::No`](bw_audit::Verdict::No).
     #[error("audit no {0} {1}")]
     Audit(usize, usize),
+    /// A tree of a forest has another range than it was made for. It never comes: no worker can change
+    /// a range, but what lies under a lock isn't known outside it.
+    #[error("a tree has another range")]
+    OtherRange,
 }
 
 impl From<NoMemory> for RunFault {
@@ -55,6 +64,22 @@ impl From<CrewFault> for RunFault {
         match fault {
             CrewFault::NoMemory => RunFault::Memory,
             CrewFault::NoThread => RunFault::Threads,
+        }
+    }
+}
+
+impl From<ShareForestFault> for RunFault {
+    ghost use Rattle.bw_run.specs.ForestFaults.{run_fault_of_share};
+
+    ghost from_gives = { λ share fault. fault ≡ run_fault_of_share share };
+
+    fn from(fault: ShareForestFault) -> RunFault {
+        match fault {
+            ShareForestFault::BadConfig(bad) => RunFault::Config(bad),
+            ShareForestFault::BadWorkers => RunFault::Workers,
+            ShareForestFault::NoMemory => RunFault::Memory,
+            ShareForestFault::NoThread => RunFault::Threads,
+            ShareForestFault::OtherRange => RunFault::OtherRange,
         }
     }
 }

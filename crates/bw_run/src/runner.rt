@@ -9,11 +9,12 @@ ghost use Rattle.bw_crew.specs.Workers.{changes_in};
 ghost use Rattle.bw_run.specs.Faults.{IsRunFault, MayRun};
 ghost use Rattle.bw_run.specs.Runs.{IsRunOf, IsLegalRun, TellsItsReplies};
 
+use crate::checks::check_crew;
 use crate::ending::{Finished, finish};
 use crate::fault::RunFault;
 use crate::progress::Progress;
 use crate::rows::do_rows;
-use bw_keys::{Config, MAX_WORKERS};
+use bw_keys::Config;
 use bw_snap::{Announcements, MAX_READERS, Naming, ReadTree, SnapFault};
 use bw_texts::Row;
 use bw_tree::{Blanks, MadeBy, Tree};
@@ -96,16 +97,12 @@ pub fn run_counted<R: Threads + Wait + Sync + Send + Copy, G: Gate + Sync>(
 }
 
 /// Returns the first fault that is there before any worker starts, want of memory apart.
+#[tactic(auto, using(crate::proofs::Runs::crew_in_run))]
 fn check(config: Config, workers: u32, readers: u32) -> Result<(), RunFault>
     ensures fine { OnOk result (MayRun config workers readers) }
     ensures fault { IfErr result (IsRunFault config workers readers []) }
 {
-    if let Err(bad) = config.check() {
-        return Err(RunFault::Config(bad));
-    }
-    if !(1..=MAX_WORKERS).contains(&workers) {
-        return Err(RunFault::Workers);
-    }
+    check_crew(config, workers)?;
     if readers > workers.min(MAX_READERS) {
         return Err(RunFault::Readers);
     }

@@ -45,6 +45,7 @@ pub record IsFit (setting : Setting) : Type 0 where
 
 pub record IsAskedFor (found : Found) (options : RunOptions) : Type 0 where
   pub setting : IsSettingFor found options.setting
+  pub trees : IsOptionFor found (codes "trees") options.trees
   pub replies : IsFlagFor found (codes "replies") options.replies
   pub history : IsFlagFor found (codes "history") options.history
   pub quiet : IsFlagFor found (codes "quiet") options.quiet

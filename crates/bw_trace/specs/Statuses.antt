@@ -27,11 +27,13 @@ abbrev pub run_status : RunFault → ℕ
 run_status (runs.Config bad) = 2
 run_status runs.Workers = 2
 run_status runs.Readers = 2
+run_status runs.Trees = 2
 run_status runs.NoReader = 3
 run_status runs.Threads = 3
 run_status runs.Memory = 3
 run_status (runs.Stopped worker number fault) = 3
 run_status (runs.Audit worker receipt) = 4
+run_status runs.OtherRange = 3
 
 -- so it is with a script, and one that makes no table is bad input
 abbrev pub script_status : ScriptFault → ℕ

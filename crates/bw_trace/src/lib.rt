@@ -4,7 +4,7 @@
 mod program;
 
 pub use bw_audit::Verdict;
-pub use bw_run::{Finished, Progress, Reply, RunFault, run};
+pub use bw_run::{Finished, FinishedForest, Progress, Reply, RunFault, run, run_forest};
 pub use bw_texts::{
     Act, History, MOST_HISTORY_ROWS, MOST_TRACE_ROWS, OutFault, Part, Row, TextFault, is_trace_for,
     make, read_history, read_trace, write_history, write_trace,

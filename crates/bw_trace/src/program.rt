@@ -1,6 +1,7 @@
 //! What the program does, over a reader and two writers.
 
 ghost use Rattle.std.specs.Prelude.{◌≡◌, ◌<◌, ◌≤◌, IfOk, OnOk};
+ghost use Rattle.std.specs.List.{AllByRecursion};
 ghost use Rattle.std.specs.Option.{ForSome};
 ghost use Rattle.std.specs.Io.KnownBytes.{Appends};
 ghost use Rattle.bw_trace.specs.Statuses.{run_status, status_of, verdict_status};
@@ -30,7 +31,8 @@ use crate::program::show_options::{DrawOptions, ShowOptions};
 use crate::program::steps::write_answers;
 use bw_audit::{Verdict, audit};
 use bw_keys::MAX_WORKERS;
-use bw_run::{Finished, Progress, RunFault, run_counted};
+use bw_run::{Finished, Progress, Reply, Row, RunFault, run_counted, run_forest};
+use bw_step::Survey;
 use bw_texts::{MOST_TRACE_ROWS, make, read_history, read_trace, write_history, write_trace};
 use bw_work::Open;
 use clap::ArgMatches;
@@ -206,24 +208,73 @@ fn do_run<T: Threads + Wait + Sync + Send + Copy, R: Read + Drop, W: Write, N: W
 ) -> Result<u8, Fault>
     ensures { IfOk result (λ status. status ≤ 4) }
 {
+    let rows = read_trace(alloc, input, options.setting.workers)?;
+    let done = match options.trees {
+        None => on_tree(rt, alloc, options, &rows, output, notes, progress),
+        Some(trees) => on_forest(rt, alloc, options, trees, &rows, output, notes, progress),
+    };
+    match done {
+        Err(Fault::Run(RunFault::Audit(worker, receipt))) => {
+            print_verdict(output, Verdict::No(worker, receipt))
+        }
+        done => done,
+    }
+}
+
+/// Runs the rows on one tree, and prints what is asked for.
+fn on_tree<T: Threads + Wait + Sync + Send + Copy, W: Write, N: Write>(
+    rt: T,
+    alloc: Global,
+    options: RunOptions,
+    rows: &[Row],
+    output: &mut W,
+    notes: &mut N,
+    progress: &Progress,
+) -> Result<u8, Fault>
+    requires { AllByRecursion (λ row. row.worker < options.setting.workers) rows.now }
+    ensures { IfOk result (λ status. status ≤ 4) }
+{
     let Setting {
         config,
         workers,
         readers,
     } = options.setting;
-    let rows = read_trace(alloc, input, workers)?;
-    match run_counted(rt, alloc, config, workers, readers, &rows, &Open, progress) {
-        Ok(finished) => {
-            let status = print_run(alloc, options, output, &finished)?;
-            if !options.quiet {
-                let _ = write_notes(notes, &finished);
-            }
-            Ok(status)
-        }
-        Err(RunFault::Audit(worker, receipt)) => {
-            print_verdict(output, Verdict::No(worker, receipt))
-        }
-        Err(fault) => Err(Fault::Run(fault)),
+    let finished = run_counted(rt, alloc, config, workers, readers, rows, &Open, progress)?;
+    let status = print_run(alloc, options, output, &finished)?;
+    note(options, notes, &finished.replies);
+    Ok(status)
+}
+
+/// Runs the rows on a forest of this many trees, and prints its report.
+fn on_forest<T: Threads + Wait + Sync + Send + Copy, W: Write, N: Write>(
+    rt: T,
+    alloc: Global,
+    options: RunOptions,
+    trees: u32,
+    rows: &[Row],
+    output: &mut W,
+    notes: &mut N,
+    progress: &Progress,
+) -> Result<u8, Fault>
+    requires { AllByRecursion (λ row. row.worker < options.setting.workers) rows.now }
+    ensures { IfOk result (λ status. status ≤ 4) }
+{
+    let Setting {
+        config,
+        workers,
+        ..
+    } = options.setting;
+    let finished = run_forest(rt, alloc, config, workers, trees, rows, progress)?;
+    let survey = finished.survey(alloc)?;
+    let status = print_report(alloc, options, output, &survey, &finished.replies)?;
+    note(options, notes, &finished.replies);
+    Ok(status)
+}
+
+/// Notes the faults beside the replies, if the options ask for that.
+fn note<N: Write>(options: RunOptions, notes: &mut N, replies: &[Reply]) {
+    if !options.quiet {
+        let _ = write_notes(notes, replies);
     }
 }
 
@@ -241,7 +292,21 @@ fn print_run<W: Write>(
         write_history(output, &finished.trails, &pairs)?;
         return Ok(DONE);
     }
-    write_report(alloc, output, finished, options.replies)?;
+    let survey = finished.table.survey(alloc)?;
+    print_report(alloc, options, output, &survey, &finished.replies)
+}
+
+/// Prints the report of a run whose history is legal.
+fn print_report<W: Write>(
+    alloc: Global,
+    options: RunOptions,
+    output: &mut W,
+    survey: &Survey,
+    replies: &[Reply],
+) -> Result<u8, Fault>
+    ensures { IfOk result (λ status. status ≤ 4) }
+{
+    write_report(alloc, output, survey, options.replies.then_some(replies))?;
     print_verdict(output, Verdict::Yes)
 }
 

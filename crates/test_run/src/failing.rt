@@ -78,11 +78,12 @@ split 0 3 5 leaf 5 top - 5:50
 /// Words, and an input.
 type Case = (&'static [&'static str], &'static str);
 
-static CASES: [Case; 14] = [
+static CASES: [Case; 15] = [
     (&["run"], TRACE),
     (&["run", "--replies"], TRACE),
     (&["run", "--replies", "--readers", "1"], TRACE),
     (&["run", "--history"], TRACE),
+    (&["run", "--replies", "--trees", "2"], TRACE),
     (&["stats", "--pages", "8"], TRACE),
     (&["stats", "--steps"], SCRIPT),
     (&["check"], HISTORY),

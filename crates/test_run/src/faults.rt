@@ -50,13 +50,15 @@ fn the_first_fault_is_named(rt: HostRuntime) {
     }
 }
 
-static TEXTS: [(RunFault, &str); 8] = [
+static TEXTS: [(RunFault, &str); 10] = [
     (BAD_PAGES, "bad pages"),
     (RunFault::Workers, "bad workers"),
     (RunFault::Readers, "bad readers"),
+    (RunFault::Trees, "bad trees"),
     (RunFault::NoReader, "reader"),
     (RunFault::Threads, "threads"),
     (RunFault::Memory, "memory"),
+    (RunFault::OtherRange, "a tree has another range"),
     (RunFault::Audit(1, 0), "audit no 1 0"),
     (RunFault::Stopped(0, 4, Fault::Worn), "worker 0 row 4: worn"),
 ];
@@ -72,7 +74,7 @@ fn faults_have_texts(rt: HostRuntime) -> Result<(), Fail> {
 
 /// Returns a trace of which worker 1 stops at its first row. That worker 0 does all of its rows
 /// shows in the row that is named: the last but one of these, which it can't do either.
-fn stopping_trace(machine: Global) -> Result<Vec<Row>, NoMemory> {
+pub(crate) fn stopping_trace(machine: Global) -> Result<Vec<Row>, NoMemory> {
     let mut trace = Vec::new(machine);
     add_puts(&mut trace, 1, (0, 2), false)?;
     for key in 0..100 {

@@ -8,6 +8,8 @@ mod failing;
 #[cfg(test)]
 mod faults;
 #[cfg(test)]
+mod forests;
+#[cfg(test)]
 mod lines;
 #[cfg(test)]
 mod rows;

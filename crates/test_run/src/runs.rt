@@ -9,7 +9,7 @@ use std::test::Fail;
 use std::thread::Threads;
 
 /// Returns what the program prints on the input, if it ends well.
-fn printed<R: Abort + AllocGlobal + Threads + Wait + Files + Sync + Send + Copy>(
+pub(crate) fn printed<R: Abort + AllocGlobal + Threads + Wait + Files + Sync + Send + Copy>(
     rt: &R,
     words: &[&str],
     input: &str,

@@ -33,9 +33,15 @@ fn what_is_written_is_what_was_read(rt: HostRuntime) -> Result<(), Fail> {
     Ok(())
 }
 
-static FAULTS: [(RunFault, u8, &str); 5] = [
+static FAULTS: [(RunFault, u8, &str); 7] = [
     (RunFault::Workers, 2, "bwtree: bad workers\n"),
     (RunFault::Readers, 2, "bwtree: bad readers\n"),
+    (RunFault::Trees, 2, "bwtree: bad trees\n"),
+    (
+        RunFault::OtherRange,
+        3,
+        "bwtree: a tree has another range\n",
+    ),
     (RunFault::NoReader, 3, "bwtree: reader\n"),
     (RunFault::Threads, 3, "bwtree: threads\n"),
     (RunFault::Memory, 3, "bwtree: memory\n"),

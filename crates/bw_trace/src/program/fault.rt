@@ -61,7 +61,9 @@ impl Fault {
             | Fault::Write => BAD_INPUT,
             Fault::Usage(_)
             | Fault::Bad(_)
-            | Fault::Run(RunFault::Config(_) | RunFault::Workers | RunFault::Readers) => BAD_USAGE,
+            | Fault::Run(
+                RunFault::Config(_) | RunFault::Workers | RunFault::Readers | RunFault::Trees,
+            ) => BAD_USAGE,
             Fault::Run(RunFault::Audit(_, _)) => AUDIT_NO,
             Fault::Text(TextFault::Rows | TextFault::Memory)
             | Fault::Script(ScriptFault::Lines | ScriptFault::Memory)

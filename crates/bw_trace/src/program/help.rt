@@ -34,6 +34,10 @@ Replies: inserted, present V (put left V there), replaced V, removed V, nokey, f
 cleared N. 'inserted (table full)' wants more --pages. On a terminal standard error says each second
 how many rows are done, and in the end how many have such a fault.
 
+With --trees the ranges begin at 0 and at quantiles of the rows' keys, each leaf ends where its tree's
+range does, and the audit says yes where each tree's history is legal. It doesn't go with --readers or
+--history.
+
 Example:
   bwtree make --rows 20 | bwtree run --replies";
 
@@ -51,7 +55,7 @@ With --steps a script of steps is read, of one line a step and single blanks bet
   split 0 3 5 leaf 5 top - 5:50           the keys from 5 on go to a new page
   grow 1 1 inner 0 top - 0:0 5:1          a new root over both pages
 A step that is refused changes nothing, and the next one is tried. Where line N can't be read,
-'bwtree: line N: the line can't be read' says so. docs/STEPS.md has all kinds of lines.
+'bwtree: line N: the line can't be read' says so. examples/scripts.md has all kinds of lines.
 
 Example:
   bwtree make --rows 20 | bwtree draw --fanout 4 --chain 4 > tree.svg";
@@ -65,8 +69,8 @@ or by the number and the name of the refusal, and a question by what the table s
   look 0 1             found 10 at 1
   pairs                1:10
 Empty lines, and those that begin with '#', ask for nothing. Where line N can't be read,
-'bwtree: line N: the line can't be read' says so, and nothing more is answered. docs/STEPS.md has
-all lines, answers and refusals.";
+'bwtree: line N: the line can't be read' says so, and nothing more is answered.
+examples/scripts.md has all lines and answers, docs/STEPS.md all refusals.";
 
 pub(crate) const OF_FILM: &str =
     "Rows, scripts of steps and options are those of draw. It prints a page of HTML that needs no other

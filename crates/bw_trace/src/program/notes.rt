@@ -1,6 +1,6 @@
 //! What is said of a run that came to its end, where somebody watches.
 
-use bw_run::Finished;
+use bw_run::{Reply, count_beside};
 use bw_work::Fault;
 use std::io;
 use std::io::Write;
@@ -17,10 +17,10 @@ const NOTES: [(Fault, &str); 5] = [
     (Fault::Worn, "found a version used up: a new run"),
 ];
 
-/// Writes a line for each fault that stands beside replies, with the number of its rows.
-pub(crate) fn write_notes<N: Write>(notes: &mut N, finished: &Finished) -> io::Result<()> {
+/// Writes a line for each fault that stands beside the replies, with the number of its rows.
+pub(crate) fn write_notes<N: Write>(notes: &mut N, replies: &[Reply]) -> io::Result<()> {
     for (fault, note) in NOTES {
-        match finished.rows_with(fault) {
+        match count_beside(replies, fault) {
             0 => {}
             1 => writeln!(notes, "1 row {note}")?,
             rows => writeln!(notes, "{rows} rows {note}")?,

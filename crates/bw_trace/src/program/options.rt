@@ -27,6 +27,8 @@ pub(crate) enum Field {
     Workers,
     #[error("readers")]
     Readers,
+    #[error("trees")]
+    Trees,
     #[error("rows")]
     Rows,
     #[error("span")]
@@ -45,6 +47,7 @@ impl Field {
             Field::Tries => "--tries is 1 to 1000",
             Field::Workers => "--workers is 1 to 64",
             Field::Readers => "--readers is 0 to 16, and no more than --workers",
+            Field::Trees => "--trees is 1 to 1024",
             Field::Rows => "--rows is 0 to 1000000",
             Field::Span => "--span is 1 to 4294967295",
             Field::To => "--to is no less than --from",

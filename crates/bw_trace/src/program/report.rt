@@ -1,6 +1,7 @@
 //! The report of a run.
 
-use bw_run::{Finished, Reply};
+use bw_run::Reply;
+use bw_step::Survey;
 use bw_texts::OutFault;
 use std::alloc::Global;
 use std::io;
@@ -11,15 +12,14 @@ use std::io::{BufWriter, Write};
 pub(crate) fn write_report<W: Write>(
     alloc: Global,
     output: &mut W,
-    finished: &Finished,
-    has_replies: bool,
+    survey: &Survey,
+    replies: Option<&[Reply]>,
 ) -> Result<(), OutFault> {
-    let survey = finished.table.survey(alloc)?;
     let Ok(mut lines) = BufWriter::new(alloc, output) else {
         return Err(OutFault::Memory);
     };
-    if has_replies {
-        write_replies(&mut lines, &finished.replies)?;
+    if let Some(replies) = replies {
+        write_replies(&mut lines, replies)?;
     }
     writeln!(lines, "{survey}")?;
     lines.flush()?;

@@ -1,19 +1,23 @@
 //! The options of `run`.
 
-ghost use Rattle.std.specs.Prelude.{IfOk};
+ghost use Rattle.std.specs.Prelude.{◌≤◌, IfOk, codes};
+ghost use Rattle.std.specs.Option.{ForSome};
 ghost use Rattle.clap.specs.Words.{found_of};
-ghost use Rattle.bw_trace.specs.Options.{IsAskedFor, IsFit};
+ghost use Rattle.bw_trace.specs.Options.{IsAskedFor, IsFit, IsOptionFor};
 
 use crate::program::help::OF_RUN;
-use crate::program::options::{Field, file_arg};
+use crate::program::options::{Field, file_arg, if_given, optional};
 use crate::program::setting::{Setting, flag, with_setting};
-use clap::{ArgMatches, Command};
+use bw_forest::MAX_TREES;
+use clap::{Arg, ArgMatches, Command};
 use std::alloc::{AllocError, Global};
 
 /// How a trace is run, and what is printed of it.
 #[derive(Clone, Copy)]
 pub(crate) struct RunOptions {
     pub setting: Setting,
+    /// How many trees the trace is run on, 1 to 1,024, if on a forest.
+    pub trees: Option<u32>,
     /// Whether the replies are printed, before the leaves.
     pub replies: bool,
     /// Whether the history is printed, in place of all else, the replies too.
@@ -27,13 +31,28 @@ impl RunOptions {
     pub(crate) fn of(matches: &ArgMatches) -> Result<RunOptions, Field>
         ensures asked { IfOk result (IsAskedFor (found_of matches.now)) }
         ensures fit { IfOk result (λ options. IsFit options.setting) }
+        ensures trees { IfOk result (λ options.
+            ForSome options.trees (λ trees. (1 ≤ trees) × (trees ≤ 1024))) }
     {
         Ok(RunOptions {
             setting: Setting::of(matches)?,
+            trees: trees_of(matches)?,
             replies: matches.get_flag("replies"),
             history: matches.get_flag("history"),
             quiet: matches.get_flag("quiet"),
         })
+    }
+}
+
+/// Returns the number of trees, if it is given.
+fn trees_of(matches: &ArgMatches) -> Result<Option<u32>, Field>
+    ensures asked { IfOk result (IsOptionFor (found_of matches.now) (codes "trees")) }
+    ensures fit { IfOk result (λ trees. ForSome trees (λ n. (1 ≤ n) × (n ≤ 1024))) }
+{
+    match if_given(matches, "trees") {
+        None => Ok(None),
+        Some(trees) if 1 <= trees && trees <= u64::from(MAX_TREES) => Ok(Some(trees as u32)),
+        Some(_) => Err(Field::Trees),
     }
 }
 
@@ -43,6 +62,7 @@ pub(crate) fn run_command<'a>(alloc: Global) -> Result<Command<'a>, AllocError> 
         .about("Runs a trace")
         .after_help(OF_RUN);
     with_setting(alloc, run)?
+        .arg(trees_option(alloc)?)?
         .arg(flag(alloc, "replies", "Prints the replies, too"))?
         .arg(flag(alloc, "history", "Prints the history alone"))?
         .arg(flag(
@@ -51,4 +71,15 @@ pub(crate) fn run_command<'a>(alloc: Global) -> Result<Command<'a>, AllocError> 
             "Says nothing of a run that ends well, not even on a terminal",
         ))?
         .arg(file_arg(alloc))
+}
+
+/// Returns the option for a forest. It conflicts with what is to be had of one tree alone.
+fn trees_option<'a>(alloc: Global) -> Result<Arg<'a>, AllocError> {
+    optional(
+        alloc,
+        "trees",
+        "Runs it on this many trees by ranges of keys, 1 to 1024, and not on one",
+    )
+    .conflicts_with("readers")?
+    .conflicts_with("history")
 }

@@ -1,0 +1,161 @@
+-- What the parts of a run on a forest say of the whole.
+use Rattle.std.proofs.Common.{◌≡◌, ℕ, ◌+◌, ◌<◌, false, List, [], ◌∷◌, ◌++◌, get_or, map, Vec, Global, refl, ap, sym, subst, ◌∙◌, arith}
+use Rattle.std.specs.Prelude.{All, length, slice_index_or, sum_by}
+use Rattle.std.proofs.lemmas.List.{length-map}
+use Rattle.std.proofs.lemmas.List.Sums.{sum_by-cons}
+use Rattle.bw_keys.specs.declared.config.Config.{Config}
+use Rattle.bw_step.specs.declared.receipt.Receipt.{Receipt}
+use Rattle.bw_step.specs.Trails.{lists_of}
+use Rattle.bw_tree.specs.Shares.{ShareValue, share_of, sum_of}
+use Rattle.bw_forest.specs.Forests.{ForestValue, IsClosedForest, pairs_of, ranges_in}
+use Rattle.bw_forest.specs.Plots.{PlotValue}
+use Rattle.bw_forest.specs.Bounds.{ranges_of}
+use Rattle.bw_procedures.specs.declared.act.Act.{Act}
+use Rattle.bw_procedures.specs.declared.reply.Reply.{Reply}
+use Rattle.bw_texts.specs.declared.trace.row.Row.{Row}
+use Rattle.bw_crew.specs.Workers.{share_by}
+use Rattle.nifforan_forest.specs.declared.fault.ShareForestFault.{ShareForestFault}
+use Rattle.nifforan_forest.specs.declared.fault.ShareForestFault.TheVariants as share
+use Rattle.nifforan_forest.specs.declared.returned.Returned.{Returned}
+use Rattle.nifforan_forest.specs.Sharing.{IsShareForestFault}
+use Rattle.nifforan_forest.specs.Workers.{trails_of}
+use Rattle.bw_run.specs.declared.fault.RunFault.{RunFault}
+use Rattle.bw_run.specs.declared.fault.RunFault.TheVariants.{Config as BadConfig, Workers, NoReader, Threads, Memory, Stopped, Audit}
+use Rattle.bw_run.specs.Faults.{EndsBadly, IsCrewFault, StopsWithin}
+use Rattle.bw_run.specs.ForestAnswers.{ToldBy}
+use Rattle.bw_run.specs.ForestFaults.{EndsForest, IsForestRunFault, MayRunForest, run_fault_of_share}
+use Rattle.bw_run.specs.ForestRuns.{by_trees, in_a_row}
+use Rattle.bw_run.proofs.ForestColumns.{Have, each_by_trees, length_by_trees, row_of, sum_by_trees}
+use Rattle.bw_run.proofs.ForestLeaves.{read_many}
+use Rattle.bw_run.proofs.ForestDone.{all_map, all_of_map}
+
+-- a fault of the crew is one of the run
+pub crew_in_forest_run : (config : Config) (workers trees : ℕ) (rows : List Row) (fault : RunFault)
+    → IsCrewFault config workers fault → IsForestRunFault config workers trees rows fault
+crew_in_forest_run config workers trees rows (BadConfig bad) is = is
+crew_in_forest_run config workers trees rows Workers is = is
+crew_in_forest_run config workers trees rows fault is = absurd is
+
+-- a worker that stopped is one of the run's, and there are no readers
+pub stops_end : (n workers : ℕ) (rows : List Row) (fault : RunFault) → n ≡ workers → StopsWithin false n rows fault
+    → EndsForest workers rows fault
+stops_end n workers rows NoReader many stops = absurd (cc stops)
+stops_end n workers rows Threads many stops = tt
+stops_end n workers rows Memory many stops = tt
+stops_end n workers rows (Stopped worker number fault) many stops = (subst (λ k. worker < k) many stops.0, stops.1)
+stops_end n workers rows fault many stops = absurd stops
+
+pub badly_ends : (workers : ℕ) (rows : List Row) (fault : RunFault) → EndsBadly workers fault → EndsForest workers rows fault
+badly_ends workers rows Memory ends = tt
+badly_ends workers rows (Audit worker receipt) ends = ends
+badly_ends workers rows fault ends = absurd ends
+
+-- a run that began ended so
+pub forest_ends : (config : Config) (workers trees n : ℕ) (rows : List Row) (fault : RunFault) → n ≡ workers
+    → MayRunForest config workers trees → EndsForest n rows fault
+    → IsForestRunFault config workers trees rows fault
+forest_ends config workers trees n rows Threads many made ends = made
+forest_ends config workers trees n rows Memory many made ends = made
+forest_ends config workers trees n rows (Stopped worker number fault) many made ends =
+    (made, subst (λ k. worker < k) many ends.0, ends.1)
+forest_ends config workers trees n rows (Audit worker receipt) many made ends =
+    (made, record { trails = ends.trails; pairs = ends.pairs; count = ends.count ∙ many; verdict = ends.verdict })
+forest_ends config workers trees n rows fault many made ends = absurd ends
+
+-- what is told of the sharing is so of the run
+pub share_ends : (config : Config) (workers trees : ℕ) (rows : List Row) (fault : ShareForestFault) → MayRunForest config workers trees
+    → IsShareForestFault config workers fault
+    → IsForestRunFault config workers trees rows (run_fault_of_share fault)
+share_ends config workers trees rows (share.BadConfig bad) made is = is
+share_ends config workers trees rows share.BadWorkers made is = is
+share_ends config workers trees rows share.NoMemory made is = made
+share_ends config workers trees rows share.NoThread made is = made
+share_ends config workers trees rows share.OtherRange made is = made
+
+-- a closed forest counts what shares have together, whichever they are
+pub closed_same : (made : Config) (shares others : List ShareValue) (forest : ForestValue) → sum_of shares ≡ sum_of others
+    → IsClosedForest made others forest → IsClosedForest made shares forest
+closed_same made shares others forest same closed = record {
+  trees = closed.trees;
+  config = closed.config;
+  one_map = closed.one_map;
+  books = closed.books ∙ sym same;
+  pairs = subst (λ (s : ShareValue). pairs_of forest.tables + s.removed ≡ s.inserted) (sym same) closed.pairs;
+}
+
+-- all trails of all workers, in a row
+pub trails_in_rows : {O L : Type 0} → (added : L → List Receipt) (workers : List (Returned O L))
+    → trails_of added workers ≡ in_a_row (map (λ it. map added it.trails.items) workers)
+trails_in_rows added [] = refl
+trails_in_rows added (it ∷ workers) = ap (λ (rest : List (List Receipt)). map added it.trails.items ++ rest)
+    (trails_in_rows added workers)
+
+sum_map : {X Y : Type 0} → (f : Y → ℕ) (g : X → Y) (xs : List X) → sum_by f (map g xs) ≡ sum_by (λ x. f (g x)) xs
+sum_map f g [] = refl
+sum_map f g (x ∷ xs) = omega (arith, sum_map f g xs, sum_by-cons f (g x) (map g xs), sum_by-cons (λ it. f (g it)) x xs)
+
+-- the shares by trees are together what those by workers are
+pub same_shares : (n : ℕ) (rows : List (List (List Receipt))) → Have n rows
+    → sum_of (map share_by (in_a_row (by_trees n rows))) ≡ sum_of (map share_by (in_a_row rows))
+same_shares n rows have =
+    let trees = in_a_row (by_trees n rows) in
+    let workers = in_a_row rows in
+    let inserted = sum_map (λ (s : ShareValue). s.inserted) share_by trees
+    ∙ (sum_by_trees (λ trail. (share_by trail).inserted) n rows have ∙ sym (sum_map (λ (s : ShareValue). s.inserted) share_by workers))
+    in
+    let removed = sum_map (λ (s : ShareValue). s.removed) share_by trees
+    ∙ (sum_by_trees (λ trail. (share_by trail).removed) n rows have ∙ sym (sum_map (λ (s : ShareValue). s.removed) share_by workers)) in
+    (λ j. share_of (inserted j) (removed j))
+
+length_ranges : (bounds : List ℕ) → length (ranges_of bounds) ≡ length bounds
+length_ranges [] = refl
+length_ranges (low ∷ lows) = let it = length_ranges lows in omega (arith, it)
+
+-- there is a tree for each bound
+pub as_many : (bounds : List ℕ) (trees : List PlotValue) → ranges_in trees ≡ ranges_of bounds → length trees ≡ length bounds
+as_many bounds trees same = read_many (λ (tree : PlotValue). tree.range) trees (ranges_of bounds) same ∙ length_ranges bounds
+
+module _ {O : Type 0} (n : ℕ) (workers : List (Returned O (Vec Receipt Global))) where
+  -- each worker's trails, tree by tree
+  abbrev pub rows_of : List (List (List Receipt))
+  rows_of = map (λ it. lists_of it.trails.items) workers
+
+  pub have_trails : All (λ it. length it.trails.items ≡ n) workers → Have n rows_of
+  have_trails all =
+      all_map (λ (row : List (List Receipt)). length row ≡ n) (λ it. lists_of it.trails.items) workers
+      (λ k d inside. length-map (get_or workers k d).trails.items (λ trail. trail.items) ∙ all k d inside)
+
+  module _ (sorted : List (Vec (Vec Receipt Global) Global)) where
+    -- the trails are sorted by the trees
+    abbrev pub AreSorted : Type 0
+    AreSorted = map (λ its. lists_of its.items) sorted ≡ by_trees n rows_of
+
+    pub many_sorted : AreSorted → length sorted ≡ n
+    many_sorted same = sym (length-map sorted (λ its. lists_of its.items)) ∙ (ap length same ∙ length_by_trees n rows_of)
+
+    pub each_sorted : All (λ it. length it.trails.items ≡ n) workers → AreSorted → All (λ its. length its.items ≡ length workers) sorted
+    each_sorted all same =
+        let columns = subst (λ (lists : List (List (List Receipt))). Have (length rows_of) lists) (sym same)
+        (each_by_trees n rows_of (have_trails all)) in
+        let each = all_of_map (λ (list : List (List Receipt)). length list ≡ length rows_of)
+        (λ its. lists_of its.items) sorted columns in
+        λ k d inside. sym (length-map (get_or sorted k d).items (λ trail. trail.items))
+        ∙ (each k d inside ∙ length-map workers (λ it. lists_of it.trails.items))
+
+    pub shares_sorted : Have n rows_of → AreSorted → sum_of (map share_by (in_a_row (map (λ its. lists_of its.items) sorted))) ≡ sum_of
+        (map share_by (in_a_row rows_of))
+    shares_sorted have same = ap (λ (lists : List (List (List Receipt))). sum_of (map share_by (in_a_row lists))) same
+        ∙ same_shares n rows_of have
+
+    -- what a worker's trails tell, they tell as they are sorted
+    pub told_sorted : Have n rows_of → AreSorted → (worker : ℕ) → worker < length workers
+        → (acts : List Act) (replies column : List Reply) → replies ≡ column
+        → ToldBy acts column (get_or rows_of worker []) → ToldBy acts replies
+        (map (λ its. slice_index_or its worker []) (map (λ its. lists_of its.items) sorted))
+    told_sorted have same worker inside acts replies column own tells =
+        let many : length rows_of ≡ length workers = length-map workers (λ it. lists_of it.trails.items) in
+        let row = ap (λ (lists : List (List (List Receipt))). map (λ its. get_or its worker []) lists) same
+        ∙ row_of [] n rows_of worker have (omega (arith, many, inside)) in
+        subst (λ (rs : List Reply). ToldBy acts rs (map (λ its. slice_index_or its worker [])
+        (map (λ its. lists_of its.items) sorted))) (sym own)
+        (subst (λ (ts : List (List Receipt)). ToldBy acts column ts) (sym row) tells)
