@@ -1,6 +1,6 @@
-use Rattle.std.proofs.Common.{rules, ◌≡◌, ◌<◌, ◌≤◌, ℕ, [], Some, refl, length, map, ap, sym, subst, ◌∙◌, arith}
+use Rattle.std.proofs.Common.{rules, ◌≡◌, ◌<◌, ◌≤◌, ◌∷◌, ℕ, [], Some, refl, length, map, ap, sym, subst, ◌∙◌, arith}
 use Rattle.std.specs.Prelude.{All, slice_index_or}
-use Rattle.std.proofs.lemmas.List.{get_or-map, length-map}
+use Rattle.std.proofs.lemmas.List.{get_or-map, length-append, length-map}
 use Rattle.std.proofs.lemmas.Option.{slice_get_read, slice_get_within}
 use Rattle.std.proofs.lemmas.Slice.Zip.{zip_end, zip_turn}
 use Rattle.bw_step.specs.Trails.{lists_of}
@@ -44,7 +44,7 @@ loop-tree-preserved c =
     get_or-map (λ own. lists_of own.items) trails at its [] turn.1 ∙ ap (λ own. lists_of own.items) (sym (turn.3 its)) in
     let more = legal_more (tables_of trees) (map (λ own. lists_of own.items) trails) at table (lists_of c.deref.result.now) there
     (ap lists_of c.deref.ensures.value ∙ sym read) c.in_ok-judge.ensures.legal c.loop-tree.invariant in
-    more
+    λ own before. more own (subst (λ many. own < many) (length-append c.loop-tree.yielded ((c.in-Some.tree, c.in-Some.its) ∷ [])) before)
 
 pub returns-clause-legal : goal.returns-clause-legal
 returns-clause-legal c = λ tree table there.

@@ -1,4 +1,4 @@
-use Rattle.std.proofs.Common.{rules, ◌≡◌, ◌<◌, length, ap, sym, subst, ◌∙◌, arith}
+use Rattle.std.proofs.Common.{rules, ◌≡◌, ◌<◌, length, max, ap, sym, subst, ◌∙◌, arith}
 use Rattle.std.specs.List.{filter_map}
 use Rattle.bw_step.specs.declared.survey.Book.{Book}
 use Rattle.bw_step.specs.declared.survey.Leaf.{Leaf}
@@ -11,7 +11,7 @@ use Rattle.bw_run.proofs.forest.ending.FinishedForest.survey.Goals as goal
 
 pub loop-tree-preserved : goal.loop-tree-preserved
 loop-tree-preserved c =
-    let trees = c.trees.result.now in
+    let trees = c.trees-tree-items.result.now in
     let i = c.loop-tree.tree-index in
     let tree = c.tree-item.result in
     let table = c.table.result.now in
@@ -21,12 +21,12 @@ loop-tree-preserved c =
     let inv = c.loop-tree.invariant in
     let survey = c.in_ok-own.ensures in
     let less : i < length trees = search rules in
-    let many_ranges = read_many (λ (t : PlotValue). t.range) trees ranges c.trees.ensures.ranges in
-    let many_tables = read_many (λ (t : PlotValue). t.table) trees tables c.trees.ensures.tables in
+    let many_ranges = read_many (λ (t : PlotValue). t.range) trees ranges c.trees-tree-items.ensures.ranges in
+    let many_tables = read_many (λ (t : PlotValue). t.table) trees tables c.trees-tree-items.ensures.tables in
     let in_tables : i < length tables = omega (arith, less, many_tables) in
-    let is_range = read_at (λ (t : PlotValue). t.range) trees ranges i tree range c.trees.ensures.ranges less c.tree-item.is
+    let is_range = read_at (λ (t : PlotValue). t.range) trees ranges i tree range c.trees-tree-items.ensures.ranges less c.tree-item.is
     c.range.ensures.same in
-    let is_table = read_at (λ (t : PlotValue). t.table) trees tables i tree table c.trees.ensures.tables less c.tree-item.is
+    let is_table = read_at (λ (t : PlotValue). t.table) trees tables i tree table c.trees-tree-items.ensures.tables less c.tree-item.is
     c.table.ensures.same in
     let within : AreLeavesWithin range table (filter_map (cut_to range) c.deref.result.now) = record {
       row = survey.row;
@@ -35,11 +35,13 @@ loop-tree-preserved c =
     } in
     let book : c.together-book.result ≡ with_book c.loop-tree.book table.book =
     c.together-book.ensures ∙ ap (with_book c.loop-tree.book) survey.book in
+    let highest : c.max-levels.result ≡ max c.loop-tree.levels c.in_ok-own.own.levels = search rules in
     record {
       leaves = rw c.in_ok-append_within.ensures
           (leaves_more ranges tables c.loop-tree.leaves.items i range table (filter_map (cut_to range) c.deref.result.now)
           (omega (arith, less, many_ranges)) in_tables is_range is_table inv.leaves within);
-      levels = levels_more tables i table c.loop-tree.levels in_tables is_table inv.levels;
+      levels = highest
+          ∙ (ap (max c.loop-tree.levels) survey.levels ∙ levels_more tables i table c.loop-tree.levels in_tables is_table inv.levels);
       inserted = ap (λ (b : Book). b.inserted) book ∙ sum_more
           (λ (t : TableValue). t.book.inserted) tables i table _ in_tables is_table inv.inserted;
       removed = ap (λ (b : Book). b.removed) book ∙ sum_more
