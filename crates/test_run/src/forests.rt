@@ -29,7 +29,7 @@ fn finish<R: Threads + Wait + Sync + Send + Copy>(
 const ROWS: usize = 1000;
 
 /// Returns whether the leaves, of which there are some, part the keys and have this many pairs.
-fn do_part<'a, I: Iterator<Item = &'a str>>(leaves: I, pairs: u64) -> bool {
+fn do_part(leaves: &[&str], pairs: u64) -> bool {
     let (mut begin, mut sum) = ("0", 0u64);
     for leaf in leaves {
         let mut words = leaf.split(' ');
@@ -65,11 +65,8 @@ fn one_worker_is_answered_as_on_one_tree(rt: HostRuntime) -> Result<(), Fail> {
             assert!(rt; lines[..ROWS] == alone[..ROWS], "{trees}");
             assert!(rt; lines[many - 2..] == alone[alone.len() - 2..], "{trees}");
             let pairs = lines[many - 2].rsplit(' ').next().unwrap_or("");
-            let leaves = lines[ROWS..many - 2].iter().map(|line| *line);
-            assert!(rt;
-                do_part(leaves, pairs.parse::<u64>().unwrap_or(u64::MAX)),
-                "{trees}"
-            );
+            let pairs = pairs.parse::<u64>().unwrap_or(u64::MAX);
+            assert!(rt; do_part(&lines[ROWS..many - 2], pairs), "{trees}");
         }
     }
     Ok(())
