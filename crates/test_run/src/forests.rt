@@ -28,6 +28,28 @@ fn finish<R: Threads + Wait + Sync + Send + Copy>(
 /// How many rows a trace has here.
 const ROWS: usize = 1000;
 
+/// What a run prints: the reply to each row, the leaves, and the sum with the audit.
+#[derive(Clone, Copy)]
+struct Parts<'a, 'b> {
+    replies: &'a [&'b str],
+    leaves: &'a [&'b str],
+    last: &'a [&'b str],
+}
+
+/// Returns the parts of these lines, unless there are too few.
+fn parts_of<'a, 'b>(lines: &'a [&'b str]) -> Option<Parts<'a, 'b>> {
+    if lines.len() < ROWS + 3 {
+        return None;
+    }
+    let (replies, rest) = lines.split_at(ROWS);
+    let (leaves, last) = rest.split_at(rest.len() - 2);
+    Some(Parts {
+        replies,
+        leaves,
+        last,
+    })
+}
+
 /// Returns whether the leaves, of which there are some, part the keys and have this many pairs.
 fn do_part(leaves: &[&str], pairs: u64) -> bool {
     let (mut begin, mut sum) = ("0", 0u64);
@@ -60,13 +82,14 @@ fn one_worker_is_answered_as_on_one_tree(rt: HostRuntime) -> Result<(), Fail> {
             let words = ["run", "--fanout=4", "--chain=2", "--replies", trees];
             let forest = printed(&rt, &words, trace.as_str())?;
             let lines: Vec<&str> = forest.as_str().lines().collect(alloc)?;
-            let (many, least) = (lines.len(), ROWS + 3);
-            assert!(rt; many >= least && alone.len() >= least);
-            assert!(rt; lines[..ROWS] == alone[..ROWS], "{trees}");
-            assert!(rt; lines[many - 2..] == alone[alone.len() - 2..], "{trees}");
-            let pairs = lines[many - 2].rsplit(' ').next().unwrap_or("");
-            let pairs = pairs.parse::<u64>().unwrap_or(u64::MAX);
-            assert!(rt; do_part(&lines[ROWS..many - 2], pairs), "{trees}");
+            let (Some(one), Some(many)) = (parts_of(&alone), parts_of(&lines)) else {
+                panic!(rt; "a report has {ROWS} replies, a leaf, the sum and the audit");
+            };
+            assert!(rt; many.replies == one.replies, "{trees}");
+            assert!(rt; many.last == one.last, "{trees}");
+            let sum = many.last.first().and_then(|line| line.rsplit(' ').next());
+            let pairs = sum.and_then(|sum| sum.parse::<u64>().ok());
+            assert!(rt; do_part(many.leaves, pairs.unwrap_or(u64::MAX)), "{trees}");
         }
     }
     Ok(())
