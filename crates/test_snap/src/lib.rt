@@ -1,6 +1,6 @@
 //! Tests of a reader in a thread of its own beside two workers: what it sees while one of them is
 //! held, and while both write and publish all the time. Tests of stamps without a place, and of what is
-//! done in one hold of the lock, too.
+//! done in one hold of the lock, too; and each call of a reader, where nothing can wait.
 #![tactic(auto)]
 
 #[cfg(test)]
@@ -21,3 +21,4 @@ mod seen;
 mod stamps;
 #[cfg(test)]
 mod two_workers;
+pub mod waitless;

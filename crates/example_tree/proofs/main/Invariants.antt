@@ -8,3 +8,15 @@ ghosts-fill_all-D-Ledger g a = record { name = a.blanks.removals.name; parts = a
 
 abbrev pub ghosts-fill_all-I-MadeBy : goal.ghosts-fill_all-I-MadeBy
 ghosts-fill_all-I-MadeBy g a = record { config = a.config }
+
+abbrev pub ghosts-keep-N-Ledger : goal.ghosts-keep-N-Ledger
+ghosts-keep-N-Ledger g a = record { name = a.blanks.insertions.name; parts = a.blanks.insertions.parts }
+
+abbrev pub ghosts-keep-D-Ledger : goal.ghosts-keep-D-Ledger
+ghosts-keep-D-Ledger g a = record { name = a.blanks.removals.name; parts = a.blanks.removals.parts }
+
+abbrev pub ghosts-keep-N-MadeBy : goal.ghosts-keep-N-MadeBy
+ghosts-keep-N-MadeBy g a = record { config = a.config }
+
+abbrev pub ghosts-keep-N-Naming : goal.ghosts-keep-N-Naming
+ghosts-keep-N-Naming g a = record { announcements = a.announcements.seen.book }

@@ -1,6 +1,5 @@
-//! A tree with a reader, which a program keeps while threads come and go. In each round a worker puts
-//! keys and publishes now and then, and the reader looks meanwhile, without the lock.
-#![tactic(auto)]
+//! A tree with a reader, which is kept while threads come and go. In each round a worker puts keys and
+//! publishes now and then, and the reader looks meanwhile, without the lock.
 
 ghost use Rattle.std.specs.Prelude.{◌≡◌};
 ghost use Rattle.bw_tree.specs.Trees.{OpensFor};
@@ -12,7 +11,6 @@ use bw_table::Table;
 use bw_tree::{Blanks, Share};
 use bw_work::{Calls, Fault, Hand, Open};
 use std::alloc::Global;
-use std::marker::Brand;
 use std::sync::Wait;
 use std::sync::ledger::Ledger;
 use std::thread::{Threads, join};
@@ -83,7 +81,11 @@ fn write_beside<
 }
 
 /// Keeps a tree over all rounds, and returns what its reader found after each, and the table.
-fn keep<N: Naming + Send + Sync, D: Ledger + Send + Sync, R: Threads + Wait + Sync + Send + Copy>(
+pub fn keep<
+    N: Naming + Send + Sync,
+    D: Ledger + Send + Sync,
+    R: Threads + Wait + Sync + Send + Copy,
+>(
     rt: R,
     machine: Global,
     config: Config,
@@ -114,19 +116,4 @@ fn keep<N: Naming + Send + Sync, D: Ledger + Send + Sync, R: Threads + Wait + Sy
     }
     shares.push(share)?;
     Ok((found, tree.close(shares)?))
-}
-
-fn main(rt: HostRuntime) -> Result<()> {
-    let (found, table) = keep::<Brand, Brand, HostRuntime>(
-        rt,
-        rt.alloc(),
-        Config::default(),
-        Blanks::new(1),
-        Announcements::new(),
-    )?;
-    for (pairs, rose) in found.iter() {
-        println!(rt; "{pairs} pairs, never fewer than before: {rose}")?;
-    }
-    println!(rt; "{:?}", table.last())?;
-    Ok(())
 }

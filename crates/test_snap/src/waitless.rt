@@ -1,6 +1,5 @@
-//! What readers do, in a crate without the runtime value that waiting takes: none of its functions
-//! can wait for a lock.
-#![tactic(auto)]
+//! What readers do, without the runtime value that waiting takes: none of these functions can wait
+//! for a lock.
 
 ghost use Rattle.std.specs.Prelude.{IfOk, OnOk};
 ghost use Rattle.bw_keys.specs.Ranges.{end_of};
