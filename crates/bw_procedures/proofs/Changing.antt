@@ -20,13 +20,12 @@ use Rattle.bw_step.proofs.Tellings.{without_shapes-append}
 use Rattle.bw_procedures.specs.declared.steps.Keep.{Keep}
 use Rattle.bw_procedures.specs.declared.fault.Fault.{Fault}
 use Rattle.bw_procedures.specs.declared.offer.Answer.TheVariants as answers
-use Rattle.bw_procedures.specs.declared.reply.Put.TheVariants.{Inserted as PutInserted}
 use Rattle.bw_procedures.specs.declared.writing.Tried.{Tried}
 use Rattle.bw_procedures.specs.declared.writing.Tried.TheVariants.{Reply, Tend, Again, Kept}
 use Rattle.bw_procedures.specs.Seen.{Seen, SameCounts, Grows, IsAccepted, is_kept}
 use Rattle.bw_procedures.specs.Seen.{Looked as LookTaken}
 use Rattle.bw_procedures.specs.Actions.{consolidates_behind, receipts_behind, receipts_of, Performs, PerformedBy}
-use Rattle.bw_procedures.specs.Writing.{Attempts, AddsReceipt, IsReceiptFor, IsChangeFor, LookAdds, FoundBy, IsReceiptOfPut, IsDeletionOf, IsSettingOf}
+use Rattle.bw_procedures.specs.Writing.{Attempts, AttemptsAtOnce, ComesTrue, IsReceiptFor, IsChangeFor, LookAdds, FoundBy, keep_for}
 use Rattle.bw_procedures.specs.Calls.{Offered, OnlyReshapes}
 use Rattle.bw_procedures.proofs.Trails.{adds_by, adds_nothing}
 use Rattle.bw_procedures.proofs.Reshaping.{counts_grow}
@@ -47,59 +46,52 @@ change_accepted (delete page seen key) limit receipt a b change h = absurd h.rep
 change_accepted (modify page seen key value) limit receipt a b change h = absurd h.reported
 change_accepted step limit receipt a b change h = absurd (change tt)
 
-look_adds : (kept : Bool) (key at : ℕ) (found : Option ℕ) (a b : Seen) → SameCounts a b → b.trail ≡ (if kept then a.trail ++ Looked at key found ∷ [] else a.trail) → a.effort ≤ b.effort → LookAdds kept key found a b
-look_adds true key at found a b counts trail effort = ((at, adds_without_shapes a b (Looked at key found) refl trail), counts_grow a b counts (adds_by a.trail b.trail (Looked at key found ∷ []) trail) effort)
+look_adds : (kept : Bool) (key at : ℕ) (found : Option ℕ) (a b : Seen) → SameCounts a b → b.trail ≡ (if kept then a.trail ++ Looked at key found ∷ [] else a.trail) → a.effort ≤ b.effort → LookAdds kept at key found a b
+look_adds true key at found a b counts trail effort = (adds_without_shapes a b (Looked at key found) refl trail, counts_grow a b counts (adds_by a.trail b.trail (Looked at key found ∷ []) trail) effort)
 look_adds false key at found a b counts trail effort = record { without_shapes = ap without_shapes trail; grows = counts_grow a b counts (adds_nothing a.trail b.trail trail) effort }
 
 pub found_by : (keep : Keep) (key : ℕ) (look : Look) (a b : Seen) → LookTaken keep key (Ok (Some look)) a b → FoundBy keep key (Ok (Some look)) a b
 found_by keep key look a b h = look_adds (is_kept keep look.found) key look.at look.found a b h.0 h.1 (omega (arith, h.2))
 
 -- the look that is kept answers the call
-pub replied : {T : Type 0} → (is_of : T → Receipt → Type 0) (passes_posts kept : Bool) (limit key : ℕ) (found : Option ℕ) (reply : T) (a b : Seen) → kept ≡ true → ((at : ℕ) → is_of reply (Looked at key found)) → LookAdds kept key found a b → Attempts is_of passes_posts limit (Ok (Reply reply)) a b
-replied is_of passes_posts true limit key found reply a b is goes h = ((Looked h.0.0 key found, h.0.1, goes h.0.0), h.1)
-replied is_of passes_posts false limit key found reply a b is goes h = let bad : false ≡ true = is in cc
+pub replied : (key : ℕ) (wished : Wished) (passes_posts : Bool) (limit at : ℕ) (found : Option ℕ) (kept : Bool) (a b : Seen) → kept ≡ is_kept (keep_for wished) found → kept ≡ true
+    → LookAdds (is_kept (keep_for wished) found) at key found a b → Attempts key wished passes_posts limit (Ok (Reply (Looked at key found))) a b
+replied key wished passes_posts limit at found kept a b same is h =
+    let holds = sym same ∙ is in
+    let adds = rw holds at h in
+    ((Looked at key found, adds.0, (refl, (refl, holds))), adds.1)
 
 -- the look that isn't kept leaves the trail
-pub wanted : (kept : Bool) (key : ℕ) (found : Option ℕ) (a b : Seen) → kept ≡ false → LookAdds kept key found a b → OnlyReshapes a b
-wanted true key found a b is h = let bad : true ≡ false = is in cc
-wanted false key found a b is h = h
+pub wanted : (kept : Bool) (at key : ℕ) (found : Option ℕ) (a b : Seen) → kept ≡ false → LookAdds kept at key found a b → OnlyReshapes a b
+wanted true at key found a b is h = let bad : true ≡ false = is in cc
+wanted false at key found a b is h = h
 
 -- an attempt that keeps no fault
-pub attempts_any : {T : Type 0} → (is_of : T → Receipt → Type 0) (passes_posts : Bool) (limit : ℕ) (result : Result (Tried T) Fault) (a b : Seen) → Attempts is_of true limit result a b → Attempts is_of passes_posts limit result a b
-attempts_any is_of passes_posts limit (Ok (Reply reply)) a b h = h
-attempts_any is_of passes_posts limit (Ok (Tend reply page)) a b h = h
-attempts_any is_of passes_posts limit (Ok Again) a b h = h
-attempts_any is_of passes_posts limit (Ok (Kept fault)) a b h = let bad : true ≡ false = h.2 in cc
-attempts_any is_of passes_posts limit (Err fault) a b h = h
+pub attempts_any : (key : ℕ) (wished : Wished) (passes_posts : Bool) (limit : ℕ) (result : Result Tried Fault) (a b : Seen) → Attempts key wished true limit result a b → Attempts key wished passes_posts limit result a b
+attempts_any key wished passes_posts limit (Ok (Reply receipt)) a b h = h
+attempts_any key wished passes_posts limit (Ok (Tend receipt page)) a b h = h
+attempts_any key wished passes_posts limit (Ok Again) a b h = h
+attempts_any key wished passes_posts limit (Ok (Kept fault)) a b h = let bad : true ≡ false = h.2 in cc
+attempts_any key wished passes_posts limit (Err fault) a b h = h
 
-pub insertion_made : (page seen key value : ℕ) (receipt : Receipt) → IsReceiptOf (insert page seen key value) receipt → IsReceiptOfPut key value PutInserted receipt
-insertion_made page seen key value (Inserted number k v) h = h
-insertion_made page seen key value receipt h = absurd h
+-- by its step a wish comes true
+pub insertion_puts : (page seen key value : ℕ) (receipt : Receipt) → IsReceiptOf (insert page seen key value) receipt → IsReceiptFor key (Put value) receipt
+insertion_puts page seen key value (Inserted number k v) h = h
+insertion_puts page seen key value receipt h = absurd h
 
-pub deletion_made : (page seen key : ℕ) (receipt : Receipt) → IsReceiptOf (delete page seen key) receipt → IsDeletionOf key receipt
-deletion_made page seen key (Deleted number k v) h = h
-deletion_made page seen key receipt h = absurd h
-
--- a set inserts the pair, or changes the value that is there
-pub insertion_sets : (page seen key value : ℕ) (receipt : Receipt) → IsReceiptOf (insert page seen key value) receipt → IsSettingOf key value receipt
+pub insertion_sets : (page seen key value : ℕ) (receipt : Receipt) → IsReceiptOf (insert page seen key value) receipt → IsReceiptFor key (Set value) receipt
 insertion_sets page seen key value (Inserted number k v) h = h
 insertion_sets page seen key value receipt h = absurd h
 
-pub modification_sets : (page seen key value : ℕ) (receipt : Receipt) → IsReceiptOf (modify page seen key value) receipt → IsSettingOf key value receipt
+pub modification_sets : (page seen key value : ℕ) (receipt : Receipt) → IsReceiptOf (modify page seen key value) receipt → IsReceiptFor key (Set value) receipt
 modification_sets page seen key value (Modified number k old v) h = h
 modification_sets page seen key value receipt h = absurd h
 
-pub ruleset setting_made = (insertion_sets, modification_sets)
+pub deletion_takes_out : (page seen key : ℕ) (receipt : Receipt) → IsReceiptOf (delete page seen key) receipt → IsReceiptFor key TakeOut receipt
+deletion_takes_out page seen key (Deleted number k v) h = h
+deletion_takes_out page seen key receipt h = absurd h
 
--- by its change a wish comes true
-pub setting_comes_true : (key value : ℕ) (receipt : Receipt) → IsSettingOf key value receipt → IsReceiptFor key (Set value) receipt
-setting_comes_true key value (Inserted n k v) h = h
-setting_comes_true key value (Modified n k old v) h = h
-setting_comes_true key value receipt h = absurd h
-
-pub deletion_comes_true : (key : ℕ) (receipt : Receipt) → IsDeletionOf key receipt → IsReceiptFor key TakeOut receipt
-deletion_comes_true key (Deleted n k v) h = h
-deletion_comes_true key receipt h = absurd h
+pub ruleset comes_true = (insertion_puts, insertion_sets, modification_sets, deletion_takes_out)
 
 -- the receipt of a wish is that of its change, or of a look that answers it
 is_receipt_for : (number key : ℕ) (wished : Wished) (had : Option ℕ) → IsReceiptFor key wished (receipt_of_wish number key wished had)
@@ -135,34 +127,21 @@ alone_at_once key wished (Shaped kind p other) behind shapes reported = absurd (
 abbrev pub MadeBy : ℕ → Wished → Performed → Seen → Seen → Type 0
 MadeBy key wished done a b = Performs (actions.Record key wished) done a b ⊎ Performs (actions.Change key wished) done a b
 
--- a wish that came true at once adds the receipt of its reply
-adds_for : {T : Type 0} → (is_of : T → Receipt → Type 0) (reply : T) (key : ℕ) (wished : Wished) (action : Action) (done : Performed) (a b : Seen) → Performs action done a b
-    → IsReceiptFor key wished done.receipt → is_of reply done.receipt → AddsReceipt is_of reply a b × Grows a b
-adds_for is_of reply key wished action done a b h reported goes = (
+-- a wish that came true at once adds its receipt
+adds_for : (key : ℕ) (wished : Wished) (action : Action) (done : Performed) (a b : Seen) → Performs action done a b → IsReceiptFor key wished done.receipt → ComesTrue key wished done.receipt a b
+adds_for key wished action done a b h reported = (
   (
     done.receipt,
     ap without_shapes h.trail ∙ (without_shapes-append a.trail (receipts_of action done)
         ∙ ap (λ (l : List Receipt). without_shapes a.trail ++ l) (alone_at_once key wished done.receipt (receipts_behind action done) (shapes_behind (consolidates_behind action done.receipt) done.page) reported)),
-    goes,
+    (refl, reported),
   ),
   performed_grows action done a b h,
 )
 
-pub adds_at_once : {T : Type 0} → (is_of : T → Receipt → Type 0) (reply : T) (key : ℕ) (wished : Wished) (done : Performed) (a b : Seen) → MadeBy key wished done a b → is_of reply done.receipt
-    → AddsReceipt is_of reply a b × Grows a b
-adds_at_once is_of reply key wished done a b (inl h) goes = adds_for is_of reply key wished (actions.Record key wished) done a b h (wish_comes_true key wished done.receipt h.reported.1) goes
-adds_at_once is_of reply key wished done a b (inr h) goes = adds_for is_of reply key wished (actions.Change key wished) done a b h (wish_comes_true key wished done.receipt h.reported.1) goes
-
-reported_at_once : (key : ℕ) (wished : Wished) (done : Performed) (a b : Seen) → MadeBy key wished done a b → IsReceiptFor key wished done.receipt
-reported_at_once key wished done a b (inl h) = wish_comes_true key wished done.receipt h.reported.1
-reported_at_once key wished done a b (inr h) = wish_comes_true key wished done.receipt h.reported.1
-
--- so does a look that finds the wish true
-pub looked_at_once : {T : Type 0} → (is_of : T → Receipt → Type 0) (reply : T) (key : ℕ) (wished : Wished) (done : Performed) (a b : Seen) → MadeBy key wished done a b
-    → (at k : ℕ) (found : Option ℕ) → done.receipt ≡ Looked at k found → ((n : ℕ) → is_of reply (Looked n key found)) → AddsReceipt is_of reply a b × Grows a b
-looked_at_once is_of reply key wished done a b h at k found is goes =
-    let reported : IsReceiptFor key wished (Looked at k found) = subst (IsReceiptFor key wished) is (reported_at_once key wished done a b h) in
-    adds_at_once is_of reply key wished done a b h (subst (is_of reply) (sym (is ∙ ap (λ (x : ℕ). Looked at x found) reported.0)) (goes at))
+pub adds_at_once : (key : ℕ) (wished : Wished) (done : Performed) (a b : Seen) → MadeBy key wished done a b → ComesTrue key wished done.receipt a b
+adds_at_once key wished done a b (inl h) = adds_for key wished (actions.Record key wished) done a b h (wish_comes_true key wished done.receipt h.reported.1)
+adds_at_once key wished done a b (inr h) = adds_for key wished (actions.Change key wished) done a b h (wish_comes_true key wished done.receipt h.reported.1)
 
 -- what was performed, if it was, makes the wish come true one way or the other, and otherwise nothing was done
 module _ (key : ℕ) (wished : Wished) (a b : Seen) where

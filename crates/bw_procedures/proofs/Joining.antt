@@ -7,7 +7,7 @@ use Rattle.bw_procedures.specs.declared.round.Rung.{Rung}
 use Rattle.bw_procedures.specs.declared.round.Turn.{Turn}
 use Rattle.bw_procedures.specs.declared.round.Turn.TheVariants.{Over, Idle, Next}
 use Rattle.bw_procedures.specs.Seen.{Seen, SameButEffort}
-use Rattle.bw_step.specs.declared.receipt.Receipt.{Receipt}
+use Rattle.bw_keys.specs.declared.wished.Wished.{Wished}
 use Rattle.bw_procedures.specs.declared.writing.Tried.{Tried}
 use Rattle.bw_procedures.specs.Calls.{OnlySpends, OnlyReshapes, ReshapesWithin, RoseBy, IsEarned}
 use Rattle.bw_procedures.specs.Rounds.{IsRound}
@@ -55,6 +55,6 @@ pub tends_fails : {T : Type 0} → (limit : ℕ) (result : Result (Option T) Fau
 tends_fails limit (Ok next) fault a b c is before after = absurd is
 tends_fails limit (Err it) fault a b c is before after = fails_then limit it fault a b c is before after
 
-pub attempt_fails : {T : Type 0} → (is_of : T → Receipt → Type 0) (passes_posts : Bool) (limit : ℕ) (result : Result (Tried T) Fault) (fault : Fault) (a b c : Seen) → IsErrAnd result (λ it. it ≡ fault) → OnlyReshapes a b → OnlyReshapes b c × IsEarned limit b c fault → Attempts is_of passes_posts limit result a c
-attempt_fails is_of passes_posts limit (Ok tried) fault a b c is before after = absurd is
-attempt_fails is_of passes_posts limit (Err it) fault a b c is before after = fails_then limit it fault a b c is before after
+pub attempt_fails : (key : ℕ) (wished : Wished) (passes_posts : Bool) (limit : ℕ) (result : Result Tried Fault) (fault : Fault) (a b c : Seen) → IsErrAnd result (λ it. it ≡ fault) → OnlyReshapes a b → OnlyReshapes b c × IsEarned limit b c fault → Attempts key wished passes_posts limit result a c
+attempt_fails key wished passes_posts limit (Ok tried) fault a b c is before after = absurd is
+attempt_fails key wished passes_posts limit (Err it) fault a b c is before after = fails_then limit it fault a b c is before after

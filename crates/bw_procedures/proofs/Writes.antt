@@ -7,7 +7,8 @@ use Rattle.bw_procedures.specs.declared.fault.Fault.TheVariants as faults
 use Rattle.bw_procedures.specs.declared.reply.Done.{Done}
 use Rattle.bw_procedures.specs.Seen.{Seen, Grows}
 use Rattle.bw_procedures.specs.Calls.{OnlyReshapes, IsEarned, limit_of}
-use Rattle.bw_procedures.specs.Writing.{AddsReceipt, EndsEarned, KeptIsEarned}
+use Rattle.bw_keys.specs.declared.wished.Wished.{Wished}
+use Rattle.bw_procedures.specs.Writing.{AddsReceipt, ComesTrue, EndsEarned, IsReceiptFor, IsReplyOf, KeptIsEarned}
 use Rattle.bw_procedures.specs.Writes.{Writes}
 use Rattle.bw_procedures.proofs.Removals.{grow_then}
 use Rattle.bw_procedures.proofs.Rounds.{earned_then, reshapes_then}
@@ -36,15 +37,15 @@ pub reshapes_none : (a : Seen) → OnlyReshapes a a
 reshapes_none a = record { without_shapes = refl; grows = record { config = refl; trail = adds_nothing a.trail a.trail refl; effort = omega arith; full = omega arith; tall = omega arith; worn = omega arith } }
 
 -- a call that began with a, and came to b without a reply
-module _ {T : Type 0} (is_of : T → Receipt → Type 0) (limit : ℕ) (a b : Seen) (begins : limit ≡ limit_of a) (before : OnlyReshapes a b) where
-  adds_since : (reply : T) (c : Seen) → AddsReceipt is_of reply b c → AddsReceipt is_of reply a c
+module _ (key : ℕ) (wished : Wished) (limit : ℕ) (a b : Seen) (begins : limit ≡ limit_of a) (before : OnlyReshapes a b) where
+  adds_since : (reply : Receipt) (c : Seen) → AddsReceipt (IsReplyOf key wished) reply b c → AddsReceipt (IsReplyOf key wished) reply a c
   adds_since reply c adds = (adds.0, adds.1 ∙ ap (λ (l : List Receipt). l ++ adds.0 ∷ []) before.without_shapes, adds.2)
 
   from_the_limit : (fault : Option Fault) (c : Seen) → IfSome fault (IsEarned limit a c) → IfSome fault (IsEarned (limit_of a) a c)
   from_the_limit fault c earned = subst (λ (n : ℕ). IfSome fault (IsEarned n a c)) begins earned
 
   -- the reply ends it
-  pub replied_writes : (reply : T) (kept : Option Fault) (c : Seen) → KeptIsEarned limit a b kept → AddsReceipt is_of reply b c × Grows b c → Writes is_of (Ok (record { reply = reply; fault = kept })) a c
+  pub replied_writes : (reply : Receipt) (kept : Option Fault) (c : Seen) → KeptIsEarned limit a b kept → ComesTrue key wished reply b c → Writes (IsReplyOf key wished) (Ok (record { reply = reply; fault = kept })) a c
   replied_writes reply kept c earned done = record {
     grows = grow_then a b c before.grows done.1;
     receipt = adds_since reply c done.0;
@@ -54,25 +55,40 @@ module _ {T : Type 0} (is_of : T → Receipt → Type 0) (limit : ℕ) (a b : Se
   }
 
   -- the page is tended after it
-  pub tended_writes : (ended : Done T) (reply : T) (kept : Option Fault) (c d : Seen) → ended.reply ≡ reply → KeptIsEarned limit a b kept → AddsReceipt is_of reply b c × Grows b c → OnlyReshapes c d
-      → EndsEarned limit kept ended.fault c d → Writes is_of (Ok ended) a d
-  tended_writes ended reply kept c d is earned done tended ends =
+  pub tended_writes : (reply : Receipt) (kept fault : Option Fault) (c d : Seen) → KeptIsEarned limit a b kept → ComesTrue key wished reply b c → OnlyReshapes c d → EndsEarned limit kept fault c d
+      → Writes (IsReplyOf key wished) (Ok (record { reply = reply; fault = fault })) a d
+  tended_writes reply kept fault c d earned done tended ends =
       let adds = adds_since reply c done.0 in
       let first = grow_then a b c before.grows done.1 in
       record {
         grows = grow_then a c d first tended.grows;
-        receipt = (adds.0, tended.without_shapes ∙ adds.1, subst (λ (it : T). is_of it adds.0) (sym is) adds.2);
+        receipt = (adds.0, tended.without_shapes ∙ adds.1, adds.2);
         no_receipt = tt;
         fault = tt;
-        kept = from_the_limit ended.fault d (ends_later limit kept ended.fault a c d (kept_later limit kept a b c earned done.1) first tended.grows ends);
+        kept = from_the_limit fault d (ends_later limit kept fault a c d (kept_later limit kept a b c earned done.1) first tended.grows ends);
       }
 
   -- a fault ends it
-  pub failed_writes : (fault : Fault) (c : Seen) → OnlyReshapes b c × IsEarned limit b c fault → Writes is_of (Err fault) a c
+  pub failed_writes : (fault : Fault) (c : Seen) → OnlyReshapes b c × IsEarned limit b c fault → Writes (IsReplyOf key wished) (Err fault) a c
   failed_writes fault c failed =
       let all = reshapes_then a b c before failed.0 in
       record { grows = all.grows; receipt = tt; no_receipt = all.without_shapes; fault = subst (λ (n : ℕ). IsEarned n a c fault) begins (earned_then limit fault a b c before.grows failed.1); kept = tt }
 
-  pub fails_writes : (result : Result (Done T) Fault) (fault : Fault) (c : Seen) → IsErrAnd result (λ it. it ≡ fault) → OnlyReshapes b c × IsEarned limit b c fault → Writes is_of result a c
+  pub fails_writes : (result : Result (Done Receipt) Fault) (fault : Fault) (c : Seen) → IsErrAnd result (λ it. it ≡ fault) → OnlyReshapes b c × IsEarned limit b c fault → Writes (IsReplyOf key wished) result a c
   fails_writes (Ok done) fault c is failed = absurd is
-  fails_writes (Err it) fault c is failed = subst (λ (it : Fault). Writes is_of (Err it) a c) (sym is) (failed_writes fault c failed)
+  fails_writes (Err it) fault c is failed = subst (λ (it : Fault). Writes (IsReplyOf key wished) (Err it) a c) (sym is) (failed_writes fault c failed)
+
+-- a call replies by the receipt of its wish, or with the fault
+module _ {T : Type 0} (is_of : T → Receipt → Type 0) (key : ℕ) (wished : Wished) (a b : Seen) where
+  pub receipt_of : (reply : T) (receipt : Receipt) → (IsReceiptFor key wished receipt → is_of reply receipt) → AddsReceipt (IsReplyOf key wished) receipt a b → AddsReceipt is_of reply a b
+  receipt_of reply receipt goes adds = (adds.0, adds.1, subst (is_of reply) adds.2.0 (goes (subst (IsReceiptFor key wished) (sym adds.2.0) adds.2.1)))
+
+  pub reply_of : (reply : T) (receipt : Receipt) (fault : Option Fault) → (IsReceiptFor key wished receipt → is_of reply receipt)
+      → Writes (IsReplyOf key wished) (Ok (record { reply = receipt; fault = fault })) a b → Writes is_of (Ok (record { reply = reply; fault = fault })) a b
+  reply_of reply receipt fault goes h = record { grows = h.grows; receipt = receipt_of reply receipt goes h.receipt; no_receipt = tt; fault = tt; kept = h.kept }
+
+  pub fault_of : (result : Result (Done T) Fault) (fault : Fault) → IsErrAnd result (λ it. it ≡ fault) → Writes (IsReplyOf key wished) (Err fault) a b → Writes is_of result a b
+  fault_of (Ok done) fault is h = absurd is
+  fault_of (Err it) fault is h = subst (λ (it : Fault). Writes is_of (Err it) a b) (sym is) (record { grows = h.grows; receipt = tt; no_receipt = h.no_receipt; fault = h.fault; kept = tt })
+
+pub ruleset replies_by = (reply_of, fault_of)

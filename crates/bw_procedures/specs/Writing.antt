@@ -69,10 +69,9 @@ abbrev pub IsReceiptFor : ℕ → Wished → Receipt → Type 0
 IsReceiptFor key wished (receipts.Looked at k found) = (k ≡ key) × (is_kept (keep_for wished) found ≡ true)
 IsReceiptFor key wished receipt = IsChangeFor key wished receipt
 
--- without a reply the look isn't kept; with one it is, and its receipt is the reply's
-abbrev pub AnswersBy : {T : Type 0} → Keep → ℕ → (T → Receipt → Type 0) → Option ℕ → Option T → Type 0
-AnswersBy keep key is_of found None = is_kept keep found ≡ false
-AnswersBy keep key is_of found (Some reply) = (is_kept keep found ≡ true) × ((at : ℕ) → is_of reply (receipts.Looked at key found))
+-- the reply is the receipt itself, and by that the wish came true
+abbrev pub IsReplyOf : ℕ → Wished → Receipt → Receipt → Type 0
+IsReplyOf key wished reply receipt = (reply ≡ receipt) × IsReceiptFor key wished receipt
 
 -- one receipt that isn't Shaped was added, and it is this reply's
 abbrev pub AddsReceipt : {T : Type 0} → (T → Receipt → Type 0) → T → Seen → Seen → Type 0
@@ -83,28 +82,34 @@ abbrev pub KeptIsEarned : ℕ → Seen → Seen → Option Fault → Type 0
 KeptIsEarned limit old new None = Unit {0}
 KeptIsEarned limit old new (Some fault) = IsEarned limit old new fault
 
+-- a wish came true, by this receipt
+abbrev pub ComesTrue : ℕ → Wished → Receipt → Seen → Seen → Type 0
+ComesTrue key wished receipt old new = AddsReceipt (IsReplyOf key wished) receipt old new × Grows old new
+
 -- one attempt of a call; a fault is kept no more than once
-abbrev pub Attempts : {T : Type 0} → (T → Receipt → Type 0) → Bool → ℕ → Result (Tried T) Fault → Seen → Seen → Type 0
-Attempts is_of passes_posts limit (Ok (Reply reply)) old new = AddsReceipt is_of reply old new × Grows old new
-Attempts is_of passes_posts limit (Ok (Tend reply page)) old new = AddsReceipt is_of reply old new × Grows old new
-Attempts is_of passes_posts limit (Ok Again) old new = OnlyReshapes old new × RoseBy 1 old.effort new.effort
-Attempts is_of passes_posts limit (Ok (Kept fault)) old new = OnlyReshapes old new × IsEarned limit old new fault × (passes_posts ≡ false)
-Attempts is_of passes_posts limit (Err fault) old new = OnlyReshapes old new × IsEarned limit old new fault
+abbrev pub Attempts : ℕ → Wished → Bool → ℕ → Result Tried Fault → Seen → Seen → Type 0
+Attempts key wished passes_posts limit (Ok (Reply receipt)) old new = ComesTrue key wished receipt old new
+Attempts key wished passes_posts limit (Ok (Tend receipt page)) old new = ComesTrue key wished receipt old new
+Attempts key wished passes_posts limit (Ok Again) old new = OnlyReshapes old new × RoseBy 1 old.effort new.effort
+Attempts key wished passes_posts limit (Ok (Kept fault)) old new =
+    OnlyReshapes old new × IsEarned limit old new fault × (passes_posts ≡ false)
+Attempts key wished passes_posts limit (Err fault) old new = OnlyReshapes old new × IsEarned limit old new fault
 
 -- an attempt at once: nothing, or a reply
-abbrev pub AttemptsAtOnce : {T : Type 0} → (T → Receipt → Type 0) → Option (Tried T) → Seen → Seen → Type 0
-AttemptsAtOnce is_of None old new = new ≡ old
-AttemptsAtOnce is_of (Some (Reply reply)) old new = AddsReceipt is_of reply old new × Grows old new
-AttemptsAtOnce is_of (Some (Tend reply page)) old new = AddsReceipt is_of reply old new × Grows old new
-AttemptsAtOnce is_of (Some Again) old new = ⊥
-AttemptsAtOnce is_of (Some (Kept fault)) old new = ⊥
+abbrev pub AttemptsAtOnce : ℕ → Wished → Option Tried → Seen → Seen → Type 0
+AttemptsAtOnce key wished None old new = new ≡ old
+AttemptsAtOnce key wished (Some (Reply receipt)) old new = ComesTrue key wished receipt old new
+AttemptsAtOnce key wished (Some (Tend receipt page)) old new = ComesTrue key wished receipt old new
+AttemptsAtOnce key wished (Some Again) old new = ⊥
+AttemptsAtOnce key wished (Some (Kept fault)) old new = ⊥
 
 -- help on a writer's walk
-abbrev pub Helped : {T : Type 0} → Bool → ℕ → Result (Tried T) Fault → Seen → Seen → Type 0
-Helped passes_posts limit (Ok (Reply reply)) old new = ⊥
-Helped passes_posts limit (Ok (Tend reply page)) old new = ⊥
+abbrev pub Helped : Bool → ℕ → Result Tried Fault → Seen → Seen → Type 0
+Helped passes_posts limit (Ok (Reply receipt)) old new = ⊥
+Helped passes_posts limit (Ok (Tend receipt page)) old new = ⊥
 Helped passes_posts limit (Ok Again) old new = OnlyReshapes old new × RoseBy 1 old.effort new.effort
-Helped passes_posts limit (Ok (Kept fault)) old new = OnlyReshapes old new × IsEarned limit old new fault × (passes_posts ≡ false)
+Helped passes_posts limit (Ok (Kept fault)) old new =
+    OnlyReshapes old new × IsEarned limit old new fault × (passes_posts ≡ false)
 Helped passes_posts limit (Err fault) old new = OnlyReshapes old new × IsEarned limit old new fault
 
 -- a place that was gone cost effort
@@ -119,12 +124,13 @@ EndsEarned limit kept None old new = kept ≡ None
 EndsEarned limit kept (Some fault) old new = (kept ≡ Some fault) ⊎ IsEarned limit old new fault
 
 -- a look that is kept adds its receipt, and one that isn't adds none
-abbrev pub LookAdds : Bool → ℕ → Option ℕ → Seen → Seen → Type 0
-LookAdds true key found old new = ((at : ℕ) × (without_shapes new.trail ≡ without_shapes old.trail ++ receipts.Looked at key found ∷ [])) × Grows old new
-LookAdds false key found old new = OnlyReshapes old new
+abbrev pub LookAdds : Bool → ℕ → ℕ → Option ℕ → Seen → Seen → Type 0
+LookAdds true at key found old new =
+    (without_shapes new.trail ≡ without_shapes old.trail ++ receipts.Looked at key found ∷ []) × Grows old new
+LookAdds false at key found old new = OnlyReshapes old new
 
 -- one look at a page
 abbrev pub FoundBy : Keep → ℕ → Result (Option Look) Fault → Seen → Seen → Type 0
 FoundBy keep key (Ok None) old new = OnlyReshapes old new × RoseBy 1 old.effort new.effort
-FoundBy keep key (Ok (Some look)) old new = LookAdds (is_kept keep look.found) key look.found old new
+FoundBy keep key (Ok (Some look)) old new = LookAdds (is_kept keep look.found) look.at key look.found old new
 FoundBy keep key (Err fault) old new = OnlyReshapes old new × (fault ≡ faults.NoMemory)

@@ -6,11 +6,10 @@ ghost use Rattle.bw_procedures.specs.Seen.{Grows};
 ghost use Rattle.bw_procedures.specs.Calls.{Earned};
 ghost use Rattle.bw_procedures.specs.Clearing.{RemovesBelow, RemovesKey};
 
-use crate::deletion::Deletion;
 use crate::reply::{Cleared, Del, Done};
 use crate::steps::Steps;
 use crate::writing::write;
-use bw_keys::{Fence, Key};
+use bw_keys::{Fence, Key, Wished};
 use bw_step::Step;
 use std::alloc::Allocator;
 
@@ -76,9 +75,9 @@ fn remove<A: Allocator + Copy, S: Steps<A, Step<A>>>(steps: &mut S, key: Key) ->
         (S.seen steps.old) (S.seen steps.new) }
     ensures fault { IfSome result.fault (Earned (S.seen steps.old) (S.seen steps.new)) }
 {
-    match write(steps, Deletion { key }) {
+    match write(steps, key, Wished::Delete) {
         Ok(Done { reply, fault }) => Cleared {
-            removed: match reply {
+            removed: match Del::of(reply) {
                 Del::Removed(_) => 1,
                 Del::NoKey => 0,
             },

@@ -1,7 +1,8 @@
 ghost use Rattle.std.specs.Prelude.{◌≡◌, ℕ, [], None, Some, IfOk, IfErr};
 ghost use Rattle.bw_keys.specs.declared.wished.Wished.TheVariants as wishes;
 ghost use Rattle.bw_procedures.specs.Texts.{delete_text, put_text, reply_text, set_text, text_without};
-ghost use Rattle.bw_procedures.specs.Writing.{IsReceiptFor, IsReceiptOfSet, IsReceiptOfDelete};
+ghost use Rattle.bw_procedures.specs.Writing.{IsReceiptFor, IsReceiptOfDelete, IsReceiptOfPut};
+ghost use Rattle.bw_procedures.specs.Writing.{IsReceiptOfSet};
 
 use crate::fault::Fault;
 use bw_keys::Key;
@@ -15,6 +16,23 @@ pub enum Put {
     Inserted,
     /// The key was there, with this value, and keeps it.
     Present(u64),
+}
+
+impl Put {
+    /// Returns what a put replies whose receipt this is.
+    #[inline(always)]
+    pub fn of(receipt: Receipt) -> Put
+        ensures { (key value : ℕ) → IsReceiptFor key (wishes.Put value) receipt
+            → IsReceiptOfPut key value result receipt }
+    {
+        match receipt {
+            Receipt::Looked {
+                found: Some(value),
+                ..
+            } => Put::Present(value),
+            _ => Put::Inserted,
+        }
+    }
 }
 
 /// What a set replies.

@@ -6,7 +6,7 @@ ghost use Rattle.bw_procedures.specs.Actions.{Performs};
 ghost use Rattle.bw_procedures.specs.Calls.{OnlySpends, OnlyReshapes};
 ghost use Rattle.bw_procedures.specs.Writes.{Writes};
 ghost use Rattle.bw_procedures.specs.Writing.{ArrivalCosts, Attempts, AttemptsAtOnce};
-ghost use Rattle.bw_procedures.specs.Writing.{Helped, EndsEarned, FoundBy};
+ghost use Rattle.bw_procedures.specs.Writing.{Helped, EndsEarned, FoundBy, IsReplyOf};
 
 use crate::consolidation::consolidate;
 use crate::effort::{is_spent, limit};
@@ -16,7 +16,7 @@ use crate::offer::{Answer, offer};
 use crate::reply::Done;
 use crate::steps::{Keep, Steps};
 use crate::tending::{is_fair, tend_within};
-use crate::wish::Wish;
+use crate::wish::{keep_of, step_for};
 use bw_delta::Spare;
 use bw_keys::{Key, Pid, Wished};
 use bw_step::{Action, Go, Look, Performed, Place, Receipt, Refused, Step, Todo, View};
@@ -35,38 +35,45 @@ enum Arrival {
 
 /// What one attempt of a call came to.
 #[derive(Clone, Copy)]
-enum Tried<T> {
-    /// The reply, from a look, or from a change after which no page is to be tended.
-    Reply(T),
-    /// The reply, from an accepted change of the page, which is to be tended.
-    Tend(T, Pid),
+enum Tried {
+    /// The receipt of a look that answers, or of a change after which no page is to be tended.
+    Reply(Receipt),
+    /// The receipt of an accepted change of the page, which is to be tended.
+    Tend(Receipt, Pid),
     /// Nothing: the call begins again.
     Again,
     /// Nothing: the call begins again, and passes over pages that aren't posted.
     Kept(Fault),
 }
 
-/// Carries out a wish, as a put, a set or a delete.
+/// Carries out a wish, as a put, a set or a delete, and replies with its receipt.
 #[inline(always)]
-pub(crate) fn write<A: Allocator + Copy, S: Steps<A, Step<A>>, W: Wish>(
+pub(crate) fn write<A: Allocator + Copy, S: Steps<A, Step<A>>>(
     steps: &mut S,
-    wish: W,
-) -> Result<Done<W::Reply>, Fault>
+    key: Key,
+    wished: Wished,
+) -> Result<Done<Receipt>, Fault>
     ensures follows { S.follows steps.old steps.new }
-    ensures write { Writes (W.is_receipt_of wish) result (S.seen steps.old) (S.seen steps.new) }
+    ensures write { Writes (IsReplyOf key wished) result (S.seen steps.old) (S.seen steps.new) }
 {
     let limit = limit(steps);
-    match write_at_once(steps, limit, wish) {
+    match write_at_once(steps, limit, key, wished) {
         Some(Tried::Reply(reply)) => return Ok(Done { reply, fault: None }),
-        Some(Tried::Tend(reply, page)) => return Ok(finish(steps, limit, None, reply, page)),
+        Some(Tried::Tend(reply, page)) => {
+            let fault = finish(steps, limit, None, page);
+            return Ok(Done { reply, fault });
+        }
         Some(Tried::Again | Tried::Kept(_)) | None => {}
     }
     let mut kept: Option<Fault> = None;
     'again: loop {
         let passes_posts = kept.is_some();
-        match try_once(steps, limit, passes_posts, wish)? {
+        match try_once(steps, limit, passes_posts, key, wished)? {
             Tried::Reply(reply) => return Ok(Done { reply, fault: kept }),
-            Tried::Tend(reply, page) => return Ok(finish(steps, limit, kept, reply, page)),
+            Tried::Tend(reply, page) => {
+                let fault = finish(steps, limit, kept, page);
+                return Ok(Done { reply, fault });
+            }
             Tried::Again => {}
             Tried::Kept(fault) => kept = Some(fault),
         }
@@ -78,34 +85,28 @@ pub(crate) fn write<A: Allocator + Copy, S: Steps<A, Step<A>>, W: Wish>(
 
 /// Carries out a wish in one step of a worker that can, where the effort that is left covers the
 /// consolidation after the change. A leaf whose count stays fair needs no tending.
+#[tactic(auto, using(crate::proofs::Changing::adds_at_once))]
 #[inline(always)]
-fn write_at_once<A: Allocator + Copy, S: Steps<A, Step<A>>, W: Wish>(
+fn write_at_once<A: Allocator + Copy, S: Steps<A, Step<A>>>(
     steps: &mut S,
     limit: u64,
-    wish: W,
-) -> Option<Tried<W::Reply>>
+    key: Key,
+    wished: Wished,
+) -> Option<Tried>
     ensures follows { S.follows steps.old steps.new }
-    ensures attempts { AttemptsAtOnce (W.is_receipt_of wish) result
-        (S.seen steps.old) (S.seen steps.new) }
+    ensures attempts { AttemptsAtOnce key wished result (S.seen steps.old) (S.seen steps.new) }
 {
     if is_spent(steps, limit) {
         return None;
     }
-    let done = make_at_once(steps, wish.key(), wish.wished())?;
-    match done.receipt {
-        Receipt::Looked { found, .. } => match wish.answered(found) {
-            Some(reply) => Some(Tried::Reply(reply)),
-            None => unreachable!(),
-        },
-        receipt => {
-            let reply = wish.reply(receipt);
-            let config = steps.config();
-            if is_fair(config.fanout, done.count) && u32::from(done.depth) < config.chain {
-                Some(Tried::Reply(reply))
-            } else {
-                Some(Tried::Tend(reply, done.page))
-            }
-        }
+    let done = make_at_once(steps, key, wished)?;
+    let config = steps.config();
+    if matches!(done.receipt, Receipt::Looked { .. })
+        || (is_fair(config.fanout, done.count) && u32::from(done.depth) < config.chain)
+    {
+        Some(Tried::Reply(done.receipt))
+    } else {
+        Some(Tried::Tend(done.receipt, done.page))
     }
 }
 
@@ -134,20 +135,21 @@ fn make_at_once<A: Allocator + Copy, S: Steps<A, Step<A>>>(
 /// Walks to the key's leaf, and carries out the wish there.
 #[tactic(auto, using(crate::proofs::Changing::attempts_any))]
 #[inline(always)]
-fn try_once<A: Allocator + Copy, S: Steps<A, Step<A>>, W: Wish>(
+fn try_once<A: Allocator + Copy, S: Steps<A, Step<A>>>(
     steps: &mut S,
     limit: u64,
     passes_posts: bool,
-    wish: W,
-) -> Result<Tried<W::Reply>, Fault>
+    key: Key,
+    wished: Wished,
+) -> Result<Tried, Fault>
     ensures follows { S.follows steps.old steps.new }
-    ensures attempts { Attempts (W.is_receipt_of wish) passes_posts limit result
+    ensures attempts { Attempts key wished passes_posts limit result
         (S.seen steps.old) (S.seen steps.new) }
 {
-    match arrive(steps, wish.key(), passes_posts) {
+    match arrive(steps, key, passes_posts) {
         Arrival::Gone => Ok(Tried::Again),
         Arrival::Help(todo) => help_on(steps, limit, passes_posts, todo),
-        Arrival::Here(view) => write_at(steps, limit, view, wish),
+        Arrival::Here(view) => write_at(steps, limit, view, key, wished),
     }
 }
 
@@ -209,12 +211,12 @@ fn wanted(todo: Option<Todo>, passes_posts: bool) -> Option<Todo> {
 }
 
 /// Helps, and keeps the fault where a page can't be posted.
-fn help_on<A: Allocator + Copy, S: Steps<A, Step<A>>, T: Drop>(
+fn help_on<A: Allocator + Copy, S: Steps<A, Step<A>>>(
     steps: &mut S,
     limit: u64,
     passes_posts: bool,
     todo: Todo,
-) -> Result<Tried<T>, Fault>
+) -> Result<Tried, Fault>
     ensures follows { S.follows steps.old steps.new }
     ensures helped { Helped passes_posts limit result (S.seen steps.old) (S.seen steps.new) }
 {
@@ -247,23 +249,26 @@ fn is_want_of_pages(fault: Fault) -> bool {
 /// Carries out a wish at a page.
 #[tactic(auto, using(crate::proofs::Changing::replied, crate::proofs::Changing::wanted))]
 #[inline(always)]
-fn write_at<A: Allocator + Copy, S: Steps<A, Step<A>>, W: Wish>(
+fn write_at<A: Allocator + Copy, S: Steps<A, Step<A>>>(
     steps: &mut S,
     limit: u64,
     view: View,
-    wish: W,
-) -> Result<Tried<W::Reply>, Fault>
+    key: Key,
+    wished: Wished,
+) -> Result<Tried, Fault>
     ensures follows { S.follows steps.old steps.new }
-    ensures attempts { Attempts (W.is_receipt_of wish) true limit result
+    ensures attempts { Attempts key wished true limit result
         (S.seen steps.old) (S.seen steps.new) }
 {
-    let Some(look) = look_at(steps, view.pid, wish.key(), wish.keep())? else {
+    let keep = keep_of(wished);
+    let Some(look) = look_at(steps, view.pid, key, keep)? else {
         return Ok(Tried::Again);
     };
-    match wish.answered(look.found) {
-        Some(reply) => Ok(Tried::Reply(reply)),
-        None => propose(steps, limit, view, look.found, wish),
+    let Look { at, found } = look;
+    if keep.keeps(found) {
+        return Ok(Tried::Reply(Receipt::Looked { at, key, found }));
     }
+    propose(steps, limit, view, found, key, wished)
 }
 
 /// Looks the key up at a page. None where the page isn't the key's leaf any more.
@@ -283,20 +288,21 @@ fn look_at<A: Allocator + Copy, S: Steps<A, Step<A>>>(
 
 /// Proposes the wish's step. A page that is too deep for it is consolidated.
 #[inline(always)]
-fn propose<A: Allocator + Copy, S: Steps<A, Step<A>>, W: Wish>(
+fn propose<A: Allocator + Copy, S: Steps<A, Step<A>>>(
     steps: &mut S,
     limit: u64,
     view: View,
     found: Option<u64>,
-    wish: W,
-) -> Result<Tried<W::Reply>, Fault>
+    key: Key,
+    wished: Wished,
+) -> Result<Tried, Fault>
     ensures follows { S.follows steps.old steps.new }
-    ensures attempts { Attempts (W.is_receipt_of wish) true limit result
+    ensures attempts { Attempts key wished true limit result
         (S.seen steps.old) (S.seen steps.new) }
 {
     let spare = Spare::new(steps.alloc())?;
-    match offer(steps, limit, wish.step(view, found, spare))? {
-        Answer::Accepted(receipt) => Ok(Tried::Tend(wish.reply(receipt), view.pid)),
+    match offer(steps, limit, step_for(key, wished, view, found, spare))? {
+        Answer::Accepted(receipt) => Ok(Tried::Tend(receipt, view.pid)),
         Answer::Refused(Refused::Deep) => {
             consolidate(steps, limit, view)?;
             Ok(Tried::Again)
@@ -306,24 +312,20 @@ fn propose<A: Allocator + Copy, S: Steps<A, Step<A>>, W: Wish>(
     }
 }
 
-/// Tends the page of an accepted change, and returns the reply.
-fn finish<A: Allocator + Copy, S: Steps<A, Step<A>>, T>(
+/// Tends the page of an accepted change, and returns the fault that stands beside the reply: the one
+/// that was kept, or the one that ended tending.
+fn finish<A: Allocator + Copy, S: Steps<A, Step<A>>>(
     steps: &mut S,
     limit: u64,
     kept: Option<Fault>,
-    reply: T,
     page: Pid,
-) -> Done<T>
+) -> Option<Fault>
     ensures follows { S.follows steps.old steps.new }
     ensures reshapes { OnlyReshapes (S.seen steps.old) (S.seen steps.new) }
-    ensures reply { result.reply ≡ reply }
-    ensures fault { EndsEarned limit kept result.fault (S.seen steps.old) (S.seen steps.new) }
+    ensures fault { EndsEarned limit kept result (S.seen steps.old) (S.seen steps.new) }
 {
     match tend_within(steps, limit, page) {
-        Ok(()) => Done { reply, fault: kept },
-        Err(fault) => Done {
-            reply,
-            fault: Some(fault),
-        },
+        Ok(()) => kept,
+        Err(fault) => Some(fault),
     }
 }
