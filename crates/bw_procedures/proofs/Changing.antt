@@ -22,10 +22,10 @@ use Rattle.bw_procedures.specs.declared.fault.Fault.{Fault}
 use Rattle.bw_procedures.specs.declared.offer.Answer.TheVariants as answers
 use Rattle.bw_procedures.specs.declared.writing.Tried.{Tried}
 use Rattle.bw_procedures.specs.declared.writing.Tried.TheVariants.{Reply, Tend, Again, Kept}
-use Rattle.bw_procedures.specs.Seen.{Seen, SameCounts, Grows, IsAccepted, is_kept}
+use Rattle.bw_procedures.specs.Seen.{Seen, SameCounts, IsAccepted, is_kept}
 use Rattle.bw_procedures.specs.Seen.{Looked as LookTaken}
 use Rattle.bw_procedures.specs.Actions.{consolidates_behind, receipts_behind, receipts_of, Performs, PerformedBy}
-use Rattle.bw_procedures.specs.Writing.{Attempts, AttemptsAtOnce, ComesTrue, IsReceiptFor, IsChangeFor, LookAdds, FoundBy, keep_for}
+use Rattle.bw_procedures.specs.Writing.{Attempts, ComesTrue, IsReceiptFor, IsChangeFor, LookAdds, FoundBy, keep_for}
 use Rattle.bw_procedures.specs.Calls.{Offered, OnlyReshapes}
 use Rattle.bw_procedures.proofs.Trails.{adds_by, adds_nothing}
 use Rattle.bw_procedures.proofs.Reshaping.{counts_grow}

@@ -85,7 +85,6 @@ pub(crate) fn write<A: Allocator + Copy, S: Steps<A, Step<A>>>(
 
 /// Carries out a wish in one step of a worker that can, where the effort that is left covers the
 /// consolidation after the change. A leaf whose count stays fair needs no tending.
-#[tactic(auto, using(crate::proofs::Changing::adds_at_once))]
 #[inline(always)]
 fn write_at_once<A: Allocator + Copy, S: Steps<A, Step<A>>>(
     steps: &mut S,

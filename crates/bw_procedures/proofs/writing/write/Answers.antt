@@ -4,7 +4,7 @@ use Rattle.bw_procedures.proofs.writing.write.Goals.{in-Again, in-Kept}
 use Rattle.bw_procedures.proofs.writing.write.Goals as goal
 
 pub returns-in-Some-Tend-clause-follows : goal.returns-in-Some-Tend-clause-follows
-returns-in-Some-Tend-clause-follows g c = g.met.S.Steps.joins _ _ _ c.in-Some-Tend.ensures.follows c.finish.ensures.follows
+returns-in-Some-Tend-clause-follows g c = g.met.S.Steps.joins _ _ _ c.in-Some-Tend.ensures.follows c.finish-fault.ensures.follows
 
 pub returns-in_err-reply-clause-follows : goal.returns-in_err-reply-clause-follows
 returns-in_err-reply-clause-follows g c = g.met.S.Steps.joins _ _ _ c.again.invariant.follows c.in_err-reply.ensures.follows
@@ -13,7 +13,7 @@ pub returns-in-Reply-clause-follows : goal.returns-in-Reply-clause-follows
 returns-in-Reply-clause-follows g c = g.met.S.Steps.joins _ _ _ c.again.invariant.follows c.in_ok-reply.ensures.follows
 
 pub returns-in-Tend-clause-follows : goal.returns-in-Tend-clause-follows
-returns-in-Tend-clause-follows g c = g.met.S.Steps.joins _ _ _ c.again.invariant.follows (g.met.S.Steps.joins _ _ _ c.in_ok-reply.ensures.follows c.finish-in-Tend.ensures.follows)
+returns-in-Tend-clause-follows g c = g.met.S.Steps.joins _ _ _ c.again.invariant.follows (g.met.S.Steps.joins _ _ _ c.in_ok-reply.ensures.follows c.finish-fault-in-Tend.ensures.follows)
 
 pub returns-then-is_spent-clause-follows : goal.returns-then-is_spent-clause-follows
 returns-then-is_spent-clause-follows g c = g.met.S.Steps.joins _ _ _ c.again.invariant.follows c.in_ok-reply.ensures.follows
@@ -24,7 +24,7 @@ returns-in-Some-Reply-clause-write g c =
 
 pub returns-in-Some-Tend-clause-write : goal.returns-in-Some-Tend-clause-write
 returns-in-Some-Tend-clause-write g c =
-    let ended = c.finish.ensures in
+    let ended = c.finish-fault.ensures in
     let done = rw c.in-Some-Tend.field-0-is at c.in-Some-Tend.ensures.attempts in
     tended_writes c.args.key c.args.wished _ _ _ c.limit-limit.ensures (reshapes_none _) c.in-Some-Tend.reply None _ _ _ tt done ended.reshapes ended.fault
 
@@ -40,7 +40,7 @@ returns-in-Reply-clause-write g c =
 pub returns-in-Tend-clause-write : goal.returns-in-Tend-clause-write
 returns-in-Tend-clause-write g c =
     let inv = c.again.invariant in
-    let ended = c.finish-in-Tend.ensures in
+    let ended = c.finish-fault-in-Tend.ensures in
     let done = rw c.in-Tend.is at c.in_ok-reply.ensures.attempts in
     tended_writes c.args.key c.args.wished _ _ _ c.limit-limit.ensures inv.reshapes c.in-Tend.reply c.again.kept _ _ _ inv.kept done ended.reshapes ended.fault
 
