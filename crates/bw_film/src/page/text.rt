@@ -54,6 +54,7 @@ td.did::before { content: "did "; color: var(--faint); }
 td.does::before { content: "does "; color: var(--faint); }
 td.will::before { content: "next "; color: var(--faint); }
 tbody br { display: none; }
+footer { margin-top: 1.2rem; }
 .acts { background: var(--key); box-shadow: inset 4px 0 var(--mark); }
 @media (min-width: 62rem) {
 main { display: grid; grid-template: auto 1fr auto / minmax(20rem, 27rem) minmax(0, 1fr); gap: 0 1.5rem; align-items: start; }

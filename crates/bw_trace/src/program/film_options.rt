@@ -1,7 +1,8 @@
 //! The options of `film`.
 
-ghost use Rattle.std.specs.Prelude.{IfOk};
+ghost use Rattle.std.specs.Prelude.{◌≡◌, ◌<◌, ◌≤◌, IfErr, IfOk, OnOk};
 ghost use Rattle.clap.specs.Words.{found_of};
+ghost use Rattle.bw_trace.specs.declared.program.options.Field.TheVariants as fields;
 ghost use Rattle.bw_trace.specs.Options.{IsFilmedBy, IsFit, IsForward};
 
 use crate::program::help::OF_FILM;
@@ -45,6 +46,17 @@ impl FilmOptions {
             key: if_given(matches, "key"),
         })
     }
+}
+
+/// Fails where there is no moment of this number, with so many in all.
+pub(crate) fn check_from(from: u64, moments: u64) -> Result<(), Field>
+    ensures there { OnOk result (from < moments) }
+    ensures past { IfErr result (λ field. (field ≡ fields.From) × (moments ≤ from)) }
+{
+    if from < moments {
+        return Ok(());
+    }
+    Err(Field::From)
 }
 
 /// Returns the command `film` with its options and defaults.

@@ -33,6 +33,8 @@ pub(crate) enum Field {
     Rows,
     #[error("span")]
     Span,
+    #[error("from")]
+    From,
     #[error("to")]
     To,
 }
@@ -50,6 +52,7 @@ impl Field {
             Field::Trees => "--trees is 1 to 1024",
             Field::Rows => "--rows is 0 to 1000000",
             Field::Span => "--span is 1 to 4294967295",
+            Field::From => "--from is the number of a moment that there is",
             Field::To => "--to is no less than --from",
         }
     }

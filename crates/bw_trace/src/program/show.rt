@@ -4,7 +4,7 @@ ghost use Rattle.std.specs.Prelude.{◌≡◌, ◌<◌, ◌≤◌, IfOk, false, 
 ghost use Rattle.bw_scripts.specs.Played.{IsPlayed};
 
 use crate::program::fault::Fault;
-use crate::program::film_options::FilmOptions;
+use crate::program::film_options::{FilmOptions, check_from};
 use crate::program::setting::Setting;
 use crate::program::show_options::ShowOptions;
 use crate::program::steps::played_table;
@@ -63,7 +63,8 @@ pub(crate) fn draw<W: Write>(
     write_shown(alloc, output, &drawing)
 }
 
-/// Writes the page that shows the film of the trace or of the script.
+/// Writes the page that shows the film of the trace or of the script, unless that ends before the
+/// first moment wanted.
 pub(crate) fn write_film<R: Read + Drop, W: Write>(
     alloc: Global,
     options: FilmOptions,
@@ -94,6 +95,7 @@ pub(crate) fn write_film<R: Read + Drop, W: Write>(
             &rows,
         )?
     };
+    check_from(choice.from, film.moments)?;
     let page = page_of(alloc, &film)?;
     output.write_all(&page)?;
     output.flush()?;
