@@ -20,13 +20,12 @@ use Rattle.bw_step.proofs.Tellings.{without_shapes-append}
 use Rattle.bw_procedures.specs.declared.steps.Keep.{Keep}
 use Rattle.bw_procedures.specs.declared.fault.Fault.{Fault}
 use Rattle.bw_procedures.specs.declared.offer.Answer.TheVariants as answers
-use Rattle.bw_procedures.specs.declared.reply.Put.TheVariants.{Inserted as PutInserted}
 use Rattle.bw_procedures.specs.declared.writing.Tried.{Tried}
 use Rattle.bw_procedures.specs.declared.writing.Tried.TheVariants.{Reply, Tend, Again, Kept}
 use Rattle.bw_procedures.specs.Seen.{Seen, SameCounts, Grows, IsAccepted, is_kept}
 use Rattle.bw_procedures.specs.Seen.{Looked as LookTaken}
 use Rattle.bw_procedures.specs.Actions.{consolidates_behind, receipts_behind, receipts_of, Performs, PerformedBy}
-use Rattle.bw_procedures.specs.Writing.{Attempts, AddsReceipt, IsReceiptFor, IsChangeFor, LookAdds, FoundBy, IsReceiptOfPut, IsDeletionOf, IsSettingOf}
+use Rattle.bw_procedures.specs.Writing.{Attempts, AddsReceipt, IsReceiptFor, IsReplyOf, IsChangeFor, LookAdds, FoundBy, had_by, keep_for}
 use Rattle.bw_procedures.specs.Calls.{Offered, OnlyReshapes}
 use Rattle.bw_procedures.proofs.Trails.{adds_by, adds_nothing}
 use Rattle.bw_procedures.proofs.Reshaping.{counts_grow}
@@ -54,10 +53,43 @@ look_adds false key at found a b counts trail effort = record { without_shapes =
 pub found_by : (keep : Keep) (key : ℕ) (look : Look) (a b : Seen) → LookTaken keep key (Ok (Some look)) a b → FoundBy keep key (Ok (Some look)) a b
 found_by keep key look a b h = look_adds (is_kept keep look.found) key look.at look.found a b h.0 h.1 (omega (arith, h.2))
 
+-- what a key had before a wish came true stands in its receipt
+answers_by : (key : ℕ) (wished : Wished) (receipt : Receipt) → IsReceiptFor key wished receipt
+    → IsReplyOf key wished (had_by wished receipt) receipt
+answers_by key (Put value) (Inserted n k v) h = h
+answers_by key (Put value) (Looked at k None) h = let bad : false ≡ true = h.1 in cc
+answers_by key (Put value) (Looked at k (Some there)) h = (h.0, refl)
+answers_by key (Put value) receipt h = absurd h
+answers_by key (Set value) (Inserted n k v) h = h
+answers_by key (Set value) (Modified n k old v) h = (h.0, refl, h.1)
+answers_by key (Set value) (Looked at k found) h = let bad : false ≡ true = h.1 in cc
+answers_by key (Set value) receipt h = absurd h
+answers_by key TakeOut (Deleted n k v) h = (h, refl)
+answers_by key TakeOut (Looked at k None) h = (h.0, refl)
+answers_by key TakeOut (Looked at k (Some there)) h = let bad : false ≡ true = h.1 in cc
+answers_by key TakeOut receipt h = absurd h
+
+pub replied_by : (key : ℕ) (wished : Wished) (receipt : Receipt) (had : Option ℕ) → had ≡ had_by wished receipt
+    → IsReceiptFor key wished receipt → IsReplyOf key wished had receipt
+replied_by key wished receipt had is h =
+    subst (λ (it : Option ℕ). IsReplyOf key wished it receipt) (sym is) (answers_by key wished receipt h)
+
+look_answers : (key : ℕ) (wished : Wished) (at : ℕ) (found : Option ℕ) → is_kept (keep_for wished) found ≡ true
+    → IsReplyOf key wished found (Looked at key found)
+look_answers key (Put value) at None is = cc
+look_answers key (Put value) at (Some there) is = (refl, refl)
+look_answers key (Set value) at found is = cc
+look_answers key TakeOut at None is = (refl, refl)
+look_answers key TakeOut at (Some there) is = cc
+
 -- the look that is kept answers the call
-pub replied : {T : Type 0} → (is_of : T → Receipt → Type 0) (passes_posts kept : Bool) (limit key : ℕ) (found : Option ℕ) (reply : T) (a b : Seen) → kept ≡ true → ((at : ℕ) → is_of reply (Looked at key found)) → LookAdds kept key found a b → Attempts is_of passes_posts limit (Ok (Reply reply)) a b
-replied is_of passes_posts true limit key found reply a b is goes h = ((Looked h.0.0 key found, h.0.1, goes h.0.0), h.1)
-replied is_of passes_posts false limit key found reply a b is goes h = let bad : false ≡ true = is in cc
+pub replied : (key : ℕ) (wished : Wished) (passes_posts kept : Bool) (limit : ℕ) (found : Option ℕ) (a b : Seen)
+    → kept ≡ is_kept (keep_for wished) found → kept ≡ true → LookAdds (is_kept (keep_for wished) found) key found a b
+    → Attempts (IsReplyOf key wished) passes_posts limit (Ok (Reply found)) a b
+replied key wished passes_posts kept limit found a b same is h =
+    let holds = sym same ∙ is in
+    let adds = rw holds at h in
+    ((Looked adds.0.0 key found, adds.0.1, look_answers key wished adds.0.0 found holds), adds.1)
 
 -- the look that isn't kept leaves the trail
 pub wanted : (kept : Bool) (key : ℕ) (found : Option ℕ) (a b : Seen) → kept ≡ false → LookAdds kept key found a b → OnlyReshapes a b
@@ -65,41 +97,31 @@ wanted true key found a b is h = let bad : true ≡ false = is in cc
 wanted false key found a b is h = h
 
 -- an attempt that keeps no fault
-pub attempts_any : {T : Type 0} → (is_of : T → Receipt → Type 0) (passes_posts : Bool) (limit : ℕ) (result : Result (Tried T) Fault) (a b : Seen) → Attempts is_of true limit result a b → Attempts is_of passes_posts limit result a b
+pub attempts_any : (is_of : Option ℕ → Receipt → Type 0) (passes_posts : Bool) (limit : ℕ) (result : Result Tried Fault) (a b : Seen) → Attempts is_of true limit result a b → Attempts is_of passes_posts limit result a b
 attempts_any is_of passes_posts limit (Ok (Reply reply)) a b h = h
 attempts_any is_of passes_posts limit (Ok (Tend reply page)) a b h = h
 attempts_any is_of passes_posts limit (Ok Again) a b h = h
 attempts_any is_of passes_posts limit (Ok (Kept fault)) a b h = let bad : true ≡ false = h.2 in cc
 attempts_any is_of passes_posts limit (Err fault) a b h = h
 
-pub insertion_made : (page seen key value : ℕ) (receipt : Receipt) → IsReceiptOf (insert page seen key value) receipt → IsReceiptOfPut key value PutInserted receipt
-insertion_made page seen key value (Inserted number k v) h = h
-insertion_made page seen key value receipt h = absurd h
+-- by its step a wish comes true
+pub insertion_puts : (page seen key value : ℕ) (receipt : Receipt) → IsReceiptOf (insert page seen key value) receipt → IsReceiptFor key (Put value) receipt
+insertion_puts page seen key value (Inserted number k v) h = h
+insertion_puts page seen key value receipt h = absurd h
 
-pub deletion_made : (page seen key : ℕ) (receipt : Receipt) → IsReceiptOf (delete page seen key) receipt → IsDeletionOf key receipt
-deletion_made page seen key (Deleted number k v) h = h
-deletion_made page seen key receipt h = absurd h
-
--- a set inserts the pair, or changes the value that is there
-pub insertion_sets : (page seen key value : ℕ) (receipt : Receipt) → IsReceiptOf (insert page seen key value) receipt → IsSettingOf key value receipt
+pub insertion_sets : (page seen key value : ℕ) (receipt : Receipt) → IsReceiptOf (insert page seen key value) receipt → IsReceiptFor key (Set value) receipt
 insertion_sets page seen key value (Inserted number k v) h = h
 insertion_sets page seen key value receipt h = absurd h
 
-pub modification_sets : (page seen key value : ℕ) (receipt : Receipt) → IsReceiptOf (modify page seen key value) receipt → IsSettingOf key value receipt
+pub modification_sets : (page seen key value : ℕ) (receipt : Receipt) → IsReceiptOf (modify page seen key value) receipt → IsReceiptFor key (Set value) receipt
 modification_sets page seen key value (Modified number k old v) h = h
 modification_sets page seen key value receipt h = absurd h
 
-pub ruleset setting_made = (insertion_sets, modification_sets)
+pub deletion_takes_out : (page seen key : ℕ) (receipt : Receipt) → IsReceiptOf (delete page seen key) receipt → IsReceiptFor key TakeOut receipt
+deletion_takes_out page seen key (Deleted number k v) h = h
+deletion_takes_out page seen key receipt h = absurd h
 
--- by its change a wish comes true
-pub setting_comes_true : (key value : ℕ) (receipt : Receipt) → IsSettingOf key value receipt → IsReceiptFor key (Set value) receipt
-setting_comes_true key value (Inserted n k v) h = h
-setting_comes_true key value (Modified n k old v) h = h
-setting_comes_true key value receipt h = absurd h
-
-pub deletion_comes_true : (key : ℕ) (receipt : Receipt) → IsDeletionOf key receipt → IsReceiptFor key TakeOut receipt
-deletion_comes_true key (Deleted n k v) h = h
-deletion_comes_true key receipt h = absurd h
+pub ruleset comes_true = (insertion_puts, insertion_sets, modification_sets, deletion_takes_out)
 
 -- the receipt of a wish is that of its change, or of a look that answers it
 is_receipt_for : (number key : ℕ) (wished : Wished) (had : Option ℕ) → IsReceiptFor key wished (receipt_of_wish number key wished had)
@@ -135,34 +157,22 @@ alone_at_once key wished (Shaped kind p other) behind shapes reported = absurd (
 abbrev pub MadeBy : ℕ → Wished → Performed → Seen → Seen → Type 0
 MadeBy key wished done a b = Performs (actions.Record key wished) done a b ⊎ Performs (actions.Change key wished) done a b
 
--- a wish that came true at once adds the receipt of its reply
-adds_for : {T : Type 0} → (is_of : T → Receipt → Type 0) (reply : T) (key : ℕ) (wished : Wished) (action : Action) (done : Performed) (a b : Seen) → Performs action done a b
-    → IsReceiptFor key wished done.receipt → is_of reply done.receipt → AddsReceipt is_of reply a b × Grows a b
-adds_for is_of reply key wished action done a b h reported goes = (
+-- a wish that came true at once adds its receipt
+adds_for : (key : ℕ) (wished : Wished) (action : Action) (done : Performed) (had : Option ℕ) (a b : Seen) → Performs action done a b → IsReceiptFor key wished done.receipt → had ≡ had_by wished done.receipt
+    → AddsReceipt (IsReplyOf key wished) had a b × Grows a b
+adds_for key wished action done had a b h reported is = (
   (
     done.receipt,
     ap without_shapes h.trail ∙ (without_shapes-append a.trail (receipts_of action done)
         ∙ ap (λ (l : List Receipt). without_shapes a.trail ++ l) (alone_at_once key wished done.receipt (receipts_behind action done) (shapes_behind (consolidates_behind action done.receipt) done.page) reported)),
-    goes,
+    replied_by key wished done.receipt had is reported,
   ),
   performed_grows action done a b h,
 )
 
-pub adds_at_once : {T : Type 0} → (is_of : T → Receipt → Type 0) (reply : T) (key : ℕ) (wished : Wished) (done : Performed) (a b : Seen) → MadeBy key wished done a b → is_of reply done.receipt
-    → AddsReceipt is_of reply a b × Grows a b
-adds_at_once is_of reply key wished done a b (inl h) goes = adds_for is_of reply key wished (actions.Record key wished) done a b h (wish_comes_true key wished done.receipt h.reported.1) goes
-adds_at_once is_of reply key wished done a b (inr h) goes = adds_for is_of reply key wished (actions.Change key wished) done a b h (wish_comes_true key wished done.receipt h.reported.1) goes
-
-reported_at_once : (key : ℕ) (wished : Wished) (done : Performed) (a b : Seen) → MadeBy key wished done a b → IsReceiptFor key wished done.receipt
-reported_at_once key wished done a b (inl h) = wish_comes_true key wished done.receipt h.reported.1
-reported_at_once key wished done a b (inr h) = wish_comes_true key wished done.receipt h.reported.1
-
--- so does a look that finds the wish true
-pub looked_at_once : {T : Type 0} → (is_of : T → Receipt → Type 0) (reply : T) (key : ℕ) (wished : Wished) (done : Performed) (a b : Seen) → MadeBy key wished done a b
-    → (at k : ℕ) (found : Option ℕ) → done.receipt ≡ Looked at k found → ((n : ℕ) → is_of reply (Looked n key found)) → AddsReceipt is_of reply a b × Grows a b
-looked_at_once is_of reply key wished done a b h at k found is goes =
-    let reported : IsReceiptFor key wished (Looked at k found) = subst (IsReceiptFor key wished) is (reported_at_once key wished done a b h) in
-    adds_at_once is_of reply key wished done a b h (subst (is_of reply) (sym (is ∙ ap (λ (x : ℕ). Looked at x found) reported.0)) (goes at))
+pub adds_at_once : (key : ℕ) (wished : Wished) (done : Performed) (a b : Seen) → MadeBy key wished done a b → (had : Option ℕ) → had ≡ had_by wished done.receipt → AddsReceipt (IsReplyOf key wished) had a b × Grows a b
+adds_at_once key wished done a b (inl h) had is = adds_for key wished (actions.Record key wished) done had a b h (wish_comes_true key wished done.receipt h.reported.1) is
+adds_at_once key wished done a b (inr h) had is = adds_for key wished (actions.Change key wished) done had a b h (wish_comes_true key wished done.receipt h.reported.1) is
 
 -- what was performed, if it was, makes the wish come true one way or the other, and otherwise nothing was done
 module _ (key : ℕ) (wished : Wished) (a b : Seen) where

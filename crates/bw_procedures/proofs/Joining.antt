@@ -55,6 +55,6 @@ pub tends_fails : {T : Type 0} → (limit : ℕ) (result : Result (Option T) Fau
 tends_fails limit (Ok next) fault a b c is before after = absurd is
 tends_fails limit (Err it) fault a b c is before after = fails_then limit it fault a b c is before after
 
-pub attempt_fails : {T : Type 0} → (is_of : T → Receipt → Type 0) (passes_posts : Bool) (limit : ℕ) (result : Result (Tried T) Fault) (fault : Fault) (a b c : Seen) → IsErrAnd result (λ it. it ≡ fault) → OnlyReshapes a b → OnlyReshapes b c × IsEarned limit b c fault → Attempts is_of passes_posts limit result a c
+pub attempt_fails : (is_of : Option ℕ → Receipt → Type 0) (passes_posts : Bool) (limit : ℕ) (result : Result Tried Fault) (fault : Fault) (a b c : Seen) → IsErrAnd result (λ it. it ≡ fault) → OnlyReshapes a b → OnlyReshapes b c × IsEarned limit b c fault → Attempts is_of passes_posts limit result a c
 attempt_fails is_of passes_posts limit (Ok tried) fault a b c is before after = absurd is
 attempt_fails is_of passes_posts limit (Err it) fault a b c is before after = fails_then limit it fault a b c is before after

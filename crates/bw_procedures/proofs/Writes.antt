@@ -7,7 +7,8 @@ use Rattle.bw_procedures.specs.declared.fault.Fault.TheVariants as faults
 use Rattle.bw_procedures.specs.declared.reply.Done.{Done}
 use Rattle.bw_procedures.specs.Seen.{Seen, Grows}
 use Rattle.bw_procedures.specs.Calls.{OnlyReshapes, IsEarned, limit_of}
-use Rattle.bw_procedures.specs.Writing.{AddsReceipt, EndsEarned, KeptIsEarned}
+use Rattle.bw_keys.specs.declared.wished.Wished.{Wished}
+use Rattle.bw_procedures.specs.Writing.{AddsReceipt, EndsEarned, IsReplyOf, KeptIsEarned}
 use Rattle.bw_procedures.specs.Writes.{Writes}
 use Rattle.bw_procedures.proofs.Removals.{grow_then}
 use Rattle.bw_procedures.proofs.Rounds.{earned_then, reshapes_then}
@@ -76,3 +77,26 @@ module _ {T : Type 0} (is_of : T → Receipt → Type 0) (limit : ℕ) (a b : Se
   pub fails_writes : (result : Result (Done T) Fault) (fault : Fault) (c : Seen) → IsErrAnd result (λ it. it ≡ fault) → OnlyReshapes b c × IsEarned limit b c fault → Writes is_of result a c
   fails_writes (Ok done) fault c is failed = absurd is
   fails_writes (Err it) fault c is failed = subst (λ (it : Fault). Writes is_of (Err it) a c) (sym is) (failed_writes fault c failed)
+
+-- a call replies with what its key had, or with the fault
+module _ {T : Type 0} (is_of : T → Receipt → Type 0) (key : ℕ) (wished : Wished) (a b : Seen) where
+  pub reply_of : (reply : T) (had : Option ℕ) (fault : Option Fault)
+      → ((receipt : Receipt) → IsReplyOf key wished had receipt → is_of reply receipt)
+      → Writes (IsReplyOf key wished) (Ok (record { reply = had; fault = fault })) a b
+      → Writes is_of (Ok (record { reply = reply; fault = fault })) a b
+  reply_of reply had fault goes h = record {
+    grows = h.grows;
+    receipt = (h.receipt.0, h.receipt.1, goes h.receipt.0 h.receipt.2);
+    no_receipt = tt;
+    fault = tt;
+    kept = h.kept;
+  }
+
+  pub fault_of : (result : Result (Done T) Fault) (fault : Fault) → IsErrAnd result (λ it. it ≡ fault)
+      → Writes (IsReplyOf key wished) (Err fault) a b → Writes is_of result a b
+  fault_of (Ok done) fault is h = absurd is
+  fault_of (Err it) fault is h =
+      let same : Writes is_of (Err fault) a b = record { grows = h.grows; receipt = tt; no_receipt = h.no_receipt; fault = h.fault; kept = tt } in
+      subst (λ (it : Fault). Writes is_of (Err it) a b) (sym is) same
+
+pub ruleset replies_by = (reply_of, fault_of)

@@ -69,10 +69,31 @@ abbrev pub IsReceiptFor : ℕ → Wished → Receipt → Type 0
 IsReceiptFor key wished (receipts.Looked at k found) = (k ≡ key) × (is_kept (keep_for wished) found ≡ true)
 IsReceiptFor key wished receipt = IsChangeFor key wished receipt
 
--- without a reply the look isn't kept; with one it is, and its receipt is the reply's
-abbrev pub AnswersBy : {T : Type 0} → Keep → ℕ → (T → Receipt → Type 0) → Option ℕ → Option T → Type 0
-AnswersBy keep key is_of found None = is_kept keep found ≡ false
-AnswersBy keep key is_of found (Some reply) = (is_kept keep found ≡ true) × ((at : ℕ) → is_of reply (receipts.Looked at key found))
+-- what a key had before a wish came true by this receipt
+abbrev pub had_by : Wished → Receipt → Option ℕ
+had_by (wishes.Put value) (receipts.Looked at k found) = found
+had_by (wishes.Set value) (receipts.Modified number k old v) = Some old
+had_by wishes.Delete (receipts.Deleted number k v) = Some v
+had_by wished receipt = None
+
+-- what a put, a set and a delete reply where the key had this
+abbrev pub put_of : Option ℕ → Put
+put_of None = Inserted
+put_of (Some value) = Present value
+
+abbrev pub set_of : Option ℕ → Set
+set_of None = sets.Inserted
+set_of (Some value) = sets.Replaced value
+
+abbrev pub del_of : Option ℕ → Del
+del_of None = NoKey
+del_of (Some value) = Removed value
+
+-- the receipt of a wish for a key that had this
+abbrev pub IsReplyOf : ℕ → Wished → Option ℕ → Receipt → Type 0
+IsReplyOf key (wishes.Put value) had = IsReceiptOfPut key value (put_of had)
+IsReplyOf key (wishes.Set value) had = IsReceiptOfSet key value (set_of had)
+IsReplyOf key wishes.Delete had = IsReceiptOfDelete key (del_of had)
 
 -- one receipt that isn't Shaped was added, and it is this reply's
 abbrev pub AddsReceipt : {T : Type 0} → (T → Receipt → Type 0) → T → Seen → Seen → Type 0
@@ -84,7 +105,7 @@ KeptIsEarned limit old new None = Unit {0}
 KeptIsEarned limit old new (Some fault) = IsEarned limit old new fault
 
 -- one attempt of a call; a fault is kept no more than once
-abbrev pub Attempts : {T : Type 0} → (T → Receipt → Type 0) → Bool → ℕ → Result (Tried T) Fault → Seen → Seen → Type 0
+abbrev pub Attempts : (Option ℕ → Receipt → Type 0) → Bool → ℕ → Result Tried Fault → Seen → Seen → Type 0
 Attempts is_of passes_posts limit (Ok (Reply reply)) old new = AddsReceipt is_of reply old new × Grows old new
 Attempts is_of passes_posts limit (Ok (Tend reply page)) old new = AddsReceipt is_of reply old new × Grows old new
 Attempts is_of passes_posts limit (Ok Again) old new = OnlyReshapes old new × RoseBy 1 old.effort new.effort
@@ -92,7 +113,7 @@ Attempts is_of passes_posts limit (Ok (Kept fault)) old new = OnlyReshapes old n
 Attempts is_of passes_posts limit (Err fault) old new = OnlyReshapes old new × IsEarned limit old new fault
 
 -- an attempt at once: nothing, or a reply
-abbrev pub AttemptsAtOnce : {T : Type 0} → (T → Receipt → Type 0) → Option (Tried T) → Seen → Seen → Type 0
+abbrev pub AttemptsAtOnce : (Option ℕ → Receipt → Type 0) → Option Tried → Seen → Seen → Type 0
 AttemptsAtOnce is_of None old new = new ≡ old
 AttemptsAtOnce is_of (Some (Reply reply)) old new = AddsReceipt is_of reply old new × Grows old new
 AttemptsAtOnce is_of (Some (Tend reply page)) old new = AddsReceipt is_of reply old new × Grows old new
@@ -100,7 +121,7 @@ AttemptsAtOnce is_of (Some Again) old new = ⊥
 AttemptsAtOnce is_of (Some (Kept fault)) old new = ⊥
 
 -- help on a writer's walk
-abbrev pub Helped : {T : Type 0} → Bool → ℕ → Result (Tried T) Fault → Seen → Seen → Type 0
+abbrev pub Helped : Bool → ℕ → Result Tried Fault → Seen → Seen → Type 0
 Helped passes_posts limit (Ok (Reply reply)) old new = ⊥
 Helped passes_posts limit (Ok (Tend reply page)) old new = ⊥
 Helped passes_posts limit (Ok Again) old new = OnlyReshapes old new × RoseBy 1 old.effort new.effort

@@ -2,18 +2,15 @@
 
 use crate::clearing::{end_among_keys, has_room, remove_below};
 use crate::cursor::read_page;
-use crate::deletion::Deletion;
 use crate::effort::{is_spent, limit};
 use crate::fault::Fault;
 use crate::helping::help_within;
-use crate::insertion::Insertion;
 use crate::lookup::seek;
 use crate::reply::{Cleared, Del, Done, Put, Set, Slice};
-use crate::setting::Setting;
 use crate::steps::Steps;
 use crate::tending::tend_within;
 use crate::writing::write;
-use bw_keys::{Fence, Key, Pid};
+use bw_keys::{Fence, Key, Pid, Wished};
 use bw_step::{Step, Todo};
 use std::alloc::{Allocator, Global};
 
@@ -49,12 +46,15 @@ pub trait Calls<A: Allocator + Copy>: Steps<A, Step<A>> {
     /// The map is then as it was. [`Fault::Contended`] where the call's effort is spent,
     /// [`Fault::TableFull`], [`Fault::TooTall`] or [`Fault::Worn`] where a step was refused so, and
     /// [`Fault::NoMemory`].
+    #[tactic(auto, using(crate::proofs::Writes::replies_by))]
     #[inline(always)]
     fn put(&mut self, key: Key, value: u64) -> Result<Done<Put>, Fault>
         ensures follows { Self.follows self.old self.new }
         ensures write { Puts key value result (Self.seen self.old) (Self.seen self.new) }
     {
-        write(self, Insertion { key, value })
+        let Done { reply: had, fault } = write(self, key, Wished::Put(value))?;
+        let reply = Put::where_had(had);
+        Ok(Done { reply, fault })
     }
 
     /// Sets the key to the value, and returns the value that it had, if it had one. The walk to the
@@ -66,12 +66,15 @@ pub trait Calls<A: Allocator + Copy>: Steps<A, Step<A>> {
     /// # Errors
     ///
     /// As those of [`put`](Calls::put).
+    #[tactic(auto, using(crate::proofs::Writes::replies_by))]
     #[inline(always)]
     fn set(&mut self, key: Key, value: u64) -> Result<Done<Set>, Fault>
         ensures follows { Self.follows self.old self.new }
         ensures write { Sets key value result (Self.seen self.old) (Self.seen self.new) }
     {
-        write(self, Setting { key, value })
+        let Done { reply: had, fault } = write(self, key, Wished::Set(value))?;
+        let reply = Set::where_had(had);
+        Ok(Done { reply, fault })
     }
 
     /// Deletes the key, and returns its value, if it had one. The walk to the key's leaf helps what
@@ -83,12 +86,15 @@ pub trait Calls<A: Allocator + Copy>: Steps<A, Step<A>> {
     /// # Errors
     ///
     /// As those of [`put`](Calls::put).
+    #[tactic(auto, using(crate::proofs::Writes::replies_by))]
     #[inline(always)]
     fn delete(&mut self, key: Key) -> Result<Done<Del>, Fault>
         ensures follows { Self.follows self.old self.new }
         ensures write { Deletes key result (Self.seen self.old) (Self.seen self.new) }
     {
-        write(self, Deletion { key })
+        let Done { reply: had, fault } = write(self, key, Wished::Delete)?;
+        let reply = Del::where_had(had);
+        Ok(Done { reply, fault })
     }
 
     /// Deletes the keys from the low on and below the high, one after the other, and returns how

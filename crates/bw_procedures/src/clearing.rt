@@ -6,11 +6,10 @@ ghost use Rattle.bw_procedures.specs.Seen.{Grows};
 ghost use Rattle.bw_procedures.specs.Calls.{Earned};
 ghost use Rattle.bw_procedures.specs.Clearing.{RemovesBelow, RemovesKey};
 
-use crate::deletion::Deletion;
-use crate::reply::{Cleared, Del, Done};
+use crate::reply::{Cleared, Done};
 use crate::steps::Steps;
 use crate::writing::write;
-use bw_keys::{Fence, Key};
+use bw_keys::{Fence, Key, Wished};
 use bw_step::Step;
 use std::alloc::Allocator;
 
@@ -76,11 +75,11 @@ fn remove<A: Allocator + Copy, S: Steps<A, Step<A>>>(steps: &mut S, key: Key) ->
         (S.seen steps.old) (S.seen steps.new) }
     ensures fault { IfSome result.fault (Earned (S.seen steps.old) (S.seen steps.new)) }
 {
-    match write(steps, Deletion { key }) {
-        Ok(Done { reply, fault }) => Cleared {
-            removed: match reply {
-                Del::Removed(_) => 1,
-                Del::NoKey => 0,
+    match write(steps, key, Wished::Delete) {
+        Ok(Done { reply: had, fault }) => Cleared {
+            removed: match had {
+                Some(_) => 1,
+                None => 0,
             },
             fault,
         },

@@ -2,6 +2,7 @@ ghost use Rattle.std.specs.Prelude.{◌≡◌, ℕ, [], None, Some, IfOk, IfErr}
 ghost use Rattle.bw_keys.specs.declared.wished.Wished.TheVariants as wishes;
 ghost use Rattle.bw_procedures.specs.Texts.{delete_text, put_text, reply_text, set_text, text_without};
 ghost use Rattle.bw_procedures.specs.Writing.{IsReceiptFor, IsReceiptOfSet, IsReceiptOfDelete};
+ghost use Rattle.bw_procedures.specs.Writing.{del_of, put_of, set_of};
 
 use crate::fault::Fault;
 use bw_keys::Key;
@@ -15,6 +16,19 @@ pub enum Put {
     Inserted,
     /// The key was there, with this value, and keeps it.
     Present(u64),
+}
+
+impl Put {
+    /// Returns what a put replies where the key had this.
+    #[inline(always)]
+    pub(crate) fn where_had(had: Option<u64>) -> Put
+        ensures { result ≡ put_of had }
+    {
+        match had {
+            None => Put::Inserted,
+            Some(value) => Put::Present(value),
+        }
+    }
 }
 
 /// What a set replies.
@@ -38,6 +52,17 @@ impl Set {
             _ => Set::Inserted,
         }
     }
+
+    /// Returns what a set replies where the key had this.
+    #[inline(always)]
+    pub(crate) fn where_had(had: Option<u64>) -> Set
+        ensures { result ≡ set_of had }
+    {
+        match had {
+            None => Set::Inserted,
+            Some(value) => Set::Replaced(value),
+        }
+    }
 }
 
 /// What a delete replies.
@@ -59,6 +84,17 @@ impl Del {
         match receipt {
             Receipt::Deleted { value, .. } => Del::Removed(value),
             _ => Del::NoKey,
+        }
+    }
+
+    /// Returns what a delete replies where the key had this.
+    #[inline(always)]
+    pub(crate) fn where_had(had: Option<u64>) -> Del
+        ensures { result ≡ del_of had }
+    {
+        match had {
+            None => Del::NoKey,
+            Some(value) => Del::Removed(value),
         }
     }
 }

@@ -6,7 +6,7 @@ ghost use Rattle.bw_procedures.specs.Actions.{Performs};
 ghost use Rattle.bw_procedures.specs.Calls.{OnlySpends, OnlyReshapes};
 ghost use Rattle.bw_procedures.specs.Writes.{Writes};
 ghost use Rattle.bw_procedures.specs.Writing.{ArrivalCosts, Attempts, AttemptsAtOnce};
-ghost use Rattle.bw_procedures.specs.Writing.{Helped, EndsEarned, FoundBy};
+ghost use Rattle.bw_procedures.specs.Writing.{Helped, EndsEarned, FoundBy, IsReplyOf};
 
 use crate::consolidation::consolidate;
 use crate::effort::{is_spent, limit};
@@ -16,7 +16,7 @@ use crate::offer::{Answer, offer};
 use crate::reply::Done;
 use crate::steps::{Keep, Steps};
 use crate::tending::{is_fair, tend_within};
-use crate::wish::Wish;
+use crate::wish::{had, keep_of, step_for};
 use bw_delta::Spare;
 use bw_keys::{Key, Pid, Wished};
 use bw_step::{Action, Go, Look, Performed, Place, Receipt, Refused, Step, Todo, View};
@@ -35,36 +35,50 @@ enum Arrival {
 
 /// What one attempt of a call came to.
 #[derive(Clone, Copy)]
-enum Tried<T> {
-    /// The reply, from a look, or from a change after which no page is to be tended.
-    Reply(T),
-    /// The reply, from an accepted change of the page, which is to be tended.
-    Tend(T, Pid),
+enum Tried {
+    /// What the key had, from a look, or from a change after which no page is to be tended.
+    Reply(Option<u64>),
+    /// What the key had, from an accepted change of the page, which is to be tended.
+    Tend(Option<u64>, Pid),
     /// Nothing: the call begins again.
     Again,
     /// Nothing: the call begins again, and passes over pages that aren't posted.
     Kept(Fault),
 }
 
-/// Carries out a wish, as a put, a set or a delete.
+/// Carries out a wish, as a put, a set or a delete, and replies with what the key had.
 #[inline(always)]
-pub(crate) fn write<A: Allocator + Copy, S: Steps<A, Step<A>>, W: Wish>(
+pub(crate) fn write<A: Allocator + Copy, S: Steps<A, Step<A>>>(
     steps: &mut S,
-    wish: W,
-) -> Result<Done<W::Reply>, Fault>
+    key: Key,
+    wished: Wished,
+) -> Result<Done<Option<u64>>, Fault>
     ensures follows { S.follows steps.old steps.new }
-    ensures write { Writes (W.is_receipt_of wish) result (S.seen steps.old) (S.seen steps.new) }
+    ensures write { Writes (IsReplyOf key wished) result (S.seen steps.old) (S.seen steps.new) }
 {
     let limit = limit(steps);
-    match write_at_once(steps, limit, wish) {
-        Some(Tried::Reply(reply)) => return Ok(Done { reply, fault: None }),
-        Some(Tried::Tend(reply, page)) => return Ok(finish(steps, limit, None, reply, page)),
-        Some(Tried::Again | Tried::Kept(_)) | None => {}
+    match write_at_once(steps, limit, key, wished) {
+        Some(Tried::Reply(reply)) => Ok(Done { reply, fault: None }),
+        Some(Tried::Tend(reply, page)) => Ok(finish(steps, limit, None, reply, page)),
+        Some(Tried::Again | Tried::Kept(_)) | None => write_by_steps(steps, key, wished),
     }
+}
+
+/// Carries out a wish by single steps, attempt by attempt.
+#[inline(never)]
+fn write_by_steps<A: Allocator + Copy, S: Steps<A, Step<A>>>(
+    steps: &mut S,
+    key: Key,
+    wished: Wished,
+) -> Result<Done<Option<u64>>, Fault>
+    ensures follows { S.follows steps.old steps.new }
+    ensures write { Writes (IsReplyOf key wished) result (S.seen steps.old) (S.seen steps.new) }
+{
+    let limit = limit(steps);
     let mut kept: Option<Fault> = None;
     'again: loop {
         let passes_posts = kept.is_some();
-        match try_once(steps, limit, passes_posts, wish)? {
+        match try_once(steps, limit, passes_posts, key, wished)? {
             Tried::Reply(reply) => return Ok(Done { reply, fault: kept }),
             Tried::Tend(reply, page) => return Ok(finish(steps, limit, kept, reply, page)),
             Tried::Again => {}
@@ -79,33 +93,28 @@ pub(crate) fn write<A: Allocator + Copy, S: Steps<A, Step<A>>, W: Wish>(
 /// Carries out a wish in one step of a worker that can, where the effort that is left covers the
 /// consolidation after the change. A leaf whose count stays fair needs no tending.
 #[inline(always)]
-fn write_at_once<A: Allocator + Copy, S: Steps<A, Step<A>>, W: Wish>(
+fn write_at_once<A: Allocator + Copy, S: Steps<A, Step<A>>>(
     steps: &mut S,
     limit: u64,
-    wish: W,
-) -> Option<Tried<W::Reply>>
+    key: Key,
+    wished: Wished,
+) -> Option<Tried>
     ensures follows { S.follows steps.old steps.new }
-    ensures attempts { AttemptsAtOnce (W.is_receipt_of wish) result
+    ensures attempts { AttemptsAtOnce (IsReplyOf key wished) result
         (S.seen steps.old) (S.seen steps.new) }
 {
     if is_spent(steps, limit) {
         return None;
     }
-    let done = make_at_once(steps, wish.key(), wish.wished())?;
-    match done.receipt {
-        Receipt::Looked { found, .. } => match wish.answered(found) {
-            Some(reply) => Some(Tried::Reply(reply)),
-            None => unreachable!(),
-        },
-        receipt => {
-            let reply = wish.reply(receipt);
-            let config = steps.config();
-            if is_fair(config.fanout, done.count) && u32::from(done.depth) < config.chain {
-                Some(Tried::Reply(reply))
-            } else {
-                Some(Tried::Tend(reply, done.page))
-            }
-        }
+    let done = make_at_once(steps, key, wished)?;
+    let reply = had(wished, done.receipt);
+    let config = steps.config();
+    if matches!(done.receipt, Receipt::Looked { .. })
+        || (is_fair(config.fanout, done.count) && u32::from(done.depth) < config.chain)
+    {
+        Some(Tried::Reply(reply))
+    } else {
+        Some(Tried::Tend(reply, done.page))
     }
 }
 
@@ -134,20 +143,21 @@ fn make_at_once<A: Allocator + Copy, S: Steps<A, Step<A>>>(
 /// Walks to the key's leaf, and carries out the wish there.
 #[tactic(auto, using(crate::proofs::Changing::attempts_any))]
 #[inline(always)]
-fn try_once<A: Allocator + Copy, S: Steps<A, Step<A>>, W: Wish>(
+fn try_once<A: Allocator + Copy, S: Steps<A, Step<A>>>(
     steps: &mut S,
     limit: u64,
     passes_posts: bool,
-    wish: W,
-) -> Result<Tried<W::Reply>, Fault>
+    key: Key,
+    wished: Wished,
+) -> Result<Tried, Fault>
     ensures follows { S.follows steps.old steps.new }
-    ensures attempts { Attempts (W.is_receipt_of wish) passes_posts limit result
+    ensures attempts { Attempts (IsReplyOf key wished) passes_posts limit result
         (S.seen steps.old) (S.seen steps.new) }
 {
-    match arrive(steps, wish.key(), passes_posts) {
+    match arrive(steps, key, passes_posts) {
         Arrival::Gone => Ok(Tried::Again),
         Arrival::Help(todo) => help_on(steps, limit, passes_posts, todo),
-        Arrival::Here(view) => write_at(steps, limit, view, wish),
+        Arrival::Here(view) => write_at(steps, limit, view, key, wished),
     }
 }
 
@@ -209,12 +219,12 @@ fn wanted(todo: Option<Todo>, passes_posts: bool) -> Option<Todo> {
 }
 
 /// Helps, and keeps the fault where a page can't be posted.
-fn help_on<A: Allocator + Copy, S: Steps<A, Step<A>>, T: Drop>(
+fn help_on<A: Allocator + Copy, S: Steps<A, Step<A>>>(
     steps: &mut S,
     limit: u64,
     passes_posts: bool,
     todo: Todo,
-) -> Result<Tried<T>, Fault>
+) -> Result<Tried, Fault>
     ensures follows { S.follows steps.old steps.new }
     ensures helped { Helped passes_posts limit result (S.seen steps.old) (S.seen steps.new) }
 {
@@ -247,23 +257,25 @@ fn is_want_of_pages(fault: Fault) -> bool {
 /// Carries out a wish at a page.
 #[tactic(auto, using(crate::proofs::Changing::replied, crate::proofs::Changing::wanted))]
 #[inline(always)]
-fn write_at<A: Allocator + Copy, S: Steps<A, Step<A>>, W: Wish>(
+fn write_at<A: Allocator + Copy, S: Steps<A, Step<A>>>(
     steps: &mut S,
     limit: u64,
     view: View,
-    wish: W,
-) -> Result<Tried<W::Reply>, Fault>
+    key: Key,
+    wished: Wished,
+) -> Result<Tried, Fault>
     ensures follows { S.follows steps.old steps.new }
-    ensures attempts { Attempts (W.is_receipt_of wish) true limit result
+    ensures attempts { Attempts (IsReplyOf key wished) true limit result
         (S.seen steps.old) (S.seen steps.new) }
 {
-    let Some(look) = look_at(steps, view.pid, wish.key(), wish.keep())? else {
+    let keep = keep_of(wished);
+    let Some(Look { found, .. }) = look_at(steps, view.pid, key, keep)? else {
         return Ok(Tried::Again);
     };
-    match wish.answered(look.found) {
-        Some(reply) => Ok(Tried::Reply(reply)),
-        None => propose(steps, limit, view, look.found, wish),
+    if keep.keeps(found) {
+        return Ok(Tried::Reply(found));
     }
+    propose(steps, limit, view, found, key, wished)
 }
 
 /// Looks the key up at a page. None where the page isn't the key's leaf any more.
@@ -283,20 +295,21 @@ fn look_at<A: Allocator + Copy, S: Steps<A, Step<A>>>(
 
 /// Proposes the wish's step. A page that is too deep for it is consolidated.
 #[inline(always)]
-fn propose<A: Allocator + Copy, S: Steps<A, Step<A>>, W: Wish>(
+fn propose<A: Allocator + Copy, S: Steps<A, Step<A>>>(
     steps: &mut S,
     limit: u64,
     view: View,
     found: Option<u64>,
-    wish: W,
-) -> Result<Tried<W::Reply>, Fault>
+    key: Key,
+    wished: Wished,
+) -> Result<Tried, Fault>
     ensures follows { S.follows steps.old steps.new }
-    ensures attempts { Attempts (W.is_receipt_of wish) true limit result
+    ensures attempts { Attempts (IsReplyOf key wished) true limit result
         (S.seen steps.old) (S.seen steps.new) }
 {
     let spare = Spare::new(steps.alloc())?;
-    match offer(steps, limit, wish.step(view, found, spare))? {
-        Answer::Accepted(receipt) => Ok(Tried::Tend(wish.reply(receipt), view.pid)),
+    match offer(steps, limit, step_for(key, wished, view, found, spare))? {
+        Answer::Accepted(receipt) => Ok(Tried::Tend(had(wished, receipt), view.pid)),
         Answer::Refused(Refused::Deep) => {
             consolidate(steps, limit, view)?;
             Ok(Tried::Again)
@@ -307,13 +320,13 @@ fn propose<A: Allocator + Copy, S: Steps<A, Step<A>>, W: Wish>(
 }
 
 /// Tends the page of an accepted change, and returns the reply.
-fn finish<A: Allocator + Copy, S: Steps<A, Step<A>>, T>(
+fn finish<A: Allocator + Copy, S: Steps<A, Step<A>>>(
     steps: &mut S,
     limit: u64,
     kept: Option<Fault>,
-    reply: T,
+    reply: Option<u64>,
     page: Pid,
-) -> Done<T>
+) -> Done<Option<u64>>
     ensures follows { S.follows steps.old steps.new }
     ensures reshapes { OnlyReshapes (S.seen steps.old) (S.seen steps.new) }
     ensures reply { result.reply ≡ reply }

@@ -1,52 +1,17 @@
 use Rattle.std.proofs.Common.{None}
-use Rattle.bw_procedures.proofs.Writes.{failed_writes, fails_writes, replied_writes, reshapes_none, tended_writes}
-use Rattle.bw_procedures.proofs.writing.write.Goals.{in-Again, in-Kept}
+use Rattle.bw_procedures.specs.Writing.{IsReplyOf}
+use Rattle.bw_procedures.proofs.Writes.{replied_writes, reshapes_none, tended_writes}
 use Rattle.bw_procedures.proofs.writing.write.Goals as goal
 
 pub returns-in-Some-Tend-clause-follows : goal.returns-in-Some-Tend-clause-follows
 returns-in-Some-Tend-clause-follows g c = g.met.S.Steps.joins _ _ _ c.in-Some-Tend.ensures.follows c.finish.ensures.follows
 
-pub returns-in_err-reply-clause-follows : goal.returns-in_err-reply-clause-follows
-returns-in_err-reply-clause-follows g c = g.met.S.Steps.joins _ _ _ c.again.invariant.follows c.in_err-reply.ensures.follows
-
-pub returns-in-Reply-clause-follows : goal.returns-in-Reply-clause-follows
-returns-in-Reply-clause-follows g c = g.met.S.Steps.joins _ _ _ c.again.invariant.follows c.in_ok-reply.ensures.follows
-
-pub returns-in-Tend-clause-follows : goal.returns-in-Tend-clause-follows
-returns-in-Tend-clause-follows g c = g.met.S.Steps.joins _ _ _ c.again.invariant.follows (g.met.S.Steps.joins _ _ _ c.in_ok-reply.ensures.follows c.finish-in-Tend.ensures.follows)
-
-pub returns-then-is_spent-clause-follows : goal.returns-then-is_spent-clause-follows
-returns-then-is_spent-clause-follows g c = g.met.S.Steps.joins _ _ _ c.again.invariant.follows c.in_ok-reply.ensures.follows
-
 pub returns-in-Some-Reply-clause-write : goal.returns-in-Some-Reply-clause-write
 returns-in-Some-Reply-clause-write g c =
-    replied_writes (g.W.Wish.is_receipt_of c.args.wish) _ _ _ c.limit-limit.ensures (reshapes_none _) c.in-Some-Reply.reply None _ tt (rw c.in-Some-Reply.field-0-is at c.in-Some-Reply.ensures.attempts)
+    replied_writes (IsReplyOf c.args.key c.args.wished) _ _ _ c.limit-limit.ensures (reshapes_none _) c.in-Some-Reply.reply None _ tt (rw c.in-Some-Reply.field-0-is at c.in-Some-Reply.ensures.attempts)
 
 pub returns-in-Some-Tend-clause-write : goal.returns-in-Some-Tend-clause-write
 returns-in-Some-Tend-clause-write g c =
     let ended = c.finish.ensures in
     let done = rw c.in-Some-Tend.field-0-is at c.in-Some-Tend.ensures.attempts in
-    tended_writes (g.W.Wish.is_receipt_of c.args.wish) _ _ _ c.limit-limit.ensures (reshapes_none _) c.finish.result c.in-Some-Tend.reply None _ _ ended.reply tt done ended.reshapes ended.fault
-
-pub returns-in_err-reply-clause-write : goal.returns-in_err-reply-clause-write
-returns-in_err-reply-clause-write g c =
-    fails_writes (g.W.Wish.is_receipt_of c.args.wish) _ _ _ c.limit-limit.ensures c.again.invariant.reshapes c.from_residual.result _ _ c.from_residual.ensures.1 c.in_err-reply.ensures.attempts
-
-pub returns-in-Reply-clause-write : goal.returns-in-Reply-clause-write
-returns-in-Reply-clause-write g c =
-    let inv = c.again.invariant in
-    replied_writes (g.W.Wish.is_receipt_of c.args.wish) _ _ _ c.limit-limit.ensures inv.reshapes c.in-Reply.reply c.again.kept _ inv.kept (rw c.in-Reply.is at c.in_ok-reply.ensures.attempts)
-
-pub returns-in-Tend-clause-write : goal.returns-in-Tend-clause-write
-returns-in-Tend-clause-write g c =
-    let inv = c.again.invariant in
-    let ended = c.finish-in-Tend.ensures in
-    let done = rw c.in-Tend.is at c.in_ok-reply.ensures.attempts in
-    tended_writes (g.W.Wish.is_receipt_of c.args.wish) _ _ _ c.limit-limit.ensures inv.reshapes c.finish-in-Tend.result c.in-Tend.reply c.again.kept _ _ ended.reply inv.kept done ended.reshapes ended.fault
-
-pub returns-then-is_spent-clause-write : goal.returns-then-is_spent-clause-write
-returns-then-is_spent-clause-write g c =
-    elim c.match-branch-2.branch [
-      | in-Again w ↦ let tried = rw w.in-Again.is at c.in_ok-reply.ensures.attempts in failed_writes (g.W.Wish.is_receipt_of c.args.wish) _ _ _ c.limit-limit.ensures c.again.invariant.reshapes _ _ (tried.0, c.is_spent.ensures.0 c.if-is_spent.true)
-      | in-Kept w ↦ let tried = rw w.in-Kept.is at c.in_ok-reply.ensures.attempts in failed_writes (g.W.Wish.is_receipt_of c.args.wish) _ _ _ c.limit-limit.ensures c.again.invariant.reshapes _ _ (tried.0, c.is_spent.ensures.0 c.if-is_spent.true)
-    ]
+    tended_writes (IsReplyOf c.args.key c.args.wished) _ _ _ c.limit-limit.ensures (reshapes_none _) c.finish.result c.in-Some-Tend.reply None _ _ ended.reply tt done ended.reshapes ended.fault

@@ -1,7 +1,7 @@
 use Rattle.std.proofs.Common.{◌+◌, ◌-◌, ◌*◌, cond, is_some}
 use Rattle.bw_procedures.specs.Calls.{OnlyReshapes}
 use Rattle.bw_procedures.specs.Writing.{KeptIsEarned}
-use Rattle.bw_procedures.proofs.writing.write.Given as goal
+use Rattle.bw_procedures.proofs.writing.write_by_steps.Given as goal
 
 abbrev pub invariant-again : goal.invariant-again
 invariant-again g l = record {
