@@ -1,12 +1,6 @@
 //! The steps of a table that is held.
 
-ghost use Rattle.std.specs.Prelude.{◌≡◌, Some, IfSome, IfNone, IfOk, IfErr, OnErr, IsOk, ◌↔◌, None};
-ghost use Rattle.bw_step.specs.ProposalView.{proposal_of};
-ghost use Rattle.bw_law.specs.Effects.{TakesStep};
-ghost use Rattle.bw_law.specs.Refusals.{refusal};
 ghost use Rattle.bw_law.specs.Tables.{Lawful, Booked};
-ghost use Rattle.bw_table.specs.Actions.{IsPerformed, IsWhyNot};
-ghost use Rattle.bw_table.specs.InPlaces.{IsMergedUnder, IsSplitUnder};
 
 use crate::holding::{Does, Holds};
 use bw_keys::Pid;
@@ -23,76 +17,10 @@ pub(crate) fn law<A: Allocator + Copy, H: Holds<Table<A>>>(held: &H)
     held.get().law();
 }
 
-/// Takes the step: see [`Table::install`].
-#[inline(always)]
-pub(crate) fn install<A: Allocator + Copy, H: Holds<Table<A>>>(
-    held: &mut H,
-    step: Step<A>,
-) -> Result<Receipt, Refused>
-    ensures accepted { IsOk result ↔ (refusal (H.value held.old) (proposal_of step) ≡ None) }
-    ensures taken { IfOk result (λ receipt.
-        TakesStep (H.value held.old) (proposal_of step) receipt (H.value held.new)) }
-    ensures refused { IfErr result (λ reason.
-        refusal (H.value held.old) (proposal_of step) ≡ Some reason) }
-    ensures unchanged { OnErr result (H.value held.new ≡ H.value held.old) }
-    ensures same { H.same held.old held.new }
-{
-    held.with(Installing { step })
-}
-
-/// Performs an action, without spare memory: see [`Table::perform`].
-#[inline(always)]
-pub(crate) fn perform<A: Allocator + Copy, H: Holds<Table<A>>>(
-    held: &mut H,
-    alloc: A,
-    action: Action,
-) -> Result<Performed, Unperformed>
-    ensures done { IfOk result (IsPerformed (H.value held.old) action (H.value held.new)) }
-    ensures why { IfErr result (IsWhyNot (H.value held.old) action) }
-    ensures unchanged { OnErr result (H.value held.new ≡ H.value held.old) }
-    ensures same { H.same held.old held.new }
-{
-    held.with(Performing { alloc, action })
-}
-
-/// Splits the page and names the new one in the parent: see [`Table::split_under`].
-#[inline(always)]
-pub(crate) fn split_under<A: Allocator + Copy, H: Holds<Table<A>>>(
-    held: &mut H,
-    parent: Pid,
-    page: Pid,
-    number: usize,
-) -> Option<(Pid, bool)>
-    ensures done { IfSome result (λ it.
-        IsSplitUnder (H.value held.old) parent.0 page.0 number it.0 it.1 (H.value held.new)) }
-    ensures unchanged { IfNone result (H.value held.new ≡ H.value held.old) }
-    ensures same { H.same held.old held.new }
-{
-    held.with(Splitting {
-        parent,
-        page,
-        number,
-    })
-}
-
-/// Merges the page into its left neighbour under the parent: see [`Table::merge_under`].
-pub(crate) fn merge_under<A: Allocator + Copy, H: Holds<Table<A>>>(
-    held: &mut H,
-    parent: Pid,
-    page: Pid,
-) -> Option<Pid>
-    ensures done { IfSome result (λ left.
-        IsMergedUnder (H.value held.old) parent.0 page.0 left (H.value held.new)) }
-    ensures unchanged { IfNone result (H.value held.new ≡ H.value held.old) }
-    ensures same { H.same held.old held.new }
-{
-    held.with(Merging { parent, page })
-}
-
-/// That the table takes a step.
+/// That the table takes a step: see [`Table::install`].
 #[derive(Drop)]
-struct Installing<A: Allocator + Copy> {
-    step: Step<A>,
+pub(crate) struct Installing<A: Allocator + Copy> {
+    pub step: Step<A>,
 }
 
 impl<A: Allocator + Copy> Does<Table<A>> for Installing<A> {
@@ -109,11 +37,11 @@ impl<A: Allocator + Copy> Does<Table<A>> for Installing<A> {
     }
 }
 
-/// That an action is performed.
+/// That an action is performed, without spare memory: see [`Table::perform`].
 #[derive(Clone, Copy)]
-struct Performing<A: Allocator + Copy> {
-    alloc: A,
-    action: Action,
+pub(crate) struct Performing<A: Allocator + Copy> {
+    pub alloc: A,
+    pub action: Action,
 }
 
 impl<A: Allocator + Copy> Does<Table<A>> for Performing<A> {
@@ -129,12 +57,12 @@ impl<A: Allocator + Copy> Does<Table<A>> for Performing<A> {
     }
 }
 
-/// That a page is split, and the new one named in the parent.
+/// That a page is split, and the new one named in the parent: see [`Table::split_under`].
 #[derive(Clone, Copy)]
-struct Splitting {
-    parent: Pid,
-    page: Pid,
-    number: usize,
+pub(crate) struct Splitting {
+    pub parent: Pid,
+    pub page: Pid,
+    pub number: usize,
 }
 
 impl<A: Allocator + Copy> Does<Table<A>> for Splitting {
@@ -150,11 +78,11 @@ impl<A: Allocator + Copy> Does<Table<A>> for Splitting {
     }
 }
 
-/// That a page is merged into its left neighbour under the parent.
+/// That a page is merged into its left neighbour under the parent: see [`Table::merge_under`].
 #[derive(Clone, Copy)]
-struct Merging {
-    parent: Pid,
-    page: Pid,
+pub(crate) struct Merging {
+    pub parent: Pid,
+    pub page: Pid,
 }
 
 impl<A: Allocator + Copy> Does<Table<A>> for Merging {

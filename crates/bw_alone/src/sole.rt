@@ -9,7 +9,7 @@ ghost use Rattle.bw_procedures.specs.Seen.{Grows, ends_of};
 ghost use Rattle.bw_alone.specs.Clearing.{IsMapWithout};
 ghost use Rattle.bw_alone.specs.Leading.{Continues};
 
-use crate::held::{install, law, merge_under, perform, split_under};
+use crate::held::{Installing, Merging, Performing, Splitting, law};
 use crate::holding::{Holds, Own};
 use bw_delta::{Base, Chain, NoMemory};
 use bw_keys::{Config, Fence, Key, Pid, Version};
@@ -216,7 +216,8 @@ impl<A: Allocator + Copy, H: Holds<Table<A>>, T: Trail> Steps<A, Step<A>> for So
             return Err(Unperformed::Denied(Denied::NoMemory));
         }
         law(&self.table);
-        match perform(&mut self.table, self.alloc, action) {
+        let alloc = self.alloc;
+        match self.table.with(Performing { alloc, action }) {
             Ok(done) => {
                 self.account.performed(action, done);
                 Ok(done)
@@ -238,9 +239,13 @@ impl<A: Allocator + Copy, H: Holds<Table<A>>, T: Trail> Steps<A, Step<A>> for So
             return None;
         }
         law(&self.table);
-        let number = first_to_go(page);
-        let (new, posted) = split_under(&mut self.table, parent, page.pid, number)?;
-        self.account.split_at_once(page.pid, parent, new, posted);
+        let (page, number) = (page.pid, first_to_go(page));
+        let (new, posted) = self.table.with(Splitting {
+            parent,
+            page,
+            number,
+        })?;
+        self.account.split_at_once(page, parent, new, posted);
         Some(new)
     }
 
@@ -249,8 +254,9 @@ impl<A: Allocator + Copy, H: Holds<Table<A>>, T: Trail> Steps<A, Step<A>> for So
             return None;
         }
         law(&self.table);
-        let left = merge_under(&mut self.table, parent, page.pid)?;
-        self.account.merged_at_once(page.pid, parent, left);
+        let page = page.pid;
+        let left = self.table.with(Merging { parent, page })?;
+        self.account.merged_at_once(page, parent, left);
         Some(left)
     }
 
@@ -298,7 +304,7 @@ impl<A: Allocator + Copy, H: Holds<Table<A>>, T: Trail> Steps<A, Step<A>> for So
             return Err(Denied::NoMemory);
         }
         law(&self.table);
-        match install(&mut self.table, step) {
+        match self.table.with(Installing { step }) {
             Ok(receipt) => {
                 self.account.accepted(receipt);
                 Ok(receipt)

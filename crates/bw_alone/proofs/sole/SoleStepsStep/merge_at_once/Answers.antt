@@ -6,10 +6,10 @@ returns-clause-follows g c =
     let it = c.in_ok-left in
     let law = c.law.ensures in
     record {
-      place = c.merge_under.ensures.same;
-      config = merge_keeps_config _ _ c.args.parent.0 c.args.page.pid.0 it.left it.ensures.done;
+      place = c.with.ensures.same;
+      config = merge_keeps_config _ _ c.args.parent.0 c.args.page.pid.0 it.left it.ensures.done.done;
       leads = rw (c.merged_at_once.ensures, c.reserve_five.ensures.seen)
-          (merge_leads _ _ c.args.parent.0 c.args.page.pid.0 it.left it.ensures.done c.args.self.now.account.seen.trail law.lawful law.booked);
+          (merge_leads _ _ c.args.parent.0 c.args.page.pid.0 it.left it.ensures.done.done c.args.self.now.account.seen.trail law.lawful law.booked);
     }
 
 pub returns-clause-seen : goal.returns-clause-seen

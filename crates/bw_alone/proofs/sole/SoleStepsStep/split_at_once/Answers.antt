@@ -7,10 +7,10 @@ returns-clause-follows g c =
     let law = c.law.ensures in
     let number = c.first_to_go-number.result in
     record {
-      place = c.split_under.ensures.same;
-      config = split_keeps_config _ _ c.args.parent.0 c.args.page.pid.0 number it.new it.posted it.ensures.done;
+      place = c.with.ensures.same;
+      config = split_keeps_config _ _ c.args.parent.0 c.args.page.pid.0 number it.new it.posted it.ensures.done.done;
       leads = rw (c.split_at_once.ensures, c.reserve_four.ensures.seen)
-          (split_leads _ _ c.args.parent.0 c.args.page.pid.0 number it.new it.posted c.args.self.now.account.seen.trail law.lawful law.booked it.ensures.done);
+          (split_leads _ _ c.args.parent.0 c.args.page.pid.0 number it.new it.posted c.args.self.now.account.seen.trail law.lawful law.booked it.ensures.done.done);
     }
 
 pub returns-clause-seen : goal.returns-clause-seen
