@@ -11,6 +11,7 @@ use Rattle.bw_step.specs.declared.action.Unperformed.{Unperformed}
 use Rattle.bw_step.specs.declared.action.Unperformed.TheVariants.{Denied, StepByStep}
 use Rattle.bw_step.specs.declared.fault.Denied.TheVariants.{Refused, NoMemory}
 use Rattle.bw_step.specs.Proposals.{Proposal, insert, delete, modify}
+use Rattle.bw_step.specs.ProposalView.{step_of_wish}
 use Rattle.bw_step.specs.Steps.{ChangesShape, IsReceiptOf}
 use Rattle.bw_step.specs.declared.receipt.Receipt.{Receipt}
 use Rattle.bw_step.specs.declared.receipt.Receipt.TheVariants.{Inserted, Deleted, Modified, Looked, Shaped}
@@ -104,24 +105,20 @@ attempts_any is_of passes_posts limit (Ok Again) a b h = h
 attempts_any is_of passes_posts limit (Ok (Kept fault)) a b h = let bad : true ≡ false = h.2 in cc
 attempts_any is_of passes_posts limit (Err fault) a b h = h
 
--- by its step a wish comes true
-pub insertion_puts : (page seen key value : ℕ) (receipt : Receipt) → IsReceiptOf (insert page seen key value) receipt → IsReceiptFor key (Put value) receipt
-insertion_puts page seen key value (Inserted number k v) h = h
-insertion_puts page seen key value receipt h = absurd h
+-- the step of a wish changes no shape, and by it the wish comes true
+module _ (page seen key : ℕ) where
+  pub keeps_shape : (wished : Wished) (there : Bool) → ChangesShape (step_of_wish page seen key wished there) → ⊥
+  keeps_shape (Put value) there h = h
+  keeps_shape (Set value) true h = h
+  keeps_shape (Set value) false h = h
+  keeps_shape TakeOut there h = h
 
-pub insertion_sets : (page seen key value : ℕ) (receipt : Receipt) → IsReceiptOf (insert page seen key value) receipt → IsReceiptFor key (Set value) receipt
-insertion_sets page seen key value (Inserted number k v) h = h
-insertion_sets page seen key value receipt h = absurd h
-
-pub modification_sets : (page seen key value : ℕ) (receipt : Receipt) → IsReceiptOf (modify page seen key value) receipt → IsReceiptFor key (Set value) receipt
-modification_sets page seen key value (Modified number k old v) h = h
-modification_sets page seen key value receipt h = absurd h
-
-pub deletion_takes_out : (page seen key : ℕ) (receipt : Receipt) → IsReceiptOf (delete page seen key) receipt → IsReceiptFor key TakeOut receipt
-deletion_takes_out page seen key (Deleted number k v) h = h
-deletion_takes_out page seen key receipt h = absurd h
-
-pub ruleset comes_true = (insertion_puts, insertion_sets, modification_sets, deletion_takes_out)
+  pub comes_true : (wished : Wished) (there : Bool) (receipt : Receipt) → IsReceiptOf (step_of_wish page seen key wished there) receipt → IsReceiptFor key wished receipt
+  comes_true (Put value) there (Inserted number k v) h = h
+  comes_true (Set value) false (Inserted number k v) h = h
+  comes_true (Set value) true (Modified number k old v) h = h
+  comes_true TakeOut there (Deleted number k v) h = h
+  comes_true wished there receipt h = absurd h
 
 -- the receipt of a wish is that of its change, or of a look that answers it
 is_receipt_for : (number key : ℕ) (wished : Wished) (had : Option ℕ) → IsReceiptFor key wished (receipt_of_wish number key wished had)

@@ -1,6 +1,6 @@
 //! A trail that keeps each receipt in few bytes.
 
-ghost use Rattle.std.specs.Prelude.{◌≡◌, ℕ, ◌+◌, ◌*◌, ◌<◌, ◌≤◌, ◌^◌, List, [], ◌∷◌, ◌++◌, true, false};
+ghost use Rattle.std.specs.Prelude.{◌≡◌, ℕ, ◌+◌, ◌*◌, ◌<◌, ◌≤◌, [], ◌∷◌, ◌++◌, true, false};
 ghost use Rattle.std.specs.Prelude.{if◌then◌else◌, IfOk, IfSome, None, OnOk, length, reverse};
 ghost use Rattle.std.specs.Prelude.{drop, option_to_list, vec_capacity, vec_len};
 ghost use Rattle.bw_step.specs.declared.receipt.Kind.TheVariants as kinds;

@@ -135,11 +135,12 @@ fn split_page<A: Allocator + Copy, S: Steps<A, Step<A>>>(
     ensures tended { IsTended limit result (S.seen steps.old) (S.seen steps.new) }
 {
     if let Some(new) = split_in_place(steps, limit, view)? {
-        settle(steps, limit, Pending::Post(new))?;
-        return page_above(steps, limit, view.level, view.low);
+        return page_after(steps, limit, Pending::Post(new), view.level, view.low);
     }
     match split_off(steps, limit, view)? {
-        Some(term) => Ok(after_split(steps, limit, view.level, term)?),
+        Some((separator, new)) => {
+            page_after(steps, limit, Pending::Post(new), view.level, separator)
+        }
         None => Ok(None),
     }
 }
@@ -247,19 +248,19 @@ fn upper_half<A: Allocator + Copy>(
     }
 }
 
-/// Posts the page that a split made.
-fn after_split<A: Allocator + Copy, S: Steps<A, Step<A>>>(
+/// Finishes what tending has begun, and returns the page to tend next, one level higher.
+fn page_after<A: Allocator + Copy, S: Steps<A, Step<A>>>(
     steps: &mut S,
     limit: u64,
+    pending: Pending,
     level: u8,
-    term: (Key, Pid),
+    key: Key,
 ) -> Result<Option<Pid>, Fault>
     ensures follows { S.follows steps.old steps.new }
     ensures reshapes { ReshapesWithin 0 limit result (S.seen steps.old) (S.seen steps.new) }
 {
-    let (separator, page) = term;
-    settle(steps, limit, Pending::Post(page))?;
-    page_above(steps, limit, level, separator)
+    settle(steps, limit, pending)?;
+    page_above(steps, limit, level, key)
 }
 
 /// The page one level higher whose range holds the key.
@@ -339,22 +340,11 @@ fn mark_page<A: Allocator + Copy, S: Steps<A, Step<A>>>(
         spare,
     });
     match reshape(steps, limit, step)? {
-        Answer::Accepted(_) => Ok(after_mark(steps, limit, view)?),
+        Answer::Accepted(_) => {
+            page_after(steps, limit, Pending::Merge(view), view.level, view.low)
+        }
         Answer::Refused(_) => Ok(None),
     }
-}
-
-/// Merges the page whose removal has begun into its left neighbour.
-fn after_mark<A: Allocator + Copy, S: Steps<A, Step<A>>>(
-    steps: &mut S,
-    limit: u64,
-    view: View,
-) -> Result<Option<Pid>, Fault>
-    ensures follows { S.follows steps.old steps.new }
-    ensures reshapes { ReshapesWithin 0 limit result (S.seen steps.old) (S.seen steps.new) }
-{
-    settle(steps, limit, Pending::Merge(view))?;
-    page_above(steps, limit, view.level, view.low)
 }
 
 /// What tending has begun.

@@ -1,7 +1,7 @@
 //! The walk to a page: right by the side links, down by the routes, and again from the root where a
 //! place is gone.
 
-ghost use Rattle.std.specs.Prelude.{◌≡◌, ◌≤◌, IfSome, IfOk, IfErr};
+ghost use Rattle.std.specs.Prelude.{◌≡◌, IfOk, IfErr};
 ghost use Rattle.bw_procedures.specs.Facts.{quiet, on_the_way};
 ghost use Rattle.bw_procedures.specs.Calls.{OnlySpends, CostsIfNone, IsAtLevel};
 ghost use Rattle.bw_procedures.specs.Calls.{FindsFresh, IsEarned};

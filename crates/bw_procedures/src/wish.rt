@@ -9,7 +9,7 @@ ghost use Rattle.bw_procedures.specs.Writing.{had_by, keep_for, IsReceiptFor};
 use crate::steps::Keep;
 use bw_delta::Spare;
 use bw_keys::{Key, Wished};
-use bw_step::{Delete, Insert, Modify, Receipt, Step, View};
+use bw_step::{Receipt, Step, View};
 use std::alloc::Allocator;
 
 /// Which looks are added to the trail: those that find the wish true.
@@ -25,7 +25,7 @@ pub(crate) fn keep_of(wished: Wished) -> Keep
 }
 
 /// The step by which the wish comes true, at the key's leaf, where this was found.
-#[tactic(auto, using(crate::proofs::Changing::comes_true))]
+#[tactic(auto, using(crate::proofs::Changing::comes_true, crate::proofs::Changing::keeps_shape))]
 #[inline(always)]
 pub(crate) fn step_for<A: Allocator + Copy>(
     key: Key,
@@ -38,29 +38,7 @@ pub(crate) fn step_for<A: Allocator + Copy>(
     ensures made { (receipt : Receipt) → IsReceiptOf (proposal_of result) receipt
         → IsReceiptFor key wished receipt }
 {
-    let (page, seen) = (view.pid, view.version);
-    match wished {
-        Wished::Set(value) if found.is_some() => Step::Modify(Modify {
-            page,
-            seen,
-            key,
-            value,
-            spare,
-        }),
-        Wished::Put(value) | Wished::Set(value) => Step::Insert(Insert {
-            page,
-            seen,
-            key,
-            value,
-            spare,
-        }),
-        Wished::Delete => Step::Delete(Delete {
-            page,
-            seen,
-            key,
-            spare,
-        }),
-    }
+    Step::of_wish(view.pid, view.version, key, wished, found.is_some(), spare)
 }
 
 /// Returns what the key had before the wish came true by this receipt.

@@ -7,7 +7,10 @@ use Rattle.bw_keys.specs.declared.wished.Wished.TheVariants as wishes
 use Rattle.bw_step.specs.declared.receipt.Receipt.{Receipt}
 use Rattle.bw_step.specs.declared.receipt.Receipt.TheVariants.{Inserted, Deleted, Modified, Looked, Shaped}
 use Rattle.bw_step.specs.Proposals.{Proposal, insert, delete, modify, consolidate, split, term_add, grow, mark, merge, term_delete}
+use Rattle.bw_step.specs.ProposalView.{step_of_wish}
 use Rattle.bw_law.specs.Effects.{receipt_of}
+use Rattle.bw_law.specs.Refusals.{refusal}
+use Rattle.bw_law.proofs.Accepted.{insert_accepted, found_accepted}
 use Rattle.bw_law.specs.Runs.{TakesInTurn}
 use Rattle.bw_law.specs.Tables.{TableValue, slot_at}
 use Rattle.bw_table.specs.Actions.{IsPerformed, Takes, with_receipts, had_at, steps_for}
@@ -78,6 +81,27 @@ module _ (old new : TableValue) (it : Performed) where
   -- the note of what was performed stands for its steps
   pub note_stands : (action : Action) → IsPerformed old action new it → steps_of old (held_notes (held_note it.page it.receipt action)) ≡ steps_for old it.page.0 action
   note_stands action done = stands it.receipt refl action done
+
+-- an accepted record of a wish is the step that stands for it, whether the key was there or not
+module _ (table : TableValue) (page seen key : ℕ) where
+  by_had : (wished : Wished) (had : Option ℕ) → had_at table page key ≡ had
+      → refusal table (step_of_wish page seen key wished true) ≡ None
+      → option_to_list (step_for page seen key wished had) ≡ step_of_wish page seen key wished true ∷ []
+  by_had (wishes.Put value) None is none = refl
+  by_had (wishes.Put value) (Some had) is none = absurd (cc (is, (insert_accepted table page seen key value none).absent))
+  by_had (wishes.Set value) None is none = absurd (cc (is, (found_accepted table page seen key none).present))
+  by_had (wishes.Set value) (Some had) is none = refl
+  by_had wishes.Delete None is none = absurd (cc (is, (found_accepted table page seen key none).present))
+  by_had wishes.Delete (Some had) is none = refl
+
+  pub record_stands : (wished : Wished) → seen ≡ (slot_at table page).version
+      → refusal table (step_of_wish page seen key wished true) ≡ None
+      → steps_for table page (actions.Record key wished) ≡ step_of_wish page seen key wished true ∷ []
+  record_stands wished is none =
+      let had = had_at table page key in
+      let step = step_of_wish page seen key wished true in
+      let Stands : ℕ → Type 0 = λ version. option_to_list (step_for page version key wished had) ≡ step ∷ [] in
+      subst Stands is (by_had wished had refl none)
 
 -- the table after a change that a copy made, where the copy's answer is looked at alone
 pub made_where_some : (old new : TableValue) (page : Pid) (key : ℕ) (wished : Wished) (answer : Option Receipt) (test : Bool)

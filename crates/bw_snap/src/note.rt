@@ -8,8 +8,8 @@ ghost use Rattle.bw_table.specs.Actions.{steps_for};
 
 use crate::front::Front;
 use bw_delta::Spare;
-use bw_keys::{Pid, Version, Wished};
-use bw_step::{Action, Delete, Insert, Modify, Step, TermAdd};
+use bw_keys::{Pid, Version};
+use bw_step::{Action, Step, TermAdd};
 use bw_table::Table;
 use std::alloc::Global;
 
@@ -25,6 +25,7 @@ pub enum Note {
 /// Returns the step that puts the action's record on its page as it is in the table, if it is there:
 /// an insertion for a put, and a modification for a set. Nobody looks for the key, so another step
 /// than the action stands for is one that the table refuses.
+#[tactic(auto, using(crate::proofs::Changes::record_stands))]
 pub fn record_of(
     table: &Table<Global>,
     page: Pid,
@@ -36,28 +37,9 @@ pub fn record_of(
 {
     let seen = version_in(table, page)?;
     match action {
-        Action::Record { key, wished } => Some(match wished {
-            Wished::Put(value) => Step::Insert(Insert {
-                page,
-                seen,
-                key,
-                value,
-                spare,
-            }),
-            Wished::Set(value) => Step::Modify(Modify {
-                page,
-                seen,
-                key,
-                value,
-                spare,
-            }),
-            Wished::Delete => Step::Delete(Delete {
-                page,
-                seen,
-                key,
-                spare,
-            }),
-        }),
+        Action::Record { key, wished } => {
+            Some(Step::of_wish(page, seen, key, wished, true, spare))
+        }
         Action::AddTerm { child } => {
             let child_seen = version_in(table, child)?;
             Some(Step::TermAdd(TermAdd {
@@ -76,8 +58,5 @@ pub fn record_of(
 fn version_in(table: &Table<Global>, page: Pid) -> Option<Version>
     ensures { IfSome result (λ version. version.0 ≡ (slot_at table.now page.0).version) }
 {
-    match table.peek(page) {
-        Some(view) => Some(view.version),
-        None => None,
-    }
+    Some(table.peek(page)?.version)
 }

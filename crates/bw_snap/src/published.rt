@@ -97,10 +97,7 @@ impl<R: Wait + Drop, N: Naming, D: Ledger> Published<R, N, D> {
         ensures fine { OnOk result (MayBeRead config blanks.workers readers) }
         ensures fault { IfErr result (IsSnapFault config blanks.workers readers) }
     {
-        let (booked, shares) = match new_booked(machine, config, blanks, readers) {
-            Ok(made) => made,
-            Err(fault) => return Err(fault),
-        };
+        let (booked, shares) = new_booked(machine, config, blanks, readers)?;
         let (head, announced) = announcements.named::<N>();
         // for each reader its own, and one for a stamp
         let places = 2 * readers as usize;
@@ -165,16 +162,13 @@ impl<R: Wait + Drop, N: Naming, D: Ledger> Published<R, N, D> {
         ensures unchanged { OnErr result (self.new ≡ self.old) }
         ensures share { CountsIn share.old share.new result }
     {
-        match note_step(
+        note_step(
             self.booked.table(),
             &mut self.writer,
             &mut self.held,
             &step,
             twin,
-        ) {
-            Ok(()) => {}
-            Err(denied) => return Err(denied),
-        }
+        )?;
         match self.booked.install(share, step) {
             Ok(receipt) => return Ok(receipt),
             Err(reason) => return Err(Denied::Refused(reason)),

@@ -54,21 +54,15 @@ impl<R: Wait + Copy, N: Naming, D: Ledger> ReadTree<R, N, D> {
         ensures fine { OnOk result (MayBeRead config blanks.workers readers) }
         ensures fault { IfErr result (IsSnapFault config blanks.workers readers) }
     {
-        let (published, shares) = match Published::new(
+        let (published, shares) = Published::new(
             rt,
             machine,
             config,
             blanks,
             announcements,
             readers,
-        ) {
-            Ok(made) => made,
-            Err(fault) => return Err(fault),
-        };
-        let readers = match readers_of(machine, &published, readers) {
-            Ok(readers) => readers,
-            Err(fault) => return Err(fault),
-        };
+        )?;
+        let readers = readers_of(machine, &published, readers)?;
         let tree = ReadTree {
             rt,
             machine,

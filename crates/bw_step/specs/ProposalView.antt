@@ -1,4 +1,7 @@
 -- What a step proposes, whatever the allocator of its memory.
+use Rattle.std.specs.Prelude.{ℕ, Bool, true, false}
+use Rattle.bw_keys.specs.declared.wished.Wished.{Wished}
+use Rattle.bw_keys.specs.declared.wished.Wished.TheVariants as wishes
 use Rattle.bw_step.specs.declared.step.Step.{Step}
 use Rattle.bw_step.specs.declared.step.Step.TheVariants as steps
 use Rattle.bw_step.specs.declared.steps.insert.Insert.{Insert}
@@ -54,3 +57,10 @@ proposal_of (steps.Grow step) = grow_of step
 proposal_of (steps.Mark step) = mark_of step
 proposal_of (steps.Merge step) = merge_of step
 proposal_of (steps.TermDelete step) = term_delete_of step
+
+-- the step by which a wish comes true for a key of the page that is there or isn't
+abbrev pub step_of_wish : ℕ → ℕ → ℕ → Wished → Bool → Proposal
+step_of_wish page seen key (wishes.Put value) there = insert page seen key value
+step_of_wish page seen key (wishes.Set value) true = modify page seen key value
+step_of_wish page seen key (wishes.Set value) false = insert page seen key value
+step_of_wish page seen key wishes.Delete there = delete page seen key

@@ -176,10 +176,11 @@ module _ {table shown : TableValue} {room : ℕ} (whole : IsWhole table room) (i
         room = may.room;
       }
 
-  pub does_mark : {A : Type 0} (step : Mark A) → refusal shown (mark_of step) ≡ None → MayGrowDeeper (slot_at table step.page.0)
+  pub does_mark : {A : Type 0} (step : Mark A) → refusal shown (mark_of step) ≡ None → step.page.0 < length table.slots × MayGrowDeeper (slot_at table step.page.0)
   does_mark step none =
       let may = mark_accepted table step.page.0 step.seen.0 step.parent.0 (accepted (mark_of step) none) in
-      may_grow_deeper table step.page.0 whole.lawful (ap is_in_row may.posted) (mark_room table whole.lawful whole.booked step.page.0 step.seen.0 step.parent.0 may) (omega (arith, may.shallow))
+      let rises = mark_room table whole.lawful whole.booked step.page.0 step.seen.0 step.parent.0 may in
+      (rises.inside, may_grow_deeper table step.page.0 whole.lawful (ap is_in_row may.posted) rises (omega (arith, may.shallow)))
 
   pub does_merge : {A : Type 0} (step : Merge A) → refusal shown (merge_of step) ≡ None → DoesMerge table step.left.0 step.page.0
   does_merge step none =

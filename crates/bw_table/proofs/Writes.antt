@@ -15,6 +15,10 @@ set-swap (z ∷ zs) zero (suc j) x y apart = refl
 set-swap (z ∷ zs) (suc i) zero x y apart = refl
 set-swap (z ∷ zs) (suc i) (suc j) x y apart = ap (λ rest. z ∷ rest) (set-swap zs i j x y (λ same. apart (ap suc same)))
 
+-- what is read of a page inside is its slot
+pub reads : (slots : List SlotValue) (page : ℕ) (read : SlotValue) → page < length slots → read ≡ get_or slots page read → read ≡ slot_in slots page
+reads slots page read inside is = get_or_read slots page read inside is (free_slot 0)
+
 -- the page is read and given up first, and then its left neighbour takes it in
 pub merged_slots : (slots : List SlotValue) (left page : ℕ) (read taken into new : SlotValue) (given : Summary) (chain : Option Records)
     → left < length slots → page < length slots → page ≢ left

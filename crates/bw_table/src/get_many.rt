@@ -1,7 +1,5 @@
 //! Several gets at once: their searches go down side by side, so that the processor fetches the page
 //! of one while it waits for that of another.
-
-ghost use Rattle.std.specs.Prelude.{◌≡◌};
 ghost use Rattle.std.specs.List.{AllZip};
 ghost use Rattle.bw_table.specs.Gets.{IsMapAt, HasReached};
 

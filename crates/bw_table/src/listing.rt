@@ -13,7 +13,7 @@ use crate::slot::Slot;
 use crate::table::Table;
 use bw_chain::append_first_pairs;
 use bw_delta::NoMemory;
-use bw_keys::{Fence, Key, Pid};
+use bw_keys::{Fence, Key};
 use std::alloc::Allocator;
 use std::mem::replace;
 

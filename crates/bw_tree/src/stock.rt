@@ -2,8 +2,8 @@
 //! what it may still count, and each insertion and each removal moves one from there to the share of
 //! the worker that did it.
 
-ghost use Rattle.std.specs.Prelude.{◌≡◌, ◌+◌, ◌*◌, ◌<◌, ◌≤◌, ◌↔◌, [], All, length};
-ghost use Rattle.std.specs.Prelude.{IsOk, IfOk, OnOk, OnErr, IfSome, IfNone};
+ghost use Rattle.std.specs.Prelude.{◌≡◌, ◌+◌, ◌*◌, ◌<◌, ◌≤◌, ◌↔◌, All, length};
+ghost use Rattle.std.specs.Prelude.{IsOk, IfOk, OnOk};
 ghost use Rattle.bw_tree.specs.Shares.{no_changes, shared_in, counted, sum_of, Opens};
 ghost use Rattle.bw_tree.specs.Stocks.{most, Fits};
 

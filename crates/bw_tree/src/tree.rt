@@ -71,10 +71,7 @@ impl<R: Wait + Drop, A: Allocator + Copy, I: MadeBy, D: Ledger> Tree<R, A, I, D>
         ensures back { IfErr result (λ unshared. unshared.table ≡ table) }
     {
         let config = table.config();
-        let (booked, shares, opening) = match Booked::from_table(machine, table, blanks) {
-            Ok(made) => made,
-            Err(unshared) => return Err(unshared),
-        };
+        let (booked, shares, opening) = Booked::from_table(machine, table, blanks)?;
         Ok((Tree::over(rt, config, booked), shares, opening))
     }
 

@@ -297,12 +297,8 @@ impl<'t, A: Allocator + Copy, S: Shared<A, Step<A>>, G: Gate, T: Trail> Steps<A,
 /// Calls the gate where the receipt is that of a change of the tree's shape.
 #[inline(always)]
 fn pass<G: Gate>(gate: &G, worker: u32, receipt: Receipt) {
-    match receipt {
-        Receipt::Shaped { kind, .. } => gate.at(worker, kind),
-        Receipt::Inserted { .. }
-        | Receipt::Deleted { .. }
-        | Receipt::Modified { .. }
-        | Receipt::Looked { .. } => {}
+    if let Receipt::Shaped { kind, .. } = receipt {
+        gate.at(worker, kind);
     }
 }
 

@@ -18,9 +18,8 @@ impl<A: Allocator + Copy> Consolidate<A> {
         ensures { IfOk result (λ twin. twin ≡ self.now) }
     {
         Ok(Consolidate {
-            page: self.page,
-            seen: self.seen,
             base: self.base.copy_in(alloc)?,
+            ..*self
         })
     }
 }

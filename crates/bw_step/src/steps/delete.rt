@@ -19,10 +19,8 @@ impl<A: Allocator + Copy> Delete<A> {
         ensures { IfOk result (λ twin. twin ≡ self.now) }
     {
         Ok(Delete {
-            page: self.page,
-            seen: self.seen,
-            key: self.key,
             spare: Spare::new(alloc)?,
+            ..*self
         })
     }
 }

@@ -18,9 +18,8 @@ impl<A: Allocator + Copy> Grow<A> {
         ensures { IfOk result (λ twin. twin ≡ self.now) }
     {
         Ok(Grow {
-            child: self.child,
-            seen: self.seen,
             base: self.base.copy_in(alloc)?,
+            ..*self
         })
     }
 }

@@ -20,11 +20,8 @@ impl<A: Allocator + Copy> Insert<A> {
         ensures { IfOk result (λ twin. twin ≡ self.now) }
     {
         Ok(Insert {
-            page: self.page,
-            seen: self.seen,
-            key: self.key,
-            value: self.value,
             spare: Spare::new(alloc)?,
+            ..*self
         })
     }
 }

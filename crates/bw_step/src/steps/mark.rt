@@ -20,10 +20,8 @@ impl<A: Allocator + Copy> Mark<A> {
         ensures { IfOk result (λ twin. twin ≡ self.now) }
     {
         Ok(Mark {
-            page: self.page,
-            seen: self.seen,
-            parent: self.parent,
             spare: Spare::new(alloc)?,
+            ..*self
         })
     }
 }

@@ -21,12 +21,9 @@ impl<A: Allocator + Copy> Merge<A> {
         ensures { IfOk result (λ twin. twin ≡ self.now) }
     {
         Ok(Merge {
-            left: self.left,
-            left_seen: self.left_seen,
-            page: self.page,
-            page_seen: self.page_seen,
             left_spare: Spare::new(alloc)?,
             page_spare: Spare::new(alloc)?,
+            ..*self
         })
     }
 }

@@ -20,11 +20,8 @@ impl<A: Allocator + Copy> Modify<A> {
         ensures { IfOk result (λ twin. twin ≡ self.now) }
     {
         Ok(Modify {
-            page: self.page,
-            seen: self.seen,
-            key: self.key,
-            value: self.value,
             spare: Spare::new(alloc)?,
+            ..*self
         })
     }
 }

@@ -20,11 +20,9 @@ impl<A: Allocator + Copy> Split<A> {
         ensures { IfOk result (λ twin. twin ≡ self.now) }
     {
         Ok(Split {
-            page: self.page,
-            seen: self.seen,
-            separator: self.separator,
             base: self.base.copy_in(alloc)?,
             spare: Spare::new(alloc)?,
+            ..*self
         })
     }
 }

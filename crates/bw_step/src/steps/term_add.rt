@@ -20,11 +20,8 @@ impl<A: Allocator + Copy> TermAdd<A> {
         ensures { IfOk result (λ twin. twin ≡ self.now) }
     {
         Ok(TermAdd {
-            parent: self.parent,
-            parent_seen: self.parent_seen,
-            child: self.child,
-            child_seen: self.child_seen,
             spare: Spare::new(alloc)?,
+            ..*self
         })
     }
 }

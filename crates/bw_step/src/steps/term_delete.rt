@@ -20,11 +20,8 @@ impl<A: Allocator + Copy> TermDelete<A> {
         ensures { IfOk result (λ twin. twin ≡ self.now) }
     {
         Ok(TermDelete {
-            parent: self.parent,
-            parent_seen: self.parent_seen,
-            child: self.child,
-            child_seen: self.child_seen,
             spare: Spare::new(alloc)?,
+            ..*self
         })
     }
 }

@@ -1,12 +1,11 @@
 //! Pairs that are put behind all pairs of a leaf, each as an insertion and a consolidation.
 
-ghost use Rattle.std.specs.Prelude.{◌≡◌, ◌++◌, ◌+◌, ◌<◌, ◌^◌, true, false, IsTrue, length};
+ghost use Rattle.std.specs.Prelude.{◌≡◌, ◌++◌, ◌+◌, ◌<◌, true, false, IsTrue, length};
 ghost use Rattle.bw_keys.specs.Ranges.{end_of};
 ghost use Rattle.bw_delta.specs.Entries.{rises};
 ghost use Rattle.bw_delta.specs.Slices.{list_of};
 ghost use Rattle.bw_chain.specs.Ascends.{IsAscending};
 ghost use Rattle.bw_law.specs.Slots.{slot_in, pairs_in};
-ghost use Rattle.bw_law.specs.Tables.{slot_at};
 ghost use Rattle.bw_table.specs.Appends.{AppendsInTurn, MayAppend, TakesEach};
 ghost use Rattle.bw_table.specs.Appends.{slot_with_each, slots_with_each};
 

@@ -1,10 +1,9 @@
 //! consolidate: the base is the chain.
 
-ghost use Rattle.std.specs.Prelude.{◌≡◌, ◌+◌, ◌^◌, ◌<◌, None, length};
+ghost use Rattle.std.specs.Prelude.{◌≡◌, ◌+◌, ◌^◌, ◌<◌, None};
 ghost use Rattle.bw_step.specs.ProposalView.{consolidate_of};
-ghost use Rattle.bw_law.specs.Effects.{TakesStep, slots_consolidated, consolidated};
+ghost use Rattle.bw_law.specs.Effects.{TakesStep, consolidated};
 ghost use Rattle.bw_law.specs.Refusals.{refusal, consolidate_reasons};
-ghost use Rattle.bw_law.specs.Slots.{slot_in};
 ghost use Rattle.bw_table.specs.Answers.{AnswersFirst, fine_unless};
 ghost use Rattle.bw_table.specs.SlotFacts.{HasSoundChain};
 
@@ -12,7 +11,6 @@ use crate::slot::Slot;
 use crate::steps::shared::check_open;
 use crate::table::Table;
 use bw_delta::{Base, Chain};
-use bw_keys::Pid;
 use bw_step::{Consolidate, Kind, Receipt, Refused};
 use std::alloc::Allocator;
 
@@ -35,7 +33,7 @@ impl<A: Allocator + Copy> Table<A> {
         ensures { TakesStep self.old (consolidate_of step) result self.new }
     {
         let Consolidate { page, base, .. } = step;
-        consolidate_at(&mut self.slots, page, base);
+        self.slots[page.0 as usize].consolidate(base);
         Receipt::Shaped {
             kind: Kind::Consolidate,
             page,
@@ -64,16 +62,6 @@ fn may_consolidate<A: Allocator + Copy>(
         return Err(Refused::Worn);
     }
     Ok(())
-}
-
-/// Puts the base in the place of the page's chain.
-#[inline(always)]
-fn consolidate_at<A: Allocator + Copy>(slots: &mut Vec<Slot<A>>, page: Pid, base: Base<A>)
-    requires exists { page.0 < length slots.old.items }
-    requires version { (slot_in slots.old.items page.0).version + 1 < 2 ^ 64 }
-    ensures { slots.new.items ≡ slots_consolidated page.0 base slots.old.items }
-{
-    slots[page.0 as usize].consolidate(base);
 }
 
 impl<A: Allocator + Copy> Slot<A> {

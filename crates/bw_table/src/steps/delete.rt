@@ -1,12 +1,12 @@
 //! delete: a record on the leaf; the book's removals rise.
 
-ghost use Rattle.std.specs.Prelude.{◌≡◌, ◌-◌, ◌<◌, None, length, unwrap_or};
+ghost use Rattle.std.specs.Prelude.{◌≡◌, ◌-◌, ◌<◌, None, unwrap_or};
 ghost use Rattle.bw_delta.specs.Entries.{at};
 ghost use Rattle.bw_delta.specs.declared.chain.Delta.TheVariants as deltas;
 ghost use Rattle.bw_step.specs.ProposalView.{delete_of};
-ghost use Rattle.bw_law.specs.Effects.{TakesStep, slots_deleted, with_record};
+ghost use Rattle.bw_law.specs.Effects.{TakesStep, with_record};
 ghost use Rattle.bw_law.specs.Refusals.{refusal};
-ghost use Rattle.bw_law.specs.Slots.{slot_in, pairs_in};
+ghost use Rattle.bw_law.specs.Slots.{pairs_in};
 ghost use Rattle.bw_table.specs.Answers.{fine_unless};
 ghost use Rattle.bw_table.specs.SlotFacts.{MayGrowDeeper};
 
@@ -15,7 +15,7 @@ use crate::slot::Slot;
 use crate::steps::shared::check_found;
 use crate::table::Table;
 use bw_delta::{Delta, Spare};
-use bw_keys::{Key, Pid};
+use bw_keys::Key;
 use bw_step::{Delete, Receipt, Refused};
 use std::alloc::Allocator;
 
@@ -43,7 +43,7 @@ impl<A: Allocator + Copy> Table<A> {
             spare,
             ..
         } = step;
-        let value = delete_at(&mut self.slots, page, key, spare);
+        let value = self.slots[page.0 as usize].delete(key, spare);
         self.book.removed += 1;
         Receipt::Deleted {
             number: number_of(self.book),
@@ -51,23 +51,6 @@ impl<A: Allocator + Copy> Table<A> {
             value,
         }
     }
-}
-
-/// Deletes a key that the leaf has, and returns its value.
-#[inline(always)]
-fn delete_at<A: Allocator + Copy>(
-    slots: &mut Vec<Slot<A>>,
-    page: Pid,
-    key: Key,
-    spare: Spare<A>,
-) -> u64
-    requires exists { page.0 < length slots.old.items }
-    requires deeper { MayGrowDeeper (slot_in slots.old.items page.0) }
-    requires count { 0 < (slot_in slots.old.items page.0).count }
-    ensures value { result ≡ unwrap_or (at key (pairs_in (slot_in slots.old.items page.0))) 0 }
-    ensures slots { slots.new.items ≡ slots_deleted page.0 key slots.old.items }
-{
-    slots[page.0 as usize].delete(key, spare)
 }
 
 impl<A: Allocator + Copy> Slot<A> {

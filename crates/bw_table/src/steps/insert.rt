@@ -1,11 +1,10 @@
 //! insert: a record on the leaf; the book's insertions rise.
 
-ghost use Rattle.std.specs.Prelude.{◌≡◌, suc, ◌+◌, ◌^◌, ◌<◌, None, length};
+ghost use Rattle.std.specs.Prelude.{◌≡◌, suc, ◌+◌, ◌^◌, ◌<◌, None};
 ghost use Rattle.bw_delta.specs.declared.chain.Delta.TheVariants as deltas;
 ghost use Rattle.bw_step.specs.ProposalView.{insert_of};
-ghost use Rattle.bw_law.specs.Effects.{TakesStep, slots_inserted, with_record};
+ghost use Rattle.bw_law.specs.Effects.{TakesStep, with_record};
 ghost use Rattle.bw_law.specs.Refusals.{refusal, insert_reasons};
-ghost use Rattle.bw_law.specs.Slots.{slot_in};
 ghost use Rattle.bw_table.specs.Answers.{AnswersFirst, fine_unless};
 ghost use Rattle.bw_table.specs.SlotFacts.{MayGrowDeeper};
 
@@ -14,7 +13,7 @@ use crate::slot::Slot;
 use crate::steps::shared::{check_change, check_leaf};
 use crate::table::Table;
 use bw_delta::{Delta, Spare};
-use bw_keys::{Key, Pid};
+use bw_keys::Key;
 use bw_step::{Insert, Receipt, Refused};
 use std::alloc::Allocator;
 
@@ -43,7 +42,7 @@ impl<A: Allocator + Copy> Table<A> {
             spare,
             ..
         } = step;
-        insert_at(&mut self.slots, page, key, value, spare);
+        self.slots[page.0 as usize].insert(key, value, spare);
         self.book.inserted += 1;
         Receipt::Inserted {
             number: number_of(self.book),
@@ -67,23 +66,6 @@ fn may_insert<A: Allocator + Copy>(
         return Err(Refused::Present(value));
     }
     check_change(slot, number)
-}
-
-/// Inserts a key that the leaf doesn't have.
-#[inline(always)]
-fn insert_at<A: Allocator + Copy>(
-    slots: &mut Vec<Slot<A>>,
-    page: Pid,
-    key: Key,
-    value: u64,
-    spare: Spare<A>,
-)
-    requires exists { page.0 < length slots.old.items }
-    requires deeper { MayGrowDeeper (slot_in slots.old.items page.0) }
-    requires count { (slot_in slots.old.items page.0).count + 1 < 2 ^ 64 }
-    ensures { slots.new.items ≡ slots_inserted page.0 key value slots.old.items }
-{
-    slots[page.0 as usize].insert(key, value, spare);
 }
 
 impl<A: Allocator + Copy> Slot<A> {

@@ -1,17 +1,16 @@
 //! mark: a record on the page, which is Marked.
 
-ghost use Rattle.std.specs.Prelude.{◌≡◌, ◌<◌, None, length};
+ghost use Rattle.std.specs.Prelude.{◌≡◌, ◌<◌, None};
 ghost use Rattle.bw_step.specs.ProposalView.{mark_of};
-ghost use Rattle.bw_law.specs.Effects.{TakesStep, slots_marked, marked};
+ghost use Rattle.bw_law.specs.Effects.{TakesStep, marked};
 ghost use Rattle.bw_law.specs.Refusals.{refusal, mark_reasons};
-ghost use Rattle.bw_law.specs.Slots.{slot_in};
 ghost use Rattle.bw_table.specs.Answers.{AnswersFirst, fine_unless};
 ghost use Rattle.bw_table.specs.SlotFacts.{MayGrowDeeper};
 
 use crate::slot::Slot;
 use crate::table::Table;
 use bw_delta::{Delta, Spare};
-use bw_keys::{MAX_DEPTH, Pid};
+use bw_keys::MAX_DEPTH;
 use bw_step::{Kind, Mark, Receipt, Refused, Stage};
 use std::alloc::Allocator;
 
@@ -32,7 +31,7 @@ impl<A: Allocator + Copy> Table<A> {
         ensures { TakesStep self.old (mark_of step) result self.new }
     {
         let Mark { page, spare, .. } = step;
-        mark_at(&mut self.slots, page, spare);
+        self.slots[page.0 as usize].mark(spare);
         Receipt::Shaped {
             kind: Kind::Mark,
             page,
@@ -78,15 +77,6 @@ fn may_mark<A: Allocator + Copy>(
         return Err(Refused::Worn);
     }
     Ok(())
-}
-
-/// Begins the removal of a page.
-fn mark_at<A: Allocator + Copy>(slots: &mut Vec<Slot<A>>, page: Pid, spare: Spare<A>)
-    requires exists { page.0 < length slots.old.items }
-    requires deeper { MayGrowDeeper (slot_in slots.old.items page.0) }
-    ensures { slots.new.items ≡ slots_marked page.0 slots.old.items }
-{
-    slots[page.0 as usize].mark(spare);
 }
 
 impl<A: Allocator + Copy> Slot<A> {

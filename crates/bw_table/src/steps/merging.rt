@@ -1,10 +1,9 @@
 //! The merge of a page into the page on its left, with every step that it takes, made in the place
 //! where the pages lie.
 
-ghost use Rattle.std.specs.Prelude.{◌≡◌, ◌≢◌, ◌+◌, ◌<◌, ◌^◌, Some, true, false, IsTrue, IfSome, IfNone, length};
+ghost use Rattle.std.specs.Prelude.{◌≡◌, ◌+◌, ◌<◌, Some, true, false, IsTrue, IfSome, IfNone};
 ghost use Rattle.bw_delta.specs.declared.chain.Delta.TheVariants as deltas;
 ghost use Rattle.bw_law.specs.Slots.{slot_in};
-ghost use Rattle.bw_law.specs.Tables.{slot_at};
 ghost use Rattle.bw_table.specs.InPlaces.{FitsInto, IsBare, IsLeftOf, IsMergedUnder, IsOver, LosesTerm, Meets, MayMerge, MayMergeUnder, MergesIn, slot_joined, slot_with, slots_merged_at_once};
 
 use crate::slot::Slot;

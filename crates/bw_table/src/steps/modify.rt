@@ -1,12 +1,12 @@
 //! modify: a record on the leaf, whose pairs are as many as before; the book's modifications rise.
 
-ghost use Rattle.std.specs.Prelude.{◌≡◌, ◌<◌, None, length, unwrap_or};
+ghost use Rattle.std.specs.Prelude.{◌≡◌, ◌<◌, None, unwrap_or};
 ghost use Rattle.bw_delta.specs.Entries.{at};
 ghost use Rattle.bw_delta.specs.declared.chain.Delta.TheVariants as deltas;
 ghost use Rattle.bw_step.specs.ProposalView.{modify_of};
-ghost use Rattle.bw_law.specs.Effects.{TakesStep, slots_modified, with_record};
+ghost use Rattle.bw_law.specs.Effects.{TakesStep, with_record};
 ghost use Rattle.bw_law.specs.Refusals.{refusal};
-ghost use Rattle.bw_law.specs.Slots.{slot_in, pairs_in};
+ghost use Rattle.bw_law.specs.Slots.{pairs_in};
 ghost use Rattle.bw_table.specs.Answers.{fine_unless};
 ghost use Rattle.bw_table.specs.SlotFacts.{MayGrowDeeper};
 
@@ -15,7 +15,7 @@ use crate::slot::Slot;
 use crate::steps::shared::check_found;
 use crate::table::Table;
 use bw_delta::{Delta, Spare};
-use bw_keys::{Key, Pid};
+use bw_keys::Key;
 use bw_step::{Modify, Receipt, Refused};
 use std::alloc::Allocator;
 
@@ -42,7 +42,7 @@ impl<A: Allocator + Copy> Table<A> {
             spare,
             ..
         } = step;
-        let old = modify_at(&mut self.slots, page, key, value, spare);
+        let old = self.slots[page.0 as usize].modify(key, value, spare);
         self.book.modified += 1;
         Receipt::Modified {
             number: number_of(self.book),
@@ -51,22 +51,6 @@ impl<A: Allocator + Copy> Table<A> {
             value,
         }
     }
-}
-
-/// Replaces the value of a key that the leaf has, and returns the old one.
-fn modify_at<A: Allocator + Copy>(
-    slots: &mut Vec<Slot<A>>,
-    page: Pid,
-    key: Key,
-    value: u64,
-    spare: Spare<A>,
-) -> u64
-    requires exists { page.0 < length slots.old.items }
-    requires deeper { MayGrowDeeper (slot_in slots.old.items page.0) }
-    ensures value { result ≡ unwrap_or (at key (pairs_in (slot_in slots.old.items page.0))) 0 }
-    ensures slots { slots.new.items ≡ slots_modified page.0 key value slots.old.items }
-{
-    slots[page.0 as usize].modify(key, value, spare)
 }
 
 impl<A: Allocator + Copy> Slot<A> {

@@ -16,8 +16,7 @@ use crate::table::Table;
 use bw_delta::Spare;
 use bw_keys::{Key, Pid, Version, Wished};
 use bw_step::{
-    Consolidate, CopyFault, Delete, Denied, Insert, Look, Modify, Performed, Receipt, Refused,
-    Step, Unperformed, View,
+    Consolidate, CopyFault, Denied, Look, Performed, Receipt, Refused, Step, Unperformed, View,
 };
 use std::alloc::Allocator;
 
@@ -104,29 +103,12 @@ fn step_for<A: Allocator + Copy>(
 ) -> Option<Step<A>>
     ensures { option_map proposal_of result ≡ step_for leaf.pid.0 leaf.version.0 key wished found }
 {
-    let (page, seen) = (leaf.pid, leaf.version);
     match (wished, found) {
         (Wished::Put(_), Some(_)) | (Wished::Delete, None) => None,
-        (Wished::Put(value) | Wished::Set(value), None) => Some(Step::Insert(Insert {
-            page,
-            seen,
-            key,
-            value,
-            spare,
-        })),
-        (Wished::Set(value), Some(_)) => Some(Step::Modify(Modify {
-            page,
-            seen,
-            key,
-            value,
-            spare,
-        })),
-        (Wished::Delete, Some(_)) => Some(Step::Delete(Delete {
-            page,
-            seen,
-            key,
-            spare,
-        })),
+        _ => {
+            let is_there = found.is_some();
+            Some(Step::of_wish(leaf.pid, leaf.version, key, wished, is_there, spare))
+        }
     }
 }
 

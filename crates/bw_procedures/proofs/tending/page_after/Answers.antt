@@ -1,5 +1,5 @@
 use Rattle.bw_procedures.proofs.Parts.{within_then}
-use Rattle.bw_procedures.proofs.tending.after_split.Goals as goal
+use Rattle.bw_procedures.proofs.tending.page_after.Goals as goal
 
 pub returns : goal.returns
 returns g c = record {
