@@ -4,10 +4,12 @@ use crate::change::{Change, step_with};
 use crate::pages::{Pages, seen};
 use bw_delta::NoMemory;
 use bw_keys::{Key, Version};
-use bw_step::{Go, Stage, Step, View};
-use rand_core::Rng;
+use bw_step::{Go, Receipt, Refused, Stage, Step, View};
+use bw_table::Table;
+use rand_core::{Rng, SeedableRng};
 use rand_pcg::Pcg32;
 use std::alloc::Global;
+use std::test::Fail;
 
 /// The number of keys in drawn steps.
 const KEYS: u32 = 256;
@@ -143,4 +145,14 @@ pub fn drawn_step<S: Pages<Global>>(
         return Ok(at_another_key(step, key));
     }
     Ok(step)
+}
+
+/// Proposes the step that is drawn by the seed.
+pub fn install_drawn(
+    alloc: Global,
+    table: &mut Table<Global>,
+    seed: u64,
+) -> Result<Result<Receipt, Refused>, Fail> {
+    let step = drawn_step(&mut Pcg32::seed_from_u64(seed), alloc, table)?;
+    Ok(table.install(step))
 }

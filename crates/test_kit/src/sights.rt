@@ -1,10 +1,17 @@
 //! What a table shows of itself.
 
+use crate::configs::SMALL;
 use bw_delta::NoMemory;
-use bw_keys::{Fence, Key};
+use bw_keys::{Fence, Key, Pid};
 use bw_step::Leaf;
 use bw_table::Table;
 use std::alloc::{Allocator, Global};
+
+/// The pages of a small table, of which most are free.
+const PAGES: u32 = SMALL.pages;
+
+/// The first keys, of which some have no value.
+const KEYS: Key = 256;
 
 /// Returns the low, the high and the number of pairs of each leaf.
 pub fn leaves_of<A: Allocator + Copy>(
@@ -28,4 +35,11 @@ pub fn are_own_pairs(pairs: &[(Key, u64)], last: Key) -> bool {
         next = next.saturating_add(1);
     }
     next == last.saturating_add(1)
+}
+
+/// Returns whether two small tables have the same pages, pairs and counts.
+pub fn are_alike(one: &Table<Global>, other: &Table<Global>) -> bool {
+    (0..PAGES).all(|page| one.peek(Pid(page)) == other.peek(Pid(page)))
+        && (0..KEYS).all(|key| one.get(key) == other.get(key))
+        && one.book() == other.book()
 }

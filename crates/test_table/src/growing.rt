@@ -1,14 +1,12 @@
 //! A table to which pages are added is one that had them all from the beginning.
 
-use crate::at_once::are_alike;
-use crate::twins::install_drawn;
 use bw_keys::Config;
 use bw_table::Table;
 use rand_core::{Rng, SeedableRng};
 use rand_pcg::Pcg32;
 use std::alloc::Global;
 use std::test::Fail;
-use test_kit::SMALL;
+use test_kit::{SMALL, are_alike, install_drawn};
 
 /// The number of pages that a table begins with, and comes to.
 const FEW: u32 = 8;

@@ -1,11 +1,10 @@
 //! Several gets at once on trees whose changes are half done.
 
-use crate::rest::{FREED, MARKED, MERGED, SPLIT, after, begun};
 use bw_keys::Key;
 use bw_table::Table;
 use std::alloc::Global;
 use std::test::Fail;
-use test_kit::{Change, THREE_LEAVES};
+use test_kit::{Change, FREED, MARKED, MERGED, SPLIT, THREE_LEAVES, after, begun};
 
 /// Keys that may be there or not, one of them twice, and not in their order.
 const ASKED: [Key; 12] = [7, 0, 5, 3, 9, 3, 1, 8, 4, 10, Key::MAX, 2];

@@ -1,6 +1,5 @@
 //! Chains in a heap of their own: all memory is freed, and refusals are reported.
 
-use crate::rest::{MERGED, three_leaves};
 use bw_keys::{Config, Key};
 use bw_step::Step;
 use bw_table::{CopyFault, Refused, Table};
@@ -8,7 +7,8 @@ use linked_list_allocator::LocalHeap;
 use std::alloc::Global;
 use std::test::Fail;
 use test_kit::{
-    Change, Pages, Rooms, SMALL, THREE_LEAVES, growing_heaps, seen, step_of, take, take_all,
+    Change, MERGED, Pages, Rooms, SMALL, THREE_LEAVES, growing_heaps, seen, step_of, take,
+    take_all, three_leaves,
 };
 
 /// Steps on a table with this number of slots, and then puts of the keys from 0 on: a page has this

@@ -2,34 +2,8 @@
 
 use bw_keys::{Fence, Key, Pid};
 use bw_table::{Summary, Table};
-use std::alloc::{Allocator, Global};
 use std::test::Fail;
-use test_kit::{Change, SMALL, THREE_LEAVES, take_all};
-
-pub(crate) const MARKED: [Change; 1] = [Change::Mark(1, 2)];
-
-pub(crate) const MERGED: [Change; 2] = [Change::Mark(1, 2), Change::Merge(0, 1)];
-
-pub(crate) const FREED: [Change; 3] = [
-    Change::Mark(1, 2),
-    Change::Merge(0, 1),
-    Change::TermDelete(2, 1),
-];
-
-/// The last leaf has the keys from 5 to 9.
-pub(crate) const FULL: [Change; 3] = [
-    Change::Insert(3, 8, 8),
-    Change::Insert(3, 9, 9),
-    Change::Consolidate(3),
-];
-
-/// The last leaf is split at the key 7.
-pub(crate) const SPLIT: [Change; 4] = [
-    Change::Insert(3, 8, 8),
-    Change::Insert(3, 9, 9),
-    Change::Consolidate(3),
-    Change::Split(3),
-];
+use test_kit::{Change, FREED, MARKED, MERGED, SPLIT, after};
 
 /// A leaf is emptied, merged and freed.
 const EMPTIED: [Change; 5] = [
@@ -39,30 +13,6 @@ const EMPTIED: [Change; 5] = [
     Change::Merge(0, 1),
     Change::TermDelete(2, 1),
 ];
-
-/// Returns a new table after some steps.
-pub(crate) fn begun(alloc: Global, steps: &[Change]) -> Result<Table<Global>, Fail> {
-    let mut table = Table::new(alloc, alloc, SMALL)?;
-    take_all(alloc, &mut table, steps)?;
-    Ok(table)
-}
-
-/// Returns the tree of three leaves, whose pages lie in the heap.
-pub(crate) fn three_leaves<A: Allocator + Copy>(
-    machine: Global,
-    heap: A,
-) -> Result<Table<A>, Fail> {
-    let mut table = Table::new(machine, heap, SMALL)?;
-    take_all(heap, &mut table, &THREE_LEAVES)?;
-    Ok(table)
-}
-
-/// Returns the tree of three leaves after some more steps.
-pub(crate) fn after(alloc: Global, changes: &[Change]) -> Result<Table<Global>, Fail> {
-    let mut table = three_leaves(alloc, alloc)?;
-    take_all(alloc, &mut table, changes)?;
-    Ok(table)
-}
 
 /// Some steps, a key, and its leaf, if that is at rest.
 static LEAVES: [(&[Change], Key, Option<u32>); 12] = [

@@ -1,11 +1,10 @@
 //! A page that was copied and consolidated before it changed.
 
-use crate::rest::begun;
 use bw_keys::Pid;
 use bw_table::{Refused, Table};
 use std::alloc::Global;
 use std::test::Fail;
-use test_kit::{Change, are_own_pairs, step_of, take};
+use test_kit::{Change, are_own_pairs, begun, step_of, take};
 
 const THREE: [Change; 3] = [
     Change::Insert(0, 1, 1),

@@ -1,13 +1,11 @@
 //! Two tables to which the same is done, and the map that both should have.
 
 use bw_keys::{Config, Key};
-use bw_table::{Receipt, Refused, Table};
-use rand_core::SeedableRng;
-use rand_pcg::Pcg32;
+use bw_table::{Receipt, Table};
 use std::alloc::Global;
 use std::collections::BTreeMap;
 use std::test::Fail;
-use test_kit::drawn_step;
+use test_kit::install_drawn;
 
 /// Two tables to which the same is done, at once in one and by steps in the other, and a map that
 /// follows the receipts.
@@ -16,15 +14,6 @@ pub(crate) struct Twins {
     pub(crate) at_once: Table<Global>,
     pub(crate) by_steps: Table<Global>,
     pub(crate) map: BTreeMap<Key, u64>,
-}
-
-pub(crate) fn install_drawn(
-    alloc: Global,
-    table: &mut Table<Global>,
-    seed: u64,
-) -> Result<Result<Receipt, Refused>, Fail> {
-    let step = drawn_step(&mut Pcg32::seed_from_u64(seed), alloc, table)?;
-    Ok(table.install(step))
 }
 
 impl Twins {

@@ -1,9 +1,8 @@
 //! A record at once is a look and one step, and a consolidation at once is a copy, the page made of
 //! it and one step. Drawn acts of these, and splits and terms at once between them, are those of steps.
 
-use crate::at_once::{Answer, Row, after_both, alike_answer, are_alike, performed};
+use crate::at_once::{Answer, Row, after_both, alike_answer, performed};
 use crate::halving::{add_term_by_steps, halve_by_steps};
-use crate::rest::{FREED, MARKED, MERGED, SPLIT, after, three_leaves};
 use crate::twins::Twins;
 use bw_delta::{NoMemory, Spare};
 use bw_keys::{Config, Key, Pid, Version};
@@ -15,7 +14,10 @@ use rand_pcg::Pcg32;
 use std::alloc::Global;
 use std::collections::BTreeMap;
 use std::test::Fail;
-use test_kit::{Change, Rooms, SMALL, growing_heaps, receipt, seen, step_of, step_with, take_all};
+use test_kit::{
+    Change, FREED, MARKED, MERGED, Rooms, SMALL, SPLIT, after, are_alike, growing_heaps, receipt,
+    seen, step_of, step_with, take_all, three_leaves,
+};
 
 /// The most places of a walk in a small table.
 const LONGEST_WALK: u32 = 1000;

@@ -2,7 +2,6 @@
 //! parent and one step.
 
 use crate::at_once::{Answer, alike_answer, performed};
-use crate::rest::{FREED, FULL, MARKED, MERGED, SPLIT, after, three_leaves};
 use bw_delta::{NoMemory, Spare};
 use bw_keys::{Config, Fence, Key, Pid, Version};
 use bw_step::{Denied, Reshaping};
@@ -11,7 +10,8 @@ use linked_list_allocator::LocalHeap;
 use std::alloc::Global;
 use std::test::Fail;
 use test_kit::{
-    Change, Rooms, SMALL, THREE_LEAVES, growing_heaps, seen, step_of, step_with, take_all,
+    Change, FREED, FULL, MARKED, MERGED, Rooms, SMALL, SPLIT, THREE_LEAVES, after, growing_heaps,
+    seen, step_of, step_with, take_all, three_leaves,
 };
 
 /// What is looked at of an answer to a split in half: the separator and the new page.

@@ -1,24 +1,10 @@
 //! What is done at once is what its steps do one after the other.
 
-use crate::rest::{FULL, after};
 use bw_keys::{Key, Pid};
 use bw_table::{Action, Performed, Receipt, Table, Unperformed, Wished};
 use std::alloc::Global;
 use std::test::Fail;
-use test_kit::{Change, SMALL, receipt, take_all};
-
-/// The pages of a small table, of which most are free.
-const PAGES: u32 = SMALL.pages;
-
-/// The first keys, of which some have no value.
-const KEYS: Key = 256;
-
-/// Returns whether both tables have the same pages, pairs and counts.
-pub(crate) fn are_alike(one: &Table<Global>, other: &Table<Global>) -> bool {
-    (0..PAGES).all(|page| one.peek(Pid(page)) == other.peek(Pid(page)))
-        && (0..KEYS).all(|key| one.get(key) == other.get(key))
-        && one.book() == other.book()
-}
+use test_kit::{Change, FULL, after, are_alike, receipt, take_all};
 
 /// What is answered to an action.
 pub(crate) type Answer = Result<Performed, Unperformed>;

@@ -1,13 +1,13 @@
 //! A merge at once is five steps: the page is marked, its left neighbour takes it in and is consolidated,
 //! and the parent loses its term and is consolidated.
 
-use crate::at_once::{after_both, are_alike};
+use crate::at_once::after_both;
 use bw_delta::NoMemory;
 use bw_keys::{Config, Pid};
 use bw_table::Table;
 use std::alloc::Global;
 use std::test::Fail;
-use test_kit::{Change, SMALL, THREE_LEAVES, take_all};
+use test_kit::{Change, SMALL, THREE_LEAVES, are_alike, take_all};
 
 /// Returns whether both tables have the same pages, pairs, leaves and counts, and as many free ids.
 pub(crate) fn are_same(

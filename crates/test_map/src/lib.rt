@@ -1,0 +1,19 @@
+//! Maps for one thread beside the kit's `BTreeMap`, by the same drawn calls, and how they use their pages.
+#![tactic(auto)]
+
+#[cfg(test)]
+mod at_once;
+#[cfg(test)]
+mod beyond;
+#[cfg(test)]
+mod drawn;
+#[cfg(test)]
+mod growing;
+#[cfg(test)]
+mod loading;
+#[cfg(test)]
+mod many;
+#[cfg(test)]
+mod reserving;
+#[cfg(test)]
+mod updating;
