@@ -15,7 +15,7 @@ mod play;
 mod receipts;
 mod sights;
 mod tally;
-mod three_leaves;
+mod trees;
 mod worker;
 
 pub use bw_keys::Pid;
@@ -32,5 +32,5 @@ pub use pages::{Pages, seen};
 pub use play::{Ended, NoTree, Play, Played, Turns, play_on_new_tree};
 pub use sights::{are_alike, are_own_pairs, leaves_of};
 pub use tally::{Tally, partition_the_keys};
-pub use three_leaves::{FREED, FULL, MARKED, MERGED, SPLIT, after, begun, three_leaves};
+pub use trees::{FREED, FULL, MARKED, MERGED, SPLIT, after, begun, three_leaves};
 pub use worker::{Call, Reply, Reported, Task, work, work_by_hand};
