@@ -20,12 +20,12 @@
 //! An empty line says nothing. The lines of the answer stand in this order.
 
 use crate::program::{Answer, Input, answer_to};
-use crate::texts::compare;
 use anyhow::{Result, bail, ensure};
 use std::alloc::Global;
 use std::rt::Files;
 use std::sync::Wait;
 use std::thread::Threads;
+use test_scripts::texts::compare;
 
 /// An input of the program, and the answer wanted.
 #[derive(Drop)]

@@ -6,13 +6,9 @@
 
 mod commands;
 mod films;
-mod lines;
 mod program;
 mod scripts;
-mod shared;
-mod texts;
 mod vectors;
-mod ways;
 
 use anyhow::{Result, bail};
 use std::process::ExitCode;
@@ -20,6 +16,7 @@ use std::rt::Files;
 use std::sync::Wait;
 use std::thread::Threads;
 use std::{env, io};
+use test_scripts::{shared, texts};
 
 /// Returns what is printed for an argument. A case that isn't answered as foretold is an error,
 /// too.

@@ -1,7 +1,6 @@
 //! Scripts of steps that are built by hand: played, with an answer to each, and drawn.
 
 use crate::program::output_of;
-use crate::texts::{compare, read_part};
 use anyhow::{Result, bail};
 use bw_draw::{Drawing, Picture};
 use bw_scripts::{Answer, Player};
@@ -9,6 +8,7 @@ use std::alloc::Global;
 use std::rt::Files;
 use std::sync::Wait;
 use std::thread::Threads;
+use test_scripts::texts::{compare, read_part};
 
 /// Has the program answer the script, and compares its answers with those that lie beside it.
 pub(crate) fn agree<R: Threads + Wait + Sync + Send + Copy + Files + AllocGlobal>(

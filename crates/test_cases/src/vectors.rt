@@ -1,16 +1,15 @@
 //! Traces, with what an independent model of the map foretold of them, byte for byte.
 
 use crate::program::output_of;
-use crate::texts::{compare, read_part};
-use crate::ways::{run_alone, run_by_hand};
-use anyhow::{Context, Result, bail};
-use bw_keys::Config;
+use anyhow::{Context, Result};
 use bw_tree::Blanks;
 use std::alloc::Global;
 use std::marker::Brand;
 use std::rt::Files;
 use std::sync::Wait;
 use std::thread::Threads;
+use test_scripts::texts::{compare, read_part};
+use test_scripts::ways::{config_of, joined, run_alone, run_by_hand};
 
 /// A trace of one worker, with its options.
 #[derive(Drop)]
@@ -59,11 +58,6 @@ pub(crate) fn agree<R: Threads + Wait + Sync + Send + Copy + Files + AllocGlobal
     Ok(lines)
 }
 
-/// Returns the replies, leaves and counts, and after them the history.
-pub(crate) fn joined(alloc: Global, replies: String, history: &str) -> Result<String> {
-    Ok(format!(in alloc; "{replies}history\n{history}")?)
-}
-
 fn run<R: Threads + Wait + Sync + Send + Copy + Files>(
     rt: R,
     alloc: Global,
@@ -91,31 +85,6 @@ fn run<R: Threads + Wait + Sync + Send + Copy + Files>(
             )
         }
     }
-}
-
-/// Returns the configuration by the options, with the program's defaults for those that aren't
-/// there.
-pub(crate) fn config_of(options: &str) -> Result<Config> {
-    let mut config = Config {
-        fanout: 16,
-        chain: 8,
-        pages: 4096,
-        tries: 1000,
-        first_version: 0,
-    };
-    let mut words = options.split_whitespace();
-    while let Some(name) = words.next() {
-        let number = words.next().context("an option has no number")?;
-        let number = number.parse::<u32>()?;
-        match name {
-            "--fanout" => config.fanout = number,
-            "--chain" => config.chain = number,
-            "--pages" => config.pages = number,
-            "--tries" => config.tries = number,
-            _ => bail!("{name} is no option"),
-        }
-    }
-    Ok(config)
 }
 
 impl Vector {

@@ -1,8 +1,8 @@
 use Rattle.std.proofs.Common.{◌≡◌, slice_get}
 use denote.Text.{Utf8}
 use denote.Shadow.{shadow}
-use Rattle.test_cases.specs.Lines.{lines_of, line_in}
-use Rattle.test_cases.proofs.lines.line_at.Given as goal
+use Rattle.test_scripts.specs.Lines.{lines_of, line_in}
+use Rattle.test_scripts.proofs.lines.line_at.Given as goal
 
 -- the line that is looked for is the one that has n before it in the rest
 abbrev pub invariant-loop-before : goal.invariant-loop-before

@@ -1,7 +1,7 @@
 use Rattle.std.proofs.Common.{◌==◌, arith}
 use Rattle.std.proofs.lemmas.List.Splits.{slice_split_first}
-use Rattle.test_cases.proofs.Differences.{one_line}
-use Rattle.test_cases.proofs.lines.first_line.Goals as goal
+use Rattle.test_scripts.proofs.Differences.{one_line}
+use Rattle.test_scripts.proofs.lines.first_line.Goals as goal
 
 pub returns-in-Some-clause-lines : goal.returns-in-Some-clause-lines
 returns-in-Some-clause-lines c =

@@ -5,21 +5,18 @@ use anyhow::{Result, bail};
 use std::fs;
 use std::rt::Files;
 
-pub(crate) fn read<R: Files + AllocGlobal>(rt: &R, name: &str) -> Result<String> {
+/// Reads the file with this name.
+pub fn read<R: Files + AllocGlobal>(rt: &R, name: &str) -> Result<String> {
     Ok(fs::read_to_string(rt, name)?)
 }
 
 /// Reads the file with this name and ending.
-pub(crate) fn read_part<R: Files + AllocGlobal>(
-    rt: &R,
-    name: &str,
-    ending: &str,
-) -> Result<String> {
+pub fn read_part<R: Files + AllocGlobal>(rt: &R, name: &str, ending: &str) -> Result<String> {
     read(rt, &format!(in rt.alloc(); "{name}.{ending}")?)
 }
 
 /// Fails with the first line that differs. An empty text stands for one that isn't there.
-pub(crate) fn compare(answered: &str, foretold: &str) -> Result<()> {
+pub fn compare(answered: &str, foretold: &str) -> Result<()> {
     let Some(number) = first_difference(answered, foretold) else {
         return Ok(());
     };

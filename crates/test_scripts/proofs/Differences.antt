@@ -4,7 +4,7 @@ use Rattle.std.specs.List.{position_or_len, onto_first, join_with_byte}
 use Rattle.std.specs.Str.{bytes_eq}
 use Rattle.std.proofs.lemmas.Slice.Eq.{bytes_eq-Decides}
 use Rattle.std.proofs.lemmas.List.Splits.{slice_split-cons_no, join_with_byte-slice_split}
-use Rattle.test_cases.specs.Lines.{lines_of, lines_left, line_in, IsFirstDifference}
+use Rattle.test_scripts.specs.Lines.{lines_of, lines_left, line_in, IsFirstDifference}
 
 -- a text without a line end is one line
 one_more : (b : ℕ) (bs : List ℕ) (is_end : Bool) → (b == 10) ≡ is_end

@@ -1,7 +1,7 @@
 //! The lines of two texts, compared: where a program that is tested by its output first differs
 //! from what was foretold.
 ghost use Rattle.std.specs.Prelude.{◌≡◌, ◌↔◌, ◌∷◌, ◌<◌, None, IfSome, length, option_copied};
-ghost use Rattle.test_cases.specs.Lines.{lines_of, lines_left, line_in, IsFirstDifference};
+ghost use Rattle.test_scripts.specs.Lines.{lines_of, lines_left, line_in, IsFirstDifference};
 
 /// Returns the number of the first line that differs, counted from 1, if the texts aren't equal. If
 /// one text goes on and the other doesn't, the next line differs.

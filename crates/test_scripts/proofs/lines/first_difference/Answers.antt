@@ -1,6 +1,6 @@
 use Rattle.std.proofs.Common.{option_copied, ◌∙◌, sym, arith}
-use Rattle.test_cases.proofs.Differences.{nothing_read, line_read, lines_differ, some_tells, text_ended, other_ended, left_lines, shorter_left, lines_equal, lines_unequal}
-use Rattle.test_cases.proofs.lines.first_difference.Goals as goal
+use Rattle.test_scripts.proofs.Differences.{nothing_read, line_read, lines_differ, some_tells, text_ended, other_ended, left_lines, shorter_left, lines_equal, lines_unequal}
+use Rattle.test_scripts.proofs.lines.first_difference.Goals as goal
 
 pub loop-rest-init : goal.loop-rest-init
 loop-rest-init c = nothing_read c.args.text.now c.args.other.now

@@ -17,7 +17,7 @@ ghost use Rattle.std.specs.Prelude.{◌≡◌};
 ghost use Rattle.bw_tree.specs.Trees.{OpensFor};
 
 use crate::texts::compare;
-use crate::vectors::config_of;
+use crate::ways::config_of;
 use anyhow::{Context, Result, bail};
 use bw_keys::Config;
 use bw_run::{Act, Reply, Row, do_act};
@@ -279,7 +279,7 @@ fn agree_on<R: Wait + Copy>(rt: R, alloc: Global, script: &str) -> Result<()> {
 }
 
 /// Plays the scripts of the text, and compares the answers to each with those in it.
-pub(crate) fn agree<R: Wait + Copy>(rt: R, alloc: Global, text: &str) -> Result<String> {
+pub fn agree<R: Wait + Copy>(rt: R, alloc: Global, text: &str) -> Result<String> {
     let mut lines = String::new(alloc);
     for script in text.split("\n\n") {
         let title = script.lines().next().context("no title")?;

@@ -3,8 +3,7 @@
 ghost use Rattle.std.specs.Prelude.{◌≡◌};
 ghost use Rattle.bw_tree.specs.Trees.{OpensFor};
 
-use crate::vectors::joined;
-use anyhow::{Context, Result};
+use anyhow::{Context, Result, bail};
 use bw_audit::audit;
 use bw_keys::Config;
 use bw_run::do_act;
@@ -16,6 +15,31 @@ use bw_work::{Alone, Hand, Open, Steps};
 use std::alloc::Global;
 use std::sync::Wait;
 use std::sync::ledger::Ledger;
+
+/// Returns the configuration by the options, with the program's defaults for those that aren't
+/// there.
+pub fn config_of(options: &str) -> Result<Config> {
+    let mut config = Config {
+        fanout: 16,
+        chain: 8,
+        pages: 4096,
+        tries: 1000,
+        first_version: 0,
+    };
+    let mut words = options.split_whitespace();
+    while let Some(name) = words.next() {
+        let number = words.next().context("an option has no number")?;
+        let number = number.parse::<u32>()?;
+        match name {
+            "--fanout" => config.fanout = number,
+            "--chain" => config.chain = number,
+            "--pages" => config.pages = number,
+            "--tries" => config.tries = number,
+            _ => bail!("{name} is no option"),
+        }
+    }
+    Ok(config)
+}
 
 /// Does the rows of the trace in their order, and returns a line for each reply.
 fn work<S: Steps<Global, Step<Global>>>(
@@ -30,6 +54,11 @@ fn work<S: Steps<Global, Step<Global>>>(
         writeln!(lines, "{reply}")?;
     }
     Ok(lines)
+}
+
+/// Returns the replies, leaves and counts, and after them the history.
+pub fn joined(alloc: Global, replies: String, history: &str) -> Result<String> {
+    Ok(format!(in alloc; "{replies}history\n{history}")?)
 }
 
 /// Returns the replies, the survey of the table and the audit, and the history after them.
@@ -48,7 +77,8 @@ fn ending(
     joined(alloc, replies, &String::from_utf8(history)?)
 }
 
-pub(crate) fn run_alone(alloc: Global, config: Config, trace: &[u8]) -> Result<String> {
+/// Returns what a worker that has a table for itself answers to the trace, and leaves.
+pub fn run_alone(alloc: Global, config: Config, trace: &[u8]) -> Result<String> {
     let mut table = Table::new(alloc, alloc, config)?;
     let mut alone = Alone::new(alloc, alloc, &mut table);
     let replies = work(alloc, &mut alone, trace)?;
@@ -69,7 +99,8 @@ fn work_by_hand<I: MadeBy, D: Ledger, R: Wait + Drop>(
     (share, trail, replies)
 }
 
-pub(crate) fn run_by_hand<I: MadeBy, D: Ledger, R: Wait + Drop>(
+/// Returns what a worker with a hand on a tree answers to the trace, and leaves.
+pub fn run_by_hand<I: MadeBy, D: Ledger, R: Wait + Drop>(
     rt: R,
     alloc: Global,
     config: Config,

@@ -1,4 +1,4 @@
-use Rattle.test_cases.proofs.shared.play.Given as goal
+use Rattle.test_scripts.proofs.shared.play.Given as goal
 
 abbrev pub ghosts-play_over-N-Ledger : goal.ghosts-play_over-N-Ledger
 ghosts-play_over-N-Ledger g a = record { name = a.blanks.insertions.name; parts = a.blanks.insertions.parts }
