@@ -1,5 +1,7 @@
 //! Texts of files, compared with answers.
 
+ghost use Rattle.std.specs.Prelude.{◌≡◌, ◌↔◌, IsOk};
+
 use crate::lines::{first_difference, line_at};
 use anyhow::{Result, bail};
 use std::fs;
@@ -16,7 +18,9 @@ pub fn read_part<R: Files + AllocGlobal>(rt: &R, name: &str, ending: &str) -> Re
 }
 
 /// Fails with the first line that differs. An empty text stands for one that isn't there.
-pub fn compare(answered: &str, foretold: &str) -> Result<()> {
+pub fn compare(answered: &str, foretold: &str) -> Result<()>
+    ensures { IsOk result ↔ (answered.now ≡ foretold.now) }
+{
     let Some(number) = first_difference(answered, foretold) else {
         return Ok(());
     };
