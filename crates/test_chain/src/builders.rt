@@ -2,7 +2,8 @@
 //! not stand.
 
 ghost use Rattle.std.specs.Prelude.{◌≡◌, true, IfOk};
-ghost use Rattle.bw_delta.specs.Sound.{IsSound, MayStandOver};
+ghost use Rattle.bw_delta.specs.Fence.{fences};
+ghost use Rattle.bw_delta.specs.Sound.{IsSound, LiesIn, MayStandOver};
 
 use bw_chain::{depth, fences, find, is_leaf};
 use bw_delta::{Base, BaseFault, Chain, Delta, Entries, EntrySlice, Fences, Spare};
@@ -130,17 +131,23 @@ pub(crate) fn add_record<A: Allocator + Copy>(
 fn may_stand<A: Allocator + Copy>(delta: Delta, chain: &Chain<A>) -> bool
     ensures { result ≡ true → MayStandOver delta chain.now }
 {
-    let Fences { low, high, .. } = fences(chain);
-    let range = Range { low, high };
     match delta {
-        Delta::Insert(key, _) | Delta::Delete(key) => is_leaf(chain) && range.holds(key),
+        Delta::Insert(key, _) | Delta::Delete(key) => is_leaf(chain) && holds(chain, key),
         Delta::Modify(key, _) => is_leaf(chain) && find(chain, key).is_some(),
-        Delta::Split(separator, _) => low < separator && range.holds(separator),
+        Delta::Split(separator, _) => fences(chain).low < separator && holds(chain, separator),
         Delta::Remove => true,
         Delta::TermAdd(separator, _) | Delta::TermDelete(separator) => {
-            !is_leaf(chain) && range.holds(separator)
+            !is_leaf(chain) && holds(chain, separator)
         }
     }
+}
+
+/// Reports whether the key is in the range of the chain.
+fn holds<A: Allocator + Copy>(chain: &Chain<A>, key: Key) -> bool
+    ensures { result ≡ true → LiesIn key (fences chain.now) }
+{
+    let ends = fences(chain);
+    ends.low <= key && ends.high.is_above(key)
 }
 
 /// Returns the chain of a page that has taken in its right neighbour.

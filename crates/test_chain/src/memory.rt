@@ -35,17 +35,47 @@ fn is_right<A: Allocator + Copy>(alloc: A) -> Result<bool, HalveFault> {
     let Ok(copy) = chain.copy_in(alloc) else {
         return Err(HalveFault::NoMemory);
     };
-    let Ok(whole) = consolidate(alloc, &copy) else {
+    are_right(alloc, &copy)
+}
+
+/// Consolidates the copy, halves that, and lists the pairs of the copy.
+fn are_right<A: Allocator + Copy>(alloc: A, copy: &Chain<A>) -> Result<bool, HalveFault>
+    requires { IsSound copy.now }
+{
+    let Ok(whole) = consolidate(alloc, copy) else {
         return Err(HalveFault::NoMemory);
     };
     let (separator, upper) = halve(alloc, &whole)?;
-    let mut pairs = Vec::new(alloc);
-    if append_pairs(&copy, &mut pairs).is_err() {
-        return Err(HalveFault::NoMemory);
-    }
     let is_whole = lists_pairs(&whole, &[(3, 30), (5, 50), (6, 60)]);
     let is_upper = lists_pairs(&upper, &[(5, 50), (6, 60)]);
-    Ok(is_whole && separator == 5 && is_upper && lists_pairs(&whole, pairs.as_slice()))
+    let are_listed = lists_the_same(alloc, copy, &whole)?;
+    Ok(is_whole && separator == 5 && is_upper && are_listed)
+}
+
+/// Reports whether the chain lists the pairs of the page.
+fn lists_the_same<A: Allocator + Copy>(
+    alloc: A,
+    chain: &Chain<A>,
+    page: &Base<A>,
+) -> Result<bool, HalveFault>
+    requires { IsSound chain.now }
+{
+    let mut pairs = Vec::new(alloc);
+    appends_those_of(chain, page, &mut pairs)
+}
+
+/// Appends the pairs of the chain, and reports whether the list is that of the page then.
+fn appends_those_of<A: Allocator + Copy>(
+    chain: &Chain<A>,
+    page: &Base<A>,
+    pairs: &mut Vec<(Key, u64), A>,
+) -> Result<bool, HalveFault>
+    requires { IsSound chain.now }
+{
+    if append_pairs(chain, pairs).is_err() {
+        return Err(HalveFault::NoMemory);
+    }
+    Ok(lists_pairs(page, pairs.as_slice()))
 }
 
 // A heap grows by 16 bytes from run to run, so each request is once the first to be refused.
@@ -70,23 +100,33 @@ fn each_request_may_be_refused(rt: HostRuntime) -> Result<(), Fail> {
     Ok(())
 }
 
-/// Builds a leaf with 100 to 199 under as many records as a chain may have: each fourth key
-/// deleted, the next one modified, and smaller ones inserted.
-fn deepest_leaf<A: Allocator + Copy>(alloc: A) -> Result<Chain<A>, BaseFault>
-    ensures { IfOk result IsSound }
-{
+/// Returns pairs with the keys 100 to 199.
+fn hundred_pairs() -> [(Key, u64); 100] {
     let mut pairs = [(0, 0); 100];
     for i in 0..100u64 {
         pairs[i as usize] = (100 + i, i);
     }
+    pairs
+}
+
+/// Returns the record of this number: each fourth key from 100 on deleted, the next one modified, and
+/// smaller ones inserted.
+fn record_numbered(number: u64) -> Delta {
+    match number % 4 {
+        0 => Delta::Delete(number.saturating_add(100)),
+        1 => Delta::Modify(number.saturating_add(100), 7),
+        _ => Delta::Insert(number, 7),
+    }
+}
+
+/// Builds a leaf with 100 to 199 under as many records as a chain may have.
+fn deepest_leaf<A: Allocator + Copy>(alloc: A) -> Result<Chain<A>, BaseFault>
+    ensures { IfOk result IsSound }
+{
+    let pairs = hundred_pairs();
     let mut chain = Chain::bare(Base::leaf(alloc, 0, Fence::Top, None, &pairs)?);
-    'records: for i in 0..u64::from(MAX_DEPTH) {
-        let delta = match i % 4 {
-            0 => Delta::Delete(100 + i),
-            1 => Delta::Modify(100 + i, 7),
-            _ => Delta::Insert(i, 7),
-        };
-        add_record(alloc, &mut chain, delta)?;
+    'records: for number in 0..u64::from(MAX_DEPTH) {
+        add_record(alloc, &mut chain, record_numbered(number))?;
     }
     Ok(chain)
 }

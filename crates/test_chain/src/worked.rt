@@ -285,11 +285,23 @@ fn is_one_of(alloc: Global, chain: &Chain<Global>, pages: &[(Fences, Listed)]) -
     requires { IsSound chain.now }
 {
     for (ends, listed) in pages {
-        if same(&page(alloc, *ends, *listed)?, chain) {
+        if stands_for(alloc, chain, *ends, *listed)? {
             return Ok(true);
         }
     }
     Ok(false)
+}
+
+/// Reports whether the chain stands for the page.
+fn stands_for(
+    alloc: Global,
+    chain: &Chain<Global>,
+    ends: Fences,
+    listed: Listed,
+) -> Result<bool, Fail>
+    requires { IsSound chain.now }
+{
+    Ok(same(&page(alloc, ends, listed)?, chain))
 }
 
 fn is_halved(alloc: Global, page: &Base<Global>, half: Option<(Key, Listed)>) -> bool {
@@ -306,20 +318,32 @@ fn is_halved(alloc: Global, page: &Base<Global>, half: Option<(Key, Listed)>) ->
 /// Returns what is wrong with the row's chain, if anything is.
 fn wrong(alloc: Global, row: &Row) -> Result<Option<&'static str>, Fail> {
     let chain = built(alloc, &row.plan)?;
-    if !finds_pairs(&chain, row.pairs) || !finds_routes(&chain, row.routes) {
+    let whole = consolidate(alloc, &chain)?;
+    wrong_of(alloc, row, &chain, &whole)
+}
+
+/// Returns what is wrong with the chain, or with the page that it was consolidated to.
+fn wrong_of(
+    alloc: Global,
+    row: &Row,
+    chain: &Chain<Global>,
+    whole: &Base<Global>,
+) -> Result<Option<&'static str>, Fail>
+    requires { IsSound chain.now }
+{
+    if !finds_pairs(chain, row.pairs) || !finds_routes(chain, row.routes) {
         return Ok(Some("a search"));
     }
-    if (depth(&chain), count(&chain), fences(&chain)) != (row.depth, row.count, row.ends) {
+    if (depth(chain), count(chain), fences(chain)) != (row.depth, row.count, row.ends) {
         return Ok(Some("a number, or an end"));
     }
-    let whole = consolidate(alloc, &chain)?;
-    if !lists(&whole, row.whole) || !same(&page(alloc, row.ends, row.whole)?, &chain) {
+    if !lists(whole, row.whole) || !stands_for(alloc, chain, row.ends, row.whole)? {
         return Ok(Some("the page"));
     }
-    if !is_halved(alloc, &whole, row.half) {
+    if !is_halved(alloc, whole, row.half) {
         return Ok(Some("the half"));
     }
-    Ok(is_one_of(alloc, &chain, row.others)?.then_some("another page"))
+    Ok(is_one_of(alloc, chain, row.others)?.then_some("another page"))
 }
 
 #[test]
