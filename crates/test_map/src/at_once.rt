@@ -34,13 +34,18 @@ fn first_wrong(map: &mut Map<Global>) -> Result<Option<u64>, Fail> {
 /// What was seen of a map: the first key after which a leaf had a record, and whether a page was split.
 type Seen = (Option<u64>, bool);
 
+/// Sets the even keys of a map.
+fn seen_in(map: &mut Map<Global>) -> Result<Seen, Fail> {
+    let free = map.free_pages();
+    let wrong = first_wrong(map)?;
+    Ok((wrong, map.free_pages() < free))
+}
+
 /// Makes a map of odd keys and sets its even ones.
 fn seen_of(machine: Global, config: Config) -> Result<Seen, Fail> {
     let pairs = (0..KEYS).map(|key| (2 * key + 1, key));
     let mut map = Map::from_pairs(machine, machine, config, pairs)?;
-    let free = map.free_pages();
-    let wrong = first_wrong(&mut map)?;
-    Ok((wrong, map.free_pages() < free))
+    seen_in(&mut map)
 }
 
 #[test]

@@ -91,24 +91,52 @@ impl Both {
         Ok(())
     }
 
+    /// Returns whether the pairs are the same from the first on.
+    fn is_same_forwards(&self) -> bool {
+        self.map.iter().eq(self.plain.iter().map(owned))
+    }
+
+    /// Returns whether the pairs are the same from the last on.
+    fn is_same_backwards(&self) -> bool {
+        self.map.iter().rev().eq(self.plain.iter().rev().map(owned))
+    }
+
+    /// Returns the number of pages that aren't free.
+    fn pages_in_use(&self) -> usize {
+        let most = self.map.config().pages as usize;
+        most.saturating_sub(self.map.free_pages())
+    }
+
+    /// Returns the number of pairs in the leaves, and whether one of these has a late id.
+    fn leaves(&self, machine: Global) -> Result<(u64, bool), Fail> {
+        let survey = self.map.table().survey(machine)?;
+        let mut pairs = 0u64;
+        for leaf in survey.leaves.iter() {
+            pairs = pairs.saturating_add(leaf.count);
+        }
+        let is_late = survey.leaves.iter().any(|leaf| leaf.pid.0 >= MOST_MADE);
+        Ok((pairs, is_late))
+    }
+
     /// Returns how the maps stand beside each other.
     fn seen(&self, machine: Global) -> Result<Seen, Fail> {
-        let table = self.map.table();
-        let survey = table.survey(machine)?;
-        let mut leaf_pairs = 0u64;
-        for leaf in survey.leaves.iter() {
-            leaf_pairs = leaf_pairs.saturating_add(leaf.count);
-        }
-        let most = self.map.config().pages as usize;
-        let used = most.saturating_sub(self.map.free_pages());
+        let (leaf_pairs, has_late_leaves) = self.leaves(machine)?;
         Ok(Seen {
             alike: self.alike && leaf_pairs == self.plain.len() as u64,
-            forwards: self.map.iter().eq(self.plain.iter().map(owned)),
-            backwards: self.map.iter().rev().eq(self.plain.iter().rev().map(owned)),
-            has_many_pages: table.config().pages > MOST_MADE,
-            uses_many_pages: used > MOST_MADE as usize,
-            has_late_leaves: survey.leaves.iter().any(|leaf| leaf.pid.0 >= MOST_MADE),
+            forwards: self.is_same_forwards(),
+            backwards: self.is_same_backwards(),
+            has_many_pages: self.map.table().config().pages > MOST_MADE,
+            uses_many_pages: self.pages_in_use() > MOST_MADE as usize,
+            has_late_leaves,
         })
+    }
+
+    /// Fills the maps and thins them out. Returns how they stand after each.
+    fn seen_in_turn(&mut self, machine: Global) -> Result<[Seen; 2], Fail> {
+        self.fill()?;
+        let filled = self.seen(machine)?;
+        self.thin_out()?;
+        Ok([filled, self.seen(machine)?])
     }
 }
 
@@ -133,6 +161,11 @@ const FILLED: Seen = Seen {
     has_many_pages: true,
     uses_many_pages: true,
     has_late_leaves: true,
+};
+
+const THINNED: Seen = Seen {
+    uses_many_pages: false,
+    ..FILLED
 };
 
 fn config_of(pages: u32, chain: u32, tries: u32) -> Config {
@@ -167,13 +200,7 @@ fn a_map_comes_to_have_more_pages_than_a_table_is_made_with(rt: HostRuntime) -> 
         plain: BTreeMap::new(machine),
         alike: true,
     };
-    both.fill()?;
-    assert_eq!(rt; both.seen(machine)?, FILLED);
-    both.thin_out()?;
-    let thinned = Seen {
-        uses_many_pages: false,
-        ..FILLED
-    };
-    assert_eq!(rt; both.seen(machine)?, thinned);
+    let seen = both.seen_in_turn(machine)?;
+    assert_eq!(rt; seen, [FILLED, THINNED]);
     Ok(())
 }

@@ -96,7 +96,7 @@ impl Both {
     }
 
     /// Returns the reply. The care for the pages may have found no page free.
-    fn reply<T: Drop>(&mut self, answer: Result<Done<T>, Fault>) -> Result<T, Fail> {
+    fn reply<T: Copy>(&mut self, answer: Result<Done<T>, Fault>) -> Result<T, Fail> {
         let done = answer?;
         match done.fault {
             None => {}
@@ -109,19 +109,23 @@ impl Both {
     /// Makes a drawn call. Returns whether it replied as it should.
     fn call(&mut self) -> Result<bool, Fail> {
         match self.rng.next_u32() % 32 {
-            0..2 => {
-                let answer = self.map.pop_first();
-                Ok(self.reply(answer)? == self.plain.pop_first())
-            }
-            2..4 => {
-                let answer = self.map.pop_last();
-                Ok(self.reply(answer)? == self.plain.pop_last())
-            }
+            0..2 => self.pop_first(),
+            2..4 => self.pop_last(),
             4..16 => self.compare_and_set(),
             16..26 => self.upsert(),
             26..30 => self.extend(),
             _ => self.retain(),
         }
+    }
+
+    fn pop_first(&mut self) -> Result<bool, Fail> {
+        let answer = self.map.pop_first();
+        Ok(self.reply(answer)? == self.plain.pop_first())
+    }
+
+    fn pop_last(&mut self) -> Result<bool, Fail> {
+        let answer = self.map.pop_last();
+        Ok(self.reply(answer)? == self.plain.pop_last())
     }
 
     fn compare_and_set(&mut self) -> Result<bool, Fail> {
@@ -148,12 +152,18 @@ impl Both {
         Ok(self.reply(answer)? == Upsert { old, new })
     }
 
-    fn extend(&mut self) -> Result<bool, Fail> {
+    /// Returns drawn pairs.
+    fn pairs(&mut self) -> Result<Vec<(u64, u64)>, Fail> {
         let mut pairs = Vec::new(self.machine);
         for _ in 0..self.rng.next_u32() % MANY {
             let pair = (self.key(), self.rng.next_u64() % 4);
             pairs.push(pair)?;
         }
+        Ok(pairs)
+    }
+
+    fn extend(&mut self) -> Result<bool, Fail> {
+        let pairs = self.pairs()?;
         self.plain.extend(pairs.iter().copied())?;
         let answer = self.map.extend(pairs);
         self.reply(answer)?;
@@ -183,17 +193,35 @@ impl Both {
 
     /// Returns whether each read answers as the kit's map does.
     fn is_read(&mut self) -> Result<bool, Fail> {
-        let (machine, key) = (self.machine, self.key());
+        let key = self.key();
+        Ok(self.is_sized(key) && self.is_shown()? && self.is_walked())
+    }
+
+    /// Returns whether the maps are alike at the key, and in the number of their pairs.
+    fn is_sized(&self, key: u64) -> bool {
         let (map, plain) = (&self.map, &self.plain);
-        let mut all = plain.iter().map(owned);
-        let mut is_alike = map.contains_key(key) == plain.contains_key(&key)
+        map.contains_key(key) == plain.contains_key(&key)
             && map.iter().len() == plain.len()
             && map.iter().size_hint() == (plain.len(), Some(plain.len()))
-            && format!(in machine; "{map:?}")? == format!(in machine; "{plain:?}")?;
-        for pair in map {
-            is_alike &= all.next() == Some(pair);
+    }
+
+    /// Returns whether the maps are formatted alike.
+    fn is_shown(&self) -> Result<bool, Fail> {
+        let (map, plain) = (&self.map, &self.plain);
+        let shown = format!(in self.machine; "{map:?}")?;
+        let wanted = format!(in self.machine; "{plain:?}")?;
+        Ok(shown == wanted)
+    }
+
+    /// Returns whether a loop over the map passes the pairs of the kit's map.
+    fn is_walked(&self) -> bool {
+        let mut all = self.plain.iter().map(owned);
+        for pair in &self.map {
+            if all.next() != Some(pair) {
+                return false;
+            }
         }
-        Ok(is_alike && all.next().is_none())
+        all.next().is_none()
     }
 
     /// Returns the pairs of the kit's map within the bounds, which may run backwards.
@@ -245,9 +273,14 @@ impl Both {
         let key = self.key();
         let pairs = self.plain.iter().map(owned);
         let mut other = Map::from_pairs(self.machine, self.machine, self.config, pairs)?;
-        let was_same = self.map == other;
+        self.equals_until_changed(&mut other, key)
+    }
+
+    /// Returns whether the map equals the other one, until that changes at the key.
+    fn equals_until_changed(&self, other: &mut Map<Global>, key: u64) -> Result<bool, Fail> {
+        let was_same = self.map == *other;
         let _done = other.upsert(key, one_more)?;
-        Ok(was_same && self.map != other)
+        Ok(was_same && self.map != *other)
     }
 }
 

@@ -177,6 +177,16 @@ impl Twins {
                 .eq(self.plain.iter().rev().map(owned))
     }
 
+    /// Returns whether the maps have the same pages, and the pairs of the kit's map.
+    fn are_same(&self) -> bool {
+        self.are_same_pages() && self.are_same_pairs()
+    }
+
+    /// Makes a drawn call. Returns whether it is answered alike, and leaves as many pages free.
+    fn is_called_alike(&mut self, rng: &mut Pcg32, keys: u32, fills: bool) -> Result<bool, Fail> {
+        Ok(self.call(rng, keys, fills)? && self.are_as_full())
+    }
+
     /// Returns whether the table began with few pages and was doubled, up to the most that there may be.
     fn is_doubled(&self) -> bool {
         let (pages, most) = (self.pages(), self.growing.config().pages);
@@ -198,10 +208,8 @@ fn first_wrong(
     fills: bool,
 ) -> Result<Option<u32>, Fail> {
     for call in 0..keys.saturating_mul(3) {
-        if !twins.call(rng, keys, fills)? || !twins.are_as_full() {
-            return Ok(Some(call));
-        }
-        if call % 512 == 0 && !(twins.are_same_pages() && twins.are_same_pairs()) {
+        let is_alike = twins.is_called_alike(rng, keys, fills)?;
+        if !is_alike || (call % 512 == 0 && !twins.are_same()) {
             return Ok(Some(call));
         }
     }
@@ -235,7 +243,7 @@ fn end_of_tide(twins: &mut Twins, rng: &mut Pcg32, keys: u32, fills: bool) -> Re
     }
     Ok(Ended {
         wrong,
-        is_same: twins.are_same_pages() && twins.are_same_pairs(),
+        is_same: twins.are_same(),
         is_doubled: twins.is_doubled(),
     })
 }
@@ -267,14 +275,13 @@ fn config_of(fanout: u32, chain: u32, pages: u32) -> Config {
     }
 }
 
-/// Makes the maps, and fills, empties and fills them again.
-fn play(machine: Global, config: Config, keys: u32) -> Result<Played, Fail> {
+/// Fills, empties and fills the maps again.
+fn play(twins: &mut Twins, keys: u32) -> Result<Played, Fail> {
     let mut rng = Pcg32::seed_from_u64(keys.into());
-    let mut twins = Twins::new(machine, config)?;
     let mut ended_so = ALIKE;
     let mut in_use = [0usize; 3];
     for (tide, fills) in TIDES.iter().enumerate() {
-        let came = end_of_tide(&mut twins, &mut rng, keys, *fills)?;
+        let came = end_of_tide(twins, &mut rng, keys, *fills)?;
         if came != ALIKE {
             ended_so = came;
         }
@@ -283,9 +290,15 @@ fn play(machine: Global, config: Config, keys: u32) -> Result<Played, Fail> {
     Ok(Played {
         ended: ended_so,
         was_full: twins.was_full,
-        has_all: twins.pages() == config.pages,
+        has_all: twins.pages() == twins.growing.config().pages,
         gave_back: twins.was_full || in_use[1] < in_use[0],
     })
+}
+
+/// Makes the maps, and plays on them.
+fn play_on_new(machine: Global, config: Config, keys: u32) -> Result<Played, Fail> {
+    let mut twins = Twins::new(machine, config)?;
+    play(&mut twins, keys)
 }
 
 #[test]
@@ -297,7 +310,7 @@ fn a_map_that_grows_is_one_that_had_all_pages(rt: HostRuntime) -> Result<(), Fai
             has_all: is_small,
             gave_back: true,
         };
-        let played = play(rt.alloc(), config_of(fanout, chain, pages), keys)?;
+        let played = play_on_new(rt.alloc(), config_of(fanout, chain, pages), keys)?;
         assert_eq!(rt;
             played,
             wanted,

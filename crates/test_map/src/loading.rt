@@ -83,6 +83,32 @@ fn leaves_of(machine: Global, map: &Map<Global>) -> Result<Leaves, Fail> {
     Ok(seen)
 }
 
+/// Sets the key in both maps. Returns whether they answer alike.
+fn is_set_alike(
+    map: &mut Map<Global>,
+    plain: &mut BTreeMap<u64, u64>,
+    key: u64,
+) -> Result<bool, Fail> {
+    let reply = map.set(key, 7)?.reply;
+    Ok(match plain.insert(key, 7)? {
+        Some(there) => reply == Set::Replaced(there),
+        None => reply == Set::Inserted,
+    })
+}
+
+/// Deletes the key from both maps. Returns whether they answer alike.
+fn is_deleted_alike(
+    map: &mut Map<Global>,
+    plain: &mut BTreeMap<u64, u64>,
+    key: u64,
+) -> Result<bool, Fail> {
+    let reply = map.delete(key)?.reply;
+    Ok(match plain.remove(&key) {
+        Some(there) => reply == Del::Removed(there),
+        None => reply == Del::NoKey,
+    })
+}
+
 /// Sets and deletes drawn keys. Returns whether each is answered as the kit's map answers it.
 fn are_changed_alike(
     map: &mut Map<Global>,
@@ -96,15 +122,9 @@ fn are_changed_alike(
             .checked_rem(keys.saturating_mul(3))
             .unwrap_or(0);
         let is_same = if rng.next_u32() % 2 == 0 {
-            match (map.set(key, 7)?.reply, plain.insert(key, 7)?) {
-                (Set::Replaced(old), Some(there)) => old == there,
-                (reply, had) => reply == Set::Inserted && had.is_none(),
-            }
+            is_set_alike(map, plain, key)?
         } else {
-            match (map.delete(key)?.reply, plain.remove(&key)) {
-                (Del::Removed(old), Some(there)) => old == there,
-                (reply, had) => reply == Del::NoKey && had.is_none(),
-            }
+            is_deleted_alike(map, plain, key)?
         };
         if !is_same {
             return Ok(false);
@@ -121,18 +141,35 @@ struct Loaded {
     is_changed_alike: bool,
 }
 
-fn load(machine: Global, config: Config, count: u64, to_the_end: bool) -> Result<Loaded, Fail> {
-    let pairs = rising(machine, count, to_the_end)?;
+/// Returns the kit's map of the pairs.
+fn plain_of(machine: Global, pairs: &[(u64, u64)]) -> Result<BTreeMap<u64, u64>, Fail> {
     let mut plain = BTreeMap::new(machine);
-    for pair in &pairs {
+    for pair in pairs {
         plain.insert(pair.0, pair.1)?;
     }
-    let mut map = Map::from_sorted(machine, machine, config, pairs)?;
+    Ok(plain)
+}
+
+/// Compares the map with the kit's, and changes both.
+fn compared(
+    machine: Global,
+    map: &mut Map<Global>,
+    plain: &mut BTreeMap<u64, u64>,
+    (config, count): (Config, u64),
+) -> Result<Loaded, Fail> {
     Ok(Loaded {
-        is_same: is_same(&map, &plain) && map.config() == config,
-        leaves: leaves_of(machine, &map)?,
-        is_changed_alike: are_changed_alike(&mut map, &mut plain, count)?,
+        is_same: is_same(map, plain) && map.config() == config,
+        leaves: leaves_of(machine, map)?,
+        is_changed_alike: are_changed_alike(map, plain, count)?,
     })
+}
+
+/// Makes a map of rising pairs beside the kit's.
+fn load(machine: Global, config: Config, count: u64, to_the_end: bool) -> Result<Loaded, Fail> {
+    let pairs = rising(machine, count, to_the_end)?;
+    let mut plain = plain_of(machine, &pairs)?;
+    let mut map = Map::from_sorted(machine, machine, config, pairs)?;
+    compared(machine, &mut map, &mut plain, (config, count))
 }
 
 #[test]
@@ -162,6 +199,22 @@ fn a_map_of_rising_pairs_is_the_kits_map(rt: HostRuntime) -> Result<(), Fail> {
     Ok(())
 }
 
+/// Returns whether the map has these pairs.
+fn has_pairs<A: Allocator + Copy>(map: &Map<A>, wanted: &[(u64, u64)]) -> bool {
+    map.iter().eq(wanted.iter().copied())
+}
+
+/// Returns whether the map has that many rising pairs.
+fn has_rising<A: Allocator + Copy>(
+    machine: Global,
+    map: &Map<A>,
+    count: u64,
+    to_the_end: bool,
+) -> Result<bool, AllocError> {
+    let wanted = rising(machine, count, to_the_end)?;
+    Ok(has_pairs(map, &wanted))
+}
+
 #[test]
 fn a_map_that_runs_out_of_pages_has_all_rising_pairs(rt: HostRuntime) -> Result<(), Fail> {
     let config = Config {
@@ -170,8 +223,7 @@ fn a_map_that_runs_out_of_pages_has_all_rising_pairs(rt: HostRuntime) -> Result<
     };
     let pairs = rising(rt.alloc(), 200, true)?;
     let map = Map::from_sorted(rt.alloc(), rt.alloc(), config, pairs)?;
-    let wanted = rising(rt.alloc(), 200, true)?;
-    assert!(rt; map.is_full() && map.iter().eq(wanted.iter().copied()));
+    assert!(rt; map.is_full() && has_rising(rt.alloc(), &map, 200, true)?);
     Ok(())
 }
 
@@ -197,13 +249,22 @@ fn falling_at(machine: Global, number: usize, less: u64) -> Result<Vec<(u64, u64
     Ok(pairs)
 }
 
+/// Makes a map of pairs that fall, and returns the number of its pairs, or the fault.
+fn len_of_falling(
+    machine: Global,
+    number: usize,
+    less: u64,
+) -> Result<Result<u64, SortedFault>, Fail> {
+    let pairs = falling_at(machine, number, less)?;
+    let came = Map::from_sorted(machine, machine, config_of(4, 1), pairs);
+    Ok(came.map(|map| map.len()))
+}
+
 #[test]
 fn the_first_pair_that_is_not_above_the_one_before_is_named(rt: HostRuntime) -> Result<(), Fail> {
     for less in [0, 1, 3] {
         for number in NUMBERS {
-            let pairs = falling_at(rt.alloc(), number, less)?;
-            let came = Map::from_sorted(rt.alloc(), rt.alloc(), config_of(4, 1), pairs);
-            let fault = came.map(|map| map.len());
+            let fault = len_of_falling(rt.alloc(), number, less)?;
             assert_eq!(rt;
                 fault,
                 Err(SortedFault::Unsorted(number as u64)),
@@ -223,17 +284,24 @@ fn there_is_no_map_of_a_bad_configuration(rt: HostRuntime) -> Result<(), Fail> {
     Ok(())
 }
 
+/// Fails where the map doesn't have that many rising pairs, and otherwise returns that it is made.
+fn must_have_rising<A: Allocator + Copy>(
+    machine: Global,
+    map: &Map<A>,
+    count: u64,
+) -> Result<bool, Fail> {
+    if has_rising(machine, map, count, false)? {
+        Ok(true)
+    } else {
+        Err("other pairs".into())
+    }
+}
+
 /// Makes a map in the heap, and returns whether that has room for it.
 fn is_made_in<'a>(machine: Global, heap: &'a LocalHeap, count: u64) -> Result<bool, Fail> {
     let pairs = rising(machine, count, false)?;
     match Map::from_sorted(machine, heap, config_of(4, 1), pairs) {
-        Ok(map) => {
-            let wanted = rising(machine, count, false)?;
-            if !map.iter().eq(wanted.iter().copied()) {
-                return Err("other pairs".into());
-            }
-            Ok(true)
-        }
+        Ok(map) => must_have_rising(machine, &map, count),
         Err(SortedFault::Put(Fault::NoMemory)) => Ok(false),
         Err(fault) => Err(fault.into()),
     }

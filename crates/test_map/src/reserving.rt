@@ -37,8 +37,11 @@ fn key_at(order: u32, place: u32) -> u64 {
     })
 }
 
-/// Takes pages ahead for all keys, and puts them. Returns whether the map came by no other pages.
+/// Puts a pair and deletes it, takes pages ahead for all keys, and puts them. Returns whether the
+/// map came by no other pages.
 fn stays_within(map: &mut Map<Global>, order: u32) -> Result<bool, Fail> {
+    let _there = map.put(1 << 40, 0)?;
+    let _gone = map.delete(1 << 40)?;
     map.reserve(KEYS.into())?;
     let pages = map.pages();
     for place in 0..KEYS {
@@ -47,13 +50,16 @@ fn stays_within(map: &mut Map<Global>, order: u32) -> Result<bool, Fail> {
     Ok(map.pages() == pages && map.len() == u64::from(KEYS))
 }
 
+/// Returns whether the pages that a new map takes ahead do for the order of keys.
+fn has_room(machine: Global, order: u32) -> Result<bool, Fail> {
+    let mut map = Map::new(machine, machine, usual_config())?;
+    stays_within(&mut map, order)
+}
+
 /// Returns the first order of keys for which the pages taken ahead don't do.
 fn first_without_room(machine: Global) -> Result<Option<u32>, Fail> {
     for order in 0..3 {
-        let mut map = Map::new(machine, machine, usual_config())?;
-        let _there = map.put(1 << 40, 0)?;
-        let _gone = map.delete(1 << 40)?;
-        if !stays_within(&mut map, order)? {
+        if !has_room(machine, order)? {
             return Ok(Some(order));
         }
     }
@@ -77,18 +83,24 @@ fn pages_ahead(map: &mut Map<Global>) -> Result<[usize; 4], NoMemory> {
     Ok([before, none, some, map.pages()])
 }
 
+/// Returns the numbers of pages of a map of at most a thousand, and how many are free in the end.
+fn thousand_ahead(machine: Global) -> Result<([usize; 4], usize), Fail> {
+    let mut map = Map::new(machine, machine, config_of(4, 1, 1000))?;
+    Ok((pages_ahead(&mut map)?, map.free_pages()))
+}
+
+/// Returns the number of pages of a map that has room for a million pairs.
+fn pages_of_a_million(machine: Global) -> Result<usize, Fail> {
+    let ahead = Map::with_capacity(machine, machine, usual_config(), 1_000_000)?;
+    Ok(ahead.pages())
+}
+
 #[test]
 fn as_many_pages_are_taken_as_there_may_be(rt: HostRuntime) -> Result<(), Fail> {
     let machine = rt.alloc();
-    let mut map = Map::new(machine, machine, config_of(4, 1, 1000))?;
-    assert_eq!(rt; pages_ahead(&mut map)?, [8, 8, 16, 1000]);
-    assert_eq!(rt; map.free_pages(), 999);
-    let ahead = Map::with_capacity(machine, machine, usual_config(), 1_000_000)?;
-    assert!(rt;
-        (32_258..33_000).contains(&ahead.pages()),
-        "{}",
-        ahead.pages()
-    );
+    assert_eq!(rt; thousand_ahead(machine)?, ([8, 8, 16, 1000], 999));
+    let pages = pages_of_a_million(machine)?;
+    assert!(rt; (32_258..33_000).contains(&pages), "{pages}");
     Ok(())
 }
 
@@ -100,18 +112,27 @@ struct Both {
 }
 
 impl Both {
+    fn set(&mut self, key: u64, value: u64) -> Result<(), Fail> {
+        let _done = self.map.set(key, value)?;
+        self.plain.insert(key, value)?;
+        Ok(())
+    }
+
+    fn delete(&mut self, key: u64) -> Result<(), Fail> {
+        let _done = self.map.delete(key)?;
+        self.plain.remove(&key);
+        Ok(())
+    }
+
     /// Makes a drawn call, mostly a set or mostly a deletion.
     fn call(&mut self, rng: &mut Pcg32, fills: bool) -> Result<(), Fail> {
         let key = u64::from(rng.next_u32() % (3 * KEYS));
         let value = rng.next_u64();
         if (rng.next_u32() % 4 == 0) != fills {
-            let _done = self.map.set(key, value)?;
-            self.plain.insert(key, value)?;
+            self.set(key, value)
         } else {
-            let _done = self.map.delete(key)?;
-            self.plain.remove(&key);
+            self.delete(key)
         }
-        Ok(())
     }
 
     fn are_same(&self) -> bool {
@@ -122,14 +143,20 @@ impl Both {
                 .eq(self.plain.iter().map(|pair| (*pair.0, *pair.1)))
     }
 
+    /// Makes many drawn calls.
+    fn call_often(&mut self, rng: &mut Pcg32, fills: bool) -> Result<(), Fail> {
+        for _ in 0..2 * KEYS {
+            self.call(rng, fills)?;
+        }
+        Ok(())
+    }
+
     /// Fills both, empties them mostly, and makes the map anew. Returns whether they have the same
     /// pairs throughout, and the map fewer pages in the end, as free ones.
     fn are_fitted(&mut self, rng: &mut Pcg32) -> Result<bool, Fail> {
         let mut are_same = true;
         for fills in [true, false] {
-            for _ in 0..2 * KEYS {
-                self.call(rng, fills)?;
-            }
+            self.call_often(rng, fills)?;
             are_same &= self.are_same();
             self.map.reserve(u64::from(KEYS))?;
         }
@@ -141,16 +168,19 @@ impl Both {
     }
 }
 
+/// Makes both, and returns whether they are fitted.
+fn are_fitted(machine: Global, config: Config) -> Result<bool, Fail> {
+    let mut both = Both {
+        map: Map::new(machine, machine, config)?,
+        plain: BTreeMap::new(machine),
+    };
+    both.are_fitted(&mut Pcg32::seed_from_u64(config.pages.into()))
+}
+
 #[test]
 fn a_map_that_is_made_anew_has_its_pairs(rt: HostRuntime) -> Result<(), Fail> {
-    let machine = rt.alloc();
     for (fanout, chain, pages) in MAPS {
-        let mut both = Both {
-            map: Map::new(machine, machine, config_of(fanout, chain, pages))?,
-            plain: BTreeMap::new(machine),
-        };
-        let mut rng = Pcg32::seed_from_u64(pages.into());
-        let are_fitted = both.are_fitted(&mut rng)?;
+        let are_fitted = are_fitted(rt.alloc(), config_of(fanout, chain, pages))?;
         assert!(rt; are_fitted, "fanout {fanout}, chain {chain}, pages {pages}");
     }
     Ok(())
@@ -175,21 +205,37 @@ fn a_map_that_was_emptied_gives_its_pages_back(rt: HostRuntime) -> Result<(), Fa
     Ok(())
 }
 
-/// Makes many maps of ten pairs, and returns how many of them have these.
-fn count_of_small(machine: Global, maps: u64) -> Result<usize, Fail> {
-    let mut small = Vec::new(machine);
+/// Makes a map of ten pairs, one of which has the number.
+fn small_map(machine: Global, number: u64) -> Result<Map<Global>, Fail> {
+    let pairs = (0..10).map(|key| (key, key));
+    let mut map = Map::from_pairs(machine, machine, usual_config(), pairs)?;
+    let _done = map.set(5, number)?;
+    Ok(map)
+}
+
+/// Adds so many maps to the list.
+fn add_small(machine: Global, maps: u64, small: &mut Vec<Map<Global>>) -> Result<(), Fail> {
     for number in 0..maps {
-        let pairs = (0..10).map(|key| (key, key));
-        let mut map = Map::from_pairs(machine, machine, usual_config(), pairs)?;
-        let _done = map.set(5, number)?;
-        small.push(map)?;
+        small.push(small_map(machine, number)?)?;
     }
+    Ok(())
+}
+
+/// Returns how many of the maps have ten pairs, and each its number, on few pages.
+fn count_of(small: &[Map<Global>]) -> usize {
     let mut count = 0usize;
     for (number, map) in small.iter().enumerate() {
         let is_small = (map.len(), map.pages(), map.get(5)) == (10, 8, Some(number as u64));
         count = count.wrapping_add(usize::from(is_small));
     }
-    Ok(count)
+    count
+}
+
+/// Makes many maps of ten pairs, and returns how many of them have these.
+fn count_of_small(machine: Global, maps: u64) -> Result<usize, Fail> {
+    let mut small = Vec::new(machine);
+    add_small(machine, maps, &mut small)?;
+    Ok(count_of(&small))
 }
 
 #[test]

@@ -114,13 +114,19 @@ impl Both {
     }
 }
 
+/// Changes drawn keys, and sorts the list.
+fn change_some(both: &mut Both) -> Result<(), Fail> {
+    for _ in 0..CHANGES {
+        both.change()?;
+    }
+    both.pairs.sort()?;
+    Ok(())
+}
+
 /// Changes and updates both. Returns the first round in which they weren't alike, if there is one.
 fn first_wrong(both: &mut Both) -> Result<Option<u32>, Fail> {
     for round in 0..ROUNDS {
-        for _ in 0..CHANGES {
-            both.change()?;
-        }
-        both.pairs.sort()?;
+        change_some(both)?;
         if !both.update()? || !both.is_read_alike() {
             return Ok(Some(round));
         }
@@ -164,6 +170,15 @@ fn an_update_makes_what_the_list_has(rt: HostRuntime) -> Result<(), Fail> {
     Ok(())
 }
 
+/// Takes ten from the values, by an update, or by setting them. Returns the fault.
+fn take_ten(map: &mut Map<Global>, is_update: bool) -> Option<Fault> {
+    if is_update {
+        map.update(.., |_, value| value.wrapping_sub(10)).err()
+    } else {
+        map.extend([(1, 1), (2, 2), (3, 3)]).err()
+    }
+}
+
 /// Makes a map of three pairs whose first leaf has so many versions, and takes ten from their values, by
 /// an update, or by setting them. Returns the fault and the values then.
 fn worn_out(
@@ -177,12 +192,8 @@ fn worn_out(
     };
     let mut map = Map::new(machine, machine, config)?;
     let _filled = map.extend([(1, 11), (2, 12), (3, 13)]);
-    let answer = if is_update {
-        map.update(.., |_, value| value.wrapping_sub(10))
-    } else {
-        map.extend([(1, 1), (2, 2), (3, 3)])
-    };
-    Ok((answer.err(), map.get_many([1, 2, 3])))
+    let fault = take_ten(&mut map, is_update);
+    Ok((fault, map.get_many([1, 2, 3])))
 }
 
 #[test]
