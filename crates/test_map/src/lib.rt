@@ -1,19 +1,11 @@
-//! Maps for one thread beside the kit's `BTreeMap`, by the same drawn calls, and how they use their pages.
+//! Maps for one thread beside the kit's `BTreeMap`, by the same drawn calls.
 #![tactic(auto)]
 
 #[cfg(test)]
 mod at_once;
 #[cfg(test)]
-mod beyond;
-#[cfg(test)]
 mod drawn;
 #[cfg(test)]
-mod growing;
-#[cfg(test)]
-mod loading;
-#[cfg(test)]
 mod many;
-#[cfg(test)]
-mod reserving;
 #[cfg(test)]
 mod updating;
