@@ -30,7 +30,7 @@ struct Race<'a, R, L> {
 }
 
 /// What a worker was answered, when it began and when it ended.
-#[derive(Clone, Copy, Debug, Drop)]
+#[derive(Clone, Copy, Drop)]
 struct Part {
     tally: Tally,
     began: Instant,

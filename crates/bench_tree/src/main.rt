@@ -91,6 +91,11 @@ fn rate(count: u32, seconds: f64) -> f64 {
     f64::from(count) / 1e6 / seconds
 }
 
+/// Returns the line that names a rate.
+fn line_of(alloc: Global, name: &str, rate: f64) -> Result<String, Stop> {
+    Ok(format!(in alloc; "{name} {rate:.3}\n")?)
+}
+
 /// Returns the line of readers beside a writer, which publishes once per `every` changes: the
 /// millions of operations a second of the readers, those of the writer's changes, and the
 /// milliseconds of the longest publication.
@@ -138,18 +143,16 @@ fn answer<R: Clock + Threads + Wait + Sync + Send + Copy>(
     match request {
         Request::Rate(structure, task) => {
             let Timed { seconds, .. } = structure.run(rt, alloc, &task)?;
-            let rate = rate(task.count(), seconds);
-            Ok(format!(in alloc; "{} {rate:.3}\n", structure.word())?)
+            line_of(alloc, structure.word(), rate(task.count(), seconds))
         }
         Request::Forest { task, trees, keeps } => {
             let Timed { seconds, .. } = run_forest(rt, alloc, &task, trees, keeps)?;
-            Ok(format!(in alloc; "forest {:.3}\n", rate(task.count(), seconds))?)
+            line_of(alloc, "forest", rate(task.count(), seconds))
         }
         Request::Beside { task, every } => beside(rt, alloc, &task, every),
         Request::Puts { task, every } => {
             let figures = try_readers(rt, alloc, &task, Trial::Puts, every)?;
-            let rate = rate(task.count(), figures.timed.seconds);
-            Ok(format!(in alloc; "puts {rate:.3}\n")?)
+            line_of(alloc, "puts", rate(task.count(), figures.timed.seconds))
         }
         Request::Pending(task) => {
             try_readers(rt, alloc, &task, Trial::Pending, 1)?;

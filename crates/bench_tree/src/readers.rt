@@ -28,7 +28,7 @@ use std::time::{Clock, Duration, Instant};
 const WRITER: u64 = 64;
 
 /// What is done on a tree with readers.
-#[derive(Clone, Copy, Debug, PartialEq, Eq)]
+#[derive(Clone, Copy)]
 pub(crate) enum Trial {
     /// It is filled and published, and then only read.
     Reads,
@@ -42,7 +42,7 @@ pub(crate) enum Trial {
 }
 
 /// The time that the readers took, or the puts, and what a writer did beside them.
-#[derive(Clone, Copy, Debug)]
+#[derive(Clone, Copy)]
 pub(crate) struct Figures {
     pub timed: Timed,
     pub written: Written,
@@ -59,7 +59,7 @@ impl Figures {
 }
 
 /// What a writer did.
-#[derive(Clone, Copy, Debug)]
+#[derive(Clone, Copy)]
 pub(crate) struct Written {
     pub changes: u32,
     pub seconds: f64,
@@ -365,11 +365,12 @@ fn try_on<
     readers: Vec<Reader<N>>,
     crew: &Crew,
 ) -> Result<Figures, Stop> {
-    if crew.trial == Trial::Puts {
+    if matches!(crew.trial, Trial::Puts) {
         return Ok(Figures::of(put_all(&rt, tree, share, crew)?));
     }
-    let share = fill(tree, share, crew, crew.trial != Trial::Pending)?;
-    if crew.trial != Trial::Beside {
+    let is_pending = matches!(crew.trial, Trial::Pending);
+    let share = fill(tree, share, crew, !is_pending)?;
+    if !matches!(crew.trial, Trial::Beside) {
         return Ok(Figures::of(read_timed(&rt, crew.alloc, readers, crew)?));
     }
     let (written, read) = work_side_by_side(rt, crew.alloc, tree, share, readers, crew);

@@ -25,7 +25,7 @@ a tree with readers is published every CHANGES changes;
 CHAIN is the most records of a page (1 to 32), FANOUT the most entries (4 to 64); 2 and 64 without these words.
 ";
 
-#[derive(Clone, Copy, Debug, PartialEq, Eq)]
+#[derive(Clone, Copy)]
 pub(crate) enum Request {
     /// The rate of a task on a structure.
     Rate(Structure, Task),

@@ -5,7 +5,7 @@ use std::fmt;
 
 /// The numbers of calls that found or changed something. Two programs that do the same operations
 /// with one worker have the same tally.
-#[derive(Clone, Copy, Debug, Default, PartialEq, Eq)]
+#[derive(Clone, Copy, Default)]
 pub(crate) struct Tally {
     /// Gets that found a value.
     pub found: u64,

@@ -9,14 +9,14 @@ use rand_pcg::Pcg32;
 use std::alloc::{AllocError, Global};
 
 /// The order in which keys are put.
-#[derive(Clone, Copy, Debug, PartialEq, Eq)]
+#[derive(Clone, Copy)]
 pub(crate) enum Order {
     Drawn,
     Rising,
 }
 
 /// The kind of a task's operations.
-#[derive(Clone, Copy, Debug, PartialEq, Eq)]
+#[derive(Clone, Copy)]
 pub(crate) enum Work {
     /// Puts each key once.
     Load(Order),
@@ -116,7 +116,7 @@ impl Work {
 }
 
 /// Operations of a kind, shared out to workers.
-#[derive(Clone, Copy, Debug, PartialEq, Eq)]
+#[derive(Clone, Copy)]
 pub(crate) struct Task {
     pub work: Work,
     pub workers: u32,

@@ -25,7 +25,7 @@ use std::thread::Threads;
 use std::time::{Clock, Instant};
 
 /// How the tree is held.
-#[derive(Clone, Copy, Debug, PartialEq, Eq)]
+#[derive(Clone, Copy)]
 pub(crate) enum Structure {
     /// By one worker, without a lock.
     Alone,
@@ -94,7 +94,7 @@ impl Structure {
 }
 
 /// What all workers were answered, and the time that they took.
-#[derive(Clone, Copy, Debug)]
+#[derive(Clone, Copy)]
 pub(crate) struct Timed {
     pub tally: Tally,
     pub seconds: f64,

@@ -186,7 +186,7 @@ pub(crate) fn filled_key(rng: &mut Pcg32, task: &Task) -> Key {
 
 /// Returns the key from which pairs are listed, and the most of them.
 pub(crate) fn drawn_part(rng: &mut Pcg32, task: &Task) -> (Key, usize) {
-    if task.work == Work::List {
+    if matches!(task.work, Work::List) {
         return (0, usize::MAX);
     }
     (drawn_key(rng, task), SCANNED)

@@ -1,4 +1,4 @@
-//! A caller with a contract of its own.
+//! Callers with contracts of their own: one of a map, and one of each call of a reader.
 #![tactic(auto)]
 
 ghost use Rattle.std.specs.Prelude.{◌≡◌, OnOk};
@@ -6,6 +6,8 @@ ghost use Rattle.bw_delta.specs.Entries.{put};
 
 use nifforan::{Fault, Key, Map};
 use std::alloc::Global;
+
+pub mod waitless;
 
 /// Sets both keys to the value.
 pub fn set_both(map: &mut Map<Global>, first: Key, second: Key, value: u64) -> Result<(), Fault>

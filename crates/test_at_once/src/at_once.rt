@@ -1,5 +1,6 @@
 //! What is done at once is what its steps do one after the other.
 
+use crate::assert_same::assert_same;
 use bw_keys::{Key, Pid};
 use bw_table::{Action, Performed, Receipt, Table, Unperformed, Wished};
 use std::alloc::Global;
@@ -168,11 +169,11 @@ fn changed(alloc: Global, row: &Row) -> Result<(Answer, bool), Fail> {
 #[test]
 fn a_change_at_once_is_two_steps(rt: HostRuntime) -> Result<(), Fail> {
     for row in ROWS.iter() {
-        assert_eq!(rt;
+        assert_same(
+            &rt,
             changed(rt.alloc(), row)?,
             (row.wanted(), true),
-            "key {}",
-            row.key
+            ("key", row.key),
         );
     }
     Ok(())
@@ -224,7 +225,12 @@ fn split(
 #[test]
 fn a_split_at_once_is_four_steps_or_two(rt: HostRuntime) -> Result<(), Fail> {
     for (before, done, steps) in SPLITS.iter() {
-        assert_eq!(rt; split(rt.alloc(), before, steps)?, (*done, true));
+        assert_same(
+            &rt,
+            split(rt.alloc(), before, steps)?,
+            (*done, true),
+            ("after", before),
+        );
     }
     Ok(())
 }
@@ -244,7 +250,7 @@ static MOVED: [(usize, Option<u64>); 4] = [(0, None), (1, Some(4)), (4, Some(1))
 #[test]
 fn a_split_goes_where_it_is_told(rt: HostRuntime) -> Result<(), Fail> {
     for (number, count) in MOVED.iter() {
-        assert_eq!(rt; moved(rt.alloc(), *number)?, *count);
+        assert_same(&rt, moved(rt.alloc(), *number)?, *count, ("number", number));
     }
     Ok(())
 }

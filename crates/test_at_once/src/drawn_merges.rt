@@ -1,5 +1,6 @@
 //! Drawn merges at once between drawn steps are those of the steps.
 
+use crate::assert_same::assert_same;
 use crate::halving::is_above;
 use crate::merging::{are_same, steps_of};
 use crate::twins::Twins;
@@ -61,10 +62,14 @@ fn child_before(alloc: Global, table: &Table<Global>, parent: View, key: Key) ->
 
 /// Returns why the page isn't merged into the left one under the parent, if so.
 fn why_not(over: View, left: View, page: View, most: u64) -> Option<Unfit> {
-    let three = [over, left, page];
-    if three.iter().any(|view| view.stage != Stage::Posted) {
+    let (mut are_posted, mut are_bare) = (true, true);
+    for view in [over, left, page] {
+        are_posted = are_posted && view.stage == Stage::Posted;
+        are_bare = are_bare && view.depth == 0;
+    }
+    if !are_posted {
         Some(Unfit::NotPosted)
-    } else if three.iter().any(|view| view.depth > 0) {
+    } else if !are_bare {
         Some(Unfit::HasRecords)
     } else if left.right != Some(page.pid) {
         Some(Unfit::NotNext)
@@ -129,7 +134,11 @@ impl Merges {
 
     /// Returns whether there were merges of both sorts, and none for each reason.
     fn are_all(&self) -> bool {
-        self.leaves > 0 && self.above > 0 && self.unfit.iter().all(|(_, count)| *count > 0)
+        let mut are_all = self.leaves > 0 && self.above > 0;
+        for (_, count) in self.unfit {
+            are_all = are_all && count > 0;
+        }
+        are_all
     }
 }
 
@@ -357,12 +366,14 @@ const CONFIGS: [(u32, u8); 6] = [(4, 1), (4, 2), (5, 1), (5, 4), (16, 1), (64, 2
 fn drawn_merges_at_once_are_those_of_the_steps(rt: HostRuntime) -> Result<(), Fail> {
     for (fanout, chain) in CONFIGS {
         let (wrong, merges) = acted(rt.alloc(), fanout, chain)?;
-        assert_eq!(rt; wrong, None, "fanout {fanout}, chain {chain}");
+        assert_same(&rt, wrong, None, ("fanout, chain", fanout, chain));
         // with small pages and few records each reason comes up
         let is_small = fanout < 16 && chain == 1;
-        assert!(rt;
+        assert_same(
+            &rt,
             !is_small || merges.are_all(),
-            "fanout {fanout}: {merges:?}"
+            true,
+            ("fanout, merges", fanout, merges),
         );
     }
     Ok(())

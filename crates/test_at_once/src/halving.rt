@@ -1,6 +1,7 @@
 //! A split at once is a copy, its upper half and one step, and a term at once is a search for the
 //! parent and one step.
 
+use crate::assert_same::assert_same;
 use crate::at_once::{Answer, alike_answer, performed};
 use bw_delta::{NoMemory, Spare};
 use bw_keys::{Config, Fence, Key, Pid, Version};
@@ -178,7 +179,12 @@ fn a_split_in_half_at_once_is_one_step(rt: HostRuntime) -> Result<(), Fail> {
     for (before, page, older, wanted) in HALVES.iter() {
         let (table, by_steps) = (after(alloc, before)?, after(alloc, before)?);
         let answer = halved_alike(alloc, table, by_steps, *page, *older)?;
-        assert_eq!(rt; answer, Some(*wanted), "page {page}, {before:?}");
+        assert_same(
+            &rt,
+            answer,
+            Some(*wanted),
+            ("page, older, before", page, older, before),
+        );
     }
     Ok(())
 }
@@ -243,7 +249,12 @@ fn a_term_at_once_is_one_step(rt: HostRuntime) -> Result<(), Fail> {
     for (before, child, parent) in TERMS.iter() {
         let (table, by_steps) = (after(alloc, before)?, after(alloc, before)?);
         let answer = posted_alike(alloc, table, by_steps, *child)?;
-        assert_eq!(rt; answer, Some(parent.map(Pid)), "page {child}, {before:?}");
+        assert_same(
+            &rt,
+            answer,
+            Some(parent.map(Pid)),
+            ("page, before", child, before),
+        );
     }
     Ok(())
 }
@@ -279,7 +290,7 @@ fn a_full_table_splits_nothing(rt: HostRuntime) -> Result<(), Fail> {
         let (table, by_steps) = (without_a_page_left(alloc)?, without_a_page_left(alloc)?);
         let answer = halved_alike(alloc, table, by_steps, page, 0)?;
         let wanted = Err(Unperformed::Denied(Denied::Refused(reason)));
-        assert_eq!(rt; answer, Some(wanted), "page {page}");
+        assert_same(&rt, answer, Some(wanted), ("page", page));
     }
     Ok(())
 }
@@ -321,7 +332,12 @@ fn a_page_is_split_while_it_has_versions(rt: HostRuntime) -> Result<(), Fail> {
             with_two_pairs(alloc, *first)?,
         );
         let answer = halved_alike(alloc, table, by_steps, 0, *older)?;
-        assert_eq!(rt; answer, Some(*wanted));
+        assert_same(
+            &rt,
+            answer,
+            Some(*wanted),
+            ("first version, older", first, older),
+        );
     }
     Ok(())
 }
@@ -367,7 +383,7 @@ fn a_parent_takes_64_records(rt: HostRuntime) -> Result<(), Fail> {
             after_rounds(alloc, before, *rounds)?,
         );
         let answer = posted_alike(alloc, table, by_steps, 4)?;
-        assert_eq!(rt; answer, Some(parent.map(Pid)), "{rounds} rounds");
+        assert_same(&rt, answer, Some(parent.map(Pid)), ("rounds", rounds));
     }
     Ok(())
 }
@@ -406,7 +422,7 @@ fn a_page_is_named_while_it_has_versions(rt: HostRuntime) -> Result<(), Fail> {
             with_records_on_the_new(alloc, *records)?,
         );
         let answer = posted_alike(alloc, table, by_steps, 4)?;
-        assert_eq!(rt; answer, Some(parent.map(Pid)), "{records} records");
+        assert_same(&rt, answer, Some(parent.map(Pid)), ("records", records));
     }
     Ok(())
 }
@@ -447,6 +463,6 @@ fn halved_in_each<'a>(machine: Global, heaps: &'a [LocalHeap]) -> Result<Rooms, 
 fn a_split_in_half_at_once_may_be_refused_memory(rt: HostRuntime) -> Result<(), Fail> {
     let heaps = growing_heaps(rt.alloc(), 50)?;
     let rooms = halved_in_each(rt.alloc(), &heaps)?;
-    assert!(rt; rooms.are_fair(), "{rooms:?}");
+    assert_same(&rt, rooms.are_fair(), true, ("rooms", rooms));
     Ok(())
 }

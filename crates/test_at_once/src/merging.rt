@@ -1,6 +1,7 @@
 //! A merge at once is five steps: the page is marked, its left neighbour takes it in and is consolidated,
 //! and the parent loses its term and is consolidated.
 
+use crate::assert_same::assert_same;
 use crate::at_once::after_both;
 use bw_delta::NoMemory;
 use bw_keys::{Config, Pid};
@@ -30,7 +31,7 @@ fn are_same_leaves(
     other: &Table<Global>,
 ) -> Result<bool, NoMemory> {
     let (one, other) = (one.survey(machine)?, other.survey(machine)?);
-    Ok(one.levels == other.levels && one.leaves.iter().eq(other.leaves.iter()))
+    Ok(one.levels == other.levels && one.leaves == other.leaves)
 }
 
 fn are_same_pairs(
@@ -38,8 +39,7 @@ fn are_same_pairs(
     one: &Table<Global>,
     other: &Table<Global>,
 ) -> Result<bool, NoMemory> {
-    let (one, other) = (one.pairs(machine)?, other.pairs(machine)?);
-    Ok(one.iter().eq(other.iter()))
+    Ok(one.pairs(machine)? == other.pairs(machine)?)
 }
 
 /// Returns the steps that merge the page into the left one.
@@ -172,7 +172,12 @@ fn merged(
 fn a_merge_at_once_is_five_steps(rt: HostRuntime) -> Result<(), Fail> {
     for (before, parent, page, left) in MERGES.iter() {
         let merged = merged(rt.alloc(), before, (*parent, *page), *left)?;
-        assert_eq!(rt; merged, (left.map(Pid), true), "page {page}, {before:?}");
+        assert_same(
+            &rt,
+            merged,
+            (left.map(Pid), true),
+            ("page, before", page, before),
+        );
     }
     Ok(())
 }
@@ -231,7 +236,12 @@ fn merged_worn(
 fn pages_are_merged_while_they_have_versions(rt: HostRuntime) -> Result<(), Fail> {
     for (page, times, is_merged) in LAST_VERSIONS.iter() {
         let merged = merged_worn(rt.alloc(), *page, *times, *is_merged)?;
-        assert_eq!(rt; merged, (*is_merged, true), "page {page}, {times} times");
+        assert_same(
+            &rt,
+            merged,
+            (*is_merged, true),
+            ("page, times", page, times),
+        );
     }
     Ok(())
 }

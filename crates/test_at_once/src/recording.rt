@@ -1,6 +1,7 @@
 //! A record at once is a look and one step, and a consolidation at once is a copy, the page made of
 //! it and one step. Drawn acts of these, and splits and terms at once between them, are those of steps.
 
+use crate::assert_same::assert_same;
 use crate::at_once::{Answer, Row, after_both, alike_answer, performed};
 use crate::halving::{add_term_by_steps, halve_by_steps};
 use crate::twins::Twins;
@@ -218,11 +219,11 @@ fn recorded(alloc: Global, row: &Row) -> Result<(Answer, bool), Fail> {
 #[test]
 fn a_record_at_once_is_one_step(rt: HostRuntime) -> Result<(), Fail> {
     for row in ROWS.iter() {
-        assert_eq!(rt;
+        assert_same(
+            &rt,
             recorded(rt.alloc(), row)?,
             (row.wanted(), true),
-            "key {}",
-            row.key
+            ("key", row.key),
         );
     }
     Ok(())
@@ -292,10 +293,11 @@ fn a_leaf_takes_64_records_and_as_many_as_it_has_versions(rt: HostRuntime) -> Re
         let table = with_records(alloc, Version(*version), *records)?;
         let by_steps = with_records(alloc, Version(*version), *records)?;
         let done = recorded_alike(alloc, table, by_steps, *wished)?;
-        assert_eq!(rt;
+        assert_same(
+            &rt,
             done.map(|done| done.is_ok()),
             Some(*is_done),
-            "{records} records"
+            ("records", records),
         );
     }
     Ok(())
@@ -363,7 +365,12 @@ fn a_consolidation_at_once_is_one_step(rt: HostRuntime) -> Result<(), Fail> {
     for (before, page, older, refused) in ANEW.iter() {
         let (table, by_steps) = (after(alloc, before)?, after(alloc, before)?);
         let answer = consolidated_alike(alloc, table, by_steps, *page, *older)?;
-        assert_eq!(rt; answer, Some(answer_for(*page, *refused)), "page {page}");
+        assert_same(
+            &rt,
+            answer,
+            Some(answer_for(*page, *refused)),
+            ("page", page),
+        );
     }
     Ok(())
 }
@@ -383,7 +390,12 @@ fn a_page_is_made_anew_while_it_has_versions(rt: HostRuntime) -> Result<(), Fail
         let table = with_records(alloc, Version(*first), 0)?;
         let by_steps = with_records(alloc, Version(*first), 0)?;
         let answer = consolidated_alike(alloc, table, by_steps, 0, *older)?;
-        assert_eq!(rt; answer, Some(answer_for(0, *refused)));
+        assert_same(
+            &rt,
+            answer,
+            Some(answer_for(0, *refused)),
+            ("refused", refused),
+        );
     }
     Ok(())
 }
@@ -424,7 +436,7 @@ fn consolidated_in_each<'a>(machine: Global, heaps: &'a [LocalHeap]) -> Result<R
 fn a_consolidation_at_once_may_be_refused_memory(rt: HostRuntime) -> Result<(), Fail> {
     let heaps = growing_heaps(rt.alloc(), 50)?;
     let rooms = consolidated_in_each(rt.alloc(), &heaps)?;
-    assert!(rt; rooms.are_fair(), "{rooms:?}");
+    assert_same(&rt, rooms.are_fair(), true, ("rooms", rooms));
     Ok(())
 }
 
@@ -586,9 +598,9 @@ fn drawn_acts_at_once_are_those_of_the_steps(rt: HostRuntime) -> Result<(), Fail
     let mut were_shaped = [false; 2];
     for chain in [1, 2, 8, 64] {
         let (wrong, [halved, posted]) = acted(rt.alloc(), chain)?;
-        assert_eq!(rt; wrong, None, "chain {chain}");
+        assert_same(&rt, wrong, None, ("chain", chain));
         were_shaped = [were_shaped[0] || halved > 0, were_shaped[1] || posted > 0];
     }
-    assert_eq!(rt; were_shaped, [true; 2], "pages were split and named");
+    assert_same(&rt, were_shaped, [true; 2], "pages were split and named");
     Ok(())
 }

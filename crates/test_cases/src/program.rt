@@ -10,7 +10,7 @@ use std::sync::Wait;
 use std::thread::Threads;
 
 /// A text that is read to its end, or fails there.
-#[derive(Clone, Copy, Debug, Drop)]
+#[derive(Clone, Copy, Drop)]
 pub(crate) struct Input<'a> {
     pub(crate) text: &'a [u8],
     pub(crate) has_failure: bool,

@@ -64,11 +64,14 @@ pub(crate) fn lists_pairs<A: Allocator>(base: &Base<A>, pairs: &[(Key, u64)]) ->
 
 /// Reports whether the slice has these entries.
 fn lists_all<X: Copy + PartialEq>(slice: EntrySlice<'_, X>, entries: &[(Key, X)]) -> bool {
+    let mut place = 0usize;
+    for entry in entries {
+        if slice.get(place) != Some(*entry) {
+            return false;
+        }
+        place = place.saturating_add(1);
+    }
     slice.len() == entries.len()
-        && entries
-            .iter()
-            .enumerate()
-            .all(|(place, entry)| slice.get(place) == Some(*entry))
 }
 
 pub(crate) fn built<A: Allocator + Copy>(alloc: A, plan: &Plan) -> Result<Chain<A>, BaseFault>

@@ -3,6 +3,7 @@
 ghost use Rattle.std.specs.Prelude.{IfOk};
 ghost use Rattle.bw_delta.specs.Sound.{IsSound};
 
+use crate::assert_same::assert_same;
 use crate::builders::{add_record, joined, lists_pairs};
 use bw_chain::{append_first_pairs, consolidate, count, depth, fences, find, next_at, same};
 use bw_delta::{Base, BaseFault, Chain, Delta, Fences};
@@ -179,9 +180,14 @@ fn drawn_chains_agree_with_a_map(rt: HostRuntime) -> Result<(), Fail> {
         let agrees = searches_agree(&chain, &map)
             && page_agrees(alloc, &chain, &map)?
             && first_pairs_agree(alloc, &chain, &map, place)?;
-        assert!(rt; agrees, "in round {round}");
+        assert_same(&rt, agrees, true, ("round", round));
         deepest = deepest.max(depth(&chain));
     }
-    assert!(rt; u32::from(deepest) > RECORDS, "{deepest}");
+    assert_same(
+        &rt,
+        u32::from(deepest) > RECORDS,
+        true,
+        ("deepest", deepest),
+    );
     Ok(())
 }

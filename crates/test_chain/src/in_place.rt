@@ -1,5 +1,6 @@
 //! The room of a part that becomes a new page.
 
+use crate::assert_same::assert_same;
 use crate::builders::lists_pairs;
 use bw_chain::upper_part_of;
 use bw_delta::{Base, Chain, Entries};
@@ -31,10 +32,20 @@ fn a_part_has_the_room_that_was_asked_for(rt: HostRuntime) -> Result<(), Fail> {
     for (number, asked, wanted) in PARTS.iter() {
         match (upper_part_of(&chain, *number, *asked), wanted) {
             (Some((separator, page)), Some((pairs, has))) => {
-                assert!(rt; lists_pairs(&page, pairs) && separator == page.low);
-                assert_eq!(rt; room(&page), *has);
+                assert_same(
+                    &rt,
+                    lists_pairs(&page, pairs) && separator == page.low,
+                    true,
+                    ("pairs of the part", number),
+                );
+                assert_same(&rt, room(&page), *has, ("room of the part", number));
             }
-            (part, wanted) => assert_eq!(rt; part.is_some(), wanted.is_some()),
+            (part, wanted) => assert_same(
+                &rt,
+                part.is_some(),
+                wanted.is_some(),
+                ("whether there is a part", number),
+            ),
         }
     }
     Ok(())

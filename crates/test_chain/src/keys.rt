@@ -1,5 +1,6 @@
 //! Keys, ranges, configurations and base pages at the ends of their ranges.
 
+use crate::assert_same::assert_same;
 use crate::builders::{Listed, base};
 use bw_delta::BaseFault;
 use bw_keys::{BadConfig, Config, Fence, Field, Key, Pid, Range};
@@ -40,11 +41,11 @@ fn each_setting_ends_where_it_says(rt: HostRuntime) -> Result<(), Fail> {
             tries: *tries,
             first_version: u64::MAX,
         };
-        assert_eq!(rt; config.check().err(), *bad);
+        assert_same(&rt, config.check().err(), *bad, config);
     }
-    assert_eq!(rt; Config::default().check(), Ok(()));
+    assert_same(&rt, Config::default().check(), Ok(()), "default settings");
     let text = format!(in rt.alloc(); "{}", BadConfig(Field::Chain))?;
-    assert_eq!(rt; text.as_str(), "bad chain");
+    assert_same(&rt, text.as_str(), "bad chain", "text of a bad setting");
     Ok(())
 }
 
@@ -68,7 +69,7 @@ fn the_last_key_lies_below_top_alone(rt: HostRuntime) {
     };
     for (key, below_last, below_top) in HELD.iter() {
         let held = (last.holds(*key), top.holds(*key));
-        assert_eq!(rt; held, (*below_last, *below_top), "at {key}");
+        assert_same(&rt, held, (*below_last, *below_top), ("key", key));
     }
 }
 
@@ -107,6 +108,6 @@ fn pages_are_made_of_rising_entries_in_their_range(rt: HostRuntime) {
             Ok(_) => true,
             Err(fault) => fault != BaseFault::BadEntries,
         };
-        assert_eq!(rt; is_made, *is_page, "from {low}");
+        assert_same(&rt, is_made, *is_page, ("low", low));
     }
 }

@@ -3,6 +3,7 @@
 ghost use Rattle.std.specs.Prelude.{IfOk};
 ghost use Rattle.bw_delta.specs.Sound.{IsSound};
 
+use crate::assert_same::assert_same;
 use crate::builders::{Listed, Part, Plan, add_record, built, lists_pairs};
 use bw_chain::{HalveFault, append_pairs, consolidate, depth, halve, same};
 use bw_delta::{Base, BaseFault, Chain, Delta, NoMemory, Spare};
@@ -86,17 +87,22 @@ fn each_request_may_be_refused(rt: HostRuntime) -> Result<(), Fail> {
         let heap = LocalHeap::new(rt.alloc(), 16 * cells)?;
         match is_right(&heap) {
             Ok(is_right) => {
-                assert!(rt; is_right, "in {cells} cells");
+                assert_same(&rt, is_right, true, ("right results, cells", cells));
                 made = true;
             }
             Err(fault) => {
-                assert_eq!(rt; fault, HalveFault::NoMemory, "in {cells} cells");
+                assert_same(&rt, fault, HalveFault::NoMemory, ("fault, cells", cells));
                 refused = true;
             }
         }
-        assert_eq!(rt; heap.used(), 0, "in {cells} cells");
+        assert_same(&rt, heap.used(), 0, ("memory that is left, cells", cells));
     }
-    assert!(rt; made && refused);
+    assert_same(
+        &rt,
+        made && refused,
+        true,
+        "made in some heaps, refused in others",
+    );
     Ok(())
 }
 
@@ -151,11 +157,26 @@ fn a_comparison_takes_no_memory(rt: HostRuntime) -> Result<(), Fail> {
     let mut pairs = Vec::with_capacity(rt.alloc(), 200)?;
     let filling = fill(rt.alloc(), &heap)?;
     let used = heap.used();
-    assert!(rt; Spare::new(&heap).is_err() && same(&page, &chain));
+    assert_same(
+        &rt,
+        Spare::new(&heap).is_err() && same(&page, &chain),
+        true,
+        "comparison in a full heap",
+    );
     append_pairs(&chain, &mut pairs)?;
-    assert!(rt; lists_pairs(&page, pairs.as_slice()));
-    assert_eq!(rt; consolidate(&heap, &chain).err(), Some(NoMemory));
-    assert_eq!(rt; heap.used(), used);
+    assert_same(
+        &rt,
+        lists_pairs(&page, pairs.as_slice()),
+        true,
+        "pairs of the chain",
+    );
+    assert_same(
+        &rt,
+        consolidate(&heap, &chain).err(),
+        Some(NoMemory),
+        "consolidation in a full heap",
+    );
+    assert_same(&rt, heap.used(), used, "memory after a refusal");
     drop(filling);
     Ok(())
 }
@@ -167,13 +188,28 @@ fn a_result_is_reserved_once_and_the_deepest_chain_given_back(rt: HostRuntime) -
     let chain = deepest_leaf(&heap)?;
     let used = heap.used();
     let page = consolidate(&heap, &chain)?;
-    assert_eq!(rt; heap.used().checked_sub(used), Some(148 * 16));
-    assert_eq!(rt; (page.len(), depth(&chain)), (116, MAX_DEPTH));
+    assert_same(
+        &rt,
+        heap.used().checked_sub(used),
+        Some(148 * 16),
+        "memory of the page",
+    );
+    assert_same(
+        &rt,
+        (page.len(), depth(&chain)),
+        (116, MAX_DEPTH),
+        "entries and records",
+    );
     drop(page);
     let copy = chain.copy_in(&heap)?;
     drop(chain);
-    assert_eq!(rt; (heap.used(), depth(&copy)), (used, MAX_DEPTH));
+    assert_same(
+        &rt,
+        (heap.used(), depth(&copy)),
+        (used, MAX_DEPTH),
+        "memory and records of the copy",
+    );
     drop(copy);
-    assert_eq!(rt; heap.used(), 0);
+    assert_same(&rt, heap.used(), 0, "memory that is left");
     Ok(())
 }

@@ -2,6 +2,7 @@
 
 ghost use Rattle.bw_delta.specs.Sound.{IsSound};
 
+use crate::assert_same::assert_same;
 use crate::builders::{Listed, Part, Plan, base, built, lists};
 use bw_chain::{
     HalveFault, child, consolidate, count, depth, fences, find, halve, next_at, route_before, same,
@@ -349,7 +350,7 @@ fn wrong_of(
 #[test]
 fn worked_chains_answer_as_they_were_worked_out(rt: HostRuntime) -> Result<(), Fail> {
     for (place, row) in ROWS.iter().enumerate() {
-        assert_eq!(rt; wrong(rt.alloc(), row)?, None, "row {place}");
+        assert_same(&rt, wrong(rt.alloc(), row)?, None, ("row", place));
     }
     Ok(())
 }

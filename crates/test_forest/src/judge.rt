@@ -2,7 +2,7 @@
 
 use crate::plain::{Plain, Wrong, hold};
 use bw_audit::{Verdict, audit, is_ascending};
-use nifforan_forest::{ClosedForest, ForestOutcome, Receipt};
+use nifforan_forest::{ClosedForest, ForestOutcome, Key, Range, Receipt};
 use std::alloc::Global;
 
 pub(crate) type Shared = ForestOutcome<Result<Plain, Wrong>, Vec<Receipt>>;
@@ -29,6 +29,15 @@ fn see_pairs(machine: Global, forest: &ClosedForest<Global>, maps: &[Plain]) -> 
     )
 }
 
+fn lie_in(range: Range, pairs: &[(Key, u64)]) -> bool {
+    for (key, _) in pairs {
+        if !range.holds(*key) {
+            return false;
+        }
+    }
+    true
+}
+
 /// Fails unless the trails at each tree, whose pairs lie in its range, are a legal history of it.
 fn see_history(
     machine: Global,
@@ -39,10 +48,7 @@ fn see_history(
         let Ok(pairs) = tree.table().pairs(machine) else {
             return Err("memory");
         };
-        hold(
-            pairs.iter().all(|pair| tree.range().holds(pair.0)),
-            "a tree has keys of its range",
-        )?;
+        hold(lie_in(tree.range(), &pairs), "a tree has keys of its range")?;
         let mut history = Vec::new(machine);
         for trail in trails.iter_mut() {
             let Some(own) = trail.pop() else {
@@ -60,10 +66,16 @@ fn see_history(
             "the trails are a legal history",
         )?;
     }
-    hold(
-        trails.iter().all(|left| left.is_empty()),
-        "no further trails",
-    )
+    hold(are_empty(trails), "no further trails")
+}
+
+fn are_empty(trails: &[Vec<Vec<Receipt>>]) -> bool {
+    for left in trails {
+        if !left.is_empty() {
+            return false;
+        }
+    }
+    true
 }
 
 /// Fails unless the forest is what the workers saw, and what their trails tell.

@@ -8,7 +8,7 @@ use std::alloc::Global;
 use std::collections::BTreeMap;
 
 /// The keys that one worker alone changes.
-#[derive(Clone, Copy, Debug, PartialEq, Eq)]
+#[derive(Clone, Copy, PartialEq, Eq)]
 pub(crate) enum Own {
     /// Those from the first up to the last.
     Between { first: Key, last: Key },

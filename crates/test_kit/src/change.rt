@@ -14,7 +14,7 @@ use std::test::Fail;
 
 /// A step that fits a tree as it is: its pages, in the order of the step's fields, its key and its
 /// value.
-#[derive(Clone, Copy, Debug, PartialEq, Eq)]
+#[derive(Clone, Copy, Debug)]
 pub enum Change {
     Insert(u32, Key, u64),
     Delete(u32, Key),

@@ -19,7 +19,7 @@ pub fn growing_heaps(machine: Global, many: usize) -> Result<Vec<LocalHeap>, NoM
 
 /// The numbers of heaps that had no room and of those that had it, no heap of the latter smaller
 /// than one of the former.
-#[derive(Clone, Copy, Debug, PartialEq, Eq)]
+#[derive(Clone, Copy, Debug)]
 pub struct Rooms {
     pub refused: u32,
     pub made: u32,

@@ -30,7 +30,7 @@ pub use hooked::{Hook, Hooked};
 pub use meeting::Meeting;
 pub use pages::{Pages, seen};
 pub use play::{Ended, NoTree, Play, Played, Turns, play_on_new_tree};
-pub use sights::{are_alike, are_own_pairs, leaves_of};
+pub use sights::{are_alike, are_own_pairs, are_same_pages, leaves_of};
 pub use tally::{Tally, partition_the_keys};
 pub use trees::{FREED, FULL, MARKED, MERGED, SPLIT, after, begun, three_leaves};
 pub use worker::{Call, Reply, Reported, Task, work, work_by_hand};

@@ -33,7 +33,7 @@ pub trait Play<T: Drop> {
 }
 
 /// When the workers do it.
-#[derive(Clone, Copy, Debug, PartialEq, Eq)]
+#[derive(Clone, Copy)]
 pub enum Turns {
     /// Worker 0 first, and worker 1 when it is done.
     OneByOne,
@@ -50,7 +50,7 @@ pub struct Ended<T> {
 }
 
 /// There was no tree for a play.
-#[derive(Clone, Copy, Debug, PartialEq, Eq)]
+#[derive(Clone, Copy, Debug)]
 pub struct NoTree;
 
 /// Plays on a new tree.

@@ -37,9 +37,26 @@ pub fn are_own_pairs(pairs: &[(Key, u64)], last: Key) -> bool {
     next == last.saturating_add(1)
 }
 
+/// Returns whether two tables have the same first pages, which are so many.
+pub fn are_same_pages(one: &Table<Global>, other: &Table<Global>, pages: u32) -> bool {
+    for page in 0..pages {
+        if one.peek(Pid(page)) != other.peek(Pid(page)) {
+            return false;
+        }
+    }
+    true
+}
+
+fn are_same_values(one: &Table<Global>, other: &Table<Global>) -> bool {
+    for key in 0..KEYS {
+        if one.get(key) != other.get(key) {
+            return false;
+        }
+    }
+    true
+}
+
 /// Returns whether two small tables have the same pages, pairs and counts.
 pub fn are_alike(one: &Table<Global>, other: &Table<Global>) -> bool {
-    (0..PAGES).all(|page| one.peek(Pid(page)) == other.peek(Pid(page)))
-        && (0..KEYS).all(|key| one.get(key) == other.get(key))
-        && one.book() == other.book()
+    are_same_pages(one, other, PAGES) && are_same_values(one, other) && one.book() == other.book()
 }

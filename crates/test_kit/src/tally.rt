@@ -4,7 +4,7 @@ use bw_keys::Fence;
 use bw_step::{Kind, Leaf, Receipt};
 
 /// The numbers of steps, by their answers.
-#[derive(Clone, Copy, Debug, PartialEq, Eq)]
+#[derive(Clone, Copy, Debug)]
 pub struct Tally {
     pub inserted: u64,
     pub deleted: u64,

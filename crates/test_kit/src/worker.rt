@@ -9,7 +9,7 @@ use bw_work::{Calls, Cleared, Del, Done, Fault, Gate, Hand, Put, Set, Slice, Ste
 use std::alloc::Global;
 
 /// A call of a worker.
-#[derive(Clone, Copy, Debug, PartialEq, Eq)]
+#[derive(Clone, Copy)]
 pub enum Call {
     Put(Key, u64),
     Set(Key, u64),
@@ -38,7 +38,7 @@ pub enum Reply {
 
 /// What a worker is to do: put each key from the first to the last, with itself as value, and then
 /// make the calls.
-#[derive(Clone, Copy, Debug)]
+#[derive(Clone, Copy)]
 pub struct Task<'c> {
     pub first: Key,
     pub last: Key,

@@ -1,6 +1,7 @@
 //! A map changes pairs in place and splits leaves at once: it leaves no record on one, however long
 //! a chain may be. A leaf that was found before a change is tended as one that is searched for.
 
+use crate::assert_same::assert_same;
 use bw_keys::Pid;
 use nifforan::{Config, Map, Table};
 use std::alloc::Global;
@@ -59,8 +60,8 @@ fn a_map_leaves_no_record_on_a_leaf(rt: HostRuntime) -> Result<(), Fail> {
             ..Config::default()
         };
         let (wrong, has_split) = seen_of(machine, config)?;
-        assert_eq!(rt; wrong, None, "fanout {fanout}, chain {chain}");
-        assert!(rt; has_split, "pages were split");
+        assert_same(&rt, wrong, None, ("fanout, chain", fanout, chain));
+        assert_same(&rt, has_split, true, "pages were split");
     }
     Ok(())
 }
@@ -113,7 +114,7 @@ fn a_leaf_that_was_found_is_tended(rt: HostRuntime) -> Result<(), Fail> {
             ..Config::default()
         };
         let wrong = first_untended_of(machine, config)?;
-        assert_eq!(rt; wrong, None, "fanout {fanout}, chain {chain}");
+        assert_same(&rt, wrong, None, ("fanout, chain", fanout, chain));
     }
     Ok(())
 }

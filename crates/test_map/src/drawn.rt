@@ -1,6 +1,8 @@
 //! The calls of a map that change a key by what it has, take out its ends, or set or test many
 //! pairs, and what it is compared with, beside the kit's map.
 
+use crate::assert_same::assert_same;
+use crate::pairs::owned;
 use nifforan::{CompareAndSet, Config, Done, Fault, Map, Upsert};
 use rand_core::{Rng, SeedableRng};
 use rand_pcg::Pcg32;
@@ -40,10 +42,6 @@ struct Both {
     plain: BTreeMap<u64, u64>,
     /// Whether a call found no page free.
     was_full: bool,
-}
-
-fn owned(pair: (&u64, &u64)) -> (u64, u64) {
-    (*pair.0, *pair.1)
 }
 
 fn one_more(old: Option<u64>) -> u64 {
@@ -314,10 +312,11 @@ fn called(
 fn calls_of_a_map_answer_as_those_of_the_kits_map(rt: HostRuntime) -> Result<(), Fail> {
     for (fanout, chain, pages) in TABLES {
         let called = called(rt.alloc(), fanout, chain, pages)?;
-        assert_eq!(rt;
+        assert_same(
+            &rt,
             called,
             (None, pages == 8),
-            "fanout {fanout}, chain {chain}"
+            ("fanout, chain", fanout, chain),
         );
     }
     Ok(())
@@ -340,7 +339,7 @@ fn overfilled(machine: Global) -> Result<(usize, Option<Fault>, u64, bool), Fail
 #[test]
 fn a_fault_of_extend_stands_beside_its_reply(rt: HostRuntime) -> Result<(), Fail> {
     let wanted = (7, Some(Fault::TableFull), 100, true);
-    assert_eq!(rt; overfilled(rt.alloc())?, wanted);
+    assert_same(&rt, overfilled(rt.alloc())?, wanted, "overfilled");
     Ok(())
 }
 
@@ -359,6 +358,11 @@ fn worn_out(machine: Global) -> Result<(Option<Fault>, u64), Fail> {
 
 #[test]
 fn a_fault_of_extend_stands_in_its_replys_place(rt: HostRuntime) -> Result<(), Fail> {
-    assert_eq!(rt; worn_out(rt.alloc())?, (Some(Fault::Worn), 2));
+    assert_same(
+        &rt,
+        worn_out(rt.alloc())?,
+        (Some(Fault::Worn), 2),
+        "worn out",
+    );
     Ok(())
 }

@@ -1,5 +1,6 @@
 //! Several gets of a map at once, beside its single gets and a plain list of pairs.
 
+use crate::assert_same::assert_same;
 use nifforan::{Config, Map};
 use rand_core::{Rng, SeedableRng};
 use rand_pcg::Pcg32;
@@ -112,7 +113,7 @@ fn first_wrong_of(machine: Global, fanout: u32, chain: u32) -> Result<Option<u32
 fn several_gets_find_what_the_list_has(rt: HostRuntime) -> Result<(), Fail> {
     for (fanout, chain) in TABLES {
         let wrong = first_wrong_of(rt.alloc(), fanout, chain)?;
-        assert_eq!(rt; wrong, None, "fanout {fanout}, chain {chain}");
+        assert_same(&rt, wrong, None, ("fanout, chain", fanout, chain));
     }
     Ok(())
 }

@@ -1,5 +1,6 @@
 //! Ranges of a map whose values a function makes anew, beside a plain list of pairs.
 
+use crate::assert_same::assert_same;
 use nifforan::{Config, Fault, Map};
 use rand_core::{Rng, SeedableRng};
 use rand_pcg::Pcg32;
@@ -161,10 +162,11 @@ fn updated(
 fn an_update_makes_what_the_list_has(rt: HostRuntime) -> Result<(), Fail> {
     for (fanout, chain, pages) in TABLES {
         let updated = updated(rt.alloc(), fanout, chain, pages)?;
-        assert_eq!(rt;
+        assert_same(
+            &rt,
             updated,
             (None, pages == 8),
-            "fanout {fanout}, chain {chain}"
+            ("fanout, chain", fanout, chain),
         );
     }
     Ok(())
@@ -201,13 +203,14 @@ fn pairs_from_a_fault_on_stay(rt: HostRuntime) -> Result<(), Fail> {
     let mut ended_between = false;
     for versions in 3..12 {
         let updated = worn_out(rt.alloc(), versions, true)?;
-        assert_eq!(rt;
+        assert_same(
+            &rt,
             updated,
             worn_out(rt.alloc(), versions, false)?,
-            "{versions}"
+            ("versions", versions),
         );
         ended_between |= updated == (Some(Fault::Worn), [Some(1), Some(12), Some(13)]);
     }
-    assert!(rt; ended_between);
+    assert_same(&rt, ended_between, true, "whether some ended between");
     Ok(())
 }

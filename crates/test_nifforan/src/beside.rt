@@ -2,7 +2,7 @@
 
 ghost use Rattle.std.specs.Prelude.{◌<◌, ◌≤◌};
 
-use nifforan::{MAX_PAGES, Map};
+use nifforan::{MAX_PAGES, Map, Pairs};
 use nifforan_handle::status::{CLOSED, OK, OPEN, TABLE_FULL};
 use nifforan_handle::{Found, Handle, Held, High, Pair, Read, Settings};
 use rand_core::{Rng, SeedableRng};
@@ -268,11 +268,11 @@ impl Beside {
     {
         let plain = &self.pairs;
         let alike = [
-            map.range(low..high).eq(plain.range(low..high).map(owned)),
-            map.range(low..=high).eq(plain.range(low..=high).map(owned)),
-            map.range(low..).eq(plain.range(low..).map(owned)),
-            map.range(..low).eq(plain.range(..low).map(owned)),
-            map.range(..=low).eq(plain.range(..=low).map(owned)),
+            are_same(map.range(low..high), plain.range(low..high)),
+            are_same(map.range(low..=high), plain.range(low..=high)),
+            are_same(map.range(low..), plain.range(low..)),
+            are_same(map.range(..low), plain.range(..low)),
+            are_same(map.range(..=low), plain.range(..=low)),
             map.range(high..low).next().is_none(),
             map.iter().eq(plain.iter().map(owned)),
         ];
@@ -288,6 +288,11 @@ impl Beside {
         let all = self.pairs.iter().rev().map(owned);
         map.range(low..high).rev().eq(within) && map.iter().rev().eq(all)
     }
+}
+
+/// Returns whether the map's pairs are those of the kit's map.
+fn are_same(pairs: Pairs<'_, Global>, plain: btree_map::Range<'_, u64, u64>) -> bool {
+    pairs.eq(plain.map(owned))
 }
 
 /// Returns whether a read found the first of the wanted pairs, as many as there are places, names the

@@ -1,5 +1,6 @@
 //! Ranges read from both ends, beside the kit's map, over leaves on which records stand.
 
+use crate::assert_same::assert_same;
 use nifforan::{Fence, Map, Pairs};
 use nifforan_shared::{Calls as _, Config, GivenUp, Job, Worker, share};
 use rand_core::{Rng, SeedableRng};
@@ -173,7 +174,7 @@ fn ranges_are_read_from_both_ends(rt: HostRuntime) -> Result<(), Fail> {
             Some(map) => are_read(&map, &plain),
             None => false,
         };
-        assert!(rt; are_read, "fanout {fanout}, chain {chain}");
+        assert_same(&rt, are_read, true, ("fanout, chain", fanout, chain));
     }
     Ok(())
 }

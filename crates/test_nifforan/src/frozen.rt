@@ -1,5 +1,6 @@
 //! Frozen maps: threads read one at once, each through a handle of its own, and the last handle thaws it.
 
+use crate::assert_same::assert_same;
 use nifforan_handle::status::{BAD_SIZE, FROZEN, NOT_FROZEN, OK, OPEN, SHARED};
 use nifforan_handle::{Handle, High, Pair, SETTINGS_SIZE, Settings};
 use std::alloc::Global;
@@ -119,8 +120,8 @@ fn a_frozen_map_is_read_by_threads_at_once(rt: HostRuntime) -> Result<(), Fail> 
     other.close(machine);
     drop(one.into_box(machine));
     drop(other.into_box(machine));
-    assert!(rt; is_filled && is_alike);
-    assert_eq!(rt; reported, wanted);
+    assert_same(&rt, is_filled && is_alike, true, "filled and alike");
+    assert_same(&rt, reported, wanted, "reported");
     Ok(())
 }
 
@@ -131,6 +132,6 @@ fn settings_of_another_size_are_refused(rt: HostRuntime) -> Result<(), Fail> {
         handle.create(rt.alloc(), &Settings { size, ..SETTINGS })
     });
     drop(handle.into_box(rt.alloc()));
-    assert_eq!(rt; reported, [BAD_SIZE; 3]);
+    assert_same(&rt, reported, [BAD_SIZE; 3], "reported");
     Ok(())
 }

@@ -3,6 +3,7 @@
 
 ghost use Rattle.std.specs.Prelude.{◌<◌};
 
+use crate::assert_same::assert_same;
 use nifforan_shared::{
     Calls as _, Config, Del, Fault, GivenUp, Job, Receipt, Set, Trail, Worker, share,
 };
@@ -119,7 +120,7 @@ impl Job for GivingUp {
 }
 
 /// What a job leaves: its replies, the table's pairs, and how many receipts there were and were kept.
-#[derive(Debug, PartialEq, Eq, Drop)]
+#[derive(Drop)]
 struct Left {
     replies: Vec<Replies>,
     pairs: Vec<(u64, u64)>,
@@ -209,7 +210,7 @@ fn a_job_that_gives_its_receipts_up_does_the_same(rt: HostRuntime) -> Result<(),
     for chain in CHAINS {
         for workers in [1, 3] {
             let are_same = are_same(rt, rt.alloc(), chain, workers)?;
-            assert_eq!(rt; are_same, [true; 5], "chain {chain}, of {workers}");
+            assert_same(&rt, are_same, [true; 5], ("chain, workers", chain, workers));
         }
     }
     Ok(())

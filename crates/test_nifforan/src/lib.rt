@@ -3,6 +3,8 @@
 #![tactic(auto)]
 
 #[cfg(test)]
+mod assert_same;
+#[cfg(test)]
 mod beside;
 #[cfg(test)]
 mod both_ends;

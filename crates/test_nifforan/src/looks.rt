@@ -1,6 +1,7 @@
 //! Each call of a job's reader beside one worker, where its answers are known: before a publication and
 //! after it.
 
+use crate::assert_same::assert_same;
 use nifforan_shared::{
     Calls as _, Config, Fence, GivenUp, ReadingJob, Reads, ScanFault, Steps, Worker,
     share_with_readers,
@@ -70,6 +71,11 @@ fn a_reader_finds_what_was_published_and_nothing_before(rt: HostRuntime) -> Resu
     let looked = share_with_readers(rt, machine, Config::default(), 1, &looks)?
         .outputs
         .pop();
-    assert_eq!(rt; format!(in machine; "{looked:?}")?.as_str(), TOLD);
+    assert_same(
+        &rt,
+        format!(in machine; "{looked:?}")?.as_str(),
+        TOLD,
+        "looks",
+    );
     Ok(())
 }

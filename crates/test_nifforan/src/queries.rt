@@ -1,5 +1,6 @@
 //! What workers ask of the map, and a table that is shared again, beside the kit's map.
 
+use crate::assert_same::assert_same;
 use crate::both_ends::{BOUNDS, Calls, TABLES, owned};
 use nifforan_shared::{
     Calls as _, Config, Each, Fault, GivenUp, Job, NoMemory, Pages, Queries, ReadingJob, Reads,
@@ -167,7 +168,12 @@ fn a_worker_asks_in_the_order_of_the_keys(rt: HostRuntime) -> Result<(), Fail> {
             calls: Calls { seed: 11, count },
         };
         let are_answered = are_answered(rt, rt.alloc(), config, &asking)?;
-        assert_eq!(rt; are_answered, [true; 2], "fanout {fanout}, chain {chain}");
+        assert_same(
+            &rt,
+            are_answered,
+            [true; 2],
+            ("fanout, chain", fanout, chain),
+        );
     }
     Ok(())
 }
@@ -263,7 +269,7 @@ fn a_table_is_shared_again(rt: HostRuntime) -> Result<(), Fail> {
             ..Config::default()
         };
         let is_shared_again = is_shared_again(rt, rt.alloc(), config, &Calls { seed: 13, count })?;
-        assert!(rt; is_shared_again, "fanout {fanout}, chain {chain}");
+        assert_same(&rt, is_shared_again, true, ("fanout, chain", fanout, chain));
     }
     Ok(())
 }

@@ -3,6 +3,7 @@
 ghost use Rattle.std.specs.Prelude.{◌≡◌, ◌<◌, IfOk};
 ghost use Rattle.bw_crew.specs.Workers.{AreNumbered};
 
+use crate::assert_same::assert_same;
 use nifforan_shared::{
     Calls as _, Config, Del, Done, Fault, Fence, GivenUp, Job, Outcome, Put, ReadingJob, Reads,
     Receipt, ScanFault, Set, ShareFault, Steps, Worker, share, share_with_readers,
@@ -176,7 +177,7 @@ fn each_call_of_a_worker_and_its_reader_is_answered(rt: HostRuntime) -> Result<(
     let mut lines = String::new(rt.alloc());
     tell_workers(rt, &calls, &mut lines)?;
     tell_readers(rt, &calls, &mut lines)?;
-    assert_eq!(rt; lines.as_str(), TOLD);
+    assert_same(&rt, lines.as_str(), TOLD, "lines");
     Ok(())
 }
 
@@ -201,9 +202,19 @@ fn each_fault_of_the_numbers_is_reported(rt: HostRuntime) -> Result<(), Fail> {
         let Err(fault) = share_calls(rt, &calls, config, workers) else {
             return Err("it was shared".into());
         };
-        assert_eq!(rt; format!(in rt.alloc(); "{fault}")?.as_str(), reported);
+        assert_same(
+            &rt,
+            format!(in rt.alloc(); "{fault}")?.as_str(),
+            reported,
+            "text of the fault",
+        );
     }
     let shared = share_with_readers(rt, rt.alloc(), Config::default(), 17, &calls);
-    assert!(rt; matches!(shared, Err(ShareFault::BadWorkers)));
+    assert_same(
+        &rt,
+        matches!(shared, Err(ShareFault::BadWorkers)),
+        true,
+        "number of workers",
+    );
     Ok(())
 }

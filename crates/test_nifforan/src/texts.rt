@@ -1,5 +1,6 @@
 //! What the statuses of a handle read as.
 
+use crate::assert_same::assert_same;
 use nifforan_handle::status_text;
 use std::test::Fail;
 
@@ -34,7 +35,7 @@ fn has_text(status: u32, text: &str) -> bool {
 #[test]
 fn each_status_has_its_text(rt: HostRuntime) -> Result<(), Fail> {
     for (status, text) in TEXTS.iter().enumerate() {
-        assert!(rt; has_text(status as u32, text), "{status}");
+        assert_same(&rt, has_text(status as u32, text), true, ("status", status));
     }
     Ok(())
 }

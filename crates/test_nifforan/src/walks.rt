@@ -1,5 +1,6 @@
 //! Walks of drawn calls under several settings.
 
+use crate::assert_same::assert_same;
 use crate::beside::{Beside, is_closed};
 use nifforan_handle::{Handle, SETTINGS_SIZE, Settings};
 use std::alloc::Global;
@@ -48,7 +49,7 @@ fn walk(machine: Global, seed: usize) -> Result<Option<&'static str>, Fail> {
 #[test]
 fn drawn_calls_answer_as_the_kits_map_does(rt: HostRuntime) -> Result<(), Fail> {
     for seed in 0..WALKS.len() {
-        assert_eq!(rt; walk(rt.alloc(), seed)?, None, "in walk {seed}");
+        assert_same(&rt, walk(rt.alloc(), seed)?, None, ("walk", seed));
     }
     Ok(())
 }

@@ -69,7 +69,7 @@ fn act_once<W: Acting>(
     match worker.act(machine, act) {
         Ok(reply) => {
             let ending = plain.take(act, reply)?;
-            if ending == Ending::Refused {
+            if matches!(ending, Ending::Refused) {
                 see_all(worker, machine, plain)?;
             }
             Ok(ending)

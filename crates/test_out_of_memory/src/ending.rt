@@ -6,7 +6,7 @@ use bw_snap::Closed;
 use std::alloc::{AllocError, AllocFailed};
 
 /// How a trial ended in which everything held.
-#[derive(Clone, Copy, Debug, PartialEq, Eq)]
+#[derive(Clone, Copy)]
 pub(crate) enum Ending {
     /// Nothing was refused.
     Whole,
@@ -25,7 +25,7 @@ impl Ending {
 }
 
 /// Why a trial came to no end.
-#[derive(Clone, Copy, Debug, PartialEq, Eq)]
+#[derive(Clone, Copy)]
 pub(crate) enum Stop {
     /// A request was refused while nothing was at stake: the trial may begin again.
     Memory,
@@ -35,7 +35,7 @@ pub(crate) enum Stop {
 
 /// What a worker does otherwise than the plain map beside it. It is no sentence, as the borrow checker
 /// covers no call with a worker of two lifetimes whose result names `'static`, too.
-#[derive(Clone, Copy, Debug, PartialEq, Eq)]
+#[derive(Clone, Copy)]
 pub(crate) enum Deviation {
     /// A reply isn't the map's.
     Reply,

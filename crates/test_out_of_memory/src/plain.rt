@@ -8,7 +8,7 @@ use bw_work::{Act, Cleared, Del, Fault, Put, Reply, Set};
 pub(crate) const KEYS: usize = 16;
 
 /// The value of each key. Takes no memory.
-#[derive(Clone, Copy, Debug, PartialEq, Eq)]
+#[derive(Clone, Copy)]
 pub(crate) struct Plain {
     values: [Option<u64>; KEYS],
 }
@@ -115,7 +115,11 @@ impl Plain {
 
     /// Returns how many keys have a value.
     pub(crate) fn len(&self) -> usize {
-        self.values.iter().flatten().count()
+        let mut len = 0usize;
+        for value in self.values {
+            len = len.saturating_add(usize::from(value.is_some()));
+        }
+        len
     }
 
     /// Returns what follows its pairs, in the order of their keys, which lie so much higher. None if

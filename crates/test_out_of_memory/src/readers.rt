@@ -75,7 +75,7 @@ fn publish<R: Wait + Copy, N: Naming, D: Ledger, S: Steps<Global, Step<Global>>>
         Ok(stamp) => (stamp, Ending::Whole),
         Err(_) => {
             let ending = act_all(steps, machine, &FURTHER, plain)?;
-            hold(ending == Ending::Whole, "memory is refused once")?;
+            hold(matches!(ending, Ending::Whole), "memory is refused once")?;
             see(reader, before, "a refused publication shows nothing")?;
             let Ok(stamp) = tree.publish() else {
                 return Err(Stop::Broken("memory is refused once"));

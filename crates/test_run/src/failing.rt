@@ -1,5 +1,6 @@
 //! Readers and writers that move one byte a call, of whose calls each fails in turn.
 
+use crate::assert_same::assert_same;
 use bw_trace::{
     OutFault, TextFault, command, read_history, read_trace, write_history, write_trace,
 };
@@ -223,7 +224,12 @@ fn each_call_of_an_end_may_fail(rt: HostRuntime) -> Result<(), Fail> {
             let failed = failures(rt, *case, &whole, failing);
             let are_all = failed.is_some_and(|calls| calls >= least
                 && (calls == 0) == (bytes == 0));
-            assert!(rt; are_all, "{case:?} {failing:?} {failed:?}");
+            assert_same(
+                &rt,
+                are_all,
+                true,
+                ("case, failing, failed", case, failing, failed),
+            );
         }
     }
     Ok(())
@@ -260,9 +266,11 @@ fn a_failed_read_or_write_of_a_text_is_reported(rt: HostRuntime) -> Result<(), F
         let trace = write_trace(End::new(alloc, "", calls), &rows);
         let end = End::new(alloc, "", calls);
         let history = write_history(end, &history.trails, &history.pairs);
-        assert!(rt;
+        assert_same(
+            &rt,
             are_read && is_reported(trace, TRACE) && is_reported(history, HISTORY),
-            "{calls}"
+            true,
+            ("calls", calls),
         );
     }
     Ok(())

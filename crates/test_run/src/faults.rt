@@ -1,5 +1,6 @@
 //! Runs that have no end to show, and the texts of their faults.
 
+use crate::assert_same::assert_same;
 use crate::rows::{add_puts, finish};
 use bw_delta::NoMemory;
 use bw_keys::{BadConfig, Config, Field};
@@ -46,7 +47,7 @@ fn the_first_fault_is_named(rt: HostRuntime) {
     let machine = rt.alloc();
     for (config, workers, readers, wanted) in BEFORE.iter() {
         let fault = run(rt, machine, *config, *workers, *readers, &[], &Open).err();
-        assert_eq!(rt; fault, *wanted);
+        assert_same(&rt, fault, *wanted, ("workers, readers", workers, readers));
     }
 }
 
@@ -67,7 +68,7 @@ static TEXTS: [(RunFault, &str); 10] = [
 fn faults_have_texts(rt: HostRuntime) -> Result<(), Fail> {
     for (fault, wanted) in TEXTS.iter() {
         let text = format!(in rt.alloc(); "{fault}")?;
-        assert_eq!(rt; text.as_str(), *wanted);
+        assert_same(&rt, text.as_str(), *wanted, ("text of", fault));
     }
     Ok(())
 }
@@ -93,10 +94,11 @@ fn of_two_workers_that_stop_the_first_is_named(rt: HostRuntime) -> Result<(), Fa
     for number in 0..30 {
         let crew = (2, number % 3);
         let fault = finish(rt, rt.alloc(), WORN, crew, &trace, &Open).err();
-        assert_eq!(rt;
+        assert_same(
+            &rt,
             fault,
             Some(RunFault::Stopped(0, 103, Fault::Worn)),
-            "run {number}"
+            ("run", number),
         );
     }
     Ok(())

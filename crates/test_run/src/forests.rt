@@ -1,5 +1,6 @@
 //! Runs on a forest, beside those on one tree.
 
+use crate::assert_same::assert_same;
 use crate::faults::stopping_trace;
 use crate::runs::printed;
 use bw_keys::{BadConfig, Config, Field};
@@ -85,11 +86,21 @@ fn one_worker_is_answered_as_on_one_tree(rt: HostRuntime) -> Result<(), Fail> {
             let (Some(one), Some(many)) = (parts_of(&alone), parts_of(&lines)) else {
                 panic!(rt; "a report has {ROWS} replies, a leaf, the sum and the audit");
             };
-            assert!(rt; many.replies == one.replies, "{trees}");
-            assert!(rt; many.last == one.last, "{trees}");
+            assert_same(
+                &rt,
+                many.replies == one.replies,
+                true,
+                ("replies, trees", trees),
+            );
+            assert_same(&rt, many.last == one.last, true, ("last, trees", trees));
             let sum = many.last.first().and_then(|line| line.rsplit(' ').next());
             let pairs = sum.and_then(|sum| sum.parse::<u64>().ok());
-            assert!(rt; do_part(many.leaves, pairs.unwrap_or(u64::MAX)), "{trees}");
+            assert_same(
+                &rt,
+                do_part(many.leaves, pairs.unwrap_or(u64::MAX)),
+                true,
+                ("leaves, trees", trees),
+            );
         }
     }
     Ok(())
@@ -105,7 +116,12 @@ fn workers_that_meet_on_a_forest_leave_legal_histories(rt: HostRuntime) -> Resul
         for trees in ["--trees=1", "--trees=5", "--trees=64"] {
             let words = ["run", "--workers=4", "--fanout=4", "--chain=2", trees];
             let output = printed(&rt, &words, trace.as_str())?;
-            assert!(rt; output.as_str().ends_with("audit yes\n"));
+            assert_same(
+                &rt,
+                output.as_str().ends_with("audit yes\n"),
+                true,
+                (seed.as_str(), trees),
+            );
         }
     }
     Ok(())
@@ -115,9 +131,14 @@ fn workers_that_meet_on_a_forest_leave_legal_histories(rt: HostRuntime) -> Resul
 fn each_tree_has_a_trail_of_each_worker(rt: HostRuntime) -> Result<(), Fail> {
     let trace = stopping_trace(rt.alloc())?;
     let ran = finish(rt, rt.alloc(), LARGE, (3, 2), &trace)?;
-    assert_eq!(rt; ran.trails.len(), ran.forest.trees().len());
-    assert!(rt; ran.trails.iter().all(|its| its.len() == 3));
-    assert_eq!(rt; ran.replies.len(), trace.len());
+    assert_same(&rt, ran.trails.len(), ran.forest.trees().len(), "trails");
+    assert_same(
+        &rt,
+        ran.trails.iter().all(|its| its.len() == 3),
+        true,
+        "trails of each tree",
+    );
+    assert_same(&rt, ran.replies.len(), trace.len(), "replies");
     Ok(())
 }
 
@@ -153,7 +174,7 @@ fn the_first_fault_of_a_run_on_a_forest_is_named(rt: HostRuntime) {
     for (config, workers, trees, wanted) in BEFORE.iter() {
         let progress = Progress::new();
         let fault = run_forest(rt, rt.alloc(), *config, *workers, *trees, &[], &progress).err();
-        assert_eq!(rt; fault, *wanted);
+        assert_same(&rt, fault, *wanted, ("workers, trees", workers, trees));
     }
 }
 
@@ -162,7 +183,12 @@ fn of_two_workers_that_stop_on_a_forest_the_first_is_named(rt: HostRuntime) -> R
     let trace = stopping_trace(rt.alloc())?;
     for trees in [1, 2, 5] {
         let fault = finish(rt, rt.alloc(), WORN, (2, trees), &trace).err();
-        assert_eq!(rt; fault, Some(RunFault::Stopped(0, 103, Fault::Worn)));
+        assert_same(
+            &rt,
+            fault,
+            Some(RunFault::Stopped(0, 103, Fault::Worn)),
+            ("trees", trees),
+        );
     }
     Ok(())
 }

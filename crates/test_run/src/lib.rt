@@ -4,6 +4,8 @@
 #![tactic(auto)]
 
 #[cfg(test)]
+mod assert_same;
+#[cfg(test)]
 mod failing;
 #[cfg(test)]
 mod faults;

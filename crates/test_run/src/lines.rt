@@ -1,5 +1,6 @@
 //! Long texts of one repeated row.
 
+use crate::assert_same::assert_same;
 use bw_trace::command;
 use std::io;
 use std::io::Read;
@@ -58,9 +59,19 @@ fn a_text_has_so_many_rows_at_most(rt: HostRuntime) -> Result<(), Fail> {
         let mut written = Vec::new(rt.alloc());
         let mut reported = Vec::new(rt.alloc());
         let ended = command(rt, rt.alloc(), &[*word], input, &mut written, &mut reported);
-        assert_eq!(rt; ended, *status, "{word} {rows}");
-        assert_eq!(rt; std::str::from_utf8(&written)?, *output);
-        assert_eq!(rt; std::str::from_utf8(&reported)?, *faults);
+        assert_same(&rt, ended, *status, ("status", word, rows));
+        assert_same(
+            &rt,
+            std::str::from_utf8(&written)?,
+            *output,
+            ("output", word, rows),
+        );
+        assert_same(
+            &rt,
+            std::str::from_utf8(&reported)?,
+            *faults,
+            ("faults", word, rows),
+        );
     }
     Ok(())
 }

@@ -1,5 +1,6 @@
 //! Runs of long traces, and of several workers, whose replies depend on who comes first.
 
+use crate::assert_same::assert_same;
 use bw_trace::{Progress, command, command_watched};
 use std::alloc::Global;
 use std::process::Abort;
@@ -25,7 +26,12 @@ pub(crate) fn printed<R: Abort + AllocGlobal + Threads + Wait + Files + Sync + S
         &mut written,
         &mut reported,
     );
-    assert!(rt; status == 0 && reported.is_empty());
+    assert_same(
+        rt,
+        status == 0 && reported.is_empty(),
+        true,
+        ("status and report of", words),
+    );
     Ok(String::from_utf8(written)?)
 }
 
@@ -82,8 +88,18 @@ fn long_traces_end_as_worked_out(rt: HostRuntime) -> Result<(), Fail> {
         let trace = rising(rt.alloc(), *keys, more)?;
         let output = printed(&rt, &["run", "--replies", word], trace.as_str())?;
         let output = output.as_str();
-        assert!(rt; output.contains(reply) && output.ends_with(end), "{more}");
-        assert!(rt; !output.contains("full)\ninserted"), "{more}");
+        assert_same(
+            &rt,
+            output.contains(reply) && output.ends_with(end),
+            true,
+            ("reply and end", more),
+        );
+        assert_same(
+            &rt,
+            !output.contains("full)\ninserted"),
+            true,
+            ("a full table at the end", more),
+        );
     }
     Ok(())
 }
@@ -111,10 +127,15 @@ fn a_run_counts_its_rows_and_their_faults(rt: HostRuntime) -> Result<(), Fail> {
             &mut reported,
             &progress,
         );
-        assert_eq!(rt; (status, progress.faults()), (0, 1));
+        assert_same(
+            &rt,
+            (status, progress.faults()),
+            (0, 1),
+            "status and faults",
+        );
         let rows = progress.rows();
-        assert!(rt; 4000 < rows && rows <= 4111, "{rows}");
-        assert_eq!(rt; std::str::from_utf8(&reported)?, *notes);
+        assert_same(&rt, 4000 < rows && rows <= 4111, true, ("rows", rows));
+        assert_same(&rt, std::str::from_utf8(&reported)?, *notes, "notes");
     }
     Ok(())
 }
@@ -129,7 +150,12 @@ fn each_of_a_hundred_drawn_traces_ends_with_a_legal_history(rt: HostRuntime) -> 
         for readers in ["--readers=0", "--readers=4"] {
             let words = ["run", "--workers=4", "--fanout=4", "--chain=2", readers];
             let output = printed(&rt, &words, trace.as_str())?;
-            assert!(rt; output.as_str().ends_with("audit yes\n"));
+            assert_same(
+                &rt,
+                output.as_str().ends_with("audit yes\n"),
+                true,
+                (seed.as_str(), readers),
+            );
         }
     }
     Ok(())
@@ -172,7 +198,7 @@ fn met<R: Abort + AllocGlobal + Threads + Wait + Files + Sync + Send + Copy>(
     let words = ["run", "--workers=2", "--history", readers];
     let history = printed(rt, &words, trace)?;
     let verdict = printed(rt, &["check"], history.as_str())?;
-    assert!(rt; verdict.as_str() == "audit yes\n");
+    assert_same(rt, verdict.as_str() == "audit yes\n", true, "verdict");
     printed(
         rt,
         &["run", "--workers=2", "--fanout=4", "--chain=4", readers],
@@ -207,9 +233,11 @@ fn workers_that_meet_leave_a_legal_history(rt: HostRuntime) -> Result<(), Fail> 
             };
             let output = met(&rt, trace.as_str(), readers)?;
             let output = output.as_str();
-            assert!(rt;
+            assert_same(
+                &rt,
                 output.contains(counts) && output.ends_with(end),
-                "{meeting:?}"
+                true,
+                ("counts and end", meeting),
             );
         }
     }

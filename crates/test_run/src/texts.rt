@@ -1,5 +1,6 @@
 //! Texts that are read and written, and the faults of runs.
 
+use crate::assert_same::assert_same;
 use bw_keys::Pid;
 use bw_step::{Kind, Receipt};
 use bw_trace::{RunFault, read_history, read_trace, tell_run_fault, write_history, write_trace};
@@ -19,7 +20,7 @@ const HISTORY: &str =
 fn what_is_written_is_what_was_read(rt: HostRuntime) -> Result<(), Fail> {
     let rows = read_trace(rt.alloc(), TRACE.as_bytes(), 2)?;
     let written = write_trace(Vec::new(rt.alloc()), &rows)?;
-    assert_eq!(rt; std::str::from_utf8(&written)?, PLAIN_TRACE);
+    assert_same(&rt, std::str::from_utf8(&written)?, PLAIN_TRACE, "trace");
     let mut history = read_history(rt.alloc(), HISTORY.as_bytes())?;
     // a change of the shape has no row
     let trail = history.trails.last_mut().ok_or("no trail")?;
@@ -29,7 +30,7 @@ fn what_is_written_is_what_was_read(rt: HostRuntime) -> Result<(), Fail> {
         other: None,
     })?;
     let written = write_history(Vec::new(rt.alloc()), &history.trails, &history.pairs)?;
-    assert_eq!(rt; std::str::from_utf8(&written)?, HISTORY);
+    assert_same(&rt, std::str::from_utf8(&written)?, HISTORY, "history");
     Ok(())
 }
 
@@ -51,8 +52,18 @@ static FAULTS: [(RunFault, u8, &str); 7] = [
 fn the_fault_of_a_run_has_a_line_and_a_status(rt: HostRuntime) -> Result<(), Fail> {
     for (fault, status, line) in FAULTS.iter() {
         let mut reported = Vec::new(rt.alloc());
-        assert_eq!(rt; tell_run_fault(&mut reported, *fault), *status);
-        assert_eq!(rt; std::str::from_utf8(&reported)?, *line);
+        assert_same(
+            &rt,
+            tell_run_fault(&mut reported, *fault),
+            *status,
+            ("status of", fault),
+        );
+        assert_same(
+            &rt,
+            std::str::from_utf8(&reported)?,
+            *line,
+            ("line of", fault),
+        );
     }
     Ok(())
 }

@@ -1,5 +1,6 @@
 //! Runs of threads. That their histories are legal is proved. These are to end without a fault.
 
+use crate::assert_same::assert_same;
 use crate::rows::{add_puts, clear_all, finish};
 use bw_delta::NoMemory;
 use bw_keys::{Config, Key};
@@ -112,7 +113,12 @@ fn first_missed<R: Threads + Wait + Sync + Send + Copy>(
 #[test]
 fn two_workers_put_a_hundred_keys_each(rt: HostRuntime) -> Result<(), Fail> {
     for case in PUTS.iter() {
-        assert_eq!(rt; first_missed(rt, rt.alloc(), case)?, None);
+        assert_same(
+            &rt,
+            first_missed(rt, rt.alloc(), case)?,
+            None,
+            "the first missed run",
+        );
     }
     Ok(())
 }
@@ -123,7 +129,12 @@ fn each_key_is_removed_once_or_left(rt: HostRuntime) -> Result<(), Fail> {
         has_looks: false,
         ..REMOVED
     };
-    assert_eq!(rt; first_missed(rt, rt.alloc(), &case)?, None);
+    assert_same(
+        &rt,
+        first_missed(rt, rt.alloc(), &case)?,
+        None,
+        "the first missed run",
+    );
     Ok(())
 }
 
@@ -133,7 +144,12 @@ fn each_key_is_removed_once_or_left_beside_readers(rt: HostRuntime) -> Result<()
         readers: 2,
         ..REMOVED
     };
-    assert_eq!(rt; first_missed(rt, rt.alloc(), &case)?, None);
+    assert_same(
+        &rt,
+        first_missed(rt, rt.alloc(), &case)?,
+        None,
+        "the first missed run",
+    );
     Ok(())
 }
 
@@ -161,8 +177,13 @@ fn workers_run_side_by_side(rt: HostRuntime) -> Result<(), Fail> {
             meeting: Meeting::new(),
         };
         let ran = finish(rt, machine, short, (2, readers), &trace, &gate)?;
-        assert!(rt; gate.meeting.came_about(), "{readers} readers");
-        assert!(rt; is_each_once(&HUNDREDS, &ran, &ran.table.pairs(machine)?));
+        assert_same(&rt, gate.meeting.came_about(), true, ("readers", readers));
+        assert_same(
+            &rt,
+            is_each_once(&HUNDREDS, &ran, &ran.table.pairs(machine)?),
+            true,
+            "each key once",
+        );
     }
     Ok(())
 }

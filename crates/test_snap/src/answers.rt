@@ -4,6 +4,7 @@
 ghost use Rattle.std.specs.Prelude.{◌≡◌};
 ghost use Rattle.bw_tree.specs.Trees.{OpensFor};
 
+use crate::assert_same::assert_same;
 use crate::one_reader::{Names, publish_all_of, watched_tree};
 use bw_keys::{Config, Fence, Key, Pid, Version};
 use bw_snap::{Announcements, Naming, ReadTree, Reader};
@@ -326,14 +327,17 @@ fn a_tree_with_readers_answers_what_one_without_does(rt: HostRuntime) -> Result<
         for seed in 0..3 {
             let alone = ask_tree(rt, machine, config, seed)?;
             let done = done_of(&alone.answers);
-            assert!(rt;
+            assert_same(
+                &rt,
                 done.iter().all(|times| *times > 0),
-                "chain {chain}, {done:?}"
+                true,
+                ("chain, done", chain, done),
             );
-            assert_eq!(rt;
+            assert_same(
+                &rt,
                 ask_read_tree(rt, machine, config, seed)?,
                 alone,
-                "chain {chain}"
+                ("chain", chain),
             );
         }
     }

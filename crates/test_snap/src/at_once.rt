@@ -1,10 +1,11 @@
 //! What a hand on a tree with readers does in one hold of the lock is noted for the published copies.
-//! It is answered as a hand on a tree without readers, and as one that goes step by step, and leaves
-//! the same receipts and leaves. Its replies, and what readers find, are those of a plain map.
+//! It is answered as a hand on a tree without readers, at once or step by step, and leaves the same
+//! receipts and leaves. Its replies, and what readers find, are those of a plain map.
 
 ghost use Rattle.std.specs.Prelude.{◌≡◌};
 ghost use Rattle.bw_tree.specs.Trees.{OpensFor};
 
+use crate::assert_same::assert_same;
 use crate::one_reader::{Names, publish_all_of, watched_tree};
 use bw_keys::{Config, Fence, Key};
 use bw_snap::{Announcements, Naming, ReadTree, Reader};
@@ -223,6 +224,33 @@ impl<S: Shared<Global, Step<Global>>> Hook<S> for Steadily {
     }
 }
 
+/// How a hand makes its calls.
+#[derive(Clone, Copy, Debug)]
+struct Way {
+    /// The number of calls between two publications.
+    span: usize,
+    /// Whether the tree is asked for atomic steps alone.
+    by_steps: bool,
+}
+
+/// Returns the outcome of the calls, made in this way by a hand on the tree.
+fn outcome_in_way<S: Shared<Global, Step<Global>>, B: Behind>(
+    machine: Global,
+    tree: &S,
+    share: Share<S::Insertions, S::Removals>,
+    calls: &[Call],
+    way: Way,
+    behind: &mut B,
+) -> Result<Outcome, Fail> {
+    let parts = (calls, way.span);
+    if way.by_steps {
+        let hook = &Steadily;
+        outcome_of(machine, &Hooked { tree, hook }, share, parts, behind)
+    } else {
+        outcome_of(machine, tree, share, parts, behind)
+    }
+}
+
 fn with_leaves(machine: Global, outcome: Outcome, table: &Table<Global>) -> Result<Outcome, Fail> {
     Ok(Outcome {
         leaves: leaves_of(machine, table)?,
@@ -236,6 +264,7 @@ fn work_over_tree<R: Wait + Copy, I: MadeBy, D: Ledger>(
     config: Config,
     blanks: Blanks,
     calls: &[Call],
+    by_steps: bool,
 ) -> Result<Outcome, Fail>
     requires ledgers { OpensFor I.Ledger I.config D.Ledger config blanks }
 {
@@ -243,7 +272,8 @@ fn work_over_tree<R: Wait + Copy, I: MadeBy, D: Ledger>(
     let Some(share) = shares.pop() else {
         return Err("there is no share".into());
     };
-    let outcome = outcome_of(machine, &tree, share, (calls, 1), &mut Nothing)?;
+    let way = Way { span: 1, by_steps };
+    let outcome = outcome_in_way(machine, &tree, share, calls, way, &mut Nothing)?;
     with_leaves(machine, outcome, &tree.into_table())
 }
 
@@ -253,18 +283,10 @@ fn work_on_tree<R: Wait + Copy>(
     machine: Global,
     config: Config,
     calls: &[Call],
+    by_steps: bool,
 ) -> Result<Outcome, Fail> {
     let blanks = Blanks::new(1);
-    work_over_tree::<R, Brand, Brand>(rt, machine, config, blanks, calls)
-}
-
-/// How a hand on a tree with readers makes its calls.
-#[derive(Clone, Copy, Debug)]
-struct Way {
-    /// The number of calls between two publications.
-    span: usize,
-    /// Whether the tree is asked for atomic steps alone.
-    by_steps: bool,
+    work_over_tree::<R, Brand, Brand>(rt, machine, config, blanks, calls, by_steps)
 }
 
 /// Returns the outcome of the calls by a hand, beside a reader that looks after each publication.
@@ -283,13 +305,7 @@ fn outcome_beside<R: Wait + Copy, N: Naming, D: Ledger>(
         reader,
         map: &mut map,
     };
-    let parts = (calls, way.span);
-    if way.by_steps {
-        let hook = &Steadily;
-        outcome_of(machine, &Hooked { tree, hook }, share, parts, &mut behind)
-    } else {
-        outcome_of(machine, tree, share, parts, &mut behind)
-    }
+    outcome_in_way(machine, tree, share, calls, way, &mut behind)
 }
 
 fn work_over_read_tree<R: Wait + Copy, N: Naming, D: Ledger>(
@@ -326,12 +342,12 @@ fn changes_at_once_are_noted_as_their_steps(rt: HostRuntime) -> Result<(), Fail>
     for config in CONFIGS.iter() {
         for seed in 0..2 {
             let calls = drawn_calls(machine, CALLS, seed)?;
-            let alone = work_on_tree(rt, machine, *config, &calls)?;
-            for span in SPANS {
-                for by_steps in [false, true] {
+            for by_steps in [false, true] {
+                let alone = work_on_tree(rt, machine, *config, &calls, by_steps)?;
+                for span in SPANS {
                     let way = Way { span, by_steps };
                     let beside = work_beside_reader(rt, machine, *config, &calls, way)?;
-                    assert_eq!(rt; beside, alone, "seed {seed}, {way:?}");
+                    assert_same(&rt, &beside, &alone, ("seed, way", seed, way));
                 }
             }
         }
@@ -372,10 +388,11 @@ fn a_tree_is_dropped_with_changes_that_are_pending(rt: HostRuntime) -> Result<()
     let machine = rt.alloc();
     for config in CONFIGS.iter() {
         let calls = drawn_calls(machine, CALLS, u64::from(config.chain))?;
-        assert_eq!(rt;
+        assert_same(
+            &rt,
             drop_new_tree(rt, machine, *config, &calls)?,
             None,
-            "{config:?}"
+            ("config", config),
         );
     }
     Ok(())

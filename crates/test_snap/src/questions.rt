@@ -4,6 +4,7 @@
 ghost use Rattle.std.specs.Prelude.{◌≡◌};
 ghost use Rattle.bw_tree.specs.Trees.{OpensFor};
 
+use crate::assert_same::assert_same;
 use crate::one_reader::{Names, watched_tree};
 use bw_keys::{Config, Fence, Key};
 use bw_snap::{Announcements, Closed, Naming, ReadTree, Reader, ScanFault};
@@ -328,8 +329,8 @@ const TOLD: &str = "[None, None] [None, None] 0 0 []
 #[test]
 fn each_question_of_a_reader_is_answered(rt: HostRuntime) -> Result<(), Fail> {
     let (lines, wrong, is_closed) = ask_on_new_tree(rt, rt.alloc())?;
-    assert_eq!(rt; lines.as_str(), TOLD);
-    assert_eq!(rt; wrong, None);
-    assert!(rt; is_closed);
+    assert_same(&rt, lines.as_str(), TOLD, "lines");
+    assert_same(&rt, wrong, None, "the first wrong round");
+    assert_same(&rt, is_closed, true, "whether the tree is closed");
     Ok(())
 }

@@ -3,6 +3,7 @@
 ghost use Rattle.std.specs.Prelude.{◌≡◌};
 ghost use Rattle.bw_tree.specs.Trees.{OpensFor};
 
+use crate::assert_same::assert_same;
 use crate::one_reader::{Names, watched_tree};
 use bw_keys::{Config, Key};
 use bw_snap::{Announcements, Closed, Naming, ReadTree, Reader, Stamp};
@@ -92,6 +93,6 @@ fn stamps_past_the_places_for_them_are_learnt_too(rt: HostRuntime) -> Result<(),
         open: true,
         closed: Err(Closed),
     };
-    assert_eq!(rt; find_on_new_tree(rt, rt.alloc())?, found);
+    assert_same(&rt, find_on_new_tree(rt, rt.alloc())?, found, "by stamps");
     Ok(())
 }

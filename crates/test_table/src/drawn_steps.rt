@@ -1,5 +1,6 @@
 //! Ten thousand drawn steps from two threads, forged ones among them.
 
+use crate::assert_same::assert_same;
 use bw_step::{Book, Step};
 use bw_tree::{Share, Shared};
 use rand_core::SeedableRng;
@@ -99,7 +100,17 @@ impl Left {
 #[test]
 fn drawn_steps_from_two_threads_are_counted(rt: HostRuntime) -> Result<(), Fail> {
     let left = left_of(rt, rt.alloc())?;
-    assert!(rt; is_full(&left.zero) && is_full(&left.one), "{left:?}");
-    assert!(rt; left.is_counted() && left.is_partition, "{left:?}");
+    assert_same(
+        &rt,
+        is_full(&left.zero) && is_full(&left.one),
+        true,
+        ("full tallies", &left),
+    );
+    assert_same(
+        &rt,
+        left.is_counted() && left.is_partition,
+        true,
+        ("counts and partition", &left),
+    );
     Ok(())
 }

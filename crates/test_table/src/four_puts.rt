@@ -1,5 +1,6 @@
 //! Four puts from two threads, by a shared tree.
 
+use crate::assert_same::assert_same;
 use bw_keys::{Config, Key};
 use bw_step::{Receipt, Step};
 use bw_tree::{Share, Shared};
@@ -67,7 +68,7 @@ fn played<R: Threads + Wait + Sync + Send + Copy>(
 #[test]
 fn two_threads_put(rt: HostRuntime) -> Result<(), Fail> {
     for run in 0..100 {
-        assert_eq!(rt; played(rt, rt.alloc())?, ([2, 2], true), "run {run}");
+        assert_same(&rt, played(rt, rt.alloc())?, ([2, 2], true), ("run", run));
     }
     Ok(())
 }

@@ -1,5 +1,6 @@
 //! A table to which pages are added is one that had them all from the beginning.
 
+use crate::assert_same::assert_same;
 use bw_keys::Config;
 use bw_table::Table;
 use rand_core::{Rng, SeedableRng};
@@ -133,20 +134,26 @@ fn stepped(alloc: Global, seed: u64) -> Result<(Option<u32>, u32, bool), Fail> {
 #[test]
 fn a_table_comes_to_have_more_pages_than_one_is_made_with(rt: HostRuntime) -> Result<(), Fail> {
     let mut growth = Growth::with_many(rt.alloc())?;
-    assert_eq!(rt; growth.growing.config().pages, MANY);
-    assert_eq!(rt; growth.growing.free_pages(), 69_999);
+    assert_same(&rt, growth.growing.config().pages, MANY, "pages");
+    assert_same(&rt, growth.growing.free_pages(), 69_999, "free pages");
     let wrong = first_wrong(rt.alloc(), &mut Pcg32::seed_from_u64(4), &mut growth)?;
-    assert_eq!(rt; (wrong, growth.taken > STEPS / 3), (None, true));
+    assert_same(
+        &rt,
+        (wrong, growth.taken > STEPS / 3),
+        (None, true),
+        "the first wrong step, and whether many were taken",
+    );
     Ok(())
 }
 
 #[test]
 fn a_table_that_grows_is_one_that_had_all_pages(rt: HostRuntime) -> Result<(), Fail> {
     for seed in 0..4 {
-        assert_eq!(rt;
+        assert_same(
+            &rt,
             stepped(rt.alloc(), seed)?,
             (None, ALL, true),
-            "seed {seed}"
+            ("seed", seed),
         );
     }
     Ok(())

@@ -3,6 +3,7 @@
 ghost use Rattle.std.specs.Prelude.{◌≡◌};
 ghost use Rattle.bw_tree.specs.Trees.{OpensFor};
 
+use crate::assert_same::assert_same;
 use bw_keys::{Config, Key};
 use bw_step::Step;
 use bw_tree::{Blanks, MadeBy, Share, Shared, Tree};
@@ -52,6 +53,6 @@ fn of_tree<I: MadeBy, D: Ledger, R: Wait + Drop>(
 #[test]
 fn a_table_is_handed_out_without_a_share(rt: HostRuntime) -> Result<(), Fail> {
     let pairs = of_tree::<Brand, Brand, _>(rt, rt.alloc(), SMALL, Blanks::new(2))?;
-    assert_eq!(rt; pairs.as_slice(), PAIRS.as_slice());
+    assert_same(&rt, pairs.as_slice(), PAIRS.as_slice(), "pairs");
     Ok(())
 }

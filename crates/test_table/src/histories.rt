@@ -2,6 +2,7 @@
 
 ghost use Rattle.std.specs.Prelude.{◌≡◌};
 
+use crate::assert_same::assert_same;
 use bw_audit::{Deed, Event, Replayed, Verdict, audit, is_ascending, replay};
 use bw_delta::{NoMemory, Spare};
 use bw_keys::{Key, Pid, Version};
@@ -54,7 +55,12 @@ fn changed_shapes_are_passed_over_and_keep_their_place(rt: HostRuntime) -> Resul
     let alloc = rt.alloc();
     for (trail, verdict) in [(SHAPED, Verdict::Yes), (OTHER, Verdict::No(0, 3))] {
         let trails = trails_of(alloc, &[trail.as_slice()])?;
-        assert_eq!(rt; verdict_on(alloc, &trails, &[])?, Some(verdict));
+        assert_same(
+            &rt,
+            verdict_on(alloc, &trails, &[])?,
+            Some(verdict),
+            "verdict",
+        );
     }
     Ok(())
 }
@@ -114,6 +120,11 @@ fn judged(alloc: Global, replayed: &Replayed) -> Result<(bool, bool, Option<Verd
 #[test]
 fn a_replay_leaves_the_receipts_of_its_interleaving(rt: HostRuntime) -> Result<(), Fail> {
     let judged = judged(rt.alloc(), &replayed(rt.alloc())?)?;
-    assert_eq!(rt; judged, (true, true, Some(Verdict::Yes)));
+    assert_same(
+        &rt,
+        judged,
+        (true, true, Some(Verdict::Yes)),
+        "verdict on the run",
+    );
     Ok(())
 }

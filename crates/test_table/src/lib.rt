@@ -5,7 +5,10 @@
 #![tactic(auto)]
 
 #[cfg(test)]
+mod assert_same;
+#[cfg(test)]
 mod drawn_steps;
+#[cfg(test)]
 #[cfg(test)]
 mod four_puts;
 #[cfg(test)]

@@ -1,5 +1,6 @@
 //! Several gets at once on trees whose changes are half done.
 
+use crate::assert_same::assert_same;
 use bw_keys::Key;
 use bw_table::Table;
 use std::alloc::Global;
@@ -38,7 +39,7 @@ const BEGUN: [(usize, Key); 8] = [
 fn several_gets_pass_a_tree_that_grows(rt: HostRuntime) -> Result<(), Fail> {
     for (steps, last) in BEGUN.iter() {
         let table = begun(rt.alloc(), THREE_LEAVES.get(..*steps).ok_or("fewer steps")?)?;
-        assert!(rt; are_found(&table, *last), "after {steps} steps");
+        assert_same(&rt, are_found(&table, *last), true, ("after steps", steps));
     }
     Ok(())
 }
@@ -50,7 +51,7 @@ static LATER: [(&[Change], Key); 4] = [(&MARKED, 7), (&MERGED, 7), (&FREED, 7), 
 fn several_gets_pass_what_is_half_done(rt: HostRuntime) -> Result<(), Fail> {
     for (changes, last) in LATER.iter() {
         let table = after(rt.alloc(), changes)?;
-        assert!(rt; are_found(&table, *last), "up to {last}");
+        assert_same(&rt, are_found(&table, *last), true, ("up to", last));
     }
     Ok(())
 }

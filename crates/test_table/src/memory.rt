@@ -1,5 +1,6 @@
 //! Chains in a heap of their own: all memory is freed, and refusals are reported.
 
+use crate::assert_same::assert_same;
 use bw_keys::{Config, Key};
 use bw_step::Step;
 use bw_table::{CopyFault, Refused, Table};
@@ -149,8 +150,13 @@ fn left_of(machine: Global, heap: &LocalHeap, row: &Row) -> Result<Left, Fail> {
 fn a_dropped_table_leaves_nothing_behind(rt: HostRuntime) -> Result<(), Fail> {
     for row in ROWS.iter() {
         let heap = LocalHeap::new(rt.alloc(), 65536)?;
-        assert_eq!(rt; left_of(rt.alloc(), &heap, row)?, row.left);
-        assert_eq!(rt; heap.used(), 0);
+        assert_same(
+            &rt,
+            left_of(rt.alloc(), &heap, row)?,
+            row.left,
+            ("page", row.page),
+        );
+        assert_same(&rt, heap.used(), 0, ("memory that is left, page", row.page));
     }
     Ok(())
 }
@@ -238,9 +244,14 @@ fn each_request_of_a_twin_or_a_copy_may_be_refused(rt: HostRuntime) -> Result<()
     let heaps = growing_heaps(rt.alloc(), 200)?;
     for change in ONE_OF_EACH.iter() {
         let rooms = twin_in_each(rt.alloc(), &heaps, *change)?;
-        assert!(rt; rooms.are_fair(), "{change:?}");
+        assert_same(&rt, rooms.are_fair(), true, ("change", change));
     }
-    assert!(rt; copy_in_each(rt.alloc(), &heaps)?.are_fair());
-    assert!(rt; is_nothing_left(&heaps));
+    assert_same(
+        &rt,
+        copy_in_each(rt.alloc(), &heaps)?.are_fair(),
+        true,
+        "copies",
+    );
+    assert_same(&rt, is_nothing_left(&heaps), true, "memory that is left");
     Ok(())
 }

@@ -1,5 +1,6 @@
 //! Leaves at rest, and what the table keeps of a page beside its chain.
 
+use crate::assert_same::assert_same;
 use bw_keys::{Fence, Key, Pid};
 use bw_table::{Summary, Table};
 use std::test::Fail;
@@ -38,7 +39,7 @@ fn a_leaf_is_reported_at_once_where_nothing_is_unfinished(rt: HostRuntime) -> Re
     for (changes, key, leaf) in LEAVES.iter() {
         let table = after(rt.alloc(), changes)?;
         let reported = table.leaf_at_rest(*key).map(|view| view.pid.0);
-        assert_eq!(rt; reported, *leaf, "key {key}");
+        assert_same(&rt, reported, *leaf, ("key", key));
     }
     Ok(())
 }
@@ -77,7 +78,12 @@ static SUMMARIES: [(&[Change], u32, Option<Summary>); 3] = [
 fn summaries_are_kept_of_pages_alone(rt: HostRuntime) -> Result<(), Fail> {
     for (changes, page, kept) in SUMMARIES.iter() {
         let table = after(rt.alloc(), changes)?;
-        assert_eq!(rt; table.summary(Pid(*page)).copied(), *kept, "page {page}");
+        assert_same(
+            &rt,
+            table.summary(Pid(*page)).copied(),
+            *kept,
+            ("page", page),
+        );
     }
     Ok(())
 }

@@ -1,5 +1,6 @@
 //! A page that was copied and consolidated before it changed.
 
+use crate::assert_same::assert_same;
 use bw_keys::Pid;
 use bw_table::{Refused, Table};
 use std::alloc::Global;
@@ -37,6 +38,11 @@ fn late(alloc: Global) -> Result<(Option<Refused>, [Option<(u64, u8)>; 2]), Fail
 #[test]
 fn a_consolidation_of_an_older_page_is_refused(rt: HostRuntime) -> Result<(), Fail> {
     let leaves = [Some((4, 4)), Some((5, 0))];
-    assert_eq!(rt; late(rt.alloc())?, (Some(Refused::Stale), leaves));
+    assert_same(
+        &rt,
+        late(rt.alloc())?,
+        (Some(Refused::Stale), leaves),
+        "late step",
+    );
     Ok(())
 }

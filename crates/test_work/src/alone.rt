@@ -1,5 +1,6 @@
 //! A worker alone takes steps that were built by hand, and is asked what it sees.
 
+use crate::assert_same::assert_same;
 use bw_delta::{NoMemory, Spare};
 use bw_keys::{Config, Key, Pid, Version};
 use bw_step::{Insert, Look, Receipt, Refused, Step};
@@ -11,7 +12,7 @@ use std::test::Fail;
 use test_kit::{SMALL, receipt};
 
 /// A question to the worker, about the first page or this one, as of version 0.
-#[derive(Clone, Copy, Debug, PartialEq, Eq)]
+#[derive(Clone, Copy)]
 enum Ask {
     Insert(Key),
     Copy(u32),
@@ -136,14 +137,14 @@ fn left_by(machine: Global, config: Config, rows: &[Row]) -> Result<Left, Fail> 
 fn a_lone_worker_is_answered_and_spends_effort(rt: HostRuntime) -> Result<(), Fail> {
     for (config, rows, trail, worn) in CASES.iter() {
         let (other, ends, left) = left_by(rt.alloc(), *config, rows)?;
-        assert_eq!(rt; other, None);
+        assert_same(&rt, other, None, "another reply");
         let wanted = Ends {
             full: 0,
             tall: 0,
             worn: *worn,
         };
-        assert_eq!(rt; ends, wanted);
-        assert_eq!(rt; left.as_slice(), *trail);
+        assert_same(&rt, ends, wanted, "ends");
+        assert_same(&rt, left.as_slice(), *trail, "trail");
     }
     Ok(())
 }

@@ -1,5 +1,6 @@
 //! What calls of a worker cost.
 
+use crate::assert_same::assert_same;
 use bw_keys::Pid;
 use bw_step::{Step, Todo};
 use bw_table::Table;
@@ -60,8 +61,13 @@ fn lone_efforts(machine: Global) -> Result<(u64, u64, u64), Fail> {
 #[test]
 fn only_help_costs_effort_where_nothing_is_in_the_way(rt: HostRuntime) -> Result<(), Fail> {
     let machine = rt.alloc();
-    assert_eq!(rt; lone_efforts(machine)?, (0, 0, 1));
+    assert_same(
+        &rt,
+        lone_efforts(machine)?,
+        (0, 0, 1),
+        "efforts of a worker alone",
+    );
     let ended = play_on_new_tree(rt, machine, SMALL, Turns::OneByOne, &ByHand { machine })?;
-    assert_eq!(rt; ended.zero, Ok((0, 0, 1)));
+    assert_same(&rt, ended.zero, Ok((0, 0, 1)), "efforts of a hand");
     Ok(())
 }

@@ -1,6 +1,7 @@
 //! A hand that keeps its receipts and one that gives them up make the same drawn calls, each on a
 //! tree of its own. All but what is kept is the same for both, and a plain map says the replies.
 
+use crate::assert_same::assert_same;
 use crate::at_once::{CALLS, CONFIGS, are_alike};
 use bw_delta::NoMemory;
 use bw_keys::{Config, Fence};
@@ -213,7 +214,7 @@ fn a_plain_map_replies_as_it_does(rt: HostRuntime) -> Result<(), Fail> {
             let config = Config { chain, ..LARGE };
             let replies = replies_alike(rt, machine, config, seed)?;
             let plain = plain_replies(machine, &drawn_calls(machine, CALLS, seed)?)?;
-            assert_eq!(rt; replies, plain, "chain {chain}, seed {seed}");
+            assert_same(&rt, replies, plain, ("chain, seed", chain, seed));
         }
     }
     Ok(())

@@ -1,5 +1,6 @@
 //! A worker that does its task while another is held.
 
+use crate::assert_same::assert_same;
 use bw_audit::{Verdict, audit, is_ascending};
 use bw_delta::NoMemory;
 use bw_keys::{Fence, Key};
@@ -137,11 +138,11 @@ fn are_as_reported<R: Threads + Wait + Sync + Send + Copy>(
 #[test]
 fn a_worker_goes_on_where_one_is_held(rt: HostRuntime) -> Result<(), Fail> {
     for case in CASES.iter() {
-        assert_eq!(rt;
+        assert_same(
+            &rt,
             are_as_reported(rt, rt.alloc(), case)?,
             [true; 4],
-            "{:?}",
-            case.kind
+            ("as reported", case.kind),
         );
     }
     Ok(())
@@ -196,7 +197,7 @@ fn done_beside<R: Threads + Wait + Sync + Send + Copy>(
 fn a_worker_does_all_while_another_is_held_after_any_step(rt: HostRuntime) -> Result<(), Fail> {
     for (kind, before) in HOLDS {
         let done = done_beside(rt, rt.alloc(), kind, before)?;
-        assert_eq!(rt; done, (true, Some(Verdict::Yes)), "{kind:?}");
+        assert_same(&rt, done, (true, Some(Verdict::Yes)), ("kind", kind));
     }
     Ok(())
 }

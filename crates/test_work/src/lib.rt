@@ -5,6 +5,8 @@
 #[cfg(test)]
 mod alone;
 #[cfg(test)]
+mod assert_same;
+#[cfg(test)]
 mod at_once;
 #[cfg(test)]
 mod calls;

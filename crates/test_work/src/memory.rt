@@ -4,6 +4,7 @@
 ghost use Rattle.std.specs.Prelude.{◌≡◌};
 ghost use Rattle.bw_tree.specs.Trees.{OpensFor};
 
+use crate::assert_same::assert_same;
 use bw_keys::{Config, Fence, Key};
 use bw_step::Step;
 use bw_table::Table;
@@ -109,8 +110,8 @@ fn a_hand_keeps_what_was_inserted_in_a_full_heap(rt: HostRuntime) -> Result<(), 
             config,
             Blanks::new(1),
         ).ok_or("another answer")?;
-        assert!(rt; pairs > 1, "chain {chain}");
-        assert_eq!(rt; heap.used(), 0);
+        assert_same(&rt, pairs > 1, true, "pairs that were put");
+        assert_same(&rt, heap.used(), 0, "memory that is left");
     }
     Ok(())
 }
@@ -119,8 +120,8 @@ fn a_hand_keeps_what_was_inserted_in_a_full_heap(rt: HostRuntime) -> Result<(), 
 fn a_full_heap_refuses_and_keeps_what_was_inserted(rt: HostRuntime) -> Result<(), Fail> {
     let heap = LocalHeap::new(rt.alloc(), 4096)?;
     let pairs = fill_table(rt.alloc(), &heap).ok_or("another answer")?;
-    assert!(rt; pairs > 1);
-    assert_eq!(rt; heap.used(), 0);
+    assert_same(&rt, pairs > 1, true, "pairs that were put");
+    assert_same(&rt, heap.used(), 0, "memory that is left");
     Ok(())
 }
 
@@ -207,7 +208,7 @@ fn each_request_may_be_refused(rt: HostRuntime) -> Result<(), Fail> {
             let made = work_in(rt.alloc(), &heap, *case)?;
             rooms.count(made, &heap);
         }
-        assert!(rt; rooms.are_fair(), "{rooms:?}");
+        assert_same(&rt, rooms.are_fair(), true, ("rooms", rooms));
     }
     Ok(())
 }

@@ -1,5 +1,6 @@
 //! A packed trail has each receipt that was added, as it was.
 
+use crate::assert_same::assert_same;
 use bw_keys::Pid;
 use bw_step::{Kind, Receipt};
 use bw_work::{Packed, Trail};
@@ -89,10 +90,20 @@ fn packed_receipts_are_unpacked_as_they_were(rt: HostRuntime) -> Result<(), Fail
         packed.make_room(1)?;
         packed.add(*receipt);
     }
-    assert_eq!(rt; packed.count(), RECEIPTS.len());
-    assert_eq!(rt; packed.unpack(machine)?.as_slice(), RECEIPTS.as_slice());
+    assert_same(&rt, packed.count(), RECEIPTS.len(), "receipts");
+    assert_same(
+        &rt,
+        packed.unpack(machine)?.as_slice(),
+        RECEIPTS.as_slice(),
+        "unpacked",
+    );
     let taken = packed.take();
-    assert_eq!(rt; taken.unpack(machine)?.as_slice(), RECEIPTS.as_slice());
-    assert_eq!(rt; packed.count(), 0);
+    assert_same(
+        &rt,
+        taken.unpack(machine)?.as_slice(),
+        RECEIPTS.as_slice(),
+        "taken",
+    );
+    assert_same(&rt, packed.count(), 0, "receipts that are left");
     Ok(())
 }

@@ -1,5 +1,6 @@
 //! The rows, done alone and by hand.
 
+use crate::assert_same::assert_same;
 use crate::rows::{ROWS, Row};
 use bw_delta::NoMemory;
 use bw_step::{Book, Kind, Receipt, Step};
@@ -143,13 +144,19 @@ fn expect<R: Abort>(
     reported: &Reported,
     table: &mut Table<Global>,
 ) -> Result<(), Fail> {
-    assert!(rt;
+    assert_same(
+        rt,
         is_as_foretold(machine, row, reported, table)?,
-        "{}: {reported:?}",
-        row.name
+        true,
+        ("as foretold", row.name, reported),
     );
     for (change, receipt) in row.then {
-        assert_eq!(rt; take(machine, table, *change)?, *receipt, "{}", row.name);
+        assert_same(
+            rt,
+            take(machine, table, *change)?,
+            *receipt,
+            ("receipt of a step", row.name),
+        );
     }
     Ok(())
 }
@@ -194,10 +201,11 @@ fn do_by_hand<R: Threads + Wait + Abort + Sync + Send + Copy>(
     } else {
         (one, zero)
     };
-    assert!(rt;
+    assert_same(
+        &rt,
         other.is_plain() && play.has_counted(),
-        "{}: {other:?}",
-        row.name
+        true,
+        ("the other worker", row.name, &other),
     );
     expect(&rt, machine, row, &reported, &mut table)
 }

@@ -1,6 +1,7 @@
 //! A worker that is held in the middle of a change of shape, while another does its task and
 //! publishes, and a reader sees what was published.
 
+use crate::assert_same::assert_same;
 use crate::crew::{Crew, work_on_new_tree};
 use crate::seen::{Left, Seen};
 use bw_audit::Verdict;
@@ -113,7 +114,12 @@ fn are_helped<R: Threads + Wait + Sync + Send + Copy>(
 
 #[test]
 fn a_worker_helps_the_split_of_one_that_is_held(rt: HostRuntime) -> Result<(), Fail> {
-    assert_eq!(rt; are_helped(rt, rt.alloc())?, [true; 5]);
+    assert_same(
+        &rt,
+        are_helped(rt, rt.alloc())?,
+        [true; 5],
+        "replies, trail, leaves and pairs",
+    );
     Ok(())
 }
 
@@ -130,11 +136,13 @@ fn a_worker_does_all_while_another_is_held_after_any_step(rt: HostRuntime) -> Re
         };
         let left = hold(rt, &crew, before.saturating_add(5))?;
         let both = (&left.zero, &left.one);
-        assert!(rt;
+        assert_same(
+            &rt,
             are_both_done(machine, &left.table, before, both)?,
-            "{kind:?}: {both:?}"
+            true,
+            ("kind, both", kind, both),
         );
-        assert_eq!(rt; left.verdict(machine)?, Verdict::Yes, "{kind:?}");
+        assert_same(&rt, left.verdict(machine)?, Verdict::Yes, ("verdict", kind));
     }
     Ok(())
 }

@@ -1,5 +1,7 @@
 //! Maps that are made of pairs whose keys rise, beside the kit's map, and pairs whose keys don't.
 
+use crate::assert_same::assert_same;
+use crate::pairs::is_same;
 use bw_keys::{Fence, Range};
 use linked_list_allocator::LocalHeap;
 use nifforan::{Config, Del, Fault, Map, NewFault, Set, SortedFault};
@@ -40,15 +42,6 @@ fn rising(machine: Global, count: u64, to_the_end: bool) -> Result<Vec<(u64, u64
         pairs.push((key, number ^ 5))?;
     }
     Ok(pairs)
-}
-
-fn owned(pair: (&u64, &u64)) -> (u64, u64) {
-    (*pair.0, *pair.1)
-}
-
-/// Returns whether the map has the pairs of the kit's map.
-fn is_same<A: Allocator + Copy>(map: &Map<A>, plain: &BTreeMap<u64, u64>) -> bool {
-    map.len() == plain.len() as u64 && map.iter().eq(plain.iter().map(owned))
 }
 
 /// What a survey shows of the leaves of a map.
@@ -188,10 +181,11 @@ fn a_map_of_rising_pairs_is_the_kits_map(rt: HostRuntime) -> Result<(), Fail> {
                 };
                 let config = config_of(fanout, chain);
                 let came = load(rt.alloc(), config, count, to_the_end)?;
-                assert_eq!(rt;
+                assert_same(
+                    &rt,
                     came,
                     wanted,
-                    "fanout {fanout}, chain {chain}, {count} pairs"
+                    ("fanout, chain, pairs", fanout, chain, count),
                 );
             }
         }
@@ -223,7 +217,12 @@ fn a_map_that_runs_out_of_pages_has_all_rising_pairs(rt: HostRuntime) -> Result<
     };
     let pairs = rising(rt.alloc(), 200, true)?;
     let map = Map::from_sorted(rt.alloc(), rt.alloc(), config, pairs)?;
-    assert!(rt; map.is_full() && has_rising(rt.alloc(), &map, 200, true)?);
+    assert_same(
+        &rt,
+        map.is_full() && has_rising(rt.alloc(), &map, 200, true)?,
+        true,
+        "full map",
+    );
     Ok(())
 }
 
@@ -265,10 +264,11 @@ fn the_first_pair_that_is_not_above_the_one_before_is_named(rt: HostRuntime) -> 
     for less in [0, 1, 3] {
         for number in NUMBERS {
             let fault = len_of_falling(rt.alloc(), number, less)?;
-            assert_eq!(rt;
+            assert_same(
+                &rt,
                 fault,
                 Err(SortedFault::Unsorted(number as u64)),
-                "{less} less"
+                ("less", less),
             );
         }
     }
@@ -280,7 +280,7 @@ fn there_is_no_map_of_a_bad_configuration(rt: HostRuntime) -> Result<(), Fail> {
     let pairs = rising(rt.alloc(), 3, false)?;
     let came = Map::from_sorted(rt.alloc(), rt.alloc(), config_of(3, 1), pairs);
     let is_bad = matches!(came, Err(SortedFault::New(NewFault::BadConfig(_))));
-    assert!(rt; is_bad);
+    assert_same(&rt, is_bad, true, "bad settings");
     Ok(())
 }
 
@@ -321,6 +321,6 @@ fn a_map_of_rising_pairs_is_made_where_memory_is_enough(rt: HostRuntime) -> Resu
     let heaps = growing_heaps(rt.alloc(), 200)?;
     let (_, tight) = heaps.split_first().ok_or("no heap")?;
     let rooms = made_in_each(rt.alloc(), tight)?;
-    assert!(rt; rooms.are_fair(), "{rooms:?}");
+    assert_same(&rt, rooms.are_fair(), true, ("rooms", rooms));
     Ok(())
 }

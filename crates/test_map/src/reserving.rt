@@ -1,6 +1,8 @@
 //! Pages taken ahead and given back, and maps of the usual configuration, small and large, beside the
 //! kit's map.
 
+use crate::assert_same::assert_same;
+use crate::pairs::is_same;
 use nifforan::{Config, Map, NoMemory, usual_config};
 use rand_core::{Rng, SeedableRng};
 use rand_pcg::Pcg32;
@@ -68,7 +70,12 @@ fn first_without_room(machine: Global) -> Result<Option<u32>, Fail> {
 
 #[test]
 fn pages_taken_ahead_do_for_their_pairs(rt: HostRuntime) -> Result<(), Fail> {
-    assert_eq!(rt; first_without_room(rt.alloc())?, None);
+    assert_same(
+        &rt,
+        first_without_room(rt.alloc())?,
+        None,
+        "the first without room",
+    );
     Ok(())
 }
 
@@ -98,9 +105,19 @@ fn pages_of_a_million(machine: Global) -> Result<usize, Fail> {
 #[test]
 fn as_many_pages_are_taken_as_there_may_be(rt: HostRuntime) -> Result<(), Fail> {
     let machine = rt.alloc();
-    assert_eq!(rt; thousand_ahead(machine)?, ([8, 8, 16, 1000], 999));
+    assert_same(
+        &rt,
+        thousand_ahead(machine)?,
+        ([8, 8, 16, 1000], 999),
+        "pages",
+    );
     let pages = pages_of_a_million(machine)?;
-    assert!(rt; (32_258..33_000).contains(&pages), "{pages}");
+    assert_same(
+        &rt,
+        (32_258..33_000).contains(&pages),
+        true,
+        ("pages", pages),
+    );
     Ok(())
 }
 
@@ -136,11 +153,7 @@ impl Both {
     }
 
     fn are_same(&self) -> bool {
-        self.map.len() == self.plain.len() as u64
-            && self
-                .map
-                .iter()
-                .eq(self.plain.iter().map(|pair| (*pair.0, *pair.1)))
+        is_same(&self.map, &self.plain)
     }
 
     /// Makes many drawn calls.
@@ -181,7 +194,12 @@ fn are_fitted(machine: Global, config: Config) -> Result<bool, Fail> {
 fn a_map_that_is_made_anew_has_its_pairs(rt: HostRuntime) -> Result<(), Fail> {
     for (fanout, chain, pages) in MAPS {
         let are_fitted = are_fitted(rt.alloc(), config_of(fanout, chain, pages))?;
-        assert!(rt; are_fitted, "fanout {fanout}, chain {chain}, pages {pages}");
+        assert_same(
+            &rt,
+            are_fitted,
+            true,
+            ("fanout, chain, pages", fanout, chain, pages),
+        );
     }
     Ok(())
 }
@@ -201,7 +219,7 @@ fn pages_left(machine: Global) -> Result<usize, Fail> {
 
 #[test]
 fn a_map_that_was_emptied_gives_its_pages_back(rt: HostRuntime) -> Result<(), Fail> {
-    assert_eq!(rt; pages_left(rt.alloc())?, 8);
+    assert_same(&rt, pages_left(rt.alloc())?, 8, "pages that are left");
     Ok(())
 }
 
@@ -240,6 +258,11 @@ fn count_of_small(machine: Global, maps: u64) -> Result<usize, Fail> {
 
 #[test]
 fn small_maps_have_few_pages(rt: HostRuntime) -> Result<(), Fail> {
-    assert_eq!(rt; count_of_small(rt.alloc(), 10_000)?, 10_000);
+    assert_same(
+        &rt,
+        count_of_small(rt.alloc(), 10_000)?,
+        10_000,
+        "small maps",
+    );
     Ok(())
 }

@@ -1,5 +1,6 @@
 //! A reader that looks all the time beside two workers that change the map and publish.
 
+use crate::assert_same::assert_same;
 use crate::crew::{Crew, work_on_new_tree};
 use crate::seen::{Left, Seen};
 use bw_audit::Verdict;
@@ -186,11 +187,21 @@ fn looks_beside_writers_are_answered_and_explained(rt: HostRuntime) -> Result<()
         };
         let outcome = outcome_of(machine, work_on_new_tree(rt, machine, LARGE, &crew)?)?;
         were_between = were_between || (0 < outcome.middle && outcome.middle < outcome.all);
-        assert_eq!(rt; outcome.faults, [None; 2], "run {run}");
-        assert_eq!(rt; outcome.unanswered, 0, "run {run}");
-        assert_eq!(rt; outcome.last, outcome.all, "run {run}");
-        assert_eq!(rt; outcome.verdict, Verdict::Yes, "run {run}");
+        assert_same(&rt, outcome.faults, [None; 2], ("faults, run", run));
+        assert_same(
+            &rt,
+            outcome.unanswered,
+            0,
+            ("looks without an answer, run", run),
+        );
+        assert_same(
+            &rt,
+            outcome.last,
+            outcome.all,
+            ("changes that the last look saw, run", run),
+        );
+        assert_same(&rt, outcome.verdict, Verdict::Yes, ("verdict, run", run));
     }
-    assert!(rt; were_between);
+    assert_same(&rt, were_between, true, "looks came between changes");
     Ok(())
 }

@@ -1,4 +1,4 @@
-use Rattle.test_beside.proofs.crew.work_on_new_tree.Given as goal
+use Rattle.test_snap.proofs.crew.work_on_new_tree.Given as goal
 
 abbrev pub ghosts-work_over-N-Ledger : goal.ghosts-work_over-N-Ledger
 ghosts-work_over-N-Ledger g a = record { name = a.blanks.insertions.name; parts = a.blanks.insertions.parts }

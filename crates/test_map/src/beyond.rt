@@ -1,6 +1,8 @@
 //! Maps that may have more pages than a table may be made with, and one that comes to have them,
 //! beside the kit's map.
 
+use crate::assert_same::assert_same;
+use crate::pairs::{is_same, is_same_backwards};
 use nifforan::{BadConfig, Config, Del, Field, MAX_PAGES, Map, NewFault, Put};
 use std::alloc::{AllocError, Global};
 use std::collections::BTreeMap;
@@ -51,10 +53,6 @@ struct Both {
     alike: bool,
 }
 
-fn owned(pair: (&u64, &u64)) -> (u64, u64) {
-    (*pair.0, *pair.1)
-}
-
 impl Both {
     fn put(&mut self, key: u64) -> Result<(), Fail> {
         let done = self.map.put(key, !key)?;
@@ -91,16 +89,6 @@ impl Both {
         Ok(())
     }
 
-    /// Returns whether the pairs are the same from the first on.
-    fn is_same_forwards(&self) -> bool {
-        self.map.iter().eq(self.plain.iter().map(owned))
-    }
-
-    /// Returns whether the pairs are the same from the last on.
-    fn is_same_backwards(&self) -> bool {
-        self.map.iter().rev().eq(self.plain.iter().rev().map(owned))
-    }
-
     /// Returns the number of pages that aren't free.
     fn pages_in_use(&self) -> usize {
         let most = self.map.config().pages as usize;
@@ -110,11 +98,11 @@ impl Both {
     /// Returns the number of pairs in the leaves, and whether one of these has a late id.
     fn leaves(&self, machine: Global) -> Result<(u64, bool), Fail> {
         let survey = self.map.table().survey(machine)?;
-        let mut pairs = 0u64;
+        let (mut pairs, mut is_late) = (0u64, false);
         for leaf in survey.leaves.iter() {
             pairs = pairs.saturating_add(leaf.count);
+            is_late = is_late || leaf.pid.0 >= MOST_MADE;
         }
-        let is_late = survey.leaves.iter().any(|leaf| leaf.pid.0 >= MOST_MADE);
         Ok((pairs, is_late))
     }
 
@@ -123,8 +111,8 @@ impl Both {
         let (leaf_pairs, has_late_leaves) = self.leaves(machine)?;
         Ok(Seen {
             alike: self.alike && leaf_pairs == self.plain.len() as u64,
-            forwards: self.is_same_forwards(),
-            backwards: self.is_same_backwards(),
+            forwards: is_same(&self.map, &self.plain),
+            backwards: is_same_backwards(&self.map, &self.plain),
             has_many_pages: self.map.table().config().pages > MOST_MADE,
             uses_many_pages: self.pages_in_use() > MOST_MADE as usize,
             has_late_leaves,
@@ -183,7 +171,12 @@ fn a_map_may_have_so_many_pages_and_no_more(rt: HostRuntime) -> Result<(), Fail>
     for (pages, chain, tries, wanted) in ASKED {
         let made = Map::new(machine, machine, config_of(pages, chain, tries));
         let free = made.map(|map| map.free_pages());
-        assert_eq!(rt; free, wanted, "{pages} pages, chain {chain}, tries {tries}");
+        assert_same(
+            &rt,
+            free,
+            wanted,
+            ("pages, chain, tries", pages, chain, tries),
+        );
     }
     Ok(())
 }
@@ -201,6 +194,6 @@ fn a_map_comes_to_have_more_pages_than_a_table_is_made_with(rt: HostRuntime) -> 
         alike: true,
     };
     let seen = both.seen_in_turn(machine)?;
-    assert_eq!(rt; seen, [FILLED, THINNED]);
+    assert_same(&rt, seen, [FILLED, THINNED], "pages");
     Ok(())
 }

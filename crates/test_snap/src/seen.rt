@@ -10,7 +10,7 @@ use std::test::Fail;
 use test_kit::Reported;
 
 /// What a reader saw.
-#[derive(Debug, Drop)]
+#[derive(Drop)]
 pub(crate) struct Seen {
     /// The receipts of its looks.
     pub(crate) trail: Vec<Receipt>,

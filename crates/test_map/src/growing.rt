@@ -1,13 +1,15 @@
 //! Maps whose tables grow, beside the same calls on maps whose tables have all their pages from the
 //! beginning, and on the kit's map.
 
-use bw_keys::Pid;
+use crate::assert_same::assert_same;
+use crate::pairs::{is_same, is_same_backwards, owned};
 use nifforan::{Config, Del, Done, Fault, Map, Put, Set, Table};
 use rand_core::{Rng, SeedableRng};
 use rand_pcg::Pcg32;
 use std::alloc::Global;
 use std::collections::BTreeMap;
 use std::test::Fail;
+use test_kit::are_same_pages;
 
 /// What a map is made by, the number of keys that are drawn, and whether it runs out of pages: with the
 /// fewest pages, with some that aren't eight doubled, with too few and enough, and with leaves of all sizes
@@ -41,10 +43,6 @@ struct Twins {
     plain: BTreeMap<u64, u64>,
     /// Whether a call found no page free.
     was_full: bool,
-}
-
-fn owned(pair: (&u64, &u64)) -> (u64, u64) {
-    (*pair.0, *pair.1)
 }
 
 /// Returns the reply, unless no page was free for the call, which then changed nothing.
@@ -162,19 +160,12 @@ impl Twins {
     /// Returns whether the tables have the same pages.
     fn are_same_pages(&self) -> bool {
         let (growing, whole) = (self.growing.table(), self.whole.table());
-        growing.root() == whole.root()
-            && (0..self.pages()).all(|page| growing.peek(Pid(page)) == whole.peek(Pid(page)))
+        growing.root() == whole.root() && are_same_pages(growing, whole, self.pages())
     }
 
     /// Returns whether the map that grows has the pairs of the kit's map, both ways.
     fn are_same_pairs(&self) -> bool {
-        self.growing.len() == self.plain.len() as u64
-            && self.growing.iter().eq(self.plain.iter().map(owned))
-            && self
-                .growing
-                .iter()
-                .rev()
-                .eq(self.plain.iter().rev().map(owned))
+        is_same(&self.growing, &self.plain) && is_same_backwards(&self.growing, &self.plain)
     }
 
     /// Returns whether the maps have the same pages, and the pairs of the kit's map.
@@ -311,10 +302,11 @@ fn a_map_that_grows_is_one_that_had_all_pages(rt: HostRuntime) -> Result<(), Fai
             gave_back: true,
         };
         let played = play_on_new(rt.alloc(), config_of(fanout, chain, pages), keys)?;
-        assert_eq!(rt;
+        assert_same(
+            &rt,
             played,
             wanted,
-            "fanout {fanout}, chain {chain}, pages {pages}"
+            ("fanout, chain, pages", fanout, chain, pages),
         );
     }
     Ok(())
