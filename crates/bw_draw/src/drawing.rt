@@ -86,7 +86,7 @@ impl Drawing {
     /// Draws the leaves of the window, and the pages above them.
     fn within(alloc: Global, picture: &Picture, leaves: Window) -> Result<Drawing, NoMemory> {
         let mut rows = rows_of(alloc, picture, leaves)?;
-        let width = place_across(alloc, &mut rows)?;
+        let width = width_of(&rows);
         let inner = width - MARGIN * 2;
         let legend = Legend::of(alloc, &rows, inner)?;
         let mut strip = Strip::of(alloc, picture)?;
@@ -102,12 +102,13 @@ impl Drawing {
     }
 }
 
-/// Returns the rows, from the leaves of the window up.
+/// Returns the rows, from the leaves of the window up, each placed over the one below it.
 fn rows_of(alloc: Global, picture: &Picture, leaves: Window) -> Result<Vec<Row>, NoMemory> {
     let mut window = leaves;
     let mut rows = Vec::new(alloc);
     for level in 0..=picture.root.level {
-        let row = Row::of(alloc, picture, level, window)?;
+        let mut row = Row::of(alloc, picture, level, window)?;
+        row.place(LEFT, rows.last());
         window = match window {
             Window::Whole => Window::Whole,
             Window::Around(_, _) | Window::Over(_, _) => row.window_above(),
@@ -119,23 +120,21 @@ fn rows_of(alloc: Global, picture: &Picture, leaves: Window) -> Result<Vec<Row>,
 
 /// Returns the least key of the first page that is half done, or else the least key.
 fn first_undone(picture: &Picture) -> Key {
-    let mut pages = picture.pages.iter();
-    match pages.find(|page| undone(page.view.stage).is_some()) {
-        Some(page) => page.view.low,
-        None => 0,
+    for page in picture.pages.iter() {
+        if undone(page.view.stage).is_some() {
+            return page.view.low;
+        }
     }
+    0
 }
 
-/// Places each row over the one below it, and returns the width of the drawing.
-fn place_across(alloc: Global, rows: &mut [Row]) -> Result<Length, NoMemory> {
+/// Returns the width of a drawing of the rows.
+fn width_of(rows: &[Row]) -> Length {
     let mut width = LEAST_WIDTH;
-    let mut below = Vec::new(alloc);
-    for row in rows.iter_mut() {
-        row.place(LEFT, &below);
-        below = row.spans(alloc)?;
+    for row in rows {
         width = width.max(row.right() + MARGIN);
     }
-    Ok(width)
+    width
 }
 
 /// Places the rows from the root's down, and returns where the last one ends.

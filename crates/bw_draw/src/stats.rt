@@ -21,7 +21,7 @@ use std::alloc::Global;
 use std::fmt;
 
 /// A table in numbers.
-#[derive(Debug, Drop)]
+#[derive(Drop)]
 pub struct Stats {
     /// The number of pages in the row of each level, from the leaves up.
     pub levels: Vec<usize>,
@@ -105,8 +105,10 @@ impl fmt::Display for Stats {
     fn fmt<W: fmt::Write>(&self, f: &mut fmt::Formatter<W>) -> fmt::Result {
         self.write_levels(f)?;
         self.write_counts(f)?;
-        self.write_spreads(f)?;
-        self.write_bytes(f)
+        let slots = u64::from(self.slots).saturating_mul(slot_bytes());
+        let pages = self.stored.saturating_mul(entry_bytes());
+        let records = self.links.saturating_mul(link_bytes());
+        write!(f, "bytes slots {slots} pages {pages} records {records}")
     }
 }
 
@@ -120,22 +122,15 @@ impl Stats {
     }
 
     fn write_counts<W: fmt::Write>(&self, f: &mut fmt::Formatter<W>) -> fmt::Result {
-        writeln!(f, "pairs {}", self.pairs)?;
-        write!(f, "unposted {} marked {}", self.unposted, self.marked)?;
-        writeln!(f, " merged {}", self.merged)?;
-        writeln!(f, "slots {} free {}", self.slots, self.free)
-    }
-
-    fn write_spreads<W: fmt::Write>(&self, f: &mut fmt::Formatter<W>) -> fmt::Result {
-        writeln!(f, "leaf entries {}", self.leaves)?;
-        writeln!(f, "inner entries {}", self.inner)?;
-        writeln!(f, "chain records {}", self.records)
-    }
-
-    fn write_bytes<W: fmt::Write>(&self, f: &mut fmt::Formatter<W>) -> fmt::Result {
-        let slots = u64::from(self.slots).saturating_mul(slot_bytes());
-        let pages = self.stored.saturating_mul(entry_bytes());
-        let records = self.links.saturating_mul(link_bytes());
-        write!(f, "bytes slots {slots} pages {pages} records {records}")
+        writeln!(
+            f,
+            "pairs {}\nunposted {} marked {} merged {}\nslots {} free {}",
+            self.pairs, self.unposted, self.marked, self.merged, self.slots, self.free
+        )?;
+        writeln!(
+            f,
+            "leaf entries {}\ninner entries {}\nchain records {}",
+            self.leaves, self.inner, self.records
+        )
     }
 }

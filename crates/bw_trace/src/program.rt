@@ -26,7 +26,7 @@ use crate::program::options::{Field, commands, ranged};
 use crate::program::report::write_report;
 use crate::program::run_options::RunOptions;
 use crate::program::setting::Setting;
-use crate::program::show::{draw, table_of, tell_stats, write_film};
+use crate::program::show::{draw, tell_stats, write_film};
 use crate::program::show_options::{DrawOptions, ShowOptions};
 use crate::program::steps::write_answers;
 use bw_audit::{Verdict, audit};
@@ -168,22 +168,25 @@ fn carry_out<T: Threads + Wait + Sync + Send + Copy, R: Read + Drop, W: Write, N
 {
     match name {
         "run" => {
-            do_run(
-                rt,
-                alloc,
-                RunOptions::of(options)?,
-                input,
-                output,
-                notes,
-                progress,
-            )
+            let options = RunOptions::of(options)?;
+            do_run(rt, alloc, options, input, output, notes, progress)
         }
-        "draw" => do_draw(rt, alloc, DrawOptions::of(options)?, input, output, notes),
-        "film" => do_film(alloc, FilmOptions::of(options)?, input, output),
-        "stats" => do_stats(rt, alloc, ShowOptions::of(options)?, input, output, notes),
-        "steps" => do_steps(alloc, input, output),
-        "make" => do_make(alloc, options, output),
+        "draw" => done(draw(rt, alloc, DrawOptions::of(options)?, input, output, notes)),
+        "film" => done(write_film(alloc, FilmOptions::of(options)?, input, output)),
+        "stats" => done(tell_stats(rt, alloc, ShowOptions::of(options)?, input, output, notes)),
+        "steps" => done(write_answers(alloc, input, output)),
+        "make" => done(do_make(alloc, options, output)),
         _ => do_check(alloc, input, output),
+    }
+}
+
+/// Returns the status of what was done, unless it has a fault.
+fn done(was: Result<(), Fault>) -> Result<u8, Fault>
+    ensures { IfOk result (λ status. status ≤ 4) }
+{
+    match was {
+        Ok(()) => Ok(DONE),
+        Err(fault) => Err(fault),
     }
 }
 
@@ -310,75 +313,15 @@ fn print_report<W: Write>(
     print_verdict(output, Verdict::Yes)
 }
 
-/// Draws the table that the trace or the script leaves.
-fn do_draw<T: Threads + Wait + Sync + Send + Copy, R: Read + Drop, W: Write, N: Write>(
-    rt: T,
-    alloc: Global,
-    options: DrawOptions,
-    input: R,
-    output: &mut W,
-    notes: &mut N,
-) -> Result<u8, Fault>
-    ensures { IfOk result (λ status. status ≤ 4) }
-{
-    let table = table_of(rt, alloc, options.shown, input, notes)?;
-    draw(alloc, &table, options.key, output)?;
-    Ok(DONE)
-}
-
-/// Prints the page that shows the film of the trace or of the script.
-fn do_film<R: Read + Drop, W: Write>(
-    alloc: Global,
-    options: FilmOptions,
-    input: R,
-    output: &mut W,
-) -> Result<u8, Fault>
-    ensures { IfOk result (λ status. status ≤ 4) }
-{
-    write_film(alloc, options, input, output)?;
-    Ok(DONE)
-}
-
-/// Prints the numbers of the table that the trace or the script leaves.
-fn do_stats<T: Threads + Wait + Sync + Send + Copy, R: Read + Drop, W: Write, N: Write>(
-    rt: T,
-    alloc: Global,
-    options: ShowOptions,
-    input: R,
-    output: &mut W,
-    notes: &mut N,
-) -> Result<u8, Fault>
-    ensures { IfOk result (λ status. status ≤ 4) }
-{
-    let table = table_of(rt, alloc, options, input, notes)?;
-    tell_stats(alloc, &table, output)?;
-    Ok(DONE)
-}
-
-/// Prints the answer to each line of the script.
-fn do_steps<R: Read + Drop, W: Write>(alloc: Global, input: R, output: &mut W) -> Result<u8, Fault>
-    ensures { IfOk result (λ status. status ≤ 4) }
-{
-    write_answers(alloc, input, output)?;
-    Ok(DONE)
-}
-
-fn do_make<W: Write>(alloc: Global, options: &ArgMatches, output: &mut W) -> Result<u8, Fault>
-    ensures { IfOk result (λ status. status ≤ 4) }
-{
+fn do_make<W: Write>(alloc: Global, options: &ArgMatches, output: &mut W) -> Result<(), Fault> {
     let seed = options.get_one::<u64>("seed").unwrap_or(0);
-    let workers = ranged(
-        options,
-        "workers",
-        1,
-        u64::from(MAX_WORKERS),
-        Field::Workers,
-    )?;
+    let most = u64::from(MAX_WORKERS);
+    let workers = ranged(options, "workers", 1, most, Field::Workers)?;
     let rows = ranged(options, "rows", 0, MOST_TRACE_ROWS, Field::Rows)?;
     let span = ranged(options, "span", 1, u64::from(u32::MAX), Field::Span)?;
     let made = make(alloc, seed, rows, workers as u32, span)?;
     write_trace(output, &made)?;
-    Ok(DONE)
+    Ok(())
 }
 
 fn do_check<R: Read + Drop, W: Write>(alloc: Global, input: R, output: &mut W) -> Result<u8, Fault>

@@ -1,17 +1,12 @@
 //! The boxes of a page.
 
 use crate::drawing::length::Length;
-use bw_delta::NoMemory;
-use std::alloc::Global;
 
 /// The height of a line of text.
 pub(crate) const LINE: Length = Length(15);
 
 /// What stands above and below the lines of a box, together.
 pub(crate) const INSET: Length = Length(6);
-
-/// What lies between two boxes.
-pub(crate) const GAP: Length = Length(4);
 
 /// What a box is for.
 #[derive(Clone, Copy)]
@@ -54,11 +49,4 @@ impl Block {
         }
         longest.div_ceil(self.columns.max(1))
     }
-}
-
-/// Returns a list of one line.
-pub(crate) fn one_line(alloc: Global, line: String) -> Result<Vec<String>, NoMemory> {
-    let mut lines = Vec::new(alloc);
-    lines.push(line)?;
-    Ok(lines)
 }

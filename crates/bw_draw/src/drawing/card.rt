@@ -6,10 +6,10 @@ use crate::drawing::text::{Short, undone};
 use crate::drawing::tower::Tower;
 use crate::page::Page;
 use crate::picture::Picture;
-use bw_delta::NoMemory;
+use bw_delta::{Chain, NoMemory};
 use bw_keys::{Fence, Key};
 use bw_step::{Stage, View};
-use std::alloc::Global;
+use std::alloc::{AllocError, Global};
 
 /// The width of a character.
 pub(crate) const CHARACTER: Length = Length(7);
@@ -30,8 +30,8 @@ pub(crate) struct Card {
     pub(crate) is_root: bool,
     pub(crate) title: String,
     pub(crate) range: String,
-    /// The number of entries, if the page is in a row.
-    pub(crate) count: Option<String>,
+    /// The number of entries, or empty if the page isn't in a row.
+    pub(crate) count: String,
     /// How many of the entries are more than a page keeps.
     pub(crate) over: u64,
     pub(crate) tower: Tower,
@@ -44,32 +44,62 @@ pub(crate) struct Card {
 impl Card {
     pub(crate) fn of(alloc: Global, picture: &Picture, page: &Page) -> Result<Card, NoMemory> {
         let view = page.view;
-        let over = view.count.saturating_sub(u64::from(picture.fanout));
-        let tower = match &page.chain {
-            Some(chain) => Tower::of(alloc, chain)?,
-            None => Tower::none(alloc),
-        };
-        Ok(Card {
+        let mut card = Card {
             view,
             is_root: view.pid == picture.root.pid,
-            title: format!(in alloc; "page {}", view.pid)?,
-            range: range_of(alloc, view)?,
-            count: count_of(alloc, view, over)?,
-            over,
-            tower,
+            title: String::new(alloc),
+            range: String::new(alloc),
+            count: String::new(alloc),
+            over: view.count.saturating_sub(u64::from(picture.fanout)),
+            tower: Tower::none(alloc),
             column: Length(0),
             left: Length(0),
             top: Length(0),
-        })
+        };
+        card.fill(alloc, &page.chain)?;
+        Ok(card)
+    }
+
+    /// Writes the head, and draws the chain.
+    fn fill(&mut self, alloc: Global, chain: &Option<Chain<Global>>) -> Result<(), NoMemory> {
+        write!(self.title, "page {}", self.view.pid)?;
+        self.write_range()?;
+        self.write_count()?;
+        match chain {
+            Some(chain) => self.tower.draw(alloc, chain),
+            None => Ok(()),
+        }
+    }
+
+    fn write_range(&mut self) -> Result<(), AllocError> {
+        let low = Short(self.view.low);
+        match self.view.high {
+            _ if self.view.stage == Stage::Merged => write!(self.range, "from {low}"),
+            Fence::Key(high) => write!(self.range, "{low} to {}", Short(high)),
+            Fence::Top => write!(self.range, "{low} to top"),
+        }
+    }
+
+    /// Writes the number of entries, and how many are more than a page keeps, if the page is in a
+    /// row.
+    fn write_count(&mut self) -> Result<(), AllocError> {
+        if self.view.stage == Stage::Merged {
+            return Ok(());
+        }
+        let (count, over) = (self.view.count, self.over);
+        let kind = if self.view.level == 0 { "key" } else { "term" };
+        let end = if count == 1 { "" } else { "s" };
+        write!(self.count, "{count} {kind}{end}")?;
+        if over > 0 {
+            write!(self.count, ", {over} over")?;
+        }
+        Ok(())
     }
 
     /// Returns the number of characters in a column.
     pub(crate) fn characters(&self) -> usize {
-        let mut head = self.title.len().max(self.range.chars().count());
-        if let Some(count) = &self.count {
-            head = head.max(count.len());
-        }
-        let head = head;
+        let head = self.title.len().max(self.count.len());
+        let head = head.max(self.range.chars().count());
         let mut longest = head.div_ceil(self.tower.columns.max(1));
         for block in self.tower.blocks.iter() {
             longest = longest.max(block.width());
@@ -96,7 +126,7 @@ impl Card {
 
     /// Returns the height of the head.
     pub(crate) fn head(&self) -> Length {
-        let count = usize::from(self.count.is_some());
+        let count = usize::from(!self.count.is_empty());
         let stage = usize::from(undone(self.view.stage).is_some());
         LINE * (count + stage + 2) + INSET
     }
@@ -125,27 +155,4 @@ impl Card {
     pub(crate) fn holds(&self, key: Key) -> bool {
         self.view.stage.is_in_row() && self.view.low <= key && self.view.high.is_above(key)
     }
-}
-
-/// Writes the number of entries, and how many are more than a page keeps, if the page is in a row.
-fn count_of(alloc: Global, view: View, over: u64) -> Result<Option<String>, NoMemory> {
-    if view.stage == Stage::Merged {
-        return Ok(None);
-    }
-    let kind = if view.level == 0 { "key" } else { "term" };
-    let end = if view.count == 1 { "" } else { "s" };
-    let mut count = format!(in alloc; "{} {kind}{end}", view.count)?;
-    if over > 0 {
-        write!(count, ", {over} over")?;
-    }
-    Ok(Some(count))
-}
-
-fn range_of(alloc: Global, view: View) -> Result<String, NoMemory> {
-    let low = Short(view.low);
-    Ok(match view.high {
-        _ if view.stage == Stage::Merged => format!(in alloc; "from {low}")?,
-        Fence::Key(high) => format!(in alloc; "{low} to {}", Short(high))?,
-        Fence::Top => format!(in alloc; "{low} to top")?,
-    })
 }

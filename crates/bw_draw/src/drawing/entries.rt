@@ -3,7 +3,7 @@
 use crate::drawing::text::Short;
 use bw_delta::{Base, Entries, NoMemory};
 use bw_keys::{Fence, Key, Pid};
-use std::alloc::{Allocator, Global};
+use std::alloc::{AllocError, Allocator, Global};
 
 /// The most entries of a page that are drawn, and the most of those that a split took away.
 const MOST: usize = 6;
@@ -25,21 +25,35 @@ pub(crate) fn lines_of<A: Allocator + Copy>(
     base: &Base<A>,
     end: Fence,
 ) -> Result<Listed, NoMemory> {
-    let below = entries_below(&base.entries, end);
-    let mut lines = Vec::new(alloc);
-    if below == 0 {
-        lines.push("empty".to_string(alloc)?)?;
+    let mut listed = Listed {
+        lines: Vec::new(alloc),
+        kept: 0,
+    };
+    listed.fill(alloc, base, entries_below(&base.entries, end))?;
+    Ok(listed)
+}
+
+impl Listed {
+    /// Lists the entries, of which this many are below the end.
+    fn fill<A: Allocator + Copy>(
+        &mut self,
+        alloc: Global,
+        base: &Base<A>,
+        below: usize,
+    ) -> Result<(), NoMemory> {
+        if below == 0 {
+            self.lines.push("empty".to_string(alloc)?)?;
+        }
+        list(alloc, &mut self.lines, &base.entries, (0, below), MOST)?;
+        self.kept = self.lines.len();
+        list(
+            alloc,
+            &mut self.lines,
+            &base.entries,
+            (below, base.len()),
+            MOST_GONE,
+        )
     }
-    list(alloc, &mut lines, &base.entries, (0, below), MOST)?;
-    let kept = lines.len();
-    list(
-        alloc,
-        &mut lines,
-        &base.entries,
-        (below, base.len()),
-        MOST_GONE,
-    )?;
-    Ok(Listed { lines, kept })
 }
 
 /// Lists the entries from a place on, up to another one.
@@ -56,7 +70,8 @@ fn list<A: Allocator + Copy>(
         if is_whole || place < gap || place == end - 1 {
             lines.push(line_at(alloc, entries, place)?)?;
         } else if place == gap {
-            lines.push(text(alloc, end.saturating_sub(gap).saturating_sub(1))?)?;
+            let hidden = end.saturating_sub(gap).saturating_sub(1);
+            lines.push(format!(in alloc; "… {hidden} more")?)?;
         }
     }
     Ok(())
@@ -71,14 +86,18 @@ fn entries_below<A: Allocator + Copy>(entries: &Entries<A>, end: Fence) -> usize
 }
 
 fn keys_below(keys: &[Key], end: Fence) -> usize {
-    keys.iter().filter(|key| end.is_above(**key)).count()
+    let mut below = 0usize;
+    for key in keys {
+        below = below.saturating_add(usize::from(end.is_above(*key)));
+    }
+    below
 }
 
 fn line_at<A: Allocator + Copy>(
     alloc: Global,
     entries: &Entries<A>,
     place: usize,
-) -> Result<String, NoMemory> {
+) -> Result<String, AllocError> {
     match entries {
         Entries::Pairs(pairs) => match pairs.as_slice().get(place) {
             Some((key, value)) => pair(alloc, key, value),
@@ -91,14 +110,10 @@ fn line_at<A: Allocator + Copy>(
     }
 }
 
-fn pair(alloc: Global, key: Key, value: u64) -> Result<String, NoMemory> {
-    Ok(format!(in alloc; "{}:{}", Short(key), Short(value))?)
+fn pair(alloc: Global, key: Key, value: u64) -> Result<String, AllocError> {
+    format!(in alloc; "{}:{}", Short(key), Short(value))
 }
 
-fn route(alloc: Global, key: Key, page: Pid) -> Result<String, NoMemory> {
-    Ok(format!(in alloc; "{} → {page}", Short(key))?)
-}
-
-fn text(alloc: Global, entries: usize) -> Result<String, NoMemory> {
-    Ok(format!(in alloc; "… {entries} more")?)
+fn route(alloc: Global, key: Key, page: Pid) -> Result<String, AllocError> {
+    format!(in alloc; "{} → {page}", Short(key))
 }

@@ -69,43 +69,47 @@ struct Marks {
 impl Legend {
     /// Returns the legend of the rows, in lines of this width.
     pub(crate) fn of(alloc: Global, rows: &[Row], width: Length) -> Result<Legend, NoMemory> {
-        let marks = Marks::of(rows);
         let mut legend = Legend {
             items: Vec::new(alloc),
             width,
             left: Length(0),
             top: Length(0),
         };
-        legend.add(true, Mark::Box("base"), "base page")?;
-        legend.add(marks.change, Mark::Box("change"), "change of a key")?;
-        legend.add(marks.shape, Mark::Box("shape"), "change of shape")?;
-        legend.add(marks.gone, Mark::Text("gone", "5:50"), "split off")?;
-        legend.add(marks.term, Mark::Line("line"), "term")?;
-        legend.add(marks.stub, Mark::Line("stub"), "terms of pages not drawn")?;
-        legend.add(marks.side, Mark::Line("side"), "side link")?;
-        legend.add_half_done(marks)?;
-        legend.add(
-            marks.cut,
-            Mark::Text("text", "1‹5›9"),
-            "a number, 5 digits left out",
-        )?;
+        legend.add_all(Marks::of(rows))?;
         Ok(legend)
     }
 
-    fn add_half_done(&mut self, marks: Marks) -> Result<(), NoMemory> {
-        let (half, coming, going) = (Mark::Box("half"), Mark::Line("coming"), Mark::Line("going"));
-        self.add(marks.unposted, half, "unposted: no term yet")?;
-        self.add(marks.coming, coming, "term to come")?;
-        self.add(marks.marked, half, "marked: takes no change, to be merged")?;
-        self.add(marks.merged, half, "merged: its keys went left")?;
-        self.add(marks.merged, going, "term to go")
+    /// Appends an item for each of the marks.
+    fn add_all(&mut self, marks: Marks) -> Result<(), NoMemory> {
+        let half = Mark::Box("half");
+        for (is_there, mark, text) in [
+            (true, Mark::Box("base"), "base page"),
+            (marks.change, Mark::Box("change"), "change of a key"),
+            (marks.shape, Mark::Box("shape"), "change of shape"),
+            (marks.gone, Mark::Text("gone", "5:50"), "split off"),
+            (marks.term, Mark::Line("line"), "term"),
+            (marks.stub, Mark::Line("stub"), "terms of pages not drawn"),
+            (marks.side, Mark::Line("side"), "side link"),
+            (marks.unposted, half, "unposted: no term yet"),
+            (marks.coming, Mark::Line("coming"), "term to come"),
+            (marks.marked, half, "marked: takes no change, to be merged"),
+            (marks.merged, half, "merged: its keys went left"),
+            (marks.merged, Mark::Line("going"), "term to go"),
+            (
+                marks.cut,
+                Mark::Text("text", "1‹5›9"),
+                "a number, 5 digits left out",
+            ),
+        ] {
+            if is_there {
+                self.add(mark, text)?;
+            }
+        }
+        Ok(())
     }
 
-    /// Appends an item if it is wanted, on a new line if there is no room.
-    fn add(&mut self, is_wanted: bool, mark: Mark, text: &'static str) -> Result<(), NoMemory> {
-        if !is_wanted {
-            return Ok(());
-        }
+    /// Appends an item, on a new line if there is no room.
+    fn add(&mut self, mark: Mark, text: &'static str) -> Result<(), NoMemory> {
         let width = mark.width() + CHARACTER * text.len();
         if self.left + width > self.width {
             self.left = Length(0);
@@ -153,8 +157,7 @@ impl Marks {
         };
         let mut below: Option<&Row> = None;
         for row in rows {
-            let is_lower = usize::from(row.level) + 1 < rows.len();
-            marks.see_row(row, is_lower);
+            marks.see_row(row, usize::from(row.level) + 1 < rows.len());
             if let Some(below) = below {
                 marks.see_stubs(row, below);
             }
@@ -166,24 +169,24 @@ impl Marks {
     /// Notes the marks of a row, and of the terms of its pages if there is a row above it.
     fn see_row(&mut self, row: &Row, is_lower: bool) {
         self.side = self.side || row.in_row > 1;
-        let mut cards = row.cards.iter();
-        let has_unposted = cards.any(|card| card.view.stage == Stage::Unposted);
-        self.coming = self.coming || (is_lower && has_unposted);
         for card in row.cards.iter() {
-            self.see_card(card);
+            self.see_card(card, is_lower);
         }
     }
 
     /// Notes whether a page of the row has terms of pages below it that aren't drawn.
     fn see_stubs(&mut self, row: &Row, below: &Row) {
-        let mut cards = row.cards.iter();
-        let has_stubs = cards.any(|card| below.lacks_terms_of(card));
-        self.stub = self.stub || has_stubs;
+        for card in row.cards.iter() {
+            self.stub = self.stub || below.lacks_terms_of(card);
+        }
     }
 
-    fn see_card(&mut self, card: &Card) {
+    fn see_card(&mut self, card: &Card, is_lower: bool) {
         match card.view.stage {
-            Stage::Unposted => self.unposted = true,
+            Stage::Unposted => {
+                self.unposted = true;
+                self.coming = self.coming || is_lower;
+            }
             Stage::Marked => self.marked = true,
             Stage::Merged => self.merged = true,
             Stage::Free | Stage::Posted => {}
@@ -201,7 +204,8 @@ impl Marks {
             Kind::Base | Kind::More => {}
         }
         self.gone = self.gone || block.kept < block.lines.len();
-        let is_cut = block.lines.iter().any(|line| is_cut(line.as_str()));
-        self.cut = self.cut || is_cut;
+        for line in block.lines.iter() {
+            self.cut = self.cut || is_cut(line.as_str());
+        }
     }
 }

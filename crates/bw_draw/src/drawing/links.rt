@@ -19,7 +19,6 @@ pub(crate) fn write_links<W: fmt::Write>(f: &mut fmt::Formatter<W>, rows: &[Row]
         if let Some(below) = below {
             for parent in row.cards.iter() {
                 write_terms(f, parent, row.bottom(), below)?;
-                write_stubs(f, parent, below)?;
             }
         }
         below = Some(row);
@@ -27,18 +26,14 @@ pub(crate) fn write_links<W: fmt::Write>(f: &mut fmt::Formatter<W>, rows: &[Row]
     Ok(())
 }
 
-/// Writes the lines from a page to those below it.
+/// Writes the lines from a page to those below it, drawn or not.
 fn write_terms<W: fmt::Write>(
     f: &mut fmt::Formatter<W>,
     parent: &Card,
     bottom: Length,
     below: &Row,
 ) -> fmt::Result {
-    let children = below
-        .cards
-        .iter()
-        .filter(|card| parent.holds(card.view.low))
-        .count();
+    let children = below.begun_in(parent);
     let mut place = 0usize;
     for child in below.cards.iter() {
         if parent.holds(child.view.low) {
@@ -48,7 +43,7 @@ fn write_terms<W: fmt::Write>(
             place = place.saturating_add(1);
         }
     }
-    Ok(())
+    write_stubs(f, parent, below)
 }
 
 /// Writes short lines at the sides of a page that has terms of pages which aren't drawn.
@@ -62,7 +57,7 @@ fn write_stubs<W: fmt::Write>(
         write_stub(f, parent.left - STUB, height)?;
     }
     if below.ends_before(parent) {
-        write_stub(f, parent.right(), height)?;
+        return write_stub(f, parent.right(), height);
     }
     Ok(())
 }
@@ -100,39 +95,43 @@ fn write_term<W: fmt::Write>(
 fn write_side_links<W: fmt::Write>(f: &mut fmt::Formatter<W>, row: &Row) -> fmt::Result {
     let height = row.top + LINE;
     let mut last: Option<&Card> = None;
-    for card in row.cards.iter().filter(|card| card.view.stage.is_in_row()) {
-        match last {
-            Some(last) => write_link(f, last, card, height)?,
-            None if row.hidden_before > 0 => {
-                f.write_str("<path class=\"side\"")?;
-                write_arrow(f, row.left() - BETWEEN, card.left, height)?;
-            }
-            None => {}
+    for card in row.cards.iter() {
+        if card.view.stage.is_in_row() {
+            write_link_to(f, row, last, card, height)?;
+            last = Some(card);
         }
-        last = Some(card);
     }
     match last {
         Some(last) if row.hidden_after > 0 => {
-            f.write_str("<path class=\"side\"")?;
             write_arrow(f, last.right(), row.right() - HIDDEN_WIDTH, height)
         }
         _ => Ok(()),
     }
 }
 
-/// Writes the arrow from a page to the next one of its row.
-fn write_link<W: fmt::Write>(
+/// Writes the arrow to a page from the one before it in its row, or from the box of hidden ones.
+fn write_link_to<W: fmt::Write>(
     f: &mut fmt::Formatter<W>,
-    left: &Card,
-    right: &Card,
+    row: &Row,
+    last: Option<&Card>,
+    card: &Card,
     height: Length,
 ) -> fmt::Result {
-    let (from, to) = (left.view.pid, right.view.pid);
-    write!(f, "<path class=\"side\" data-link=\"{from} {to}\"")?;
-    write_arrow(f, left.right(), right.left, height)
+    match last {
+        Some(last) => writeln!(
+            f,
+            "<path class=\"side\" data-link=\"{} {}\" marker-end=\"url(#side)\" d=\"M{} {height}H{}\"/>",
+            last.view.pid,
+            card.view.pid,
+            last.right(),
+            card.left
+        ),
+        None if row.hidden_before > 0 => { write_arrow(f, row.left() - BETWEEN, card.left, height) }
+        None => Ok(()),
+    }
 }
 
-/// Ends the path of an arrow.
+/// Writes an arrow from or to a box of hidden pages.
 fn write_arrow<W: fmt::Write>(
     f: &mut fmt::Formatter<W>,
     left: Length,
@@ -141,6 +140,6 @@ fn write_arrow<W: fmt::Write>(
 ) -> fmt::Result {
     writeln!(
         f,
-        " marker-end=\"url(#side)\" d=\"M{left} {height}H{right}\"/>"
+        "<path class=\"side\" marker-end=\"url(#side)\" d=\"M{left} {height}H{right}\"/>"
     )
 }

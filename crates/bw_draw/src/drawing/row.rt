@@ -42,14 +42,6 @@ pub(crate) enum Window {
     Over(Key, Key),
 }
 
-/// Where a page of a row stands, for the row above.
-#[derive(Clone, Copy)]
-pub(crate) struct Span {
-    low: Key,
-    left: Length,
-    right: Length,
-}
-
 impl Row {
     pub(crate) fn of(
         alloc: Global,
@@ -59,24 +51,37 @@ impl Row {
     ) -> Result<Row, NoMemory> {
         let order = order_of(alloc, picture, level)?;
         let (first, end) = window.places(&order);
-        let mut cards = Vec::new(alloc);
-        for (_, place) in order.iter().take(end).skip(first) {
-            if let Some(page) = picture.pages.get(*place) {
-                cards.push(Card::of(alloc, picture, page)?)?;
-            }
-        }
         let merged = merged_of(picture, level);
         let mut row = Row {
             level,
-            cards,
+            cards: Vec::new(alloc),
             hidden_before: first,
             hidden_after: order.len().saturating_sub(end),
             in_row: order.len().saturating_sub(merged),
             merged,
             top: Length(0),
         };
+        for at in first..end {
+            row.add(alloc, picture, order.get(at))?;
+        }
         row.widen();
         Ok(row)
+    }
+
+    /// Appends the card of the page at a place of the picture.
+    fn add(
+        &mut self,
+        alloc: Global,
+        picture: &Picture,
+        place: Option<&(Key, usize)>,
+    ) -> Result<(), NoMemory> {
+        let Some((_, place)) = place else {
+            return Ok(());
+        };
+        if let Some(page) = picture.pages.get(*place) {
+            self.cards.push(Card::of(alloc, picture, page)?)?;
+        }
+        Ok(())
     }
 
     /// Returns the pages one level above that have terms of those that are drawn.
@@ -99,32 +104,33 @@ impl Row {
     }
 
     /// Places the cards from the left on, each over the middle of those below it if there is room.
-    pub(crate) fn place(&mut self, left: Length, below: &[Span]) {
+    pub(crate) fn place(&mut self, left: Length, below: Option<&Row>) {
         let mut next = left;
         if self.hidden_before > 0 {
             next = next + HIDDEN_WIDTH + BETWEEN;
         }
         for card in self.cards.iter_mut() {
-            let wanted = match middle_of(card, below) {
-                Some(middle) => middle - card.width().half(),
-                None => next,
-            };
-            card.left = wanted.max(next);
+            card.left = next;
+            if let Some(below) = below {
+                card.left = next.max(below.middle_of(card) - card.width().half());
+            }
             next = card.right() + BETWEEN;
         }
     }
 
-    /// Returns where the cards stand.
-    pub(crate) fn spans(&self, alloc: Global) -> Result<Vec<Span>, NoMemory> {
-        let mut spans = Vec::new(alloc);
+    /// Returns the middle of the pages that begin in the range of a card of the row above, or 0.
+    fn middle_of(&self, parent: &Card) -> Length {
+        let mut ends: Option<(Length, Length)> = None;
         for card in self.cards.iter() {
-            spans.push(Span {
-                low: card.view.low,
-                left: card.left,
-                right: card.right(),
-            })?;
+            if parent.holds(card.view.low) {
+                let (left, _) = ends.unwrap_or((card.left, card.left));
+                ends = Some((left, card.right()));
+            }
         }
-        Ok(spans)
+        match ends {
+            Some((left, right)) => (left + right).half(),
+            None => Length(0),
+        }
     }
 
     /// Returns where the first drawn page begins, merged or not.
@@ -161,6 +167,15 @@ impl Row {
         bottom
     }
 
+    /// Returns the number of drawn pages that begin in the range of a card of the row above.
+    pub(crate) fn begun_in(&self, parent: &Card) -> usize {
+        let mut begun = 0usize;
+        for card in self.cards.iter() {
+            begun = begun.saturating_add(usize::from(parent.holds(card.view.low)));
+        }
+        begun
+    }
+
     /// Returns whether the card of the row above has terms of pages that aren't drawn here.
     pub(crate) fn lacks_terms_of(&self, card: &Card) -> bool {
         self.begins_after(card) || self.ends_before(card)
@@ -169,26 +184,28 @@ impl Row {
     /// Returns whether the card has keys before those of all drawn pages. A merged page has none.
     pub(crate) fn begins_after(&self, card: &Card) -> bool {
         match self.cards.first() {
-            Some(first) if card.view.stage.is_in_row() => {
-                self.hidden_before > 0 && card.view.low < first.view.low
+            Some(first) => {
+                self.hidden_before > 0
+                    && card.view.stage.is_in_row()
+                    && card.view.low < first.view.low
             }
-            _ => false,
+            None => false,
         }
     }
 
     /// Returns whether the card has keys after those of all drawn pages. A merged page has none.
     pub(crate) fn ends_before(&self, card: &Card) -> bool {
-        match self
-            .cards
-            .iter()
-            .filter(|it| it.view.stage.is_in_row())
-            .last()
-        {
-            Some(last) if card.view.stage.is_in_row() => match last.view.high {
-                Fence::Key(high) => self.hidden_after > 0 && card.view.high.is_above(high),
-                Fence::Top => false,
-            },
-            _ => false,
+        let mut end = Fence::Top;
+        for it in self.cards.iter() {
+            if it.view.stage.is_in_row() {
+                end = it.view.high;
+            }
+        }
+        match end {
+            Fence::Key(end) => {
+                self.hidden_after > 0 && card.view.stage.is_in_row() && card.view.high.is_above(end)
+            }
+            Fence::Top => false,
         }
     }
 }
@@ -205,7 +222,7 @@ impl Window {
                 (first, first.saturating_add(most).min(order.len()))
             }
             Window::Over(first, last) => {
-                let end = order.iter().filter(|(low, _)| *low <= last).count();
+                let (_, end) = begun(order, last);
                 (place_of(order, first), end)
             }
         }
@@ -214,11 +231,18 @@ impl Window {
 
 /// Returns the place of the page that begins at the key, or else of the last that begins before it.
 fn place_of(order: &[(Key, usize)], key: Key) -> usize {
-    let before = order.iter().filter(|(low, _)| *low < key).count();
-    match order.get(before) {
-        Some((low, _)) if *low == key => before,
-        _ => before.saturating_sub(1),
+    let (before, end) = begun(order, key);
+    before.saturating_sub(usize::from(before == end))
+}
+
+/// Returns how many pages begin before the key, and how many do or begin at it.
+fn begun(order: &[(Key, usize)], key: Key) -> (usize, usize) {
+    let (mut before, mut end) = (0usize, 0usize);
+    for (low, _) in order {
+        before = before.saturating_add(usize::from(*low < key));
+        end = end.saturating_add(usize::from(*low <= key));
     }
+    (before, end)
 }
 
 /// Returns the places of the level's pages, by their least keys.
@@ -234,21 +258,11 @@ fn order_of(alloc: Global, picture: &Picture, level: u8) -> Result<Vec<(Key, usi
 }
 
 fn merged_of(picture: &Picture, level: u8) -> usize {
-    let pages = picture.pages.iter();
-    pages
-        .filter(|page| page.view.level == level && page.view.stage == Stage::Merged)
-        .count()
-}
-
-/// Returns the middle of the pages whose keys begin in the card's range.
-fn middle_of(card: &Card, below: &[Span]) -> Option<Length> {
-    let mut ends: Option<(Length, Length)> = None;
-    for span in below {
-        if card.holds(span.low) {
-            let (left, right) = ends.unwrap_or((span.left, span.right));
-            ends = Some((left.min(span.left), right.max(span.right)));
+    let mut merged = 0usize;
+    for page in picture.pages.iter() {
+        if page.view.level == level && page.view.stage == Stage::Merged {
+            merged = merged.saturating_add(1);
         }
     }
-    let (left, right) = ends?;
-    Some((left + right).half())
+    merged
 }

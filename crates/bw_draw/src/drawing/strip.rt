@@ -3,9 +3,10 @@
 use crate::drawing::card::CHARACTER;
 use crate::drawing::length::Length;
 use crate::drawing::text::{Short, undone};
+use crate::page::Page;
 use crate::picture::Picture;
 use bw_delta::NoMemory;
-use bw_keys::{Pid, Version};
+use bw_keys::Pid;
 use bw_step::{Stage, View};
 use std::alloc::Global;
 
@@ -49,21 +50,12 @@ pub(crate) struct Strip {
     pub(crate) in_line: usize,
 }
 
-impl Cell {
-    fn free(alloc: Global) -> Result<Cell, NoMemory> {
-        Ok(Cell {
-            stage: Stage::Free,
-            text: "free".to_string(alloc)?,
-        })
-    }
-}
-
 impl Strip {
     pub(crate) fn of(alloc: Global, picture: &Picture) -> Result<Strip, NoMemory> {
         let mut strip = Strip {
             slots: picture.slots as usize,
             pages: picture.pages.len(),
-            undone: undone_pages(picture),
+            undone: 0,
             cells: Vec::new(alloc),
             hidden: 0,
             cell: LEAST_CELL,
@@ -71,31 +63,46 @@ impl Strip {
             top: Length(0),
             in_line: 1,
         };
-        for page in picture.pages.iter() {
-            strip.add(alloc, page.view)?;
-        }
-        if strip.cells.len() < strip.slots.min(MOST) {
-            strip.cells.push(Cell::free(alloc)?)?;
-        }
+        strip.fill(alloc, &picture.pages)?;
         strip.widen();
         Ok(strip)
     }
 
+    /// Appends the cells of the pages and of the free slots before them, and one free one more.
+    fn fill(&mut self, alloc: Global, pages: &[Page]) -> Result<(), NoMemory> {
+        for page in pages {
+            self.add(alloc, page.view)?;
+        }
+        if self.cells.len() < self.slots.min(MOST) {
+            self.add_free(alloc)?;
+        }
+        Ok(())
+    }
+
     /// Appends the cell of a page, after those of the free slots before it.
     fn add(&mut self, alloc: Global, view: View) -> Result<(), NoMemory> {
+        if undone(view.stage).is_some() {
+            self.undone = self.undone.saturating_add(1);
+        }
         let Pid(id) = view.pid;
         for _ in self.cells.len()..(id as usize).min(MOST) {
-            self.cells.push(Cell::free(alloc)?)?;
+            self.add_free(alloc)?;
         }
         if self.cells.len() >= MOST {
             self.hidden = self.hidden.saturating_add(1);
             return Ok(());
         }
-        self.cells.push(Cell {
-            stage: view.stage,
-            text: text_of(alloc, view.version)?,
-        })?;
-        Ok(())
+        let text = format!(in alloc; "v{}", Short(view.version.0))?;
+        self.add_cell(view.stage, text)
+    }
+
+    fn add_free(&mut self, alloc: Global) -> Result<(), NoMemory> {
+        let text = "free".to_string(alloc)?;
+        self.add_cell(Stage::Free, text)
+    }
+
+    fn add_cell(&mut self, stage: Stage, text: String) -> Result<(), NoMemory> {
+        Ok(self.cells.push(Cell { stage, text })?)
     }
 
     /// Makes the cells as wide as the longest text.
@@ -124,15 +131,4 @@ impl Strip {
         let lines = self.cells.len().div_ceil(self.in_line.max(1));
         self.top + (CELL_HEIGHT + CELL_GAP) * lines
     }
-}
-
-fn text_of(alloc: Global, version: Version) -> Result<String, NoMemory> {
-    Ok(format!(in alloc; "v{}", Short(version.0))?)
-}
-
-fn undone_pages(picture: &Picture) -> usize {
-    let pages = picture.pages.iter();
-    pages
-        .filter(|page| undone(page.view.stage).is_some())
-        .count()
 }

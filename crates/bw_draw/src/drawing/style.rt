@@ -1,5 +1,6 @@
 //! How a drawing looks, in the light and in the dark.
 
+/// The styles, and the heads of the arrows.
 pub(crate) const STYLE: &str = "<style>
 text { fill: #1d2733; font: 11px ui-monospace, SFMono-Regular, Menlo, Consolas, 'DejaVu Sans Mono', monospace; }
 .name { font-weight: bold; }
@@ -42,4 +43,8 @@ text { fill: #e6ebf1; }
 .going { stroke: #ff8a80; }
 }
 </style>
+<defs>
+<marker id=\"side\" viewBox=\"0 0 10 10\" refX=\"9\" refY=\"5\" markerWidth=\"6\" markerHeight=\"6\" orient=\"auto\"><path class=\"side-head\" d=\"M0 0L10 5L0 10z\"/></marker>
+<marker id=\"term\" viewBox=\"0 0 10 10\" refX=\"9\" refY=\"5\" markerWidth=\"6\" markerHeight=\"6\" orient=\"auto\"><path class=\"term-head\" d=\"M0 0L10 5L0 10z\"/></marker>
+</defs>
 ";

@@ -20,60 +20,36 @@ const FEET: Length = Length(12);
 impl fmt::Display for Drawing {
     fn fmt<W: fmt::Write>(&self, f: &mut fmt::Formatter<W>) -> fmt::Result {
         self.write_head(f)?;
-        f.write_str(STYLE)?;
-        f.write_str(HEADS)?;
-        self.write_ground(f)?;
-        self.write_parts(f)?;
-        f.write_str("</svg>")
-    }
-}
-
-/// The heads of the arrows.
-const HEADS: &str =
-    "<defs>\n<marker id=\"side\" viewBox=\"0 0 10 10\" refX=\"9\" refY=\"5\" markerWidth=\"6\" markerHeight=\"6\" orient=\"auto\"><path class=\"side-head\" d=\"M0 0L10 5L0 10z\"/></marker>\n<marker id=\"term\" viewBox=\"0 0 10 10\" refX=\"9\" refY=\"5\" markerWidth=\"6\" markerHeight=\"6\" orient=\"auto\"><path class=\"term-head\" d=\"M0 0L10 5L0 10z\"/></marker>\n</defs>\n";
-
-impl Drawing {
-    fn write_head<W: fmt::Write>(&self, f: &mut fmt::Formatter<W>) -> fmt::Result {
-        let (width, height) = (self.width, self.height);
-        writeln!(
-            f,
-            "<svg xmlns=\"http://www.w3.org/2000/svg\" width=\"{width}\" height=\"{height}\" viewBox=\"0 0 {width} {height}\" role=\"img\">"
-        )?;
-        let (pages, levels) = (self.strip.pages, self.rows.len());
-        writeln!(
-            f,
-            "<title>A Bw-tree of {pages} page{} on {levels} level{}</title>",
-            plural(pages),
-            plural(levels)
-        )
-    }
-
-    fn write_ground<W: fmt::Write>(&self, f: &mut fmt::Formatter<W>) -> fmt::Result {
-        writeln!(
-            f,
-            "<rect class=\"ground\" width=\"{}\" height=\"{}\" rx=\"8\"/>",
-            self.width, self.height
-        )
-    }
-
-    /// Writes the strip, the links, the rows from the root's down, and the legend.
-    fn write_parts<W: fmt::Write>(&self, f: &mut fmt::Formatter<W>) -> fmt::Result {
         write_strip(f, &self.strip)?;
         write_links(f, &self.rows)?;
         for row in self.rows.iter().rev() {
             write_row(f, row)?;
         }
         let height = self.legend.height() + MARGIN.half();
-        write_legend(f, &self.legend, self.height - height)
+        write_legend(f, &self.legend, self.height - height)?;
+        f.write_str("</svg>")
     }
 }
 
-fn write_text<W: fmt::Write>(
+impl Drawing {
+    fn write_head<W: fmt::Write>(&self, f: &mut fmt::Formatter<W>) -> fmt::Result {
+        let (width, height) = (self.width, self.height);
+        let (pages, levels) = (self.strip.pages, self.rows.len());
+        writeln!(
+            f,
+            "<svg xmlns=\"http://www.w3.org/2000/svg\" width=\"{width}\" height=\"{height}\" viewBox=\"0 0 {width} {height}\" role=\"img\">\n<title>A Bw-tree of {pages} page{} on {levels} level{}</title>\n{STYLE}<rect class=\"ground\" width=\"{width}\" height=\"{height}\" rx=\"8\"/>",
+            plural(pages),
+            plural(levels)
+        )
+    }
+}
+
+fn write_text<W: fmt::Write, S: fmt::Display>(
     f: &mut fmt::Formatter<W>,
     class: &str,
     left: Length,
     top: Length,
-    text: &str,
+    text: &S,
 ) -> fmt::Result {
     writeln!(
         f,
@@ -115,8 +91,10 @@ fn write_strip<W: fmt::Write>(f: &mut fmt::Formatter<W>, strip: &Strip) -> fmt::
         )?;
     }
     f.write_str("</tspan></text>\n")?;
-    for (id, cell) in strip.cells.iter().enumerate() {
+    let mut id = 0usize;
+    for cell in strip.cells.iter() {
         write_cell(f, strip, id, cell)?;
+        id = id.saturating_add(1);
     }
     f.write_str("</g>\n")
 }
@@ -139,14 +117,10 @@ fn write_cell<W: fmt::Write>(
     writeln!(f, "<g data-slot=\"{id}\">")?;
     write_box(f, class, (left, top), (strip.cell, CELL_HEIGHT))?;
     let middle = left + strip.cell.half();
-    write!(
-        f,
-        "<text class=\"{name} middle\" x=\"{middle}\" y=\"{}\">{id}</text>",
-        top + FEET + INSET.half()
-    )?;
     writeln!(
         f,
-        "<text class=\"soft middle\" x=\"{middle}\" y=\"{}\">{}</text>\n</g>",
+        "<text class=\"{name} middle\" x=\"{middle}\" y=\"{}\">{id}</text><text class=\"soft middle\" x=\"{middle}\" y=\"{}\">{}</text>\n</g>",
+        top + FEET + INSET.half(),
         top + LINE + FEET,
         cell.text
     )
@@ -171,26 +145,15 @@ fn write_row<W: fmt::Write>(f: &mut fmt::Formatter<W>, row: &Row) -> fmt::Result
 
 /// Writes the level and its number of pages.
 fn write_label<W: fmt::Write>(f: &mut fmt::Formatter<W>, row: &Row) -> fmt::Result {
-    let top = row.top + FEET + INSET.half();
-    writeln!(
-        f,
-        "<g data-part=\"level\">\n<text class=\"name\" x=\"{MARGIN}\" y=\"{top}\">level {}</text>",
-        row.level
-    )?;
-    writeln!(
-        f,
-        "<text class=\"soft\" x=\"{MARGIN}\" y=\"{}\">{} page{}</text>",
-        top + LINE,
-        row.in_row,
-        plural(row.in_row)
-    )?;
-    if row.merged > 0 {
-        writeln!(
-            f,
-            "<text class=\"warn\" x=\"{MARGIN}\" y=\"{}\">{} merged</text>",
-            top + LINE * 2,
-            row.merged
-        )?;
+    let top = row.top + INSET.half();
+    let (pages, merged) = (row.in_row, row.merged);
+    f.write_str("<g data-part=\"level\">\n")?;
+    write_text(f, "name", MARGIN, top, &format_args!("level {}", row.level))?;
+    let told = &format_args!("{pages} page{}", plural(pages));
+    write_text(f, "soft", MARGIN, top + LINE, told)?;
+    if merged > 0 {
+        let told = &format_args!("{merged} merged");
+        write_text(f, "warn", MARGIN, top + LINE * 2, told)?;
     }
     f.write_str("</g>\n")
 }
@@ -207,12 +170,8 @@ fn write_hidden<W: fmt::Write>(
     }
     let size = (HIDDEN_WIDTH, LINE + INSET * 2);
     write_box(f, "more", (left, row.top), size)?;
-    writeln!(
-        f,
-        "<text class=\"soft middle\" x=\"{}\" y=\"{}\">… {pages} more</text>",
-        left + HIDDEN_WIDTH.half(),
-        row.top + INSET + FEET
-    )
+    let (middle, told) = (left + HIDDEN_WIDTH.half(), &format_args!("… {pages} more"));
+    write_text(f, "soft middle", middle, row.top + INSET, told)
 }
 
 fn write_card<W: fmt::Write>(f: &mut fmt::Formatter<W>, card: &Card) -> fmt::Result {
@@ -229,13 +188,13 @@ fn write_card<W: fmt::Write>(f: &mut fmt::Formatter<W>, card: &Card) -> fmt::Res
     write_text(f, "name", left, top, &card.title)?;
     write_text(f, "text", left, top + LINE, &card.range)?;
     let mut next = top + LINE * 2;
-    if let Some(count) = &card.count {
+    if !card.count.is_empty() {
         let class = if card.over > 0 { "warn" } else { "soft" };
-        write_text(f, class, left, next, count)?;
+        write_text(f, class, left, next, &card.count)?;
         next = next + LINE;
     }
     if let Some(undone) = undone {
-        write_text(f, "warn", left, next, undone)?;
+        write_text(f, "warn", left, next, &undone)?;
     }
     for block in card.tower.blocks.iter() {
         write_block(f, card, block)?;
@@ -247,14 +206,10 @@ fn write_card<W: fmt::Write>(f: &mut fmt::Formatter<W>, card: &Card) -> fmt::Res
 fn write_root<W: fmt::Write>(f: &mut fmt::Formatter<W>, card: &Card) -> fmt::Result {
     let middle = card.middle();
     let top = card.top - Length(18);
-    write!(
-        f,
-        "<text class=\"soft middle\" x=\"{middle}\" y=\"{}\">root</text>",
-        top - Length(4)
-    )?;
     writeln!(
         f,
-        "<path class=\"line\" marker-end=\"url(#term)\" d=\"M{middle} {top}V{}\"/>",
+        "<text class=\"soft middle\" x=\"{middle}\" y=\"{}\">root</text><path class=\"line\" marker-end=\"url(#term)\" d=\"M{middle} {top}V{}\"/>",
+        top - Length(4),
         card.top
     )
 }
@@ -274,11 +229,12 @@ fn write_block<W: fmt::Write>(
     let top = card.top + card.head() + block.top;
     let width = (card.column + FRAME) * block.columns - FRAME;
     write_box(f, class, (left, top), (width, block.height()))?;
-    let mut next = top + INSET.half();
-    for (place, line) in block.lines.iter().enumerate() {
-        let class = if place < block.kept { "text" } else { "gone" };
+    let (mut next, mut kept) = (top + INSET.half(), block.kept);
+    for line in block.lines.iter() {
+        let class = if kept > 0 { "text" } else { "gone" };
         write_text(f, class, left + Length(7), next, line)?;
         next = next + LINE;
+        kept = kept.saturating_sub(1);
     }
     Ok(())
 }
@@ -303,12 +259,12 @@ fn write_item<W: fmt::Write>(
     top: Length,
 ) -> fmt::Result {
     match item.mark {
-        Mark::Box(class) => write_box(f, class, (left, top), (Length(20), Length(14)))?,
+        Mark::Box(class) => write_box(f, class, (left, top), (Length(20), Length(14))),
         Mark::Line(class) => {
             let height = top + Length(7);
-            writeln!(f, "<path class=\"{class}\" d=\"M{left} {height}h20\"/>")?;
+            writeln!(f, "<path class=\"{class}\" d=\"M{left} {height}h20\"/>")
         }
-        Mark::Text(class, sample) => write_text(f, class, left, top, sample)?,
-    }
-    write_text(f, "soft", left + item.mark.width(), top, item.text)
+        Mark::Text(class, sample) => write_text(f, class, left, top, &sample),
+    }?;
+    write_text(f, "soft", left + item.mark.width(), top, &item.text)
 }

@@ -1,6 +1,6 @@
 //! The texts in the boxes of a drawing.
 
-use bw_delta::{Delta, Merging};
+use bw_delta::Delta;
 use bw_step::Stage;
 use std::fmt;
 
@@ -17,17 +17,22 @@ impl fmt::Display for Short {
         if self.0 <= LONGEST {
             return write!(f, "{}", self.0);
         }
-        let mut head = self.0;
-        let mut digits = 0u32;
-        for _ in 0..17 {
-            if head >= 1000 {
-                head /= 10;
-                digits = digits.saturating_add(1);
-            }
-        }
-        let digits = digits.saturating_sub(3);
-        write!(f, "{head}‹{digits}›{:03}", self.0 % 1000)
+        let (head, digits) = head_of(self.0);
+        let (digits, end) = (digits.saturating_sub(3), self.0 % 1000);
+        write!(f, "{head}‹{digits}›{end:03}")
     }
+}
+
+/// Returns the first three digits of a number, and how many there are behind them.
+fn head_of(number: u64) -> (u64, u32) {
+    let (mut head, mut digits) = (number, 0u32);
+    for _ in 0..17 {
+        if head >= 1000 {
+            head /= 10;
+            digits = digits.saturating_add(1);
+        }
+    }
+    (head, digits)
 }
 
 /// Returns whether the text has a number without its middle.
@@ -50,16 +55,6 @@ impl fmt::Display for Described {
             Delta::TermAdd(key, page) => write!(f, "add term {} → {page}", Short(key)),
             Delta::TermDelete(key) => write!(f, "drop term {}", Short(key)),
         }
-    }
-}
-
-/// What a merge does.
-#[derive(Clone, Copy)]
-pub(crate) struct Joined(pub(crate) Merging);
-
-impl fmt::Display for Joined {
-    fn fmt<W: fmt::Write>(&self, f: &mut fmt::Formatter<W>) -> fmt::Result {
-        write!(f, "merge at {}", Short(self.0.separator))
     }
 }
 

@@ -1,12 +1,13 @@
 //! A chain as it is drawn: the newest record on top, and below a merge its two chains side by side.
 
-use crate::drawing::block::{Block, GAP, INSET, Kind, LINE, one_line};
+use crate::drawing::block::{Block, INSET, Kind, LINE};
 use crate::drawing::entries::lines_of;
 use crate::drawing::length::Length;
-use crate::drawing::text::{Described, Joined};
+use crate::drawing::text::{Described, Short};
 use bw_delta::{Base, Chain, Delta, NoMemory, Node};
 use bw_keys::{Fence, Key};
 use std::alloc::{Allocator, Global};
+use std::fmt;
 
 /// The most records between two merges that are drawn.
 const MOST: usize = 8;
@@ -52,8 +53,8 @@ impl Tower {
         }
     }
 
-    pub(crate) fn of(alloc: Global, chain: &Chain<Global>) -> Result<Tower, NoMemory> {
-        let mut tower = Tower::none(alloc);
+    /// Draws the chain of a page.
+    pub(crate) fn draw(&mut self, alloc: Global, chain: &Chain<Global>) -> Result<(), NoMemory> {
         let spot = Spot {
             column: 0,
             top: Length(0),
@@ -61,10 +62,10 @@ impl Tower {
             hidden: 0,
             end: Fence::Top,
         };
-        let extent = tower.stack(alloc, chain, spot)?;
-        tower.columns = extent.columns;
-        tower.height = extent.bottom;
-        Ok(tower)
+        let extent = self.stack(alloc, chain, spot)?;
+        self.columns = extent.columns;
+        self.height = extent.bottom;
+        Ok(())
     }
 
     /// Draws a chain from the spot on.
@@ -94,7 +95,8 @@ impl Tower {
                 let left = self.stack(alloc, left, below)?;
                 let right = self.stack(alloc, right, spot.below_a_merge(left.columns))?;
                 let columns = left.columns.saturating_add(right.columns);
-                let line = format!(in alloc; "{}", Joined(*merging))?;
+                let separator = Short(merging.separator);
+                let line = &format_args!("merge at {separator}");
                 self.one_line(alloc, Kind::Shape, line, spot, columns)?;
                 Ok(Extent {
                     columns,
@@ -136,8 +138,7 @@ impl Tower {
                 Kind::Shape
             }
         };
-        let line = format!(in alloc; "{}", Described(delta))?;
-        self.one_line(alloc, kind, line, spot, columns)
+        self.one_line(alloc, kind, &Described(delta), spot, columns)
     }
 
     /// Draws the number of hidden records, and returns the spot below.
@@ -145,26 +146,28 @@ impl Tower {
         if spot.hidden == 0 {
             return Ok(spot);
         }
-        let line = format!(in alloc; "… {} more", spot.hidden)?;
+        let line = &format_args!("… {} more", spot.hidden);
         self.one_line(alloc, Kind::More, line, spot, 1)?;
         Ok(spot.below())
     }
 
-    fn one_line(
+    fn one_line<S: fmt::Display>(
         &mut self,
         alloc: Global,
         kind: Kind,
-        line: String,
+        line: &S,
         spot: Spot,
         columns: usize,
     ) -> Result<(), NoMemory> {
+        let mut lines = Vec::new(alloc);
+        lines.push(format!(in alloc; "{line}")?)?;
         self.blocks.push(Block {
             kind,
             column: spot.column,
             columns,
             top: spot.top,
             kept: 1,
-            lines: one_line(alloc, line)?,
+            lines,
         })?;
         Ok(())
     }
@@ -192,21 +195,18 @@ impl Spot {
     /// Returns the spot below a box of one line.
     fn below(self) -> Spot {
         Spot {
-            column: self.column,
             top: self.top + STEP,
             room: self.room.saturating_sub(1),
             hidden: 0,
-            end: self.end,
+            ..self
         }
     }
 
     fn hiding(self) -> Spot {
         Spot {
-            column: self.column,
-            top: self.top,
             room: 0,
             hidden: self.hidden.saturating_add(1),
-            end: self.end,
+            ..self
         }
     }
 
@@ -216,7 +216,7 @@ impl Spot {
             top: self.top + STEP,
             room: MOST,
             hidden: 0,
-            end: self.end,
+            ..self
         }
     }
 }

@@ -4,7 +4,7 @@ ghost use Rattle.bw_draw.specs.Figures.{IsSpreadOf, capped, least, greatest};
 use std::fmt;
 
 /// A summary of some numbers.
-#[derive(Clone, Copy, Debug, PartialEq, Eq)]
+#[derive(Clone, Copy)]
 pub struct Spread {
     /// The number of numbers.
     pub count: usize,
@@ -27,14 +27,6 @@ impl Spread {
             greatest: greatest_of(numbers),
             sum: sum_of(numbers),
         }
-    }
-
-    /// Returns the whole part of the mean and its hundredths, or None if there are no numbers.
-    fn mean(self) -> Option<(u64, u64)> {
-        let count = self.count as u64;
-        let whole = self.sum.checked_div(count)?;
-        let rest = self.sum.checked_rem(count)?;
-        Some((whole, rest.saturating_mul(100).checked_div(count)?))
     }
 }
 
@@ -71,10 +63,15 @@ fn sum_of(numbers: &[u64]) -> u64
 /// The least, the mean with two decimals and the greatest, or `none`.
 impl fmt::Display for Spread {
     fn fmt<W: fmt::Write>(&self, f: &mut fmt::Formatter<W>) -> fmt::Result {
-        let Some((whole, hundredths)) = self.mean() else {
+        let (least, greatest, count) = (self.least, self.greatest, self.count as u64);
+        if count == 0 {
             return f.write_str("none");
-        };
-        write!(f, "least {} mean {whole}.{hundredths:02}", self.least)?;
-        write!(f, " greatest {}", self.greatest)
+        }
+        let whole = self.sum / count;
+        let hundredths = (self.sum % count).saturating_mul(100) / count;
+        write!(
+            f,
+            "least {least} mean {whole}.{hundredths:02} greatest {greatest}"
+        )
     }
 }

@@ -13,7 +13,7 @@ use std::alloc::{AllocError, Global};
 use thiserror::Error;
 
 /// The options that have a range, by their names.
-#[derive(Clone, Copy, Debug, Drop, PartialEq, Eq, Error)]
+#[derive(Clone, Copy, Debug, Drop, Error)]
 pub(crate) enum Field {
     #[error("fanout")]
     Fanout,
@@ -112,11 +112,7 @@ pub(crate) fn file_arg<'a>(alloc: Global) -> Arg<'a> {
 
 /// Returns an option whose value is a number.
 pub(crate) fn option<'a>(alloc: Global, name: &'a str, default: &'a str, help: &'a str) -> Arg<'a> {
-    Arg::new(alloc, name)
-        .long(name)
-        .help(help)
-        .value_parser(clap::value_parser!(u64))
-        .default_value(default)
+    optional(alloc, name, help).default_value(default)
 }
 
 /// Returns an option whose value is a number, and that may be absent.

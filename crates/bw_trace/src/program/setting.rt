@@ -48,30 +48,28 @@ impl Setting {
     }
 }
 
-/// The options that are numbers, each with its default and its meaning.
-pub(crate) const NUMBERS: [(&str, &str, &str); 6] = [
-    ("fanout", "16", "Entries of a page at most, 4 to 64"),
-    ("chain", "8", "Consolidate at this depth, 1 to 32"),
-    ("pages", "4096", "Pages at most, 8 to 65536"),
-    ("tries", "1000", "Effort of one call at most, 1 to 1000"),
-    ("workers", "1", "Workers who do the rows, 1 to 64"),
-    (
-        "readers",
-        "0",
-        "Workers who read without the lock, 0 to 16 and to --workers",
-    ),
-];
-
-/// Returns the command with these options.
+/// Returns the command with these options and their defaults.
 pub(crate) fn with_setting<'a>(
     alloc: Global,
     command: Command<'a>,
 ) -> Result<Command<'a>, AllocError> {
-    let mut command = command;
-    for (name, default, help) in NUMBERS {
-        command = command.arg(option(alloc, name, default, help))?;
-    }
-    Ok(command)
+    command
+        .arg(option(alloc, "fanout", "16", "Entries of a page at most, 4 to 64"))?
+        .arg(option(alloc, "chain", "8", "Consolidate at this depth, 1 to 32"))?
+        .arg(option(alloc, "pages", "4096", "Pages at most, 8 to 65536"))?
+        .arg(option(
+            alloc,
+            "tries",
+            "1000",
+            "Effort of one call at most, 1 to 1000",
+        ))?
+        .arg(option(alloc, "workers", "1", "Workers who do the rows, 1 to 64"))?
+        .arg(option(
+            alloc,
+            "readers",
+            "0",
+            "Workers who read without the lock, 0 to 16 and to --workers",
+        ))
 }
 
 /// Returns an option without a value.

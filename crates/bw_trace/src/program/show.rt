@@ -6,24 +6,23 @@ ghost use Rattle.bw_scripts.specs.Played.{IsPlayed};
 use crate::program::fault::Fault;
 use crate::program::film_options::{FilmOptions, check_from};
 use crate::program::setting::Setting;
-use crate::program::show_options::ShowOptions;
+use crate::program::show_options::{DrawOptions, ShowOptions};
 use crate::program::steps::played_table;
 use bw_draw::{Drawing, Picture, Stats};
 use bw_film::{Choice, film_rows, film_script, page_of};
-use bw_keys::Key;
 use bw_run::run;
 use bw_table::Table;
 use bw_texts::read_trace;
 use bw_work::Open;
 use std::alloc::Global;
-use std::fmt;
 use std::io::{BufWriter, Read, Write};
 use std::sync::Wait;
 use std::thread::Threads;
+use std::{fmt, io};
 
 /// Returns the table that the trace or the script leaves, and notes which lines of the script were
 /// refused.
-pub(crate) fn table_of<T: Threads + Wait + Sync + Send + Copy, R: Read + Drop, N: Write>(
+fn table_of<T: Threads + Wait + Sync + Send + Copy, R: Read + Drop, N: Write>(
     rt: T,
     alloc: Global,
     options: ShowOptions,
@@ -48,19 +47,22 @@ pub(crate) fn table_of<T: Threads + Wait + Sync + Send + Copy, R: Read + Drop, N
     Ok(run(rt, alloc, config, workers, readers, rows, &Open)?.table)
 }
 
-/// Writes the drawing of the table, or of the path to the key in it.
-pub(crate) fn draw<W: Write>(
+/// Writes the drawing of the table that the trace or the script leaves, or of the path to the key
+/// in it.
+pub(crate) fn draw<T: Threads + Wait + Sync + Send + Copy, R: Read + Drop, W: Write, N: Write>(
+    rt: T,
     alloc: Global,
-    table: &Table<Global>,
-    key: Option<Key>,
+    options: DrawOptions,
+    input: R,
     output: &mut W,
+    notes: &mut N,
 ) -> Result<(), Fault> {
-    let picture = Picture::of(alloc, table)?;
-    let drawing = match key {
-        None => Drawing::of(alloc, &picture)?,
-        Some(key) => Drawing::near(alloc, &picture, key)?,
+    let picture = Picture::of(alloc, &table_of(rt, alloc, options.shown, input, notes)?)?;
+    let drawing = match options.key {
+        None => Drawing::of(alloc, &picture),
+        Some(key) => Drawing::near(alloc, &picture, key),
     };
-    write_shown(alloc, output, &drawing)
+    write_shown(alloc, output, &drawing?)
 }
 
 /// Writes the page that shows the film of the trace or of the script, unless that ends before the
@@ -71,35 +73,30 @@ pub(crate) fn write_film<R: Read + Drop, W: Write>(
     input: R,
     output: &mut W,
 ) -> Result<(), Fault> {
-    let FilmOptions {
-        setting,
-        steps,
-        from,
-        to,
-        key,
-    } = options;
     let choice = Choice {
-        from: from.unwrap_or(0),
-        to: to.unwrap_or(u64::MAX),
-        key,
+        from: options.from.unwrap_or(0),
+        to: options.to.unwrap_or(u64::MAX),
+        key: options.key,
     };
-    let film = if steps {
-        film_script(alloc, choice, input)?
+    let film = if options.steps {
+        film_script(alloc, choice, input)
     } else {
-        let rows = read_trace(alloc, input, setting.workers)?;
-        film_rows(
-            alloc,
-            setting.config,
-            choice,
-            shown_workers(setting.workers),
-            &rows,
-        )?
-    };
+        let Setting {
+            config,
+            workers,
+            ..
+        } = options.setting;
+        let rows = read_trace(alloc, input, workers)?;
+        film_rows(alloc, config, choice, shown_workers(workers), &rows)
+    }?;
     check_from(choice.from, film.moments)?;
-    let page = page_of(alloc, &film)?;
-    output.write_all(&page)?;
-    output.flush()?;
+    write_page(output, &page_of(alloc, &film)?)?;
     Ok(())
+}
+
+fn write_page<W: Write>(output: &mut W, page: &[u8]) -> io::Result<()> {
+    output.write_all(page)?;
+    output.flush()
 }
 
 /// Returns of how many workers a film shows what they do: of one alone each row tells it.
@@ -110,13 +107,22 @@ fn shown_workers(workers: u32) -> u32
     if workers > 1 { workers } else { 0 }
 }
 
-/// Writes the numbers of the table.
-pub(crate) fn tell_stats<W: Write>(
+/// Writes the numbers of the table that the trace or the script leaves.
+pub(crate) fn tell_stats<
+    T: Threads + Wait + Sync + Send + Copy,
+    R: Read + Drop,
+    W: Write,
+    N: Write,
+>(
+    rt: T,
     alloc: Global,
-    table: &Table<Global>,
+    options: ShowOptions,
+    input: R,
     output: &mut W,
+    notes: &mut N,
 ) -> Result<(), Fault> {
-    write_shown(alloc, output, &Stats::of(alloc, table)?)
+    let stats = Stats::of(alloc, &table_of(rt, alloc, options, input, notes)?)?;
+    write_shown(alloc, output, &stats)
 }
 
 /// Writes the text and a line feed.

@@ -6,7 +6,7 @@ ghost use Rattle.bw_trace.specs.Options.{IsDrawnBy, IsFit, IsShownBy};
 
 use crate::program::help::{OF_DRAW, OF_STATS};
 use crate::program::options::{Field, file_arg, if_given, optional};
-use crate::program::setting::{NUMBERS, Setting, flag, with_setting};
+use crate::program::setting::{Setting, flag, with_setting};
 use bw_keys::Key;
 use clap::{Arg, ArgMatches, Command};
 use std::alloc::{AllocError, Global};
@@ -93,9 +93,11 @@ pub(crate) fn key_option<'a>(alloc: Global) -> Arg<'a> {
 
 /// Returns the option for scripts of steps. It conflicts with all others.
 pub(crate) fn steps_flag<'a>(alloc: Global) -> Result<Arg<'a>, AllocError> {
-    let mut steps = flag(alloc, "steps", "Reads a script of steps, not a trace");
-    for (name, _, _) in NUMBERS {
-        steps = steps.conflicts_with(name)?;
-    }
-    Ok(steps)
+    flag(alloc, "steps", "Reads a script of steps, not a trace")
+        .conflicts_with("fanout")?
+        .conflicts_with("chain")?
+        .conflicts_with("pages")?
+        .conflicts_with("tries")?
+        .conflicts_with("workers")?
+        .conflicts_with("readers")
 }

@@ -22,12 +22,16 @@ pub(crate) fn write_answers<R: Read + Drop, W: Write>(
     for line in reader.lines(alloc) {
         let line = player.next_line(line)?;
         if let Some(answer) = player.play(&line)? {
-            let line = format!(in alloc; "{answer}\n")?;
-            output.write_all(line.as_bytes())?;
+            write_answer(alloc, output, &answer)?;
         }
     }
-    output.flush()?;
-    Ok(())
+    Ok(output.flush()?)
+}
+
+/// Writes the answer and a line feed at once.
+fn write_answer<W: Write>(alloc: Global, output: &mut W, answer: &Answer) -> Result<(), Fault> {
+    let line = format!(in alloc; "{answer}\n")?;
+    Ok(output.write_all(line.as_bytes())?)
 }
 
 /// Plays the first lines of the script, this many of them, notes which of them were refused, and
