@@ -84,13 +84,16 @@ impl<A: Allocator + Copy, H: Holds<Table<A>>, T: Trail> Sole<A, H, T> {
 
     /// Whether it performs such an action: a change in its place where chains may have no more than
     /// one record, since a tending would leave longer ones as they are, and of a table of its own
-    /// always; and what is done to a page that the action names.
+    /// always; and the one step that reshapes a page that the action names.
     #[inline(always)]
     fn performs(&self, action: Action) -> bool {
         match action {
             Action::Change { .. } => self.table.is_owner() || self.account.config().chain == 1,
             Action::Reshape { .. } => true,
-            Action::Record { .. } | Action::AddTerm { .. } => false,
+            Action::Record { .. }
+            | Action::AddTerm { .. }
+            | Action::Cut { .. }
+            | Action::Post { .. } => false,
         }
     }
 

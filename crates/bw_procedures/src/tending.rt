@@ -1,12 +1,12 @@
 //! Tending a page after a change: its chain is kept short, its entries few and not too few, and
 //! what that changes on the level above is tended in turn.
 
-ghost use Rattle.std.specs.Prelude.{◌≡◌};
+ghost use Rattle.std.specs.Prelude.{◌≡◌, ◌+◌, ◌≤◌, Ok, IfSome};
 ghost use Rattle.bw_procedures.specs.Calls.{ReshapesWithin};
-ghost use Rattle.bw_procedures.specs.Tending.{IsTended};
+ghost use Rattle.bw_procedures.specs.Tending.{IsTended, tending_cost};
 
 use crate::consolidation::consolidate;
-use crate::effort::{covers, is_spent};
+use crate::effort::{covers, covers_tending, is_spent};
 use crate::fault::Fault;
 use crate::helping::help_within;
 use crate::offer::{Answer, fault_of, reshape};
@@ -17,10 +17,13 @@ use bw_chain::{HalveFault, halve};
 use bw_delta::{Base, Chain, Node, Spare};
 use bw_keys::{Key, Pid};
 use bw_step::{
-    Action, CopyFault, Denied, Mark, Receipt, Reshaping, Split, Stage, Step, Todo, Unperformed,
-    View,
+    Action, CopyFault, Denied, Mark, Performed, Receipt, Reshaping, Split, Stage, Step, Todo,
+    Unperformed, View,
 };
 use std::alloc::Allocator;
+
+/// What the term of a page and the consolidation of the parent cost.
+const POST_COST: u64 = 2;
 
 /// What a split, the term of its page and the two consolidations after them cost.
 const SPLIT_COST: u64 = 4;
@@ -137,17 +140,92 @@ fn split_page<A: Allocator + Copy, S: Steps<A, Step<A>>>(
     if let Some(new) = split_in_place(steps, limit, view)? {
         return page_after(steps, limit, Pending::Post(new), view.level, view.low);
     }
-    match split_off(steps, limit, view)? {
-        Some((separator, new)) => {
-            page_after(steps, limit, Pending::Post(new), view.level, separator)
-        }
-        None => Ok(None),
+    let Some((separator, new)) = split_off(steps, limit, view)? else {
+        return Ok(None);
+    };
+    match post_page(steps, limit, new) {
+        Some(done) => Ok(next_to_tend(steps, done)),
+        None => page_after(steps, limit, Pending::Post(new), view.level, separator),
     }
 }
 
-/// Moves the upper half of the page to a new one, and returns the separator and the new page. None where
-/// the page has changed, and where the step is refused.
+/// Names the new page in its parent and consolidates the parent in one hold. None, and no step
+/// taken, where longer chains are allowed, where the effort that is left doesn't cover both steps,
+/// and where the worker can't.
+fn post_page<A: Allocator + Copy, S: Steps<A, Step<A>>>(
+    steps: &mut S,
+    limit: u64,
+    new: Pid,
+) -> Option<Performed>
+    ensures follows { S.follows steps.old steps.new }
+    ensures reshapes { ReshapesWithin 0 limit (Ok result) (S.seen steps.old) (S.seen steps.new) }
+    ensures covered { IfSome result (λ _. (S.seen steps.old).effort + 2 ≤ limit) }
+{
+    if steps.config().chain != 1 || !covers(steps, limit, POST_COST) {
+        return None;
+    }
+    steps.perform(Action::Post { child: new }).ok()
+}
+
+/// The page that was consolidated, if its count isn't fair, so that it is to be tended.
+fn next_to_tend<A: Allocator + Copy, S: Steps<A, Step<A>>>(
+    steps: &S,
+    done: Performed,
+) -> Option<Pid> {
+    (!is_fair(steps.config().fanout, done.count)).then_some(done.page)
+}
+
+/// Moves the upper half of the page to a new one, and returns the separator and the new page. None
+/// where the page has changed, and where the step is refused.
 fn split_off<A: Allocator + Copy, S: Steps<A, Step<A>>>(
+    steps: &mut S,
+    limit: u64,
+    view: View,
+) -> Result<Option<(Key, Pid)>, Fault>
+    ensures follows { S.follows steps.old steps.new }
+    ensures tended { IsTended limit result (S.seen steps.old) (S.seen steps.new) }
+{
+    match cut_page(steps, limit, view) {
+        Some(half) => Ok(Some(half)),
+        None => halve_page(steps, limit, view),
+    }
+}
+
+/// Moves the upper half of the page to a new one and consolidates the page in one hold. None, and
+/// no step taken, where longer chains are allowed, where the worker can't, and where the effort
+/// that is left may not cover the rest of the tending, which the consolidation mustn't cut short.
+fn cut_page<A: Allocator + Copy, S: Steps<A, Step<A>>>(
+    steps: &mut S,
+    limit: u64,
+    view: View,
+) -> Option<(Key, Pid)>
+    ensures follows { S.follows steps.old steps.new }
+    ensures tended { IsTended limit (Ok result) (S.seen steps.old) (S.seen steps.new) }
+    ensures covered { IfSome result
+        (λ _. (S.seen steps.old).effort + tending_cost view.level ≤ limit) }
+{
+    if steps.config().chain != 1 || !covers_tending(steps, limit, view.level) {
+        return None;
+    }
+    let action = Action::Cut {
+        page: view.pid,
+        seen: view.version,
+    };
+    let Ok(done) = steps.perform(action) else {
+        return None;
+    };
+    match done.receipt {
+        Receipt::Shaped {
+            other: Some(new),
+            ..
+        } => Some((done.key, new)),
+        _ => None,
+    }
+}
+
+/// Moves the upper half of the page to a new one where it lies, by the split alone, which leaves
+/// its record on the page.
+fn halve_page<A: Allocator + Copy, S: Steps<A, Step<A>>>(
     steps: &mut S,
     limit: u64,
     view: View,
@@ -180,7 +258,8 @@ fn split_off<A: Allocator + Copy, S: Steps<A, Step<A>>>(
     }
 }
 
-/// The same by a copy of the page, of which the step is made and proposed.
+/// Moves the upper half of the page to a new one by a split that is made of a copy of the page and
+/// proposed.
 fn split_by_copy<A: Allocator + Copy, S: Steps<A, Step<A>>>(
     steps: &mut S,
     limit: u64,
