@@ -12,6 +12,7 @@ use Rattle.bw_step.specs.Tellings.{telling_of, without_shapes}
 use Rattle.bw_step.specs.declared.action.Action.{Action}
 use Rattle.bw_step.specs.declared.action.Action.TheVariants as actions
 use Rattle.bw_step.specs.declared.action.Performed.{Performed}
+use Rattle.bw_step.specs.declared.action.Reshaping.TheVariants as reshapings
 use Rattle.bw_law.specs.Effects.{TakesStep, after, receipt_of, pid}
 use Rattle.bw_law.specs.Laws.{IsLeafOf}
 use Rattle.bw_law.specs.Refusals.{refusal}
@@ -86,6 +87,9 @@ module _ (old new : TableValue) (it : Performed) where
     step_leads_on : (step : Proposal) → Takes old it new (step ∷ []) → LeadsBy (it.receipt ∷ [])
     step_leads_on step done = turn_leads ((step, it.receipt) ∷ []) old new trail law booked done
 
+    behind_lead_on : (page : ℕ) (step : Proposal) → Takes old it new (consolidated_behind old page (Some step)) → LeadsBy (it.receipt ∷ Shaped kinds.Consolidate it.page None ∷ [])
+    behind_lead_on page step done = turn_leads ((step, it.receipt) ∷ with_receipts it.page (consolidation_of (after old step) page ∷ [])) old new trail law booked done
+
     -- after a change in its place the page is consolidated, and after a look it isn't
     abbrev LeadsWith : Bool → Type 0
     LeadsWith is_behind = LeadsBy (it.receipt ∷ (if is_behind then Shaped kinds.Consolidate it.page None ∷ [] else []))
@@ -129,6 +133,8 @@ module _ (old new : TableValue) (it : Performed) where
     performed_leads (actions.Record key wished) done = record_leads (wished_step old it.page.0 key wished) (at_leaf key done.finds) done.takes
     performed_leads (actions.Reshape page seen how) done = step_leads_on (reshaping old page.0 seen.0 how) done.takes
     performed_leads (actions.AddTerm child) done = step_leads_on (term_of old it.page.0 child.0) done.takes
+    performed_leads (actions.Cut page seen) done = behind_lead_on page.0 (reshaping old page.0 seen.0 reshapings.Halve) done.takes
+    performed_leads (actions.Post child) done = behind_lead_on it.page.0 (term_of old it.page.0 child.0) done.takes
 
 law_kept : (old new : TableValue) (step : Proposal) (receipt : Receipt) (page : ℕ) → Lawful old → Booked old → TakesBoth old step receipt page new → Lawful new × Booked new
 law_kept old new step receipt page law booked both = law_in_turn (both_steps step receipt page both.seen both.base) old new law booked both.takes

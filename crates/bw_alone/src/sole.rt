@@ -90,7 +90,10 @@ impl<A: Allocator + Copy, H: Holds<Table<A>>, T: Trail> Sole<A, H, T> {
         match action {
             Action::Change { .. } => self.table.is_owner() || self.account.config().chain == 1,
             Action::Reshape { .. } => true,
-            Action::Record { .. } | Action::AddTerm { .. } => false,
+            Action::Record { .. }
+            | Action::AddTerm { .. }
+            | Action::Cut { .. }
+            | Action::Post { .. } => false,
         }
     }
 

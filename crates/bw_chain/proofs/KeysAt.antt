@@ -40,6 +40,15 @@ module _ {X : Type 0} (key i k : ℕ) (es : List (ℕ × X)) (h : IsAscending es
   pub last-after : k < key → length (below key (drop i es)) ≤ 1 → from key es ≡ drop (suc i) es
   last-after less few = around.last-after key i entry es h inside (rw (← key_is) less) few
 
+-- where the key of the last entry is less, each entry lies below the key
+module _ {X : Type 0} where
+  pub below-each : (key i k : ℕ) (es : List (ℕ × X)) → IsAscending es → suc i ≡ length es → HasKeyAt es i k → k < key
+      → length es ≡ length (below key es)
+  below-each key i k es h last here less =
+      let most = sorted.below-few key es in
+      let least : i < length (below key es) = below-less key i k es h (omega arith) here less in
+      omega (arith, most, least)
+
 -- one more at most, where the key of the next but one isn't less
 module _ {X : Type 0} where
   pub last-before : (key i k : ℕ) (es : List (ℕ × X)) → IsAscending es → suc i < length es → HasKeyAt es (suc i) k → key ≤ k → length (below key (drop i es)) ≤ 1

@@ -1,14 +1,14 @@
 -- What a change in place makes of a chain, and the record with the same effect.
-use Rattle.std.specs.Prelude.{◌≡◌, ℕ, false, List, [], ◌∷◌, Option, Some, None}
+use Rattle.std.specs.Prelude.{◌≡◌, ℕ, Bool, true, false, List, [], ◌∷◌, Option, Some, None}
 use Rattle.bw_keys.specs.declared.page.Pid.{Pid}
 use Rattle.bw_delta.specs.declared.chain.Delta.{Delta}
 use Rattle.bw_delta.specs.declared.chain.Delta.TheVariants as deltas
 use Rattle.bw_delta.specs.Entries.{at}
 use Rattle.bw_delta.specs.Fence.{fences, is_leaf}
 use Rattle.bw_delta.specs.Pages.{Page}
-use Rattle.bw_delta.specs.Pairs.{pairs_after, routes}
+use Rattle.bw_delta.specs.Pairs.{pairs, pairs_after, routes}
 use Rattle.bw_delta.specs.Records.{Records, bare, above, merged}
-use Rattle.bw_delta.specs.Sound.{page_for}
+use Rattle.bw_delta.specs.Sound.{IsSound, page_for}
 use Rattle.bw_keys.specs.declared.wished.Wished.{Wished}
 use Rattle.bw_keys.specs.declared.wished.Wished.TheVariants as wishes
 
@@ -20,6 +20,27 @@ delta_for (wishes.Set value) key None = Some (deltas.Insert key value)
 delta_for (wishes.Set value) key (Some had) = Some (deltas.Modify key value)
 delta_for wishes.Delete key None = None
 delta_for wishes.Delete key (Some had) = Some (deltas.Delete key)
+
+-- the wish puts a new pair where the key has this value, or none
+abbrev pub inserts : Wished → Option ℕ → Bool
+inserts (wishes.Put value) None = true
+inserts (wishes.Put value) (Some had) = false
+inserts (wishes.Set value) None = true
+inserts (wishes.Set value) (Some had) = false
+inserts wishes.Delete None = false
+inserts wishes.Delete (Some had) = false
+
+-- no record stands on the chain, or only that of a split
+abbrev pub is_flat : Records → Bool
+is_flat (bare page) = true
+is_flat (above (deltas.Split separator right) (bare page)) = true
+is_flat chain = false
+
+-- on a sound leaf with no other record than that of its split, only a new pair can want memory
+abbrev pub WantsMemory : Records → ℕ → Wished → Type 0
+WantsMemory chain key wished =
+    IsSound chain → is_leaf chain ≡ true → is_flat chain ≡ true
+    → inserts wished (at key (pairs chain)) ≡ true
 
 -- the pairs with what the record makes of them, if there is one
 abbrev pub pairs_with : Option Delta → List (ℕ × ℕ) → List (ℕ × ℕ)

@@ -6,13 +6,13 @@ ghost use Rattle.bw_keys.specs.declared.range.Fence.TheVariants as fence;
 ghost use Rattle.bw_delta.specs.Entries.{at, put, without, below};
 ghost use Rattle.bw_delta.specs.Fence.{fences};
 ghost use Rattle.bw_delta.specs.Pairs.{pairs, pairs_listed};
-ghost use Rattle.bw_delta.specs.Pages.{upper_part};
+ghost use Rattle.bw_delta.specs.Pages.{lists_pairs, upper_part};
 ghost use Rattle.bw_delta.specs.Records.{bare, above, depth};
 ghost use Rattle.bw_delta.specs.Slices.{list_of};
 ghost use Rattle.bw_delta.specs.Sound.{LiesIn, page_for};
 ghost use Rattle.bw_chain.specs.Ascends.{IsAscending};
 ghost use Rattle.bw_chain.specs.Pages.Halves.{listed_key_at};
-ghost use Rattle.bw_chain.specs.InPlaces.{IsRouted, IsBehindSplit, delta_for, joined_chain, pairs_with, chain_with, split_page, page_behind_split, uncovered};
+ghost use Rattle.bw_chain.specs.InPlaces.{IsRouted, IsBehindSplit, WantsMemory, delta_for, inserts, joined_chain, pairs_with, chain_with, split_page, page_behind_split, uncovered};
 
 use crate::entries::sorted::count_below_key;
 use crate::page::part_from;
@@ -46,6 +46,7 @@ pub fn change_in_place<A: Allocator + Copy>(
     ensures changed { IfSome result (λ done. chain.new ≡ chain_with done.delta chain.old) }
     ensures shallow { IfSome result (λ done. depth chain.old ≤ 1) }
     ensures unchanged { IfNone result (chain.new ≡ chain.old) }
+    ensures memory { IfNone result (WantsMemory chain.old key wished) }
 {
     let had = match &mut chain.node {
         Node::Bare(base) => change_on_base(base, key, wished)?,
@@ -83,6 +84,7 @@ fn change_behind_split<A: Allocator + Copy>(
         (λ had. chain.new ≡ chain_with (delta_for wished key had) chain.old) }
     ensures shallow { IfSome result (λ had. depth chain.old ≤ 1) }
     ensures unchanged { IfNone result (chain.new ≡ chain.old) }
+    ensures memory { IfNone result (1 ≤ depth chain.old → WantsMemory chain.old key wished) }
 {
     let had = change_below_split(chain, key, wished)?;
     if delta_for(wished, key, had).is_some() {
@@ -101,6 +103,7 @@ fn change_below_split<A: Allocator + Copy>(
     ensures changed { IfSome result
         (λ had. IsBehindSplit (delta_for wished key had) chain.old chain.new) }
     ensures unchanged { IfNone result (chain.new ≡ chain.old) }
+    ensures memory { IfNone result (1 ≤ depth chain.old → WantsMemory chain.old key wished) }
 {
     match &mut chain.node {
         Node::Above(delta, below) => {
@@ -131,6 +134,8 @@ fn change_and_cut<A: Allocator + Copy>(
     ensures changed { IfSome result (λ had.
         base.new ≡ page_behind_split separator right (delta_for wished key had) base.old) }
     ensures unchanged { IfNone result (base.new ≡ base.old) }
+    ensures memory { IfNone result
+        (WantsMemory (split_page separator right base.old) key wished) }
 {
     if separator <= base.low || !base.high.is_above(separator) {
         return None;
@@ -167,6 +172,8 @@ fn change_on_base<A: Allocator + Copy>(
     ensures changed { IfSome result
         (λ had. bare base.new ≡ chain_with (delta_for wished key had) (bare base.old)) }
     ensures unchanged { IfNone result (base.new ≡ base.old) }
+    ensures memory { IfNone result (lists_pairs base.old.listed ≡ true
+        → inserts wished (at key (pairs_listed base.old.listed)) ≡ true) }
 {
     match &mut base.entries {
         Entries::Pairs(pairs) => change_listed(pairs, key, wished),
@@ -185,8 +192,9 @@ fn change_listed<A: Allocator + Copy>(
     ensures changed { IfSome result
         (λ had. pairs.new ≡ pairs_with (delta_for wished key had) pairs.old) }
     ensures unchanged { IfNone result (pairs.new ≡ pairs.old) }
+    ensures memory { IfNone result (inserts wished (at key pairs.old) ≡ true) }
 {
-    let place = count_below_key(pairs.as_slice(), key);
+    let place = place_of(pairs.as_slice(), key);
     let had = entry_at(pairs.as_slice(), key, place);
     match (wished, had) {
         (Wished::Put(_), Some(_)) | (Wished::Delete, None) => {}
@@ -199,6 +207,19 @@ fn change_listed<A: Allocator + Copy>(
         (Wished::Delete, Some(_)) => pairs.remove(place),
     }
     Some(had)
+}
+
+/// Counts the entries below the key. A key above that of the last entry is found without a search.
+#[inline(always)]
+fn place_of<X: Copy>(entries: EntrySlice<'_, X>, key: Key) -> usize
+    requires ascending { IsAscending (list_of entries) }
+    ensures { result ≡ length (below key (list_of entries.entry)) }
+{
+    let count = entries.len();
+    if count > 0 && entries.key(count - 1) < key {
+        return count;
+    }
+    count_below_key(entries, key)
 }
 
 /// Inserts a new pair at its place. Returns false, and changes nothing, if memory is short.

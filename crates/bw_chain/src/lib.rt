@@ -21,7 +21,7 @@ pub use in_place::{
     InPlace, change_in_place, cut_in_place, join_in_place, route_in_place, unroute_in_place,
     upper_part_of,
 };
-pub use page::{HalveFault, depth, fences, halve, is_leaf, middle_key};
+pub use page::{HalveFault, depth, fences, halve, halve_with_room, is_leaf, middle_key};
 pub use pass::{append_first_pairs, append_pairs, consolidate, count, is_upper_part, same};
 pub use search::{
     child, child_page, find, has_pair_from, is_later_key, next_at, pairs_from, pairs_upto,

@@ -4,5 +4,5 @@ mod halving;
 pub(crate) mod shape;
 
 pub(crate) use halving::part_from;
-pub use halving::{HalveFault, halve, middle_key};
+pub use halving::{HalveFault, halve, halve_with_room, middle_key};
 pub use shape::{depth, fences, is_leaf};

@@ -1,6 +1,6 @@
 #![tactic(auto, using(crate::proofs::Zips::zips))]
 
-ghost use Rattle.std.specs.Prelude.{◌≡◌, ◌≤◌, ◌<◌, ◌++◌, ℕ, [], length, take, slice_set, slice_index_or, ◌↔◌, IsTrue, IfOk, OnOk, OnErr};
+ghost use Rattle.std.specs.Prelude.{◌≡◌, ◌≤◌, ◌<◌, ◌++◌, ℕ, [], length, take, slice_set, slice_index_or, vec_capacity, vec_len, ◌↔◌, IsTrue, IfOk, OnOk, OnErr};
 ghost use Rattle.std.specs.List.{zip, insert, remove};
 
 use crate::entry_slice::EntrySlice;
@@ -136,12 +136,10 @@ impl<X: Copy, A: Allocator> EntryList<X, A> {
         ensures inserted { OnOk result (self.new ≡ insert self.old place (key, value)) }
         ensures unchanged { OnErr result (self.new ≡ self.old) }
     {
-        self.keys.reserve(1)?;
-        self.values.push(value)?;
-        match self.keys.push(key) {
-            Ok(()) => {}
-            Err(_) => unreachable!(),
-        }
+        make_room(&mut self.keys)?;
+        make_room(&mut self.values)?;
+        self.keys.push_reserved(key);
+        self.values.push_reserved(value);
         let keys = self.keys.as_mut_slice();
         let values = self.values.as_mut_slice();
         move_up(keys, values, place);
@@ -192,6 +190,19 @@ impl<X: Copy, A: Allocator> EntryList<X, A> {
         self.keys.truncate(count);
         self.values.truncate(count);
     }
+}
+
+/// Makes room for one more item. Memory is asked for only if the list is full.
+#[inline(always)]
+fn make_room<T, A: Allocator>(items: &mut Vec<T, A>) -> Result<(), NoMemory>
+    ensures items { items.new.items ≡ items.old.items }
+    ensures room { OnOk result (vec_len items.new < vec_capacity items.new) }
+{
+    if items.len() < items.capacity() {
+        return Ok(());
+    }
+    items.reserve(1)?;
+    Ok(())
 }
 
 /// Copies the items, with room for as many as `room`.

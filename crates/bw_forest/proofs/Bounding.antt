@@ -91,7 +91,7 @@ begun_parts key lows rise = (
 )
 
 -- some range begins at or below each key
-pub some_before : (bounds : List ℕ) (key point : ℕ) → slice_get bounds 0 ≡ Some 0
+some_before : (bounds : List ℕ) (key point : ℕ) → slice_get bounds 0 ≡ Some 0
     → IsPartitionPoint (λ low. leb low key ≡ true) (λ low. leb low key ≡ false) bounds point → 1 ≤ point
 some_before bounds key (suc n) first point = omega arith
 some_before [] key zero first point = absurd (cc (first))
@@ -104,7 +104,7 @@ below_next (low ∷ lows) key zero fits above = let it = above 0 0 (omega arith)
 below_next (low ∷ lows) key (suc n) fits above =
     below_next lows key n fits (λ k d from less. above (suc k) d (omega (arith, from)) (omega (arith, less)))
 
-pub tree_at : (bounds : List ℕ) (key point : ℕ) → slice_get bounds 0 ≡ Some 0 → point ≤ length bounds → key < key_count
+tree_at : (bounds : List ℕ) (key point : ℕ) → slice_get bounds 0 ≡ Some 0 → point ≤ length bounds → key < key_count
     → IsPartitionPoint (λ low. leb low key ≡ true) (λ low. leb low key ≡ false) bounds point → IsTreeOf bounds key (point - 1)
 tree_at bounds key zero first bound fits parted = let some = some_before bounds key zero first parted in absurd (omega (arith, some))
 tree_at bounds key (suc n) first bound fits parted =
@@ -132,3 +132,20 @@ range_from lows tree low next high less is after ends =
     range_at lows tree less ∙ ap (λ n. Some (record { low = slice_index lows tree; high = fence_at n })) after
     ∙ ap (λ (end : Fence). Some (record { low = slice_index lows tree; high = end })) (sym ends)
     ∙ ap (λ l. Some (record { low = l; high = high })) same
+
+-- the bound at the place is the last one at or below the key, if the next one isn't
+pub begun_at : (key place low : ℕ) (lows : List ℕ) → IsStrictlyIncreasing lows → place < length lows
+    → low ≡ slice_index_or lows place low → low ≤ key → begun key lows ≤ place + 1 → begun key lows ≡ place + 1
+begun_at key place low lows rise inside is upto past = let so = begun_upto key place low lows rise inside is upto in omega (arith, so, past)
+
+-- some bound is at or below each key
+pub begun_some : (bounds : List ℕ) (key : ℕ) → slice_get bounds 0 ≡ Some 0 → IsStrictlyIncreasing bounds → 1 ≤ begun key bounds
+begun_some bounds key first rise = some_before bounds key (begun key bounds) first (begun_parts key bounds rise)
+
+-- the tree that is the last one to begin at or below the key
+pub tree_begun : (bounds : List ℕ) (key tree : ℕ) → slice_get bounds 0 ≡ Some 0 → IsStrictlyIncreasing bounds → key < key_count
+    → begun key bounds ≡ tree + 1 → IsTreeOf bounds key tree
+tree_begun bounds key tree first rise fits is =
+    let there = tree_at bounds key (begun key bounds) first (begun_few key bounds) fits (begun_parts key bounds rise) in
+    let same : begun key bounds - 1 ≡ tree = omega (arith, is) in
+    subst (IsTreeOf bounds key) same there

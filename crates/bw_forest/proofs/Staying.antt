@@ -117,6 +117,8 @@ each_stays range table page (actions.Record key wished) holds =
 each_stays range table page (actions.Reshape at seen reshapings.Consolidate) holds = (tt, tt)
 each_stays range table page (actions.Reshape at seen reshapings.Halve) holds = (tt, tt)
 each_stays range table page (actions.AddTerm child) holds = (tt, tt)
+each_stays range table page (actions.Cut at seen) holds = (tt, (tt, tt))
+each_stays range table page (actions.Post child) holds = (tt, (tt, tt))
 
 module _ (range : Range) (old new : TableValue) (it : Performed) (law : Lawful old) (booked : Booked old)
     (lies : LiesIn range old.slots) where

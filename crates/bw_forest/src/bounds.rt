@@ -1,7 +1,7 @@
 //! Where the ranges of a forest's trees begin, and which of them holds a key.
 
 ghost use Rattle.std.specs.Prelude.{◌≡◌, false, ◌<◌, ◌≤◌, ◌↔◌, ◌+◌, ◌-◌, ◌*◌, ◌^◌, [], Some, length, min, slice_get};
-ghost use Rattle.std.specs.Prelude.{IsOk, IfOk, IfErr, IsTrue, vec_capacity};
+ghost use Rattle.std.specs.Prelude.{IsOk, IfOk, IfErr, IfSome, IsTrue, vec_capacity};
 ghost use Rattle.std.specs.List.Sorted.{IsNonDecreasing, IsStrictlyIncreasing};
 ghost use Rattle.bw_forest.specs.Bounds.{AreBounds, AreAtQuantiles, AreEven, AreOfSample, quantile};
 ghost use Rattle.bw_forest.specs.Bounds.{IsBad, IsBadNumber, IsTreeOf, begun, is_bad_number, ranges_of};
@@ -18,6 +18,9 @@ use std::marker::Model;
 #[derive(Drop)]
 pub struct Bounds {
     lows: Vec<Key>,
+    // A hint, by which a tree is guessed and then looked at: 2^64 by the width of a range, where all
+    // are as wide, or 0.
+    scale: u64,
 }
 
 impl Model for Bounds {
@@ -49,7 +52,7 @@ impl Bounds {
         if !rise(lows.as_slice()) {
             return Err(BadBounds::NotRising);
         }
-        Ok(Bounds { lows })
+        Ok(Bounds { lows, scale: 0 })
     }
 
     /// Returns the ranges of 1 to `MAX_TREES` trees that have as many of the keys below `end` each,
@@ -66,7 +69,10 @@ impl Bounds {
         for i in 0..trees {
             lows.push_reserved(i as u64 * width);
         }
-        Ok(Bounds { lows })
+        Ok(Bounds {
+            lows,
+            scale: scale_of(width),
+        })
     }
 
     /// Returns the ranges of 1 to `MAX_TREES` trees, or of fewer, that have as many of these keys each:
@@ -84,6 +90,7 @@ impl Bounds {
         keys.sort_unstable();
         Ok(Bounds {
             lows: quantiles(lows, keys.as_slice(), trees),
+            scale: 0,
         })
     }
 
@@ -123,7 +130,63 @@ impl Bounds {
         ensures tree { IsTreeOf self.now key result }
         ensures there { result < length self.now }
     {
-        count_begun(self.lows.as_slice(), key) - 1
+        let lows = self.lows.as_slice();
+        if let Some(tree) = guess(lows, self.scale, key) {
+            return tree;
+        }
+        count_begun(lows, key) - 1
+    }
+}
+
+/// Returns what 2^64 is by the width, rounded up, or 0 if that needs more than 64 bits.
+fn scale_of(width: u64) -> u64 {
+    if width > 1 { u64::MAX / width + 1 } else { 0 }
+}
+
+/// Returns the number of the tree whose range holds the key, if the scale leads to it: without a
+/// search, where all ranges are as wide.
+#[inline(always)]
+fn guess(lows: &[Key], scale: u64, key: Key) -> Option<usize>
+    requires rise { IsStrictlyIncreasing lows.now }
+    requires some { 0 < length lows.now }
+    ensures { IfSome result (λ tree. begun key lows.now ≡ tree + 1) }
+{
+    if scale == 0 {
+        return None;
+    }
+    let tree = scaled(key, scale).min(lows.len() - 1);
+    if begins_last(lows, tree, key) {
+        Some(tree)
+    } else {
+        None
+    }
+}
+
+/// Returns the upper half of the product.
+#[inline(always)]
+fn scaled(key: Key, scale: u64) -> usize {
+    ((u128::from(key) * u128::from(scale)) >> 64) as usize
+}
+
+/// Reports whether the bound at the place is the last one at or below the key.
+#[inline(always)]
+fn begins_last(lows: &[Key], place: usize, key: Key) -> bool
+    requires rise { IsStrictlyIncreasing lows.now }
+    requires inside { place < length lows.now }
+    ensures { IsTrue result → begun key lows.now ≡ place + 1 }
+{
+    lows[place] <= key && is_past(lows, place + 1, key)
+}
+
+/// Reports whether the bound at the place is above the key. One that isn't there is above all keys.
+#[inline(always)]
+fn is_past(lows: &[Key], place: usize, key: Key) -> bool
+    requires rise { IsStrictlyIncreasing lows.now }
+    ensures { IsTrue result → begun key lows.now ≤ place }
+{
+    match lows.get(place) {
+        Some(low) => key < *low,
+        None => true,
     }
 }
 

@@ -173,6 +173,9 @@ fn acts_in(range: Range, action: Action) -> bool
 {
     match action {
         Action::Change { key, .. } | Action::Record { key, .. } => range.holds(key),
-        Action::Reshape { .. } | Action::AddTerm { .. } => true,
+        Action::Reshape { .. }
+        | Action::AddTerm { .. }
+        | Action::Cut { .. }
+        | Action::Post { .. } => true,
     }
 }

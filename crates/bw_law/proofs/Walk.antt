@@ -152,7 +152,7 @@ module _ (top : ℕ) (at : ℕ → Outline) (root : ℕ) (law : Rows top at root
   walk_ends key rest walk = ends_at_leaf key root rest root_in (omega (arith, law.root_first)) walk.1
 
 -- a search goes on to one page
-only_next : (at : ℕ → Outline) (key p q r : ℕ) → GoesOn at key p q → GoesOn at key p r → q ≡ r
+pub only_next : (at : ℕ → Outline) (key p q r : ℕ) → GoesOn at key p q → GoesOn at key p r → q ≡ r
 only_next at key p q r a b = ⊎_elim
     (λ (x : GoesRight at key p q). ⊎_elim
     (λ (y : GoesRight at key p r). cc)
@@ -170,7 +170,7 @@ only_next at key p q r a b = ⊎_elim
     a
 
 -- at the leaf that spans the key it ends
-ends_there : (at : ℕ → Outline) (key p q : ℕ) → (at p).level ≡ 0 → Spans (at p) key → GoesOn at key p q → ⊥
+pub ends_there : (at : ℕ → Outline) (key p q : ℕ) → (at p).level ≡ 0 → Spans (at p) key → GoesOn at key p q → ⊥
 ends_there at key p q is_leaf spans goes = ⊎_elim
     (λ (right : GoesRight at key p q). omega (arith, right.0, spans))
     (λ (down : GoesDown at key p q). omega (arith, down.inner.1, is_leaf))

@@ -1,5 +1,5 @@
 -- What an action leaves that was performed.
-use Rattle.std.proofs.Common.{◌≡◌, ℕ, ◌-◌, ◌<◌, ◌≤◌, ◌^◌, Bool, true, false, if◌then◌else◌, List, [], ◌∷◌, ◌++◌, None, Result, Ok, Err, is_ok, refl, ap, ◌∙◌, append-nil, arith}
+use Rattle.std.proofs.Common.{◌≡◌, ℕ, ◌-◌, ◌<◌, ◌≤◌, ◌^◌, Bool, true, false, if◌then◌else◌, List, [], ◌∷◌, ◌++◌, None, Result, Ok, Err, is_ok, refl, sym, ap, subst, ◌∙◌, append-nil, arith}
 use Rattle.bw_keys.specs.declared.page.Pid.{Pid}
 use Rattle.bw_step.specs.Actions.{Reports}
 use Rattle.bw_step.specs.declared.action.Action.{Action}
@@ -75,12 +75,16 @@ one_at_least (actions.Change key wished) = omega arith
 one_at_least (actions.Record key wished) = omega arith
 one_at_least (actions.Reshape page seen how) = omega arith
 one_at_least (actions.AddTerm child) = omega arith
+one_at_least (actions.Cut page seen) = omega arith
+one_at_least (actions.Post child) = omega arith
 
 pub two_with_behind : (action : Action) (receipt : Receipt) → consolidates_behind action receipt ≡ true → most_receipts action ≡ 2
 two_with_behind (actions.Change key wished) receipt is = refl
 two_with_behind (actions.Record key wished) receipt is = cc
 two_with_behind (actions.Reshape page seen how) receipt is = cc
 two_with_behind (actions.AddTerm child) receipt is = cc
+two_with_behind (actions.Cut page seen) receipt is = refl
+two_with_behind (actions.Post child) receipt is = refl
 
 -- a page that was named in its parent at once costs one effort, and one that wasn't costs none
 pub posted_costs : (child : Pid) (result : Result Performed Unperformed) (a b : Seen) → PerformedBy (actions.AddTerm child) result a b → is_ok result ≡ true → OnlyReshapes a b × RoseBy 1 a.effort b.effort
@@ -93,6 +97,22 @@ unposted_same child (Err (Denied (Refused reason))) a b h is = h
 unposted_same child (Err (Denied NoMemory)) a b h is = h
 unposted_same child (Err StepByStep) a b h is = h
 
+nothing_reshapes : (a b : Seen) → b ≡ a → OnlyReshapes a b × RoseBy 0 a.effort b.effort
+nothing_reshapes a b same =
+    let grows : Grows a a = counts_grow a a (record { config = refl; full = refl; tall = refl; worn = refl }) (adds_by a.trail a.trail [] (sym (append-nil a.trail))) (omega arith) in
+    let Reshapes : Seen → Type 0 = λ s. OnlyReshapes a s × RoseBy 0 a.effort s.effort in
+    subst Reshapes (sym same) (record { without_shapes = refl; grows = grows }, omega arith)
+
+-- a page that was named in its parent with the consolidation of that, or wasn't
+pub posting_reshapes : (child : Pid) (result : Result Performed Unperformed) (a b : Seen) → PerformedBy (actions.Post child) result a b → OnlyReshapes a b × RoseBy 0 a.effort b.effort
+posting_reshapes child (Ok done) a b h =
+    let more = performed_reshapes (actions.Post child) done a b (ap (λ (r : Receipt). without_shapes (r ∷ [])) h.reported) h in
+    let up = more.0.grows.effort in
+    (more.0, omega (arith, up))
+posting_reshapes child (Err (Denied (Refused reason))) a b h = nothing_reshapes a b h
+posting_reshapes child (Err (Denied NoMemory)) a b h = nothing_reshapes a b h
+posting_reshapes child (Err StepByStep) a b h = nothing_reshapes a b h
+
 -- what the account makes of an action is what it leaves
 pub performs : (action : Action) (done : Performed) (a : Seen) → Reports action done → Performs action done a (after_performed action done a)
 performs action done a reported = record { reported = reported; counts = record { config = refl; full = refl; tall = refl; worn = refl }; trail = refl; effort = refl }
@@ -103,6 +123,8 @@ refused_trail (actions.Reshape page seen how) reason a b h = h.trail
 refused_trail (actions.Change key wished) reason a b h = ap (λ (s : Seen). s.trail) h
 refused_trail (actions.Record key wished) reason a b h = ap (λ (s : Seen). s.trail) h
 refused_trail (actions.AddTerm child) reason a b h = ap (λ (s : Seen). s.trail) h
+refused_trail (actions.Cut page seen) reason a b h = ap (λ (s : Seen). s.trail) h
+refused_trail (actions.Post child) reason a b h = ap (λ (s : Seen). s.trail) h
 
 pub unperformed_trail : (action : Action) (why : Unperformed) (a b : Seen) → PerformedBy action (Err why) a b → b.trail ≡ a.trail
 unperformed_trail action (Denied (Refused reason)) a b h = refused_trail action reason a b h

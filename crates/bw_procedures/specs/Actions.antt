@@ -13,10 +13,12 @@ use Rattle.bw_step.specs.declared.receipt.Receipt.TheVariants.{Looked, Shaped}
 use Rattle.bw_step.specs.declared.refused.Refused.{Refused as Reason}
 use Rattle.bw_procedures.specs.Seen.{Seen, SameCounts, IsRefused, receipt_effort}
 
--- whether the page is consolidated after what this is the receipt of: a change in its place is, and a look isn't
+-- whether the page is consolidated after what this is the receipt of: a change in its place is, and a look isn't, and so are a page that is cut and the parent of one that is posted
 abbrev pub consolidates_behind : Action → Receipt → Bool
 consolidates_behind (actions.Change key wished) (Looked at k found) = false
 consolidates_behind (actions.Change key wished) receipt = true
+consolidates_behind (actions.Cut page seen) receipt = true
+consolidates_behind (actions.Post child) receipt = true
 consolidates_behind action receipt = false
 
 -- the receipt of the consolidation after it, if there is one
@@ -30,6 +32,8 @@ receipts_of action done = done.receipt ∷ receipts_behind action done
 -- an action has no more receipts than this
 abbrev pub most_receipts : Action → ℕ
 most_receipts (actions.Change key wished) = 2
+most_receipts (actions.Cut page seen) = 2
+most_receipts (actions.Post child) = 2
 most_receipts action = 1
 
 -- the effort with steps of these receipts: each that changes the tree's shape costs one

@@ -196,16 +196,18 @@ impl<T: Trail> Account<T> {
             (length self.new.seen.trail + most_receipts action ≤ self.new.room) }
     {
         match action {
-            Action::Change { .. } => self.trail.make_room(2),
+            Action::Change { .. } | Action::Cut { .. } | Action::Post { .. } => {
+                self.trail.make_room(2)
+            }
             Action::Record { .. } | Action::Reshape { .. } | Action::AddTerm { .. } => {
                 self.trail.make_room(1)
             }
         }
     }
 
-    /// Reports an action that was performed: adds the receipt of its look or step, and after a
-    /// change in its place that of the page's consolidation. A step that changes the tree's shape
-    /// costs effort.
+    /// Reports an action that was performed: adds the receipt of its look or step, and where the
+    /// action consolidates the page after it that of the consolidation. A step that changes the
+    /// tree's shape costs effort.
     #[inline(always)]
     pub fn performed(&mut self, action: Action, done: Performed)
         requires { length self.old.seen.trail + most_receipts action ≤ self.old.room }
@@ -368,14 +370,14 @@ impl<T: Trail> Account<T> {
 }
 
 /// Whether the page is consolidated after what this is the receipt of, as it is after a change in
-/// its place.
+/// its place, and where a page is cut or posted.
 #[inline(always)]
 pub fn is_consolidated_behind(action: Action, receipt: Receipt) -> bool
     ensures { result ≡ consolidates_behind action receipt }
 {
     match (action, receipt) {
         (Action::Change { .. }, Receipt::Looked { .. }) => false,
-        (Action::Change { .. }, _) => true,
+        (Action::Change { .. } | Action::Cut { .. } | Action::Post { .. }, _) => true,
         _ => false,
     }
 }

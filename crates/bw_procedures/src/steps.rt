@@ -129,9 +129,9 @@ pub trait Steps<A: Allocator + Copy, P: Proposes> {
     }
 
     /// Performs the action, where the worker can do that in one step: the receipt of its look or of
-    /// its step is added to the trail, and after a change in its place that of the page's
-    /// consolidation. Each step that changes the tree's shape costs effort. So does the refusal of a
-    /// page that the action names; where it isn't performed otherwise, nothing was done.
+    /// its step is added to the trail, and where the action consolidates the page after it that of
+    /// the consolidation. Each step that changes the tree's shape costs effort. So does the refusal
+    /// of a page that is to be reshaped; where it isn't performed otherwise, nothing was done.
     fn perform(&mut self, _action: Action) -> Result<Performed, Unperformed>
         ensures follows { follows self.old self.new }
         ensures seen { PerformedBy _action result (seen self.old) (seen self.new) }

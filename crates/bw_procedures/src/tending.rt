@@ -1,7 +1,7 @@
 //! Tending a page after a change: its chain is kept short, its entries few and not too few, and
 //! what that changes on the level above is tended in turn.
 
-ghost use Rattle.std.specs.Prelude.{◌≡◌};
+ghost use Rattle.std.specs.Prelude.{◌≡◌, ◌+◌, ◌≤◌, Ok, IsTrue};
 ghost use Rattle.bw_procedures.specs.Calls.{ReshapesWithin};
 ghost use Rattle.bw_procedures.specs.Tending.{IsTended};
 
@@ -17,10 +17,13 @@ use bw_chain::{HalveFault, halve};
 use bw_delta::{Base, Chain, Node, Spare};
 use bw_keys::{Key, Pid};
 use bw_step::{
-    Action, CopyFault, Denied, Mark, Receipt, Reshaping, Split, Stage, Step, Todo, Unperformed,
-    View,
+    Action, CopyFault, Denied, Mark, Performed, Receipt, Reshaping, Split, Stage, Step, Todo,
+    Unperformed, View,
 };
 use std::alloc::Allocator;
+
+/// What a step and the consolidation after it cost.
+const BOTH_COST: u64 = 2;
 
 /// What a split, the term of its page and the two consolidations after them cost.
 const SPLIT_COST: u64 = 4;
@@ -137,17 +140,95 @@ fn split_page<A: Allocator + Copy, S: Steps<A, Step<A>>>(
     if let Some(new) = split_in_place(steps, limit, view)? {
         return page_after(steps, limit, Pending::Post(new), view.level, view.low);
     }
-    match split_off(steps, limit, view)? {
-        Some((separator, new)) => {
-            page_after(steps, limit, Pending::Post(new), view.level, separator)
-        }
-        None => Ok(None),
+    let Some((separator, new)) = split_off(steps, limit, view)? else {
+        return Ok(None);
+    };
+    match post_page(steps, limit, new) {
+        Some(done) => Ok(next_to_tend(steps, done)),
+        None => page_after(steps, limit, Pending::Post(new), view.level, separator),
     }
+}
+
+/// Whether a page is consolidated in the hold in which a step leaves a record on it: where no chain
+/// is to have a record, and the effort that is left covers both.
+fn consolidates_at_once<A: Allocator + Copy, S: Steps<A, Step<A>>>(steps: &S, limit: u64) -> bool
+    ensures { IsTrue result → (S.seen steps.now).effort + 2 ≤ limit }
+{
+    steps.config().chain == 1 && covers(steps, limit, BOTH_COST)
+}
+
+/// Names the new page in its parent and consolidates that, if it is to be done in one hold and the
+/// worker can. None, and no step taken, otherwise.
+fn post_page<A: Allocator + Copy, S: Steps<A, Step<A>>>(
+    steps: &mut S,
+    limit: u64,
+    new: Pid,
+) -> Option<Performed>
+    ensures follows { S.follows steps.old steps.new }
+    ensures reshapes { ReshapesWithin 0 limit (Ok result) (S.seen steps.old) (S.seen steps.new) }
+{
+    if !consolidates_at_once(steps, limit) {
+        return None;
+    }
+    steps.perform(Action::Post { child: new }).ok()
+}
+
+/// The page that was consolidated, unless it is tended as it is.
+fn next_to_tend<A: Allocator + Copy, S: Steps<A, Step<A>>>(
+    steps: &S,
+    done: Performed,
+) -> Option<Pid> {
+    let is_tended = is_fair(steps.config().fanout, done.count);
+    (!is_tended).then_some(done.page)
 }
 
 /// Moves the upper half of the page to a new one, and returns the separator and the new page. None where
 /// the page has changed, and where the step is refused.
 fn split_off<A: Allocator + Copy, S: Steps<A, Step<A>>>(
+    steps: &mut S,
+    limit: u64,
+    view: View,
+) -> Result<Option<(Key, Pid)>, Fault>
+    ensures follows { S.follows steps.old steps.new }
+    ensures tended { IsTended limit result (S.seen steps.old) (S.seen steps.new) }
+{
+    match cut_page(steps, limit, view) {
+        Some(half) => Ok(Some(half)),
+        None => halve_page(steps, limit, view),
+    }
+}
+
+/// The same with the consolidation of the page, if it is to be done in one hold and the worker can.
+/// None, and no step taken, otherwise.
+fn cut_page<A: Allocator + Copy, S: Steps<A, Step<A>>>(
+    steps: &mut S,
+    limit: u64,
+    view: View,
+) -> Option<(Key, Pid)>
+    ensures follows { S.follows steps.old steps.new }
+    ensures tended { IsTended limit (Ok result) (S.seen steps.old) (S.seen steps.new) }
+{
+    if !consolidates_at_once(steps, limit) {
+        return None;
+    }
+    let action = Action::Cut {
+        page: view.pid,
+        seen: view.version,
+    };
+    let Ok(done) = steps.perform(action) else {
+        return None;
+    };
+    match done.receipt {
+        Receipt::Shaped {
+            other: Some(new),
+            ..
+        } => Some((done.key, new)),
+        _ => None,
+    }
+}
+
+/// The same without the consolidation.
+fn halve_page<A: Allocator + Copy, S: Steps<A, Step<A>>>(
     steps: &mut S,
     limit: u64,
     view: View,

@@ -1,9 +1,10 @@
 -- What was performed is done by the steps that its note stands for.
-use Rattle.std.proofs.Common.{◌≡◌, ℕ, List, [], ◌∷◌, refl, sym, ap, ◌∙◌, subst, Some, None, Option, append-nil}
-use Rattle.std.specs.Prelude.{Bool, true, is_some, IfSome, option_to_list}
+use Rattle.std.proofs.Common.{◌≡◌, ℕ, List, [], ◌∷◌, refl, sym, ap, ◌∙◌, subst, Bool, true, false, Some, None, Option, append-nil}
+use Rattle.std.specs.Prelude.{is_some, IfSome, option_to_list}
 use Rattle.bw_keys.specs.declared.page.Pid.{Pid}
 use Rattle.bw_keys.specs.declared.wished.Wished.{Wished}
 use Rattle.bw_keys.specs.declared.wished.Wished.TheVariants as wishes
+use Rattle.bw_step.specs.declared.receipt.Kind.TheVariants as kinds
 use Rattle.bw_step.specs.declared.receipt.Receipt.{Receipt}
 use Rattle.bw_step.specs.declared.receipt.Receipt.TheVariants.{Inserted, Deleted, Modified, Looked, Shaped}
 use Rattle.bw_step.specs.Proposals.{Proposal, insert, delete, modify, consolidate, split, term_add, grow, mark, merge, term_delete}
@@ -13,12 +14,12 @@ use Rattle.bw_law.specs.Refusals.{refusal}
 use Rattle.bw_law.proofs.Accepted.{insert_accepted, found_accepted}
 use Rattle.bw_law.specs.Runs.{TakesInTurn}
 use Rattle.bw_law.specs.Tables.{TableValue, slot_at}
-use Rattle.bw_table.specs.Actions.{IsPerformed, Takes, with_receipts, had_at, steps_for}
-use Rattle.bw_table.specs.InPlaces.{step_for, IsDoneAtOnce}
+use Rattle.bw_table.specs.Actions.{IsPerformed, Takes, with_receipts, had_at, steps_for, term_of}
+use Rattle.bw_table.specs.InPlaces.{IsPosted, step_for, IsDoneAtOnce}
 use Rattle.bw_step.specs.declared.action.Action.{Action}
 use Rattle.bw_step.specs.declared.action.Action.TheVariants as actions
 use Rattle.bw_step.specs.declared.action.Performed.{Performed}
-use Rattle.bw_table.proofs.Actions.{changed}
+use Rattle.bw_table.proofs.Actions.{changed, took_both}
 use Rattle.bw_snap.specs.Notes.{held_note, held_notes, steps_of, table_with}
 use Rattle.bw_snap.specs.Snapshots.{LeadTo}
 use Rattle.bw_snap.proofs.Notes.{runs_to}
@@ -74,6 +75,8 @@ module _ (old new : TableValue) (it : Performed) where
   stands (Inserted n k value) reported (actions.Change key wished) done = append-nil (steps_for old it.page.0 (actions.Change key wished))
   stands (Inserted n k value) reported (actions.Reshape page seen how) done = append-nil (steps_for old it.page.0 (actions.Reshape page seen how))
   stands (Inserted n k value) reported (actions.AddTerm child) done = append-nil (steps_for old it.page.0 (actions.AddTerm child))
+  stands (Inserted n k value) reported (actions.Cut page seen) done = append-nil (steps_for old it.page.0 (actions.Cut page seen))
+  stands (Inserted n k value) reported (actions.Post child) done = append-nil (steps_for old it.page.0 (actions.Post child))
   stands (Deleted n k value) reported action done = append-nil (steps_for old it.page.0 action)
   stands (Modified n k had value) reported action done = append-nil (steps_for old it.page.0 action)
   stands (Shaped kind page other) reported action done = append-nil (steps_for old it.page.0 action)
@@ -111,3 +114,12 @@ made_where_some old new page key wished (Some receipt) test done is holds =
     let it : Performed = record { page = page; key = key; receipt = receipt; count = 0; depth = 0 } in
     let steps = steps_for old page.0 (actions.Change key wished) in
     sym (runs_to old new steps (takes_lead old new it steps (changed old new it wished page key receipt refl refl refl done)))
+
+-- and after a page that a copy posted
+pub made_where_posted : (old new : TableValue) (page child : Pid) (test : Bool) → IsPosted old page.0 child test new → test ≡ true → new ≡ table_with old page (actions.Post child)
+made_where_posted old new page child false posted holds = absurd (cc holds)
+made_where_posted old new page child true posted holds =
+    let receipt : Receipt = Shaped kinds.TermAdd page (Some child) in
+    let it : Performed = record { page = page; key = 0; receipt = receipt; count = 0; depth = 0 } in
+    let steps = steps_for old page.0 (actions.Post child) in
+    sym (runs_to old new steps (takes_lead old new it steps (took_both old new it page (term_of old page.0 child.0) receipt refl refl posted)))

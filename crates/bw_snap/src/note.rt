@@ -50,7 +50,10 @@ pub fn record_of(
                 spare,
             }))
         }
-        Action::Change { .. } | Action::Reshape { .. } => None,
+        Action::Change { .. }
+        | Action::Reshape { .. }
+        | Action::Cut { .. }
+        | Action::Post { .. } => None,
     }
 }
 

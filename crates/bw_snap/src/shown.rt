@@ -98,10 +98,11 @@ fn carry_out(machine: Global, table: &mut Table<Global>, page: Pid, action: Acti
     match action {
         Action::Change { key, wished } => table.change_leaf(page, key, wished).is_some(),
         Action::Record { .. } | Action::AddTerm { .. } => put(machine, table, page, action),
-        Action::Reshape { .. } => {
+        Action::Reshape { .. } | Action::Cut { .. } => {
             let spare = action.spare(machine);
             table.perform(machine, action, spare).is_ok()
         }
+        Action::Post { child } => table.post_at_once(page, child),
     }
 }
 

@@ -18,6 +18,8 @@ takes_spare (actions.Change key wished) = false
 takes_spare (actions.Record key wished) = true
 takes_spare (actions.Reshape page seen how) = false
 takes_spare (actions.AddTerm child) = true
+takes_spare (actions.Cut page seen) = false
+takes_spare (actions.Post child) = false
 
 -- the receipt of a wish for a key that had the value, or none, after n changes: of its change, or
 -- of the look where there is nothing to do
@@ -49,3 +51,6 @@ Reports (actions.Record key wished) it = (it.key ≡ key) × IsReceiptOfWish key
 Reports (actions.Reshape page seen how) it =
     (it.page ≡ page) × IsReceiptOfReshaping how page it.receipt
 Reports (actions.AddTerm child) it = it.receipt ≡ Shaped kinds.TermAdd it.page (Some child)
+Reports (actions.Cut page seen) it =
+    (it.page ≡ page) × IsReceiptOfReshaping reshapings.Halve page it.receipt
+Reports (actions.Post child) it = it.receipt ≡ Shaped kinds.TermAdd it.page (Some child)

@@ -33,6 +33,16 @@ pub enum Action {
     AddTerm {
         child: Pid,
     },
+    /// Splits the page in half and consolidates it, in the place where it lies, if it still has the
+    /// version that was seen.
+    Cut {
+        page: Pid,
+        seen: Version,
+    },
+    /// Names an unposted page in its parent and consolidates that, in the place where it lies.
+    Post {
+        child: Pid,
+    },
 }
 
 /// What is done to a page that an action names.
@@ -52,7 +62,10 @@ impl Action {
     {
         match self {
             Action::Record { .. } | Action::AddTerm { .. } => Spare::new(alloc).ok(),
-            Action::Change { .. } | Action::Reshape { .. } => None,
+            Action::Change { .. }
+            | Action::Reshape { .. }
+            | Action::Cut { .. }
+            | Action::Post { .. } => None,
         }
     }
 }

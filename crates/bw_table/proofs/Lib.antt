@@ -19,4 +19,6 @@ pub mod Gets
 pub mod Listings
 pub mod Cuts
 pub mod Rests
+pub mod Todos
+pub mod Undone
 pub mod Orders

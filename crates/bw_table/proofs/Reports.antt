@@ -68,3 +68,5 @@ module _ (old new : TableValue) (it : Performed) where
   performed_reports (actions.Reshape page seen how) done =
       (done.finds.0, reshaping_reports how page.0 seen.0 done.takes.2.reported)
   performed_reports (actions.AddTerm child) done = done.takes.2.reported
+  performed_reports (actions.Cut page seen) done = (done.finds.0, reshaping_reports reshapings.Halve page.0 seen.0 done.takes.2.reported)
+  performed_reports (actions.Post child) done = done.takes.2.reported

@@ -30,7 +30,7 @@ led_is_at_rest table key page led Marked is rest = cc
 led_is_at_rest table key page led Merged is rest = cc
 
 -- a page that a search can go on from is led to
-led_by : (table : TableValue) (law : Lawful table) (key page : ℕ) → IsUpTo table key page → IsLedTo table key page
+pub led_by : (table : TableValue) (law : Lawful table) (key page : ℕ) → IsUpTo table key page → IsLedTo table key page
 led_by table law key page on = record { inside = here_is_inside table law page on.in_row; on = λ live. on }
 
 -- and a page that was taken in is

@@ -1,7 +1,8 @@
 -- What a table does in one hold of its lock, and the steps of the law that it stands for.
-use Rattle.std.specs.Prelude.{◌≡◌, ℕ, List, [], ◌∷◌, Option, Some, None, Result, IfOk, IfErr, OnErr, map, unwrap_or, option_to_list}
+use Rattle.std.specs.Prelude.{◌≡◌, ◌≢◌, ◌⊎◌, ℕ, ◌+◌, ◌≤◌, ◌^◌, Bool, true, false, IsSome, List, [], ◌∷◌, Option, Some, None, Result, IfOk, IfErr, OnErr, map, unwrap_or, option_to_list}
 use Rattle.bw_chain.specs.Pages.Halves.{listed_middle_key}
 use Rattle.bw_keys.specs.declared.wished.Wished.{Wished}
+use Rattle.bw_chain.specs.InPlaces.{inserts, is_flat}
 use Rattle.bw_delta.specs.Entries.{at}
 use Rattle.bw_delta.specs.Sound.{page_for}
 use Rattle.bw_keys.specs.declared.page.Pid.{Pid}
@@ -10,15 +11,20 @@ use Rattle.bw_step.specs.Proposals.{Proposal, term_add}
 use Rattle.bw_step.specs.declared.receipt.Kind.TheVariants as kinds
 use Rattle.bw_step.specs.declared.receipt.Receipt.{Receipt}
 use Rattle.bw_step.specs.declared.receipt.Receipt.TheVariants.{Looked, Shaped}
+use Rattle.bw_step.specs.declared.fault.Denied.TheVariants as denials
 use Rattle.bw_step.specs.declared.refused.Refused.{Refused}
+use Rattle.bw_step.specs.declared.view.Stage.TheVariants.{Unposted}
+use Rattle.bw_step.specs.Stages.{is_in_row}
 use Rattle.bw_law.specs.Effects.{after}
 use Rattle.bw_law.specs.Laws.{IsLeafOf}
 use Rattle.bw_law.specs.Refusals.{refusal}
+use Rattle.bw_law.specs.Rows.{Spans}
 use Rattle.bw_law.specs.Runs.{TakesInTurn}
 use Rattle.bw_law.specs.Slots.{chain_in, pairs_in}
-use Rattle.bw_law.specs.Tables.{TableValue, slot_at, number_of}
+use Rattle.bw_law.specs.Tables.{TableValue, slot_at, number_of, outlines}
 use Rattle.bw_table.specs.Answers.{IsDenialFor}
 use Rattle.bw_table.specs.InPlaces.{step_for, consolidating, halving, half_reasons}
+use Rattle.bw_table.specs.Rests.{MeetsTodo}
 use Rattle.bw_step.specs.declared.action.Action.{Action}
 use Rattle.bw_step.specs.declared.action.Action.TheVariants as actions
 use Rattle.bw_step.specs.declared.action.Performed.{Performed}
@@ -79,6 +85,10 @@ steps_for table page (actions.Record key wished) =
     option_to_list (wished_step table page key wished)
 steps_for table page (actions.Reshape at seen how) = reshaping table at.0 seen.0 how ∷ []
 steps_for table page (actions.AddTerm child) = term_of table page child.0 ∷ []
+steps_for table page (actions.Cut at seen) =
+    consolidated_behind table at.0 (Some (reshaping table at.0 seen.0 reshapings.Halve))
+steps_for table page (actions.Post child) =
+    consolidated_behind table page (Some (term_of table page child.0))
 
 -- the action finds this page and this key
 abbrev pub Finds : TableValue → Action → Pid → ℕ → Type 0
@@ -87,6 +97,9 @@ Finds table (actions.Record key wished) page found = IsLeafOf table key page.0 �
 Finds table (actions.Reshape at seen how) page found =
     (page ≡ at) × (found ≡ reshaped_at table at.0 how)
 Finds table (actions.AddTerm child) page found = found ≡ (slot_at table child.0).low
+Finds table (actions.Cut at seen) page found =
+    (page ≡ at) × (found ≡ reshaped_at table at.0 reshapings.Halve)
+Finds table (actions.Post child) page found = found ≡ (slot_at table child.0).low
 
 -- the receipt of a look for the key at the page
 abbrev pub look_at : TableValue → ℕ → ℕ → Receipt
@@ -111,14 +124,66 @@ pub record IsPerformed (old : TableValue) (action : Action) (new : TableValue)
   pub count : it.count ≡ (slot_at new it.page.0).count
   pub depth : it.depth ≡ (slot_at new it.page.0).depth
 
+-- the book's number can't rise, or the page's version can't rise twice
+abbrev pub IsUsedUp : TableValue → ℕ → Type 0
+IsUsedUp table page =
+    (2 ^ 64 ≤ number_of table.book + 1) ⊎ (2 ^ 64 ≤ (slot_at table page).version + 2)
+
+-- a change of the leaf and its consolidation aren't done at once: more than the record of its split
+-- stands on it, or a number is used up
+abbrev pub IsUnfit : TableValue → ℕ → Type 0
+IsUnfit table page = (is_flat (chain_in (slot_at table page)) ≡ false) ⊎ IsUsedUp table page
+
+-- there is such a step, and it is refused
+abbrev pub IsRefused : TableValue → Option Proposal → Type 0
+IsRefused table None = ⊥
+IsRefused table (Some step) = IsSome (refusal table step)
+
+-- a search for the key meets something unfinished, or that is true of the leaf that it finds
+abbrev pub StopsAt : TableValue → ℕ → (ℕ → Type 0) → Type 0
+StopsAt table key Why = MeetsTodo table key ⊎ ((page : ℕ) × IsLeafOf table key page × Why page)
+
+-- a page in the row of the next level, whose range holds the key
+pub record IsAbove (table : TableValue) (key level page : ℕ) : Type 0 where
+  pub in_row : is_in_row (slot_at table page).stage ≡ true
+  pub above : (slot_at table page).level ≡ level + 1
+  pub spans : Spans (outlines table.slots page) key
+
+-- the page isn't unposted, or it is on the root's level, or its term is refused in its parent
+abbrev pub TakesNoTerm : TableValue → ℕ → Type 0
+TakesNoTerm table child =
+    ((slot_at table child).stage ≢ Unposted)
+    ⊎ ((slot_at table table.root).level ≤ (slot_at table child).level)
+    ⊎ ((parent : ℕ) × IsAbove table (slot_at table child).low (slot_at table child).level parent
+    × IsRefused table (Some (term_of table parent child)))
+
+-- why the action isn't done in one hold, where there is memory
+abbrev pub IsStepByStep : TableValue → Action → Type 0
+IsStepByStep table (actions.Change key wished) = StopsAt table key (IsUnfit table)
+IsStepByStep table (actions.Record key wished) =
+    StopsAt table key (λ page. IsRefused table (wished_step table page key wished))
+IsStepByStep table (actions.Reshape page seen how) = ⊥
+IsStepByStep table (actions.AddTerm child) = TakesNoTerm table child.0
+IsStepByStep table (actions.Cut page seen) = Unit {0}
+IsStepByStep table (actions.Post child) = Unit {0}
+
 -- Why it isn't performed: a page that is named is reshaped unless the step is refused or memory is
--- short, and the others need not be done at once.
+-- short, and the others are done at once unless there is a reason to go step by step or memory is
+-- short.
 abbrev pub IsWhyNot : TableValue → Action → Unperformed → Type 0
 IsWhyNot table (actions.Reshape page seen how) (Denied denied) =
     IsDenialFor (reshaping_refusal table page.0 seen.0 how) denied
-IsWhyNot table action (Denied denied) = ⊥
-IsWhyNot table (actions.Reshape page seen how) StepByStep = ⊥
-IsWhyNot table action StepByStep = Unit {0}
+IsWhyNot table action (Denied (denials.Refused reason)) = ⊥
+IsWhyNot table (actions.Change key wished) (Denied denials.NoMemory) =
+    (page : ℕ) × IsLeafOf table key page × (inserts wished (had_at table page key) ≡ true)
+IsWhyNot table action (Denied denials.NoMemory) = Unit {0}
+IsWhyNot table action StepByStep = IsStepByStep table action
+
+-- memory is wanting only where no spare memory was given
+abbrev pub LacksSpare : Unperformed → Bool → Type 0
+LacksSpare (Denied (denials.Refused reason)) no_spare = Unit {0}
+LacksSpare (Denied denials.NoMemory) no_spare = no_spare ≡ true
+LacksSpare StepByStep no_spare = Unit {0}
 
 -- the action was performed, or this is why not, and then the table is as it was
 pub record Performs (action : Action) (old : TableValue) (answer : Result Performed Unperformed)

@@ -1,13 +1,16 @@
 -- Pages in the middle of a split or a merge.
-use Rattle.std.specs.Prelude.{◌≡◌, ℕ, suc, ◌<◌, ◌==◌, nat_le, if◌then◌else◌, Bool, true, false, length, Option, None, option_map}
+use Rattle.std.specs.Prelude.{◌≡◌, ℕ, suc, ◌<◌, ◌==◌, nat_le, if◌then◌else◌, Bool, true, false, List, length, Option, Some, None, option_map}
 use Rattle.bw_keys.specs.declared.page.Pid.{Pid}
 use Rattle.bw_keys.specs.Ranges.{end_of}
 use Rattle.bw_delta.specs.Entries.{last_upto}
+use Rattle.bw_step.specs.declared.place.Todo.{Todo}
 use Rattle.bw_step.specs.declared.view.Stage.{Stage}
 use Rattle.bw_step.specs.declared.view.Stage.TheVariants.{Free, Posted, Unposted, Marked, Merged}
 use Rattle.bw_law.specs.Slots.{SlotValue, routes_in, is_merged}
-use Rattle.bw_law.specs.Tables.{TableValue, slot_at}
+use Rattle.bw_law.specs.Tables.{TableValue, slot_at, outlines}
+use Rattle.bw_law.specs.Walks.{IsAmong, IsWalkFrom}
 use Rattle.bw_table.specs.Gets.{IsUpTo, page_of, way_left}
+use Rattle.bw_table.specs.Visits.{todo_with, way_on}
 
 -- the term of a new page isn't posted, or a page that leaves isn't gone
 abbrev pub is_unfinished : Stage → Bool
@@ -17,9 +20,23 @@ is_unfinished Unposted = true
 is_unfinished Marked = true
 is_unfinished Merged = true
 
--- there is such a page
-abbrev pub HasUnfinished : TableValue → Type 0
-HasUnfinished table = (page : ℕ) × (is_unfinished (slot_at table page).stage ≡ true)
+-- the walk of a search for the key goes through the page
+abbrev pub IsOnTheWalk : TableValue → ℕ → ℕ → Type 0
+IsOnTheWalk table key page =
+    (walk : List ℕ) × IsWalkFrom (outlines table.slots) table.root key walk × IsAmong walk page
+
+-- what a visit of the page, on a search for the key down to its leaf, meets unfinished
+abbrev pub todo_at : TableValue → ℕ → Pid → Option Todo
+todo_at table key page =
+    let slot = slot_at table page.0 in
+    todo_with table.slots page slot key (way_on table.slots page slot key 0)
+
+-- a search for the key meets something unfinished
+pub record MeetsTodo (table : TableValue) (key : ℕ) : Type 0 where
+  pub page : Pid
+  pub on_the_walk : IsOnTheWalk table key page.0
+  pub todo : Todo
+  pub met : todo_at table key page ≡ Some todo
 
 -- the next page of a search for the key by the page's own routes, of which one may lead to a page
 -- that was taken in: none after a leaf whose range holds it

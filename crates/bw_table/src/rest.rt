@@ -5,7 +5,7 @@ ghost use Rattle.std.specs.Prelude.{◌≡◌, ◌<◌, true, length, IfSome, If
 ghost use Rattle.bw_step.specs.Stages.{is_in_row};
 ghost use Rattle.bw_law.specs.Laws.{IsLeafOf};
 ghost use Rattle.bw_law.specs.Tables.{Lawful, slot_at};
-ghost use Rattle.bw_table.specs.Rests.{HasUnfinished, is_unfinished, next_by_routes};
+ghost use Rattle.bw_table.specs.Rests.{MeetsTodo, is_unfinished, next_by_routes};
 ghost use Rattle.bw_table.specs.SlotFacts.{HasSoundChain};
 ghost use Rattle.bw_table.specs.Views.{view_of};
 
@@ -24,7 +24,7 @@ impl<A: Allocator + Copy> Table<A> {
             view ≡ view_of view.pid (slot_at self.now view.pid.0)) }
         ensures leaf { IfSome result (λ view. IsLeafOf self.now key view.pid.0) }
         ensures posted { IfSome result (λ view. view.stage ≡ Stage.Posted) }
-        ensures unfinished { IfNone result (HasUnfinished self.now) }
+        ensures unfinished { IfNone result (MeetsTodo self.now key) }
     {
         let page = self.page_at_rest(key)?;
         Some(self.slot_in_row(page).view(page))
@@ -36,7 +36,17 @@ impl<A: Allocator + Copy> Table<A> {
     pub(crate) fn page_at_rest(&self, key: Key) -> Option<Pid>
         ensures leaf { IfSome result (λ page. IsLeafOf self.now key page.0) }
         ensures posted { IfSome result (λ page. (slot_at self.now page.0).stage ≡ Stage.Posted) }
-        ensures unfinished { IfNone result (HasUnfinished self.now) }
+        ensures unfinished { IfNone result (MeetsTodo self.now key) }
+    {
+        self.page_by_walk(key)
+    }
+
+    /// The same, built into its caller.
+    #[inline(always)]
+    pub(crate) fn page_by_walk(&self, key: Key) -> Option<Pid>
+        ensures leaf { IfSome result (λ page. IsLeafOf self.now key page.0) }
+        ensures posted { IfSome result (λ page. (slot_at self.now page.0).stage ≡ Stage.Posted) }
+        ensures unfinished { IfNone result (MeetsTodo self.now key) }
     {
         let mut page = Pid(self.root);
         'walk: loop {

@@ -29,6 +29,10 @@ use std::marker::Model;
 pub struct Table<A: Allocator> {
     pub(crate) book: Book,
     pub(crate) root: u32,
+    // A hint, which is believed of no page before the page is asked: the last leaf, and the key from
+    // which on changes ask it first.
+    pub(crate) edge: u32,
+    pub(crate) edge_low: Key,
     pub(crate) slots: Vec<Slot<A>>,
     pub(crate) free: FreeList,
     pub(crate) config: Config,
@@ -76,6 +80,8 @@ impl<A: Allocator + Copy> Table<A> {
             slots,
             free,
             root: 0,
+            edge: 0,
+            edge_low: 0,
             book: Book {
                 inserted: 0,
                 removed: 0,

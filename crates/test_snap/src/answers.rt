@@ -310,8 +310,9 @@ fn done_of(answers: &[Answer]) -> [u32; 5] {
             Action::Reshape {
                 how: Reshaping::Halve,
                 ..
-            } => 3,
-            Action::AddTerm { .. } => 4,
+            }
+            | Action::Cut { .. } => 3,
+            Action::AddTerm { .. } | Action::Post { .. } => 4,
         };
         done[kind] = done[kind].wrapping_add(1);
     }

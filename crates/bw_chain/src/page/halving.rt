@@ -28,11 +28,25 @@ pub fn halve<A: Allocator + Copy>(alloc: A, base: &Base<A>) -> Result<(Key, Base
     ensures separator { IfOk result (λ half. listed_middle_key base.now.listed ≡ Some half.0) }
     ensures page { IfOk result (λ half. half.1 ≡ upper_part half.0 base.now) }
 {
+    halve_with_room(alloc, base, 0)
+}
+
+/// Halves a base page as [`halve`] does. The upper half has room for `room` entries before it asks
+/// for memory again.
+pub fn halve_with_room<A: Allocator + Copy>(
+    alloc: A,
+    base: &Base<A>,
+    room: usize,
+) -> Result<(Key, Base<A>), HalveFault>
+    ensures small { IsErrOf result HalveFault.TooSmall ↔ (listed_length base.now.listed < 2) }
+    ensures separator { IfOk result (λ half. listed_middle_key base.now.listed ≡ Some half.0) }
+    ensures page { IfOk result (λ half. half.1 ≡ upper_part half.0 base.now) }
+{
     let middle = base.len() / 2;
     if middle == 0 {
         return Err(HalveFault::TooSmall);
     }
-    part_from(alloc, base, middle, 0)
+    part_from(alloc, base, middle, room)
 }
 
 /// Returns the separator at which the upper half of a base page begins, if the page has two entries

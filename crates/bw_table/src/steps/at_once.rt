@@ -1,14 +1,14 @@
 //! A change of one key and the consolidation of its page, made in the place where the page lies.
 
-ghost use Rattle.std.specs.Prelude.{◌≡◌, ◌≢◌, ◌+◌, ◌<◌, ◌≤◌, ◌^◌, None, Some, true, false, IsTrue, IfSome, IfNone, length};
+ghost use Rattle.std.specs.Prelude.{◌≡◌, ◌≢◌, ◌⊎◌, ◌+◌, ◌<◌, ◌≤◌, ◌^◌, None, Some, true, false, IsTrue, IfSome, IfNone, length};
 ghost use Rattle.bw_delta.specs.declared.chain.Delta.TheVariants as deltas;
 ghost use Rattle.bw_delta.specs.Entries.{at};
 ghost use Rattle.bw_delta.specs.Fence.{is_leaf};
 ghost use Rattle.bw_delta.specs.Pages.{upper_part};
-ghost use Rattle.bw_delta.specs.Records.{depth};
+ghost use Rattle.bw_delta.specs.Records.{Records, depth};
 ghost use Rattle.bw_delta.specs.Sound.{page_for};
 ghost use Rattle.bw_table.specs.SlotFacts.{HasSoundChain, upper_summary};
-ghost use Rattle.bw_chain.specs.InPlaces.{delta_for};
+ghost use Rattle.bw_chain.specs.InPlaces.{WantsMemory, delta_for, inserts, is_flat};
 ghost use Rattle.bw_chain.specs.Pages.Halves.{listed_key_at};
 ghost use Rattle.bw_step.specs.declared.action.Action.TheVariants as actions;
 ghost use Rattle.bw_step.specs.declared.view.Stage.TheVariants.{Posted};
@@ -19,24 +19,27 @@ ghost use Rattle.bw_step.specs.Tellings.{telling_of};
 ghost use Rattle.bw_law.specs.Laws.{IsLeafOf};
 ghost use Rattle.bw_law.specs.Slots.{slot_in, chain_in, pairs_in, routes_in};
 ghost use Rattle.bw_law.specs.Tables.{TellsMap, slot_at, number_of, book_with};
-ghost use Rattle.bw_table.specs.Actions.{Performs};
+ghost use Rattle.bw_table.specs.Actions.{Performs, IsUnfit, IsUsedUp, had_at};
 ghost use Rattle.bw_table.specs.InPlaces.{IsPostedLeaf, MayCut, MayPostAtOnce, MaySplitAtOnce, TakesCut, TakesInPlace, IsSplitAtOnce, IsSplitUnder, IsPosted, HasNoTerm, TakesTerm, slot_cut, IsDoneAtOnce, count_after, slot_with, slots_with, slots_posted_at_once, slots_split_at_once, receipt_for};
+ghost use Rattle.bw_table.specs.Rests.{MeetsTodo};
 
 use crate::book::number_of;
 use crate::slot::Slot;
 use crate::table::Table;
 use bw_chain::{InPlace, change_in_place, cut_in_place, route_in_place, upper_part_of};
-use bw_delta::{Base, Delta};
+use bw_delta::{Base, Delta, Node};
 use bw_keys::{Fence, Key, Pid, Wished};
-use bw_step::{Book, Performed, Receipt, Stage, Summary, Unperformed};
+use bw_step::{Book, Denied, Performed, Receipt, Stage, Summary, Unperformed};
 use std::alloc::Allocator;
 
 impl<A: Allocator + Copy> Table<A> {
     /// Carries out the wish for a key and consolidates its leaf, as a change and a consolidation
     /// one after the other do. It isn't done where a page on the way to the leaf is in the middle
     /// of a split or a merge, where more than the record of its split stands on the leaf, where a
-    /// number is used up, and where memory is short.
-    #[inline(always)]
+    /// number is used up, and where memory is short. The walk to the leaf and the change are built
+    /// in, and it is called: `perform` with it built in would be too large to be built into its own
+    /// callers.
+    #[inline(never)]
     pub(super) fn perform_change(
         &mut self,
         key: Key,
@@ -44,13 +47,73 @@ impl<A: Allocator + Copy> Table<A> {
     ) -> Result<Performed, Unperformed>
         ensures { Performs (actions.Change key wished) self.old result self.new }
     {
-        let Some(page) = self.page_at_rest(key) else {
+        let Some(page) = self.page_to_change(key) else {
             return Err(Unperformed::StepByStep);
         };
         let Some(receipt) = self.change_at_rest(page, key, wished) else {
-            return Err(Unperformed::StepByStep);
+            if self.is_unfit(page) {
+                return Err(Unperformed::StepByStep);
+            }
+            return Err(Unperformed::Denied(Denied::NoMemory));
         };
         Ok(self.performed(page, key, receipt))
+    }
+
+    /// Whether more than the record of its split stands on a leaf, or a number is used up.
+    #[inline(never)]
+    fn is_unfit(&self, page: Pid) -> bool
+        requires { is_in_row (slot_at self.now page.0).stage ≡ true }
+        ensures unfit { IsTrue result → IsUnfit self.now page.0 }
+        ensures fit { result ≡ false → IsUnfit self.now page.0 → ⊥ }
+    {
+        !self.slot_in_row(page).is_flat() || !self.can_count_on(page)
+    }
+
+    /// The key's leaf: the last one, if its range holds the key, or the one that a walk finds.
+    #[inline(always)]
+    fn page_to_change(&mut self, key: Key) -> Option<Pid>
+        ensures leaf { IfSome result (λ page. IsPostedLeaf (slot_at self.old page.0) key) }
+        ensures unfinished { IfNone result (MeetsTodo self.old key) }
+        ensures unchanged { self.new ≡ self.old }
+    {
+        if key < self.edge_low {
+            return self.page_by_walk(key);
+        }
+        let edge = Pid(self.edge);
+        if self.has_posted_leaf(edge, key) {
+            return Some(edge);
+        }
+        self.walk_to_edge(key)
+    }
+
+    /// Whether the page is a posted leaf whose range holds the key.
+    #[inline(always)]
+    fn has_posted_leaf(&self, page: Pid, key: Key) -> bool
+        ensures { IsTrue result → IsPostedLeaf (slot_at self.now page.0) key }
+    {
+        match self.slot(page) {
+            Some(slot) => slot.is_posted_leaf(key),
+            None => false,
+        }
+    }
+
+    /// The key's leaf by a walk, which is noted as the last one. Where it isn't, only keys past its
+    /// range are looked for there, and so lead to a walk that notes a later one.
+    #[inline(never)]
+    fn walk_to_edge(&mut self, key: Key) -> Option<Pid>
+        ensures leaf { IfSome result (λ page. IsPostedLeaf (slot_at self.old page.0) key) }
+        ensures unfinished { IfNone result (MeetsTodo self.old key) }
+        ensures unchanged { self.new ≡ self.old }
+    {
+        let page = self.page_at_rest(key)?;
+        let slot = self.slot_in_row(page);
+        let low = match slot.summary.high {
+            Fence::Top => slot.summary.low,
+            Fence::Key(high) => high,
+        };
+        self.edge = page.0;
+        self.edge_low = low;
+        Some(page)
     }
 
     /// The same on a page, without a walk. Returns `None` and changes nothing where it isn't such a
@@ -72,8 +135,8 @@ impl<A: Allocator + Copy> Table<A> {
     }
 
     /// The same on a posted leaf whose range holds the key, as a walk has found one. How many
-    /// records stand on it is seen where the change is made. It is called: `perform` with it built
-    /// in would be too large to be built into its own callers.
+    /// records stand on it is seen where the change is made.
+    #[inline(always)]
     fn change_at_rest(&mut self, page: Pid, key: Key, wished: Wished) -> Option<Receipt>
         requires { IsPostedLeaf (slot_at self.old page.0) key }
         ensures done { IfSome result (λ receipt.
@@ -82,6 +145,8 @@ impl<A: Allocator + Copy> Table<A> {
             TellsMap (telling_of receipt) self.old.slots self.new.slots) }
         ensures leaf { IfSome result (λ _. IsLeafOf self.old key page.0) }
         ensures unchanged { IfNone result (self.new ≡ self.old) }
+        ensures memory { IfNone result (IsUnfit self.old page.0
+            ⊎ (inserts wished (had_at self.old page.0 key) ≡ true)) }
     {
         if !self.can_count_on(page) {
             return None;
@@ -96,6 +161,7 @@ impl<A: Allocator + Copy> Table<A> {
         requires { is_in_row (slot_at self.now page.0).stage ≡ true }
         ensures number { IsTrue result → number_of self.now.book + 1 < 2 ^ 64 }
         ensures version { IsTrue result → (slot_at self.now page.0).version + 2 < 2 ^ 64 }
+        ensures used_up { result ≡ false → IsUsedUp self.now page.0 }
     {
         self.number() < u64::MAX && self.slot_in_row(page).version < u64::MAX - 1
     }
@@ -329,6 +395,8 @@ fn change_at<A: Allocator + Copy>(
     ensures shallow { IfSome result (λ done.
         depth (chain_in (slot_in slots.old.items page.0)) ≤ 1) }
     ensures unchanged { IfNone result (slots.new.items ≡ slots.old.items) }
+    ensures memory { IfNone result ((chain : Records)
+        → (slot_in slots.old.items page.0).chain ≡ Some chain → WantsMemory chain key wished) }
 {
     slots[page.0 as usize].change_in_place(key, wished)
 }
@@ -384,6 +452,20 @@ impl<A: Allocator + Copy> Slot<A> {
         self.stage == Stage::Posted && self.summary.level == 0 && self.holds(key)
     }
 
+    /// Whether no record stands on the page, or only that of its split.
+    fn is_flat(&self) -> bool
+        ensures { result ≡ is_flat (chain_in self.now) }
+    {
+        match &self.chain {
+            Some(chain) => match &chain.node {
+                Node::Bare(_) => true,
+                Node::Above(Delta::Split(_, _), below) => matches!(&below.node, Node::Bare(_)),
+                Node::Above(_, _) | Node::Merged(_, _, _) => false,
+            },
+            None => true,
+        }
+    }
+
     /// Carries out the wish in the base page's own list.
     #[inline(always)]
     fn change_in_place(&mut self, key: Key, wished: Wished) -> Option<InPlace>
@@ -393,6 +475,8 @@ impl<A: Allocator + Copy> Slot<A> {
         ensures changed { IfSome result (λ done. self.new ≡ slot_with done.delta self.old) }
         ensures shallow { IfSome result (λ done. depth (chain_in self.old) ≤ 1) }
         ensures unchanged { IfNone result (self.new ≡ self.old) }
+        ensures memory { IfNone result ((chain : Records)
+            → self.old.chain ≡ Some chain → WantsMemory chain key wished) }
     {
         let Some(chain) = &mut self.chain else {
             return None;

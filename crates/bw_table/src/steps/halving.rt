@@ -1,6 +1,7 @@
-//! A page split in half where it lies, and the new page named in its parent: each one step.
+//! A page split in half where it lies, and the new page named in its parent: each one step, or that
+//! and the consolidation of the page on which it left a record.
 
-ghost use Rattle.std.specs.Prelude.{◌≡◌, None, Some, is_none, unwrap_or, option_copied, ℕ, true, ◌<◌, IfOk, IfErr, IfSome, IfNone, OnOk};
+ghost use Rattle.std.specs.Prelude.{◌≡◌, None, Some, is_none, unwrap_or, option_copied, ℕ, true, ◌<◌, ◌≤◌, IfOk, IfErr, IfSome, IfNone, OnOk};
 ghost use Rattle.bw_delta.specs.Records.{Records, depth};
 ghost use Rattle.bw_delta.specs.Sound.{page_for};
 ghost use Rattle.bw_keys.specs.Reasons.{first_reason};
@@ -11,18 +12,21 @@ ghost use Rattle.bw_step.specs.Stages.{is_in_row};
 ghost use Rattle.bw_law.specs.Refusals.{refusal};
 ghost use Rattle.bw_law.specs.Slots.{SlotValue, chain_in};
 ghost use Rattle.bw_law.specs.Tables.{slot_at};
-ghost use Rattle.bw_table.specs.Actions.{Performs};
+ghost use Rattle.bw_table.specs.Actions.{IsAbove, LacksSpare, Performs};
 ghost use Rattle.bw_table.specs.Answers.{AnswersFirst};
 ghost use Rattle.bw_table.specs.InPlaces.{half_reasons, halving, halving_reasons};
 ghost use Rattle.bw_table.specs.SlotFacts.{HasSoundChain};
+ghost use Rattle.bw_table.specs.Views.{view_of};
 
 use crate::slot::Slot;
 use crate::steps::shared::{check_open, check_room};
 use crate::table::Table;
-use bw_chain::{halve, middle_key};
+use bw_chain::{halve_with_room, middle_key};
 use bw_delta::{Base, Node, Spare};
 use bw_keys::{Key, Pid, Version};
-use bw_step::{Denied, Go, Performed, Refused, Split, Stage, Step, TermAdd, Unperformed, View};
+use bw_step::{
+    Denied, Go, Kind, Performed, Receipt, Refused, Split, Stage, Step, TermAdd, Unperformed, View,
+};
 use std::alloc::Allocator;
 
 impl<A: Allocator + Copy> Table<A> {
@@ -40,7 +44,11 @@ impl<A: Allocator + Copy> Table<A> {
             Ok(base) => base,
             Err(reason) => return Err(Unperformed::Denied(Denied::Refused(reason))),
         };
-        let (Ok((separator, base)), Ok(spare)) = (halve(alloc, base), Spare::new(alloc)) else {
+        let room = self.config.fanout as usize + 1;
+        let (Ok((separator, base)), Ok(spare)) = (
+            halve_with_room(alloc, base, room),
+            Spare::new(alloc),
+        ) else {
             return Err(Unperformed::Denied(Denied::NoMemory));
         };
         let receipt = self.split(Split {
@@ -51,6 +59,30 @@ impl<A: Allocator + Copy> Table<A> {
             spare,
         });
         Ok(self.performed(page, separator, receipt))
+    }
+
+    /// Splits the page in half and consolidates it, if it still has the version that was seen, as
+    /// the two steps one after the other do. It isn't done where the split is refused, where the
+    /// page isn't posted, where a number is used up, and where memory is short.
+    pub(super) fn perform_cut(&mut self, page: Pid, seen: Version) -> Result<Performed, Unperformed>
+        ensures { Performs (actions.Cut page seen) self.old result self.new }
+    {
+        let Ok(base) = self.page_to_halve(page, seen) else {
+            return Err(Unperformed::StepByStep);
+        };
+        let number = base.len() / 2;
+        let Some(middle) = middle_key(base) else {
+            return Err(Unperformed::StepByStep);
+        };
+        let Some(new) = self.split_at_once(page, number) else {
+            return Err(Unperformed::StepByStep);
+        };
+        let receipt = Receipt::Shaped {
+            kind: Kind::Split,
+            page,
+            other: Some(new),
+        };
+        Ok(self.performed(page, middle, receipt))
     }
 
     /// The base of the page, if the page may be split in half, or why it may not.
@@ -135,9 +167,13 @@ impl<A: Allocator + Copy> Table<A> {
         child: Pid,
         spare: Option<Spare<A>>,
     ) -> Result<Performed, Unperformed>
-        ensures { Performs (actions.AddTerm child) self.old result self.new }
+        ensures performs { Performs (actions.AddTerm child) self.old result self.new }
+        ensures memory { IfErr result (λ why. LacksSpare why (is_none spare)) }
     {
-        let (Some(spare), Some(view)) = (spare, self.peek(child)) else {
+        let Some(spare) = spare else {
+            return Err(Unperformed::Denied(Denied::NoMemory));
+        };
+        let Some(view) = self.peek(child) else {
             return Err(Unperformed::StepByStep);
         };
         if view.stage != Stage::Unposted {
@@ -159,18 +195,49 @@ impl<A: Allocator + Copy> Table<A> {
         }
     }
 
-    /// The page of the next level whose range holds the page's low.
-    fn page_above(&self, under: View) -> Option<View> {
-        let goal = under.level.checked_add(1)?;
+    /// Names an unposted page in the page of the next level whose range holds its low, and
+    /// consolidates that, as the two steps one after the other do. It isn't done where there is no
+    /// such page, and where [`Table::post_at_once`] doesn't do it.
+    pub(super) fn perform_post(&mut self, child: Pid) -> Result<Performed, Unperformed>
+        ensures { Performs (actions.Post child) self.old result self.new }
+    {
+        let Some(under) = self.peek(child) else {
+            return Err(Unperformed::StepByStep);
+        };
+        if under.stage != Stage::Unposted {
+            return Err(Unperformed::StepByStep);
+        }
+        let Some(parent) = self.page_above(under) else {
+            return Err(Unperformed::StepByStep);
+        };
+        if !self.post_at_once(parent.pid, child) {
+            return Err(Unperformed::StepByStep);
+        }
+        let receipt = Receipt::Shaped {
+            kind: Kind::TermAdd,
+            page: parent.pid,
+            other: Some(child),
+        };
+        Ok(self.performed(parent.pid, under.low, receipt))
+    }
+
+    /// The page of the next level whose range holds the page's low; none above the root's level.
+    fn page_above(&self, under: View) -> Option<View>
+        ensures view { IfSome result (λ view.
+            view ≡ view_of view.pid (slot_at self.now view.pid.0)) }
+        ensures above { IfSome result (λ view. IsAbove self.now under.low under.level view.pid.0) }
+        ensures on_top { IfNone result ((slot_at self.now self.now.root).level ≤ under.level) }
+    {
         let mut place = self.root();
-        if goal > place.level {
+        if place.level <= under.level {
             return None;
         }
+        let goal = under.level + 1;
         'up: loop {
             match self.visit(place, under.low, goal).go {
                 Go::Right(next) | Go::Down(next) => place = next,
                 Go::Here(view) => return Some(view),
-                Go::Gone => return None,
+                Go::Gone => unreachable!(),
             }
         }
     }

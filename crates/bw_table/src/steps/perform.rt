@@ -1,8 +1,9 @@
 //! What is done in one hold of a table's lock, by one door.
 
-ghost use Rattle.std.specs.Prelude.{◌≡◌, IfOk, IfErr, OnErr};
+ghost use Rattle.std.specs.Prelude.{◌≡◌, true, IfOk, IfErr, OnErr, is_none};
 ghost use Rattle.bw_law.specs.Tables.{slot_at};
-ghost use Rattle.bw_table.specs.Actions.{IsPerformed, IsWhyNot};
+ghost use Rattle.bw_step.specs.Actions.{takes_spare};
+ghost use Rattle.bw_table.specs.Actions.{IsPerformed, IsWhyNot, LacksSpare};
 
 use crate::table::Table;
 use bw_delta::Spare;
@@ -24,6 +25,8 @@ impl<A: Allocator + Copy> Table<A> {
         ensures done { IfOk result (IsPerformed self.old action self.new) }
         ensures why { IfErr result (IsWhyNot self.old action) }
         ensures unchanged { OnErr result (self.new ≡ self.old) }
+        ensures memory { takes_spare action ≡ true
+            → IfErr result (λ why. LacksSpare why (is_none spare)) }
     {
         match action {
             Action::Change { key, wished } => self.perform_change(key, wished),
@@ -33,6 +36,8 @@ impl<A: Allocator + Copy> Table<A> {
                 Reshaping::Halve => self.perform_halving(alloc, page, seen),
             },
             Action::AddTerm { child } => self.perform_term(child, spare),
+            Action::Cut { page, seen } => self.perform_cut(page, seen),
+            Action::Post { child } => self.perform_post(child),
         }
     }
 

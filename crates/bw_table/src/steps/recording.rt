@@ -1,12 +1,12 @@
 //! A look for a key and the record of its change, or a page made anew where it lies: each one step.
 
-ghost use Rattle.std.specs.Prelude.{◌≡◌, ◌++◌, ◌∷◌, [], option_map};
+ghost use Rattle.std.specs.Prelude.{◌≡◌, ◌++◌, ◌∷◌, [], IfErr, is_none, option_map};
 ghost use Rattle.bw_step.specs.ProposalView.{proposal_of};
 ghost use Rattle.bw_step.specs.declared.action.Action.TheVariants as actions;
 ghost use Rattle.bw_step.specs.declared.action.Reshaping.TheVariants as reshapings;
 ghost use Rattle.bw_step.specs.declared.receipt.Receipt.TheVariants.{Looked};
 ghost use Rattle.bw_law.specs.Refusals.{open_reasons, worn};
-ghost use Rattle.bw_table.specs.Actions.{Performs};
+ghost use Rattle.bw_table.specs.Actions.{LacksSpare, Performs};
 ghost use Rattle.bw_table.specs.Answers.{AnswersFirst};
 ghost use Rattle.bw_table.specs.InPlaces.{step_for};
 
@@ -30,16 +30,17 @@ impl<A: Allocator + Copy> Table<A> {
         wished: Wished,
         spare: Option<Spare<A>>,
     ) -> Result<Performed, Unperformed>
-        ensures { Performs (actions.Record key wished) self.old result self.new }
+        ensures performs { Performs (actions.Record key wished) self.old result self.new }
+        ensures memory { IfErr result (λ why. LacksSpare why (is_none spare)) }
     {
         let Some(spare) = spare else {
-            return Err(Unperformed::StepByStep);
+            return Err(Unperformed::Denied(Denied::NoMemory));
         };
         let Some(leaf) = self.leaf_at_rest(key) else {
             return Err(Unperformed::StepByStep);
         };
         let Some(look) = self.look(leaf.pid, key) else {
-            return Err(Unperformed::StepByStep);
+            unreachable!()
         };
         let receipt = match step_for(leaf, key, wished, look.found, spare) {
             None => receipt_of(key, look),

@@ -1,7 +1,7 @@
 use Rattle.std.specs.Prelude.{is_some}
 use Rattle.std.proofs.Common.{refl, ap, sym, subst, ◌∙◌}
 use Rattle.bw_delta.specs.Pages.{IsPage}
-use Rattle.bw_chain.specs.InPlaces.{delta_for}
+use Rattle.bw_chain.specs.InPlaces.{delta_for, inserts}
 use Rattle.bw_chain.proofs.InPlaces.{cut_behind, found_behind_cut}
 use Rattle.bw_chain.proofs.in_place.change_and_cut.Goals as goal
 
@@ -15,3 +15,8 @@ returns-then-is_some-clause-changed g c =
 
 pub returns-else-is_some-clause-had : goal.returns-else-is_some-clause-had
 returns-else-is_some-clause-had g c = c.in_ok-had.ensures.had ∙ sym (found_behind_cut c.args.separator c.args.key c.args.right c.args.base.now c.requires.within)
+
+pub returns-in_err-had-clause-memory : goal.returns-in_err-had-clause-memory
+returns-in_err-had-clause-memory g c =
+    let found = found_behind_cut c.args.separator c.args.key c.args.right c.args.base.now c.requires.within in
+    rw c.from_residual.ensures (λ sound leaf flat. ap (inserts c.args.wished) found ∙ c.in_err-had.ensures.memory leaf)

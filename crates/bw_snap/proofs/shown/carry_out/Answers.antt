@@ -1,7 +1,12 @@
-use Rattle.bw_snap.proofs.Changes.{made_where_some}
+use Rattle.bw_snap.proofs.Changes.{made_where_some, made_where_posted}
 use Rattle.bw_snap.proofs.shown.carry_out.Goals as goal
 
 pub returns-in-Change-clause-done : goal.returns-in-Change-clause-done
 returns-in-Change-clause-done c holds =
     let it = c.in-Change in
     rw it.is (made_where_some c.args.table.now c.change_leaf.new.self c.args.page it.key it.wished c.change_leaf.result c.is_some.result c.change_leaf.ensures.done c.is_some.ensures holds)
+
+pub returns-in-Post-clause-done : goal.returns-in-Post-clause-done
+returns-in-Post-clause-done c holds =
+    let it = c.in-Post in
+    rw it.is (made_where_posted c.args.table.now c.post_at_once.new.self c.args.page it.child c.post_at_once.result c.post_at_once.ensures holds)

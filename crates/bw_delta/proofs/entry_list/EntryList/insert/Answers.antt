@@ -11,9 +11,16 @@ returns-clause-inserted g c =
     let keys = list.keys.items in
     let values = list.values.items in
     let inside : place ≤ length keys = omega (arith, c.requires, ap length c.self.view_is, length-zip keys values c.self.invariant) in
-    let pushed : c.push-2.new.self.items ≡ keys ++ c.args.key ∷ [] = rw (c.in-Ok.ensures.items, c.in_ok-reserve.ensures.items) refl in
+    let key = c.args.key in
+    let value = c.args.value in
+    let more_keys : c.push_reserved.new.self.items ≡ keys ++ key ∷ [] = rw (c.push_reserved.ensures.items, c.make_room.ensures.items) refl in
+    let more_values : c.push_reserved-2.new.self.items ≡ values ++ value ∷ [] =
+    rw (c.push_reserved-2.ensures.items, c.make_room-2.ensures.items) refl in
+    let inside_values : place ≤ length values = omega (arith, c.self.invariant, inside) in
+    let raised_keys = rw c.as_mut_slice-keys.ensures.value at c.move_up.ensures.keys in
+    let raised_values = rw c.as_mut_slice-values.ensures.value at c.move_up.ensures.values in
     rw (
-      put_moved c.push-2.new.self place c.move_up.new.keys c.args.key keys pushed inside (rw c.as_mut_slice-keys.ensures.value at c.move_up.ensures.keys),
-      put_moved c.push.new.self place c.move_up.new.values c.args.value values c.in_ok-push.ensures.items (omega (arith, c.self.invariant, inside)) (rw c.as_mut_slice-values.ensures.value at c.move_up.ensures.values),
+      put_moved c.push_reserved.new.self place c.move_up.new.keys key keys more_keys inside raised_keys,
+      put_moved c.push_reserved-2.new.self place c.move_up.new.values value values more_values inside_values raised_values,
     )
-    (zip-insert place c.args.key c.args.value keys values c.self.invariant ∙ ap (λ es. insert es place (c.args.key, c.args.value)) c.self.view_is)
+    (zip-insert place key value keys values c.self.invariant ∙ ap (λ es. insert es place (key, value)) c.self.view_is)

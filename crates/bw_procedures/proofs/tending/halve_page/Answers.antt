@@ -3,7 +3,7 @@ use Rattle.std.proofs.lemmas.Grind.{common_steps}
 use Rattle.bw_step.specs.declared.receipt.Receipt.{Receipt}
 use Rattle.bw_step.specs.Tellings.{without_shapes}
 use Rattle.bw_procedures.proofs.Performing.{performed_nears}
-use Rattle.bw_procedures.proofs.tending.split_off.Goals as goal
+use Rattle.bw_procedures.proofs.tending.halve_page.Goals as goal
 
 pub returns-in-Shaped-default-default-Some-clause-tended : goal.returns-in-Shaped-default-default-Some-clause-tended
 returns-in-Shaped-default-default-Some-clause-tended g c =
