@@ -3,6 +3,7 @@ pub mod Changes
 pub mod InPlaces
 pub mod Kinds
 pub mod Laws
+pub mod Leaves
 pub mod Pages
 pub mod Passing
 pub mod Searching

@@ -25,5 +25,5 @@ pub use page::{HalveFault, depth, fences, halve, halve_with_room, is_leaf, middl
 pub use pass::{append_first_pairs, append_pairs, consolidate, count, is_upper_part, same};
 pub use search::{
     child, child_page, find, has_pair_from, is_later_key, next_at, pairs_from, pairs_upto,
-    previous_at, route_at, route_before,
+    pairs_within, previous_at, route_at, route_before,
 };

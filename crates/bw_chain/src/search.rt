@@ -24,7 +24,7 @@ use bw_delta::{Chain, Node};
 use bw_keys::{Fence, Key, Pid};
 pub use separator::is_later_key;
 use std::alloc::Allocator;
-pub use stretch::{pairs_from, pairs_upto};
+pub use stretch::{pairs_from, pairs_upto, pairs_within};
 
 /// Returns the value at the key: that of the newest record which names the key, or else the base
 /// page's (Levandoski et al., ICDE 2013, "page search"). Of a base page it reads keys, and the one

@@ -2,10 +2,11 @@
 //! page names a key among them, so they are the chain's: a page with no records is one stretch, and
 //! so is one with only its split above it.
 
-ghost use Rattle.std.specs.Prelude.{◌≡◌, ◌≢◌, ℕ, ◌+◌, ◌<◌, ◌≤◌, min, max, List};
+ghost use Rattle.std.specs.Prelude.{◌≡◌, ◌≢◌, ◌↔◌, ℕ, ◌+◌, ◌<◌, ◌≤◌, min, max, List, None, IfSome};
 ghost use Rattle.bw_keys.specs.Ranges.{end_of};
 ghost use Rattle.bw_delta.specs.Entries.{below, from};
 ghost use Rattle.bw_delta.specs.Pairs.{pairs, pairs_listed};
+ghost use Rattle.bw_delta.specs.Records.{depth};
 ghost use Rattle.bw_delta.specs.Slices.{list_of};
 ghost use Rattle.bw_delta.specs.Sound.{IsSound};
 ghost use Rattle.bw_chain.specs.Ascends.{IsAscending};
@@ -40,6 +41,24 @@ pub fn pairs_from<A: Allocator + Copy>(chain: &Chain<A>, key: Key) -> EntrySlice
 {
     let stretch = stretch_around(chain, key);
     below_end(entries_from(stretch.pairs, Fence::Key(key)), stretch.end)
+}
+
+/// Returns all of the chain's pairs from the key on and below the end, which lie side by side, or none
+/// if a record stands above its page. It takes no memory.
+pub fn pairs_within<A: Allocator + Copy>(
+    chain: &Chain<A>,
+    key: Key,
+    end: Fence,
+) -> Option<EntrySlice<'_, u64>>
+    ensures all { IfSome result (λ run.
+        list_of run ≡ below (end_of end) (from key (pairs chain.now))) }
+    ensures records { (result ≡ None) ↔ (0 < depth chain.now) }
+{
+    let Node::Bare(base) = &chain.node else {
+        return None;
+    };
+    let pairs = entries_from(u64::entries_on(base), Fence::Key(key));
+    Some(below_end(pairs, end))
 }
 
 /// Returns the chain's pairs up to the key that lie side by side, from after the last key that a
