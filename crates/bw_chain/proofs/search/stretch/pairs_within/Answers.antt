@@ -10,4 +10,5 @@ pub below_end-requires : goal.below_end-requires
 below_end-requires g c =
     let listed = list_of c.entries_on.result in
     let rise = rises-from key_count 0 c.args.key listed c.entries_on.ensures.ascending in
-    record { ascending = subst IsAscending (sym c.entries_from-pairs.ensures) (rises-lower key_count 0 c.args.key (from c.args.key listed) (omega arith) rise) }
+    let higher = rises-lower key_count 0 c.args.key (from c.args.key listed) (omega arith) rise in
+    record { ascending = subst IsAscending (sym c.entries_from-pairs.ensures) higher }
