@@ -4,8 +4,8 @@ use Rattle.bw_keys.specs.declared.range.Fence.{Fence}
 use Rattle.bw_keys.specs.Ranges.{end_of}
 use Rattle.bw_delta.specs.Entries.{below, rises}
 
--- The pairs are all that the key's leaf has from the key on, up to the leaf's end. The first of those below
--- the high, as many as the limit allows, were appended.
+-- The pairs are all that the key's leaf has from the key on, up to the leaf's end. The first of
+-- those below the high, as many as the limit allows, were appended.
 pub record AppendsLeaf (shows : ℕ → ℕ → List (ℕ × ℕ) → Type 0) (key high limit end : ℕ)
     (old new : List (ℕ × ℕ)) : Type 0 where
   pub pairs : List (ℕ × ℕ)
