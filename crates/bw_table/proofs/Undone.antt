@@ -3,6 +3,7 @@ use Rattle.std.proofs.Common.{◌≡◌, ◌⊎◌, ℕ, ◌/◌, ◌<◌, Bool,
 use Rattle.std.specs.Prelude.{◌==◌, nat_lt, [], Result, Ok, Err, IfErr, IfNone, is_ok, option_map, unwrap_or}
 use Rattle.std.proofs.lemmas.Bool.Decides.{nat_tests}
 use Rattle.bw_keys.specs.declared.page.Pid.{Pid}
+use Rattle.bw_keys.specs.declared.page.Version.{Version}
 use Rattle.bw_keys.specs.declared.wished.Wished.{Wished}
 use Rattle.bw_keys.specs.Reasons.{first_reason}
 use Rattle.bw_chain.specs.InPlaces.{WantsMemory, inserts, is_flat}
@@ -99,6 +100,9 @@ none_unless (Some it) so here = tt
 pub no_leaf_is_changed : (table : TableValue) (page key : ℕ) → slot_at table page ≡ free_slot 0 → IsPostedLeaf (slot_at table page) key → ⊥
 no_leaf_is_changed table page key nowhere leaf = cc (ap (λ (s : SlotValue). s.stage) nowhere, leaf.posted)
 
+pub one_key : {found : Option ℕ} {key other : ℕ} → found ≡ Some key → found ≡ Some other → key ≡ other
+one_key is its = cc
+
 -- a page is split before an entry that it has
 module _ (table : TableValue) (page number : ℕ) where
   abbrev its_slot : SlotValue
@@ -123,14 +127,13 @@ module _ (table : TableValue) (page number : ℕ) where
     -- nor where it may not be split at the key of that
     pub not_split_there : (Splits separator → ⊥) → MaySplitBefore table page number → ⊥
     not_split_there unfit may =
-        let same : may.separator ≡ separator = cc (may.its_key, its_key) in
-        unfit (subst Splits same may.splits)
+        unfit (subst Splits (one_key may.its_key its_key) may.splits)
 
     pub may_split_there : Splits separator → MaySplitBefore table page number
     may_split_there splits = record { separator = separator; its_key = its_key; splits = splits }
 
 -- why a page isn't split in half
-module _ (table : TableValue) (page seen : Pid) where
+module _ (table : TableValue) (page : Pid) (seen : Version) where
   abbrev its_listed : Listed
   its_listed = (page_for (chain_in (slot_at table page.0))).listed
 

@@ -31,23 +31,23 @@ returns g c =
       unchanged = tt;
     }
 
-pub returns-in-Err : goal.returns-in-Err
-returns-in-Err g c = record { done = tt; why = refused_is_uncut c.args.self.now c.args.page c.args.seen _ c.in-Err.ensures.refused; unchanged = refl }
+pub returns-in_default : goal.returns-in_default
+returns-in_default g c = record { done = tt; why = refused_is_uncut c.args.self.now c.args.page c.args.seen _ c.in_default.ensures.refused; unchanged = refl }
 
-pub returns-in-None : goal.returns-in-None
-returns-in-None g c =
+pub returns-in_default-middle_key : goal.returns-in_default-middle_key
+returns-in_default-middle_key g c =
     let few = ap (λ (p : Page). listed_length p.listed) c.in-Ok.ensures.page in
-    let its_few = subst (λ (n : ℕ). n < 2) few (c.in-None.ensures.small.0 refl) in
+    let its_few = subst (λ (n : ℕ). n < 2) few (c.in_default-middle_key.ensures.small.0 refl) in
     record { done = tt; why = too_small_to_cut c.args.self.now c.args.page c.args.seen its_few; unchanged = refl }
 
-pub returns-in-Err-split_at_once : goal.returns-in-Err-split_at_once
-returns-in-Err-split_at_once g c =
+pub returns-in-Err : goal.returns-in-Err
+returns-in-Err g c =
     let its_page = c.in-Ok.ensures.page in
     let key = ap (λ (p : Page). listed_middle_key p.listed) (sym its_page) ∙ c.in-Some.ensures.key in
     let number = ap (λ (n : ℕ). n / 2) c.len-number.ensures ∙ ap (λ (p : Page). listed_length p.listed / 2) its_page in
-    let undone = c.in-Err-split_at_once.ensures in
+    let undone = c.in-Err.ensures in
     record {
       done = tt;
-      why = uncut_why c.args.self.now c.args.page c.args.seen _ c.in-Some.middle c.in-Ok.ensures.fine number key c.in-Err-split_at_once.why undone.why;
+      why = uncut_why c.args.self.now c.args.page c.args.seen _ c.in-Some.middle c.in-Ok.ensures.fine number key c.in-Err.why undone.why;
       unchanged = undone.unchanged;
     }

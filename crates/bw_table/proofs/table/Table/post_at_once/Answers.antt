@@ -1,8 +1,8 @@
-use Rattle.std.proofs.Common.{◌≡◌, refl}
+use Rattle.std.proofs.Common.{ℕ, List}
 use Rattle.std.specs.Prelude.{Result, Ok, Err, IfErr}
-use Rattle.bw_law.specs.Tables.{TableValue, slot_at}
+use Rattle.bw_law.specs.Slots.{SlotValue}
 use Rattle.bw_step.specs.declared.action.Unperformed.{Unperformed}
-use Rattle.bw_table.specs.InPlaces.{HasNoTerm, IsWhyUndone, MayPost, MayPostAtOnce}
+use Rattle.bw_table.specs.InPlaces.{HasNoTerm, IsWhyUndone, MayPost}
 use Rattle.bw_table.proofs.InPlaces.{parent_is_inside, child_is_inside, child_is_apart, parent_takes, posted_or_not, unposted_why, whole_if_posted}
 use Rattle.bw_table.proofs.table.Table.post_at_once.Goals as goal
 
@@ -37,15 +37,18 @@ returns-clause-posted g c =
     let posted = posted_or_not c.self.invariant parent child may c.post_at.result c.post_at.new.slots.items done.absent done.inner done.posted done.unchanged in
     rw (← c.self.view_is) posted
 
-unless_posted : (slots : TableValue) (parent child : ℕ) → (done : Result (Unit {0}) Unperformed)
-    → ((why : Unperformed) → IsWhyUndone (HasNoTerm slots.slots parent child) why → IsWhyUndone (MayPost slots.slots parent child) why)
-    → IfErr done (IsWhyUndone (HasNoTerm slots.slots parent child)) → IfErr done (IsWhyUndone (MayPost slots.slots parent child))
-unless_posted table parent child (Ok done) by undone = tt
-unless_posted table parent child (Err why) by undone = by why undone
+pub returns-then-not-may_post_at_once-clause-why : goal.returns-then-not-may_post_at_once-clause-why
+returns-then-not-may_post_at_once-clause-why g c = λ may. c.may_post_at_once.ensures.unfit c.if-not-may_post_at_once.true may.takes
+
+unless_posted : {slots : List SlotValue} {parent child : ℕ} (done : Result (Unit {0}) Unperformed)
+    → ((why : Unperformed) → IsWhyUndone (HasNoTerm slots parent child) why → IsWhyUndone (MayPost slots parent child) why)
+    → IfErr done (IsWhyUndone (HasNoTerm slots parent child)) → IfErr done (IsWhyUndone (MayPost slots parent child))
+unless_posted (Ok done) by undone = tt
+unless_posted (Err why) by undone = by why undone
 
 pub returns-clause-why : goal.returns-clause-why
 returns-clause-why g c =
     let parent = c.args.parent.0 in
     let child = c.args.child.0 in
     let may = rw (← c.self.view_is) at (c.may_post_at_once.ensures.may c.if-not-may_post_at_once.false) in
-    rw (← c.self.view_is) (unless_posted _ parent child c.post_at.result (unposted_why c.self.invariant parent child may) c.post_at.ensures.why)
+    rw (← c.self.view_is) (unless_posted c.post_at.result (unposted_why c.self.invariant parent child may) c.post_at.ensures.why)
