@@ -37,7 +37,7 @@ use Rattle.bw_law.specs.Tables.{TableValue, TellsMap, SameMap, slot_at, slot_fen
 use Rattle.bw_law.proofs.Facts.{last_id_is_free, here_is_inside, leaf_count_fits, inner_count_fits, slots_are_few}
 use Rattle.bw_law.proofs.SameTests.{same_page_tells}
 use Rattle.bw_law.proofs.Slots.{slot_written, slot_kept}
-use Rattle.bw_table.specs.InPlaces.{IsPostedLeaf, IsWhyUndone, HasNoTerm, MayChangeAtOnce, MayPost, MayPostAtOnce, MayCut, MaySplitAtOnce, TakesCut, slot_cut, TakesInPlace, TakesBoth, both_steps, LooksOrTakes, IsDoneAtOnce, IsPosted, count_after, slot_with, receipt_for, step_for}
+use Rattle.bw_table.specs.InPlaces.{IsPostedLeaf, IsWhyUndone, HasNoTerm, MayChangeAtOnce, MayPost, MayPostAtOnce, MayCut, MaySplitAtOnce, TakesCut, slot_cut, TakesInPlace, TakesBoth, both_steps, LooksOrTakes, IsDoneAtOnce, IsPosted, count_after, slot_with, receipt_for, slots_posted_at_once, step_for}
 use Rattle.bw_table.specs.Whole.{IsWhole}
 use Rattle.bw_law.proofs.AllSteps.{step_law}
 use Rattle.bw_table.proofs.Writes.{set-swap}
@@ -388,14 +388,16 @@ module _ {table : TableValue} {room : ℕ} (whole : IsWhole table room) (parent 
       (ap (λ (s : List SlotValue). record table { slots = s }) (slots_are ∙ sym in_order))
 
   -- what the test of the parent's list decided
-  pub posted_or_not : (done : Result (Unit {0}) Unperformed) (slots : List SlotValue) → OnOk done (at (slot_at table child).low (routes_in (slot_at table parent)) ≡ None) → OnOk done (is_leaf (chain_in (slot_at table parent)) ≡ false)
-      → OnOk done (slots ≡ set (set table.slots parent (slot_with (Some term) (slot_at table parent))) child (with_stage Posted (slot_at table child))) → OnErr done (slots ≡ table.slots)
+  pub posted_or_not : (done : Result (Unit {0}) Unperformed) (slots : List SlotValue)
+      → OnOk done (HasNoTerm table.slots parent child) → OnOk done (is_leaf (chain_in (slot_at table parent)) ≡ false)
+      → OnOk done (slots ≡ slots_posted_at_once parent (pid child) table.slots) → OnErr done (slots ≡ table.slots)
       → IsPosted table parent (pid child) (is_ok done) (record table { slots = slots })
   posted_or_not (Ok done) slots absent inner posted same = posted_at_once slots absent inner posted
   posted_or_not (Err why) slots absent inner posted same = ap (λ (s : List SlotValue). record table { slots = s }) same
 
   -- why it wasn't posted
-  pub unposted_why : (why : Unperformed) → IsWhyUndone (HasNoTerm table.slots parent child) why → IsWhyUndone (MayPost table.slots parent child) why
+  pub unposted_why : (why : Unperformed)
+      → IsWhyUndone (HasNoTerm table.slots parent child) why → IsWhyUndone (MayPost table.slots parent child) why
   unposted_why StepByStep there = λ may. there may.absent
   unposted_why (Denied denials.NoMemory) absent = record { takes = may; absent = absent }
   unposted_why (Denied (denials.Refused reason)) never = never

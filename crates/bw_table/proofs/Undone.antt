@@ -113,7 +113,8 @@ module _ (table : TableValue) (page number : ℕ) where
   no_page_is_split nowhere may = cc (ap (λ (s : SlotValue). s.stage) nowhere, may.splits.cut.posted)
 
   -- nor where it has records or no such entry
-  pub none_is_split : Lawful table → ((chain : Records) → its_slot.chain ≡ Some chain → depth chain ≡ 0 → listed_key_at number (page_for (chain_in its_slot)).listed ≡ None)
+  pub none_is_split : Lawful table
+      → ((chain : Records) → its_slot.chain ≡ Some chain → depth chain ≡ 0 → listed_key_at number (page_for (chain_in its_slot)).listed ≡ None)
       → MaySplitBefore table page number → ⊥
   none_is_split law missing may =
       let own = law.pages page (ap is_in_row may.splits.cut.posted) in
@@ -137,7 +138,8 @@ module _ (table : TableValue) (page : Pid) (seen : Version) where
   abbrev its_listed : Listed
   its_listed = (page_for (chain_in (slot_at table page.0))).listed
 
-  pub refused_is_uncut : (reason : Refused) → first_reason (half_reasons table page.0 seen.0) ≡ Some reason → MayCutInHalf table page.0 seen.0 → ⊥
+  pub refused_is_uncut : (reason : Refused)
+      → first_reason (half_reasons table page.0 seen.0) ≡ Some reason → MayCutInHalf table page.0 seen.0 → ⊥
   refused_is_uncut reason is may = cc (is, may.accepted)
 
   pub too_small_to_cut : listed_length its_listed < 2 → MayCutInHalf table page.0 seen.0 → ⊥
@@ -146,7 +148,8 @@ module _ (table : TableValue) (page : Pid) (seen : Version) where
       let enough : nat_lt (listed_length its_listed) 2 ≡ false = not_when _ _ small in
       grind (arith, nat_tests)
 
-  pub uncut_why : (number middle : ℕ) → first_reason (half_reasons table page.0 seen.0) ≡ None → number ≡ listed_length its_listed / 2 → listed_middle_key its_listed ≡ Some middle
+  pub uncut_why : (number middle : ℕ) → first_reason (half_reasons table page.0 seen.0) ≡ None
+      → number ≡ listed_length its_listed / 2 → listed_middle_key its_listed ≡ Some middle
       → (why : Unperformed) → IsWhyUndone (MaySplitBefore table page.0 number) why → IsWhyNot table (actions.Cut page seen) why
   uncut_why number middle fine number_is key StepByStep never =
       let middle_is : middle_of table page.0 ≡ middle = ap (λ (o : Option ℕ). unwrap_or o 0) key in
@@ -155,24 +158,29 @@ module _ (table : TableValue) (page : Pid) (seen : Version) where
       in
       λ may. never (may_split_there table page.0 number (middle_of table page.0) its_key may.splits)
   uncut_why number middle fine number_is key (Denied denials.NoMemory) may =
-      let found : listed_middle_key its_listed ≡ Some may.separator = ap (λ (n : ℕ). listed_key_at n its_listed) (sym number_is) ∙ may.its_key in
+      let found : listed_middle_key its_listed ≡ Some may.separator =
+      ap (λ (n : ℕ). listed_key_at n its_listed) (sym number_is) ∙ may.its_key
+      in
       let same : may.separator ≡ middle_of table page.0 = sym (ap (λ (o : Option ℕ). unwrap_or o 0) found) in
       record { accepted = fine; splits = subst (λ (key : ℕ). MaySplitAtOnce table page.0 key) same may.splits }
   uncut_why number middle fine number_is key (Denied (denials.Refused reason)) never = never
 
 -- why a page isn't named in its parent
-module _ (table : TableValue) (child : Pid) (under parent : View) (under_is : under ≡ view_of child (slot_at table child.0)) (above : IsAbove table under.low under.level parent.pid.0) where
+module _ (table : TableValue) (child : Pid) (under parent : View) (under_is : under ≡ view_of child (slot_at table child.0))
+    (above : IsAbove table under.low under.level parent.pid.0) where
   above_child : IsAbove table (slot_at table child.0).low (slot_at table child.0).level parent.pid.0
   above_child = subst (λ (v : View). IsAbove table v.low v.level parent.pid.0) under_is above
 
-  pub unposted_why : (why : Unperformed) → IsWhyUndone (MayPost table.slots parent.pid.0 child.0) why → IsWhyNot table (actions.Post child) why
+  pub unposted_why : (why : Unperformed) → IsWhyUndone (MayPost table.slots parent.pid.0 child.0) why
+      → IsWhyNot table (actions.Post child) why
   unposted_why StepByStep never = inr (inr (parent.pid.0, above_child, never))
   unposted_why (Denied denials.NoMemory) may = (parent.pid.0, above_child, may)
   unposted_why (Denied (denials.Refused reason)) never = never
 
 -- why a page isn't merged into the one on its left
 module _ (table : TableValue) (parent page : ℕ) where
-  pub not_merged_left : (left : Pid) → left_under table parent page ≡ Some left → (MayMergeUnder table parent left.0 page → ⊥) → MayMergeLeft table parent page → ⊥
+  pub not_merged_left : (left : Pid) → left_under table parent page ≡ Some left
+      → (MayMergeUnder table parent left.0 page → ⊥) → MayMergeLeft table parent page → ⊥
   not_merged_left left its unfit may =
       let same : may.left ≡ left = cc (may.before, its) in
       unfit (subst (λ (p : Pid). MayMergeUnder table parent p.0 page) same may.merges)
@@ -187,7 +195,8 @@ module _ (table : TableValue) (parent page : ℕ) where
   no_parent_merges nowhere = none_is_over (ap (λ (s : SlotValue). is_in_row s.stage) nowhere)
 
 -- a page that isn't posted may or may not be in the table that is left, too
-pub still_unposted : (old new : TableValue) (parent : ℕ) (child : Pid) (posted : Result (Unit {0}) Unperformed) → IsPosted old parent child (is_ok posted) new
-    → IfErr posted (IsWhyUndone (MayPost old.slots parent child.0)) → IfErr posted (IsWhyUndone (MayPost new.slots parent child.0))
+pub still_unposted : (old new : TableValue) (parent : ℕ) (child : Pid) (posted : Result (Unit {0}) Unperformed)
+    → IsPosted old parent child (is_ok posted) new → IfErr posted (IsWhyUndone (MayPost old.slots parent child.0)) → IfErr posted (IsWhyUndone (MayPost new.slots parent child.0))
 still_unposted old new parent child (Ok done) is why = tt
-still_unposted old new parent child (Err fault) is why = subst (λ (t : TableValue). IsWhyUndone (MayPost t.slots parent child.0) fault) (sym is) why
+still_unposted old new parent child (Err fault) is why =
+    subst (λ (t : TableValue). IsWhyUndone (MayPost t.slots parent child.0) fault) (sym is) why

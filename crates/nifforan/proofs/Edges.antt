@@ -38,7 +38,8 @@ module _ (old new : TableValue) (parent page number : ℕ) (law : Lawful old) (b
       → IfOk split (λ it. IsSplitUnder old parent page number it.0 (is_ok it.1) new) → OnErr split (new ≡ old) → SameMap old.slots new.slots
   split_same (Err why) done unchanged = rw unchanged (same_as_it_is old.slots)
   split_same (Ok it) done unchanged =
-      reshaped_same old new [] (receipts_of_split (pid page) (pid parent) it.0 (is_ok it.1)) refl (split_leads old new parent page number it.0 (is_ok it.1) [] law booked done)
+      reshaped_same old new [] (receipts_of_split (pid page) (pid parent) it.0 (is_ok it.1)) refl
+      (split_leads old new parent page number it.0 (is_ok it.1) [] law booked done)
       (split_is_shape (pid page) (pid parent) it.0 (is_ok it.1))
 
   pub split_config : (split : Result (Pid × Result (Unit {0}) Unperformed) Unperformed)

@@ -35,7 +35,8 @@ returns-clause-fanout g c =
 
 pub returns-then-not-may_merge_under-clause-why : goal.returns-then-not-may_merge_under-clause-why
 returns-then-not-may_merge_under-clause-why g c =
-    not_merged_left c.args.self.now c.args.parent.0 c.args.page.0 c.in-Some.left c.in-Some.ensures.left (c.may_merge_under.ensures.unfit c.if-not-may_merge_under.true)
+    not_merged_left c.args.self.now c.args.parent.0 c.args.page.0 c.in-Some.left c.in-Some.ensures.left
+    (c.may_merge_under.ensures.unfit c.if-not-may_merge_under.true)
 
 pub returns-in_default-merge_at-clause-why : goal.returns-in_default-merge_at-clause-why
 returns-in_default-merge_at-clause-why g c =

@@ -32,7 +32,8 @@ returns g c =
     }
 
 pub returns-in_default : goal.returns-in_default
-returns-in_default g c = record { done = tt; why = refused_is_uncut c.args.self.now c.args.page c.args.seen _ c.in_default.ensures.refused; unchanged = refl }
+returns-in_default g c =
+    record { done = tt; why = refused_is_uncut c.args.self.now c.args.page c.args.seen _ c.in_default.ensures.refused; unchanged = refl }
 
 pub returns-in_default-middle_key : goal.returns-in_default-middle_key
 returns-in_default-middle_key g c =
@@ -48,6 +49,7 @@ returns-in-Err g c =
     let undone = c.in-Err.ensures in
     record {
       done = tt;
-      why = uncut_why c.args.self.now c.args.page c.args.seen _ c.in-Some.middle c.in-Ok.ensures.fine number key c.in-Err.why undone.why;
+      why = uncut_why c.args.self.now c.args.page c.args.seen _ c.in-Some.middle c.in-Ok.ensures.fine number key
+          c.in-Err.why undone.why;
       unchanged = undone.unchanged;
     }

@@ -14,8 +14,8 @@ returns g c =
     let parent = c.in-Some-page_above.parent.pid in
     let reported = c.performed.ensures in
     let child = c.args.child.0 in
-    let takes =
-    took_both table new it parent (term_of table parent.0 child) _ reported.page reported.receipt c.in_default-post_at_once.ensures.posted in
+    let done = c.in_default-post_at_once.ensures.posted in
+    let takes = took_both table new it parent (term_of table parent.0 child) _ reported.page reported.receipt done in
     record {
       done = record {
         finds = reported.key ∙ low_in_view table c.args.child c.in-Some.under c.in-Some.ensures.view;
@@ -36,6 +36,7 @@ returns-in-Err g c =
     let undone = c.in-Err.ensures in
     record {
       done = tt;
-      why = unposted_why table c.args.child c.in-Some.under c.in-Some-page_above.parent seen c.in-Some-page_above.ensures.above c.in-Err.why undone.why;
+      why = unposted_why table c.args.child c.in-Some.under c.in-Some-page_above.parent seen
+          c.in-Some-page_above.ensures.above c.in-Err.why undone.why;
       unchanged = undone.posted;
     }

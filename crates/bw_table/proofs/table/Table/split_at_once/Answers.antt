@@ -42,7 +42,11 @@ returns-clause-done g c =
     })
 
 pub returns-in_default-slot_to_split_to-clause-why : goal.returns-in_default-slot_to_split_to-clause-why
-returns-in_default-slot_to_split_to-clause-why g c = not_split_there c.args.self.now c.args.page.0 c.args.number c.in-Some.separator c.in-Some.ensures.key c.in_default-slot_to_split_to.ensures.unfit
+returns-in_default-slot_to_split_to-clause-why g c =
+    not_split_there c.args.self.now c.args.page.0 c.args.number c.in-Some.separator c.in-Some.ensures.key
+    c.in_default-slot_to_split_to.ensures.unfit
 
 pub returns-in_default-upper_part-clause-why : goal.returns-in_default-upper_part-clause-why
-returns-in_default-upper_part-clause-why g c = may_split_there c.args.self.now c.args.page.0 c.args.number c.in-Some.separator c.in-Some.ensures.key c.in-Some-slot_to_split_to.ensures.may
+returns-in_default-upper_part-clause-why g c =
+    may_split_there c.args.self.now c.args.page.0 c.args.number c.in-Some.separator c.in-Some.ensures.key
+    c.in-Some-slot_to_split_to.ensures.may
