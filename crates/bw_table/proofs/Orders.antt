@@ -1,11 +1,10 @@
 -- The next pair and the one before, found leaf by leaf.
-use Rattle.std.proofs.Common.{◌≡◌, ◌↔◌, ℕ, ◌+◌, ◌-◌, ◌^◌, ◌<◌, ◌≤◌, true, List, [], ◌∷◌, ◌++◌, length, take, unwrap_or, Option, Some, None, refl, sym, ap, ◌∙◌, subst, arith, ⊎_elim}
+use Rattle.std.proofs.Common.{◌≡◌, ◌↔◌, ℕ, ◌+◌, ◌-◌, ◌^◌, ◌<◌, ◌≤◌, true, List, [], ◌∷◌, ◌++◌, length, take, Option, Some, None, refl, sym, ap, ◌∙◌, subst, arith, ⊎_elim}
 use Rattle.std.proofs.lemmas.Bool.{cases_lt}
 use Rattle.std.proofs.lemmas.Bool.Decides.{nat_tests}
 use Rattle.bw_keys.specs.declared.page.Pid.{Pid}
 use Rattle.bw_keys.specs.Ranges.{key_count, end_of}
 use Rattle.bw_delta.specs.Entries.{at, below, from, rises, first_from, last_below, last_upto}
-use Rattle.bw_delta.specs.Records.{Records, bare, depth}
 use Rattle.bw_delta.proofs.Rises.{rises-from}
 use Rattle.bw_chain.specs.Leaves.{AppendsLeaf}
 use Rattle.bw_chain.proofs.Firsts.{at-before, first_from-bound}
@@ -13,7 +12,7 @@ use Rattle.bw_chain.proofs.Lasts.{last_from_low, last_below-bound}
 use Rattle.bw_chain.proofs.Overlays.{at-from_in, same_entries}
 use Rattle.bw_step.specs.Stages.{is_in_row}
 use Rattle.bw_law.specs.Laws.{IsLeafOf, IsTheMap}
-use Rattle.bw_law.specs.Slots.{SlotValue, chain_in, empty_page, pairs_in}
+use Rattle.bw_law.specs.Slots.{SlotValue, pairs_in}
 use Rattle.bw_law.specs.Tables.{TableValue, slot_at, outlines, Lawful, Booked, Maps, joined_pairs}
 use Rattle.bw_law.proofs.Count.{joined_count}
 use Rattle.bw_law.proofs.Facts.{leaf_decides, range_is_among_keys, range_is_not_empty, right_is_next}
@@ -81,19 +80,23 @@ module _ (table : TableValue) where
   })
 
   -- and from a key on just those from there on
-  pub pairs_within_from : (low key end : ℕ) (es : List (ℕ × ℕ)) → low ≤ key → ArePairsWithin table low end es → ArePairsWithin table key end (from key es)
+  pub pairs_within_from : (low key end : ℕ) (es : List (ℕ × ℕ)) → low ≤ key → ArePairsWithin table low end es
+      → ArePairsWithin table key end (from key es)
   pairs_within_from low key end es above are = record {
     rise = rises-from end low key es are.rise;
     same = λ k value past below. rw (at-from_in key k es past) (are.same k value (omega (arith, above, past)) below);
   }
 
   -- so what a list took of the key's leaf are pairs of the map
-  module _ (law : Lawful table) (key page high limit : ℕ) (slot : SlotValue) (leaf : IsLeafOf table key page) (is : slot ≡ slot_at table page) where
-    pub appends_leaf : (run old new : List (ℕ × ℕ)) → run ≡ below high (from key (pairs_in slot)) → length run < 2 ^ 64 → new ≡ old ++ take limit run
+  module _ (law : Lawful table) (key page high limit : ℕ) (slot : SlotValue) (leaf : IsLeafOf table key page)
+      (is : slot ≡ slot_at table page) where
+    pub appends_leaf : (run old new : List (ℕ × ℕ)) → run ≡ below high (from key (pairs_in slot)) → length run < 2 ^ 64
+        → new ≡ old ++ take limit run
         → AppendsLeaf (ArePairsWithin table) key high limit (end_of slot.high) old new
     appends_leaf run old new run_is counted appended =
         let spans : (slot.low ≤ key) × (key < end_of slot.high) = rw is leaf.spans in
-        let own = pairs_within_from slot.low key (end_of slot.high) (pairs_in slot) spans.0 (leaf_has_pairs_within law key page slot leaf is) in
+        let whole = leaf_has_pairs_within law key page slot leaf is in
+        let own = pairs_within_from slot.low key (end_of slot.high) (pairs_in slot) spans.0 whole in
         record {
           pairs = from key (pairs_in slot);
           shown = own;
@@ -102,15 +105,6 @@ module _ (table : TableValue) where
           counted = rw run_is at counted;
           appended = rw run_is at appended;
         }
-
-  -- and it has records if its chain does
-  pub no_records : Lawful table → (key page : ℕ) (slot : SlotValue) → IsLeafOf table key page → slot ≡ slot_at table page → (slot_at table page).depth ≡ 0
-      → 0 < depth (chain_in slot) → ⊥
-  no_records law key page slot leaf is none some =
-      let own = law.pages page leaf.in_row in
-      let chain_is : chain_in (slot_at table page) ≡ own.0 = ap (λ (c : Option Records). unwrap_or c (bare empty_page)) own.1.its_chain in
-      let same : depth (chain_in slot) ≡ depth own.0 = ap (λ (s : SlotValue). depth (chain_in s)) is ∙ ap depth chain_is in
-      omega (arith, some, same, own.1.depth, none)
 
   -- the leaf to which the right link of a leaf leads is the one on its right
   pub right_sibling_is : Lawful table → (page : ℕ) (right : Pid) (slot : SlotValue) → is_in_row (slot_at table page).stage ≡ true →
