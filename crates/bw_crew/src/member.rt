@@ -6,7 +6,7 @@ ghost use Rattle.bw_crew.specs.Workers.{share_by};
 
 use crate::worker::Notes;
 use bw_delta::{Chain, NoMemory};
-use bw_keys::{Config, Key, Pid, Version};
+use bw_keys::{Config, Fence, Key, Pid, Version};
 use bw_procedures::{Ends, Keep, Steps, Trail};
 use bw_step::{
     Action, CopyFault, Denied, Look, Next, Performed, Place, Receipt, Step, Unperformed, View,
@@ -106,6 +106,17 @@ impl<'t, S: Shared<Global, Step<Global>>, G: Gate, L: Trail> Steps<Global, Step<
     #[inline(always)]
     fn look_at_once(&mut self, key: Key, keep: Keep) -> Result<Option<Look>, NoMemory> {
         self.hand.look_at_once(key, keep)
+    }
+
+    #[inline(always)]
+    fn read_at_once(
+        &mut self,
+        key: Key,
+        high: Fence,
+        limit: usize,
+        list: &mut Vec<(Key, u64)>,
+    ) -> Result<Option<Fence>, NoMemory> {
+        self.hand.read_at_once(key, high, limit, list)
     }
 
     #[inline(always)]

@@ -10,7 +10,7 @@ ghost use Rattle.bw_forest.specs.Ranges.{LiesIn};
 use crate::closed_tree::ClosedTree;
 use crate::plot::Plot;
 use bw_delta::Chain;
-use bw_keys::{Config, Key, Pid, Range, Version};
+use bw_keys::{Config, Fence, Key, Pid, Range, Version};
 use bw_step::{
     Action, CopyFault, Denied, Look, Next, Performed, Place, Receipt, Step, Unperformed, View,
 };
@@ -107,6 +107,20 @@ impl<R: Wait + Drop, A: Allocator + Copy, I: MadeBy, D: Ledger> Shared<A, Step<A
     #[inline(always)]
     fn look_at_once(&self, key: Key) -> Option<Look> {
         Some(self.plot.lock(&self.rt).table().look_up(key))
+    }
+
+    #[inline(always)]
+    fn read_at_once(
+        &self,
+        key: Key,
+        high: Fence,
+        limit: usize,
+        list: &mut Vec<(Key, u64)>,
+    ) -> Option<Fence> {
+        self.plot
+            .lock(&self.rt)
+            .table()
+            .read_leaf(key, high, limit, list)
     }
 
     /// Performs the action by `Plot::perform`: for a key out of the tree's range it isn't performed.

@@ -5,7 +5,7 @@ ghost use Rattle.bw_procedures.specs.Seen.{is_kept};
 
 use bw_chain::consolidate;
 use bw_delta::{Base, Chain, NoMemory};
-use bw_keys::{Config, Key, Pid, Version};
+use bw_keys::{Config, Fence, Key, Pid, Version};
 use bw_step::{
     Action, CopyFault, Denied, Look, Next, Performed, Place, Proposes, Receipt, Unperformed, View,
 };
@@ -57,11 +57,12 @@ pub struct Ends {
 ///
 /// `P` is the step over `A`.
 pub trait Steps<A: Allocator + Copy, P: Proposes> {
-    ghost use Rattle.std.specs.Prelude.{◌≡◌, ◌≤◌, ℕ, List, None, Ok, IfOk, IfSome};
+    ghost use Rattle.std.specs.Prelude.{◌≡◌, ◌≤◌, ℕ, List, None, Ok, IfOk, OnErr, IfSome};
     ghost use Rattle.bw_step.specs.declared.receipt.Receipt.{Receipt as Reported};
     ghost use Rattle.bw_delta.specs.Records.{bare};
     ghost use Rattle.bw_delta.specs.Entries.{from};
     ghost use Rattle.bw_delta.specs.Sound.{IsSound};
+    ghost use Rattle.bw_chain.specs.Leaves.{ReadsLeaf};
     ghost use Rattle.bw_step.specs.Steps.{IsNext};
     ghost use Rattle.bw_procedures.specs.Seen.{Seen, ends_of, Visited, Looked, LookedAtOnce, Copied};
     ghost use Rattle.bw_procedures.specs.Seen.{Installed, Idled};
@@ -116,6 +117,27 @@ pub trait Steps<A: Allocator + Copy, P: Proposes> {
     fn look_at_once(&mut self, _key: Key, _keep: Keep) -> Result<Option<Look>, NoMemory>
         ensures follows { follows self.old self.new }
         ensures seen { LookedAtOnce _keep _key result (seen self.old) (seen self.new) }
+        ensures unanswered { result ≡ Ok None
+            → (fact : Fact) → calm self.old fact → calm self.new fact }
+    {
+        Ok(None)
+    }
+
+    /// Appends the pairs of the key's leaf that lie from the key on and below the high to the list, the
+    /// first `limit` of them, and returns where the leaf ends, where the worker can do that in one step.
+    /// Otherwise appends nothing, and returns none. Fails where the list can't have room for them.
+    fn read_at_once(
+        &mut self,
+        _key: Key,
+        _high: Fence,
+        _limit: usize,
+        _list: &mut Vec<(Key, u64)>,
+    ) -> Result<Option<Fence>, NoMemory>
+        ensures follows { follows self.old self.new }
+        ensures seen { seen self.new ≡ seen self.old }
+        ensures read { IfOk result (λ end. ReadsLeaf (shows self.new) _key _high _limit end
+            _list.old.items _list.new.items) }
+        ensures unchanged { OnErr result (_list.new.items ≡ _list.old.items) }
         ensures unanswered { result ≡ Ok None
             → (fact : Fact) → calm self.old fact → calm self.new fact }
     {

@@ -1,13 +1,15 @@
 -- The next pair and the one before, found leaf by leaf.
-use Rattle.std.proofs.Common.{◌≡◌, ◌↔◌, ℕ, ◌+◌, ◌-◌, ◌<◌, ◌≤◌, true, List, [], ◌∷◌, length, Option, Some, None, refl, sym, ap, ◌∙◌, subst, arith, ⊎_elim}
+use Rattle.std.proofs.Common.{◌≡◌, ◌↔◌, ℕ, ◌+◌, ◌-◌, ◌^◌, ◌<◌, ◌≤◌, true, List, [], ◌∷◌, ◌++◌, length, take, Option, Some, None, refl, sym, ap, ◌∙◌, subst, arith, ⊎_elim}
 use Rattle.std.proofs.lemmas.Bool.{cases_lt}
 use Rattle.std.proofs.lemmas.Bool.Decides.{nat_tests}
 use Rattle.bw_keys.specs.declared.page.Pid.{Pid}
 use Rattle.bw_keys.specs.Ranges.{key_count, end_of}
-use Rattle.bw_delta.specs.Entries.{at, rises, first_from, last_below, last_upto}
+use Rattle.bw_delta.specs.Entries.{at, below, from, rises, first_from, last_below, last_upto}
+use Rattle.bw_delta.proofs.Rises.{rises-from}
+use Rattle.bw_chain.specs.Leaves.{AppendsLeaf}
 use Rattle.bw_chain.proofs.Firsts.{at-before, first_from-bound}
 use Rattle.bw_chain.proofs.Lasts.{last_from_low, last_below-bound}
-use Rattle.bw_chain.proofs.Overlays.{same_entries}
+use Rattle.bw_chain.proofs.Overlays.{at-from_in, same_entries}
 use Rattle.bw_step.specs.Stages.{is_in_row}
 use Rattle.bw_law.specs.Laws.{IsLeafOf, IsTheMap}
 use Rattle.bw_law.specs.Slots.{SlotValue, pairs_in}
@@ -76,6 +78,33 @@ module _ (table : TableValue) where
     rise = subst (λ (es : List (ℕ × ℕ)). rises (slot_at table page).low (end_of (slot_at table page).high) es ≡ true) (leaf_pairs_in_row (slot_at table page) leaf.in_row leaf.is_leaf) (leaf_pairs_rise table law page leaf.in_row leaf.is_leaf);
     same = λ k value from below. let decides = leaf_decides table law page k value leaf.in_row leaf.is_leaf (from, below) in (decides.1, decides.0);
   })
+
+  -- and from a key on just those from there on
+  pub pairs_within_from : (low key end : ℕ) (es : List (ℕ × ℕ)) → low ≤ key → ArePairsWithin table low end es
+      → ArePairsWithin table key end (from key es)
+  pairs_within_from low key end es above are = record {
+    rise = rises-from end low key es are.rise;
+    same = λ k value past below. rw (at-from_in key k es past) (are.same k value (omega (arith, above, past)) below);
+  }
+
+  -- so what a list took of the key's leaf are pairs of the map
+  module _ (law : Lawful table) (key page high limit : ℕ) (slot : SlotValue) (leaf : IsLeafOf table key page)
+      (is : slot ≡ slot_at table page) where
+    pub appends_leaf : (run old new : List (ℕ × ℕ)) → run ≡ below high (from key (pairs_in slot)) → length run < 2 ^ 64
+        → new ≡ old ++ take limit run
+        → AppendsLeaf (ArePairsWithin table) key high limit (end_of slot.high) old new
+    appends_leaf run old new run_is counted appended =
+        let spans : (slot.low ≤ key) × (key < end_of slot.high) = rw is leaf.spans in
+        let whole = leaf_has_pairs_within law key page slot leaf is in
+        let own = pairs_within_from slot.low key (end_of slot.high) (pairs_in slot) spans.0 whole in
+        record {
+          pairs = from key (pairs_in slot);
+          shown = own;
+          rise = own.rise;
+          above = spans.1;
+          counted = rw run_is at counted;
+          appended = rw run_is at appended;
+        }
 
   -- the leaf to which the right link of a leaf leads is the one on its right
   pub right_sibling_is : Lawful table → (page : ℕ) (right : Pid) (slot : SlotValue) → is_in_row (slot_at table page).stage ≡ true →

@@ -1,12 +1,12 @@
 -- The map in the order of its keys, and a leaf that is lent for reading in this order.
-use Rattle.std.specs.Prelude.{◌≡◌, ◌↔◌, ℕ, ◌+◌, ◌-◌, ◌<◌, ◌≤◌, true, List, Some, refl, length}
+use Rattle.std.specs.Prelude.{◌≡◌, ◌↔◌, ℕ, ◌+◌, ◌-◌, ◌<◌, ◌≤◌, true, List, Some, refl, length, take}
 use Rattle.std.specs.Coded.{Coded, code_by, coded×, coded_ℕ, coded_list}
 use Rattle.bw_keys.specs.declared.range.Fence.{Fence}
 use Rattle.bw_keys.specs.declared.page.Pid.{Pid}
 use Rattle.bw_keys.specs.contracts.range.Fence as fence
 use Rattle.bw_keys.specs.contracts.page.Pid as pid
 use Rattle.bw_keys.specs.Ranges.{key_count, end_of}
-use Rattle.bw_delta.specs.Entries.{at, rises}
+use Rattle.bw_delta.specs.Entries.{at, below, from, rises}
 use Rattle.bw_law.specs.Laws.{IsLeafOf, IsTheMap}
 use Rattle.bw_law.specs.Slots.{pairs_in}
 use Rattle.bw_law.specs.Tables.{TableValue, Maps, slot_at}
@@ -61,6 +61,20 @@ pub record IsRightSibling (table : TableValue) (page : ℕ) (leaf : LeafValue) :
   pub lent : leaf ≡ leaf_at table leaf.pid
   pub begins : leaf.low ≡ end_of (slot_at table page).high
   pub pairs : ArePairsWithin table leaf.low (end_of leaf.high) leaf.pairs
+
+-- the key's leaf ends here
+abbrev pub IsEndOfLeaf : TableValue → ℕ → Fence → Type 0
+IsEndOfLeaf table key end =
+    (page : ℕ) × IsLeafOf table key page × ((slot_at table page).high ≡ end)
+
+-- no record stands on the key's leaf, and a list of this capacity and length has room for its
+-- pairs from the key on and below the high, or for as many as the limit
+abbrev pub IsReadable : TableValue → ℕ → ℕ → ℕ → ℕ → ℕ → Type 0
+IsReadable table key high limit capacity count =
+    (page : ℕ) → IsLeafOf table key page
+    → let slot = slot_at table page in
+    (slot.depth ≡ 0)
+    × (count + length (take limit (below high (from key (pairs_in slot)))) ≤ capacity)
 
 abbrev pub leaf_code : Coded LeafValue
 leaf_code =

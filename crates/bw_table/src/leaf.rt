@@ -1,7 +1,9 @@
 //! Leaves, lent for reading in the order of the keys.
 
-ghost use Rattle.std.specs.Prelude.{◌≡◌, ◌↔◌, ◌+◌, ◌<◌, ◌≤◌, true, None, IsTrue, IsSome, IfSome};
+ghost use Rattle.std.specs.Prelude.{◌≡◌, ◌↔◌, ◌+◌, ◌^◌, ◌++◌, ◌<◌, ◌≤◌, true, false, None, IsTrue};
+ghost use Rattle.std.specs.Prelude.{IsSome, IfSome, length, take, vec_capacity};
 ghost use Rattle.bw_keys.specs.Ranges.{end_of, key_count};
+ghost use Rattle.bw_chain.specs.Leaves.{ReadsLeaf};
 ghost use Rattle.bw_chain.specs.Passing.Heads.{BeginsWith, EndsWith};
 ghost use Rattle.bw_delta.specs.Entries.{below, first_from, from, last_upto};
 ghost use Rattle.bw_delta.specs.Slices.{list_of};
@@ -9,6 +11,7 @@ ghost use Rattle.bw_step.specs.Stages.{is_in_row};
 ghost use Rattle.bw_law.specs.Laws.{IsLeafOf};
 ghost use Rattle.bw_law.specs.Tables.{slot_at};
 ghost use Rattle.bw_table.specs.Orders.{ArePairsWithin, IsRightSibling, leaf_at};
+ghost use Rattle.bw_table.specs.Orders.{IsEndOfLeaf, IsReadable};
 
 use crate::slot::Slot;
 use crate::table::Table;
@@ -149,6 +152,32 @@ impl<A: Allocator + Copy> Table<A> {
         }
     }
 
+    /// Appends the pairs of the key's leaf that lie from the key on and below the high to the list,
+    /// the first `limit` of them, and returns where the leaf ends. Where a record stands on the leaf,
+    /// or the list has no room for the pairs, it appends nothing, and returns none. It takes no memory.
+    #[inline(never)]
+    pub fn read_leaf(
+        &self,
+        key: Key,
+        high: Fence,
+        limit: usize,
+        list: &mut Vec<(Key, u64)>,
+    ) -> Option<Fence>
+        ensures read { ReadsLeaf (ArePairsWithin self.now) key high limit
+            result list.old.items list.new.items }
+        ensures end { IfSome result (IsEndOfLeaf self.now key) }
+        ensures answered { IsReadable self.now key (end_of high) limit
+            (vec_capacity list.old) (length list.old.items) → IsSome result }
+    {
+        let slot = self.slot_in_row(self.page_for(key));
+        let pairs = slot.pairs_within(key, high)?;
+        if append_first(pairs, limit, list) {
+            Some(slot.summary.high)
+        } else {
+            None
+        }
+    }
+
     /// Lends the leaf on the right of a leaf, whose range begins where that one's ends; none if that
     /// one is the last. It is the page that the leaf's side link names, so no search leads there
     /// (Lehman and Yao, "Efficient Locking for Concurrent Operations on B-Trees", TODS 1981). It
@@ -167,4 +196,25 @@ impl<A: Allocator + Copy> Table<A> {
             slot: self.slot_in_row(right),
         })
     }
+}
+
+/// Appends the first of the pairs to the list, `limit` at most, and returns whether it had room for
+/// them.
+#[inline(always)]
+fn append_first(pairs: EntrySlice<'_, u64>, limit: usize, list: &mut Vec<(Key, u64)>) -> bool
+    ensures appended { IsTrue result
+        → list.new.items ≡ list.old.items ++ take limit (list_of pairs.entry) }
+    ensures unchanged { result ≡ false → list.new.items ≡ list.old.items }
+    ensures counted { length (list_of pairs.entry) < 2 ^ 64 }
+    ensures room { length list.old.items + length (take limit (list_of pairs.entry))
+        ≤ vec_capacity list.old → IsTrue result }
+{
+    let count = pairs.len().min(limit);
+    if list.capacity() - list.len() < count {
+        return false;
+    }
+    for place in 0..count {
+        list.push_reserved(pairs.entry(place));
+    }
+    true
 }

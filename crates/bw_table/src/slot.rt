@@ -1,7 +1,9 @@
-ghost use Rattle.std.specs.Prelude.{◌≡◌, ◌+◌, ◌==◌, ◌&&◌, true, option_map};
-ghost use Rattle.bw_keys.specs.Ranges.{is_within};
-ghost use Rattle.bw_delta.specs.Entries.{at, first_from, last_upto, last_below};
+ghost use Rattle.std.specs.Prelude.{◌≡◌, ◌+◌, ◌<◌, ◌==◌, ◌&&◌, true, None, IfSome, option_map};
+ghost use Rattle.bw_keys.specs.Ranges.{end_of, is_within};
+ghost use Rattle.bw_delta.specs.Entries.{at, below, first_from, from, last_upto, last_below};
 ghost use Rattle.bw_delta.specs.Pages.{upper_part};
+ghost use Rattle.bw_delta.specs.Records.{depth};
+ghost use Rattle.bw_delta.specs.Slices.{list_of};
 ghost use Rattle.bw_delta.specs.Sound.{IsSound, page_for};
 ghost use Rattle.bw_step.specs.Stages.{is_in_row};
 ghost use Rattle.bw_law.specs.Same.{is_same_page};
@@ -14,10 +16,10 @@ ghost use Rattle.bw_table.specs.Views.{view_of};
 ghost use Rattle.bw_table.specs.Visits.{is_there, own_todo};
 
 use bw_chain::{
-    child, child_page, find, is_later_key, is_upper_part, next_at, previous_at, route_at,
-    route_before, same,
+    child, child_page, find, is_later_key, is_upper_part, next_at, pairs_within, previous_at,
+    route_at, route_before, same,
 };
-use bw_delta::{Base, Chain};
+use bw_delta::{Base, Chain, EntrySlice};
 use bw_keys::{Fence, Key, MAX_DEPTH, Pid, Range, Version};
 use bw_step::{Place, Stage, Summary, Todo, View};
 use std::alloc::Allocator;
@@ -169,6 +171,22 @@ impl<A: Allocator + Copy> Slot<A> {
     {
         match &self.chain {
             Some(chain) => next_at(chain, key),
+            None => None,
+        }
+    }
+
+    /// The pairs from the key on and below the end, which lie side by side; none if a record stands on
+    /// the page.
+    #[inline(always)]
+    pub(crate) fn pairs_within(&self, key: Key, end: Fence) -> Option<EntrySlice<'_, u64>>
+        requires in_row { is_in_row self.now.stage ≡ true }
+        requires sound { HasSoundChain self.now }
+        ensures all { IfSome result (λ run.
+            list_of run ≡ below (end_of end) (from key (pairs_in self.now))) }
+        ensures records { result ≡ None → 0 < depth (chain_in self.now) }
+    {
+        match &self.chain {
+            Some(chain) => pairs_within(chain, key, end),
             None => None,
         }
     }

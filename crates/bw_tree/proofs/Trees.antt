@@ -1,7 +1,11 @@
 -- What the law of a table says of a tree.
-use Rattle.std.proofs.Common.{◌≡◌, ℕ, zero, suc, ◌<◌, ◌^◌, List, Some, None, refl, sym, subst, ◌∙◌, ap, arith}
+use Rattle.std.proofs.Common.{◌≡◌, ℕ, zero, suc, ◌<◌, ◌^◌, List, Option, Some, None, refl, sym, subst, ◌∙◌, ap, arith}
 use Rattle.bw_keys.specs.declared.config.Config.{Config}
 use Rattle.bw_keys.specs.Limits.{first_bad_field}
+use Rattle.bw_keys.specs.declared.range.Fence.{Fence}
+use Rattle.bw_keys.specs.Ranges.{end_of}
+use Rattle.bw_chain.specs.Leaves.{AppendsLeaf, ReadsLeaf}
+use Rattle.bw_table.specs.Orders.{ArePairsWithin}
 use Rattle.bw_step.specs.declared.receipt.Receipt.{Receipt}
 use Rattle.bw_step.specs.declared.survey.Book.{Book}
 use Rattle.bw_step.specs.Proposals.{Proposal}
@@ -17,7 +21,7 @@ use Rattle.bw_law.proofs.NewTable.{new_law}
 use Rattle.bw_law.proofs.RowList.{row_law}
 use Rattle.bw_law.proofs.Walk.{walk_law}
 use Rattle.bw_tree.specs.Shares.{ShareValue, shared_in, share_with, counted, no_changes, sum_of}
-use Rattle.bw_tree.specs.Trees.{IsTree, IsClosed, CountsPairs, IsBookOf, MayBeMade}
+use Rattle.bw_tree.specs.Trees.{IsTree, IsClosed, CountsPairs, IsBookOf, MayBeMade, ReadsTree}
 
 pub is_tree : (table : TableValue) → Lawful table → Booked table → IsTree table
 is_tree table law booked =
@@ -79,3 +83,23 @@ closed table config totals shares kept made sum =
     let tree = tree_of table totals kept in
     let book : shared_in table.book ≡ sum_of shares = kept.book ∙ sum in
     record { config = made; tree = tree; book = book; pairs = subst (CountsPairs table) book tree.pairs }
+
+-- what was read of its table was read of the tree
+pub tree_read : (table : TableValue) (key : ℕ) (high : Fence) (limit : ℕ) (result : Option Fence) (old new : List (ℕ × ℕ))
+    → IsTree table → ReadsLeaf (ArePairsWithin table) key high limit result old new → ReadsTree key high limit result old new
+tree_read table key high limit None old new tree read = read
+tree_read table key high limit (Some end) old new tree read = (table, tree, read)
+
+-- and whatever is shown of all pairs, of those too
+pub read_of_tree : (shows : ℕ → ℕ → List (ℕ × ℕ) → Type 0) → ((low end : ℕ) (pairs : List (ℕ × ℕ)) → shows low end pairs)
+    → (key : ℕ) (high : Fence) (limit : ℕ) (result : Option Fence) (old new : List (ℕ × ℕ)) → ReadsTree key high limit result old new
+    → ReadsLeaf shows key high limit result old new
+read_of_tree shows all key high limit None old new read = read
+read_of_tree shows all key high limit (Some end) old new read = let it = read.2 in record {
+  pairs = it.pairs;
+  shown = all key (end_of end) it.pairs;
+  rise = it.rise;
+  above = it.above;
+  counted = it.counted;
+  appended = it.appended;
+}

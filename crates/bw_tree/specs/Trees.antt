@@ -1,15 +1,18 @@
 -- What is true of a shared table whenever its lock is free.
-use Rattle.std.specs.Prelude.{◌≡◌, ℕ, ◌+◌, ◌<◌, Bool, true, false, List, length, Some, None}
+use Rattle.std.specs.Prelude.{◌≡◌, ℕ, ◌+◌, ◌<◌, Bool, true, false, List, length, Option, Some, None}
 use Rattle.std.specs.declared.sync.ledger.Ledger.{Ghosts as Ledger}
 use Rattle.bw_keys.specs.declared.config.Config.{Config}
 use Rattle.bw_keys.specs.Limits.{first_bad_field, is_out_of}
-use Rattle.bw_keys.specs.Ranges.{key_count}
+use Rattle.bw_keys.specs.declared.range.Fence.{Fence}
+use Rattle.bw_keys.specs.Ranges.{end_of, key_count}
+use Rattle.bw_chain.specs.Leaves.{AppendsLeaf}
 use Rattle.bw_step.specs.Proposals.{Proposal}
 use Rattle.bw_step.specs.declared.receipt.Receipt.{Receipt}
 use Rattle.bw_law.specs.Effects.{TakesStep}
 use Rattle.bw_law.specs.Laws.{HasOneRow, HasOneWalk, IsTheMap}
 use Rattle.bw_law.specs.Tables.{TableValue, Lawful, Booked, outlines, joined_pairs}
 use Rattle.bw_law.specs.Walks.{IsRowOf}
+use Rattle.bw_table.specs.Orders.{ArePairsWithin}
 use Rattle.bw_tree.specs.Shares.{ShareValue, shared_in, sum_of, Opens}
 use Rattle.bw_tree.specs.declared.fault.NewFault.{NewFault}
 use Rattle.bw_tree.specs.declared.fault.NewFault.TheVariants.{BadConfig, BadWorkers, NoMemory}
@@ -48,6 +51,14 @@ pub record IsClosed (made : Config) (shares : List ShareValue) (table : TableVal
 -- the step leads from the old table to the new one, with this receipt
 abbrev pub Leads : TableValue → Proposal → TableValue → Receipt → Type 0
 Leads old step new receipt = TakesStep old step receipt new
+
+-- There was a lawful table with this leaf, of which the first pairs were appended to a list; or
+-- nothing was done.
+abbrev pub ReadsTree : ℕ → Fence → ℕ → Option Fence → List (ℕ × ℕ) → List (ℕ × ℕ) → Type 0
+ReadsTree key high limit None old new = new ≡ old
+ReadsTree key high limit (Some end) old new =
+    (table : TableValue) × IsTree table
+    × AppendsLeaf (ArePairsWithin table) key (end_of high) limit (end_of end) old new
 
 -- there are no workers, or too many
 abbrev pub is_bad_number : ℕ → Bool

@@ -1,6 +1,6 @@
 use crate::share::Share;
 use bw_delta::Chain;
-use bw_keys::{Config, Key, Pid, Version};
+use bw_keys::{Config, Fence, Key, Pid, Version};
 use bw_step::{
     Action, CopyFault, Denied, Look, Next, Performed, Place, Proposes, Receipt, Unperformed, View,
 };
@@ -21,6 +21,7 @@ pub trait Shared<A: Allocator + Copy, P: Proposes> {
     ghost use Rattle.bw_keys.specs.declared.config.Config.{Config};
     ghost use Rattle.bw_delta.specs.Sound.{IsSound};
     ghost use Rattle.bw_tree.specs.Shares.{CountsIn, CountsPerformed};
+    ghost use Rattle.bw_tree.specs.Trees.{ReadsTree};
     ghost use Rattle.bw_step.specs.Actions.{Reports};
     ghost use Rattle.bw_step.specs.Steps.{IsNext, IsReceiptOf};
 
@@ -66,6 +67,21 @@ pub trait Shared<A: Allocator + Copy, P: Proposes> {
     /// Returns what the map has at the key. None where the tree can't look it up in one hold of its
     /// lock: a search then goes by [`visit`](Shared::visit).
     fn look_at_once(&self, _key: Key) -> Option<Look> {
+        None
+    }
+
+    /// Appends the pairs of the key's leaf that lie from the key on and below the high to the list, the
+    /// first `limit` of them, and returns where the leaf ends. Where the tree can't do it in one hold of
+    /// its lock, or the list has no room for them, it appends nothing, and returns none.
+    fn read_at_once(
+        &self,
+        _key: Key,
+        _high: Fence,
+        _limit: usize,
+        _list: &mut Vec<(Key, u64)>,
+    ) -> Option<Fence>
+        ensures { ReadsTree _key _high _limit result _list.old.items _list.new.items }
+    {
         None
     }
 

@@ -13,7 +13,7 @@ use crate::ordered::Ordered;
 use crate::share::{Blanks, Share};
 use crate::shared::Shared;
 use bw_delta::Chain;
-use bw_keys::{Config, Key, Pid, Version};
+use bw_keys::{Config, Fence, Key, Pid, Version};
 use bw_step::{
     Action, CopyFault, Denied, Look, Next, Performed, Place, Receipt, Step, Unperformed, View,
 };
@@ -149,6 +149,20 @@ impl<R: Wait + Drop, A: Allocator + Copy, I: MadeBy, D: Ledger> Shared<A, Step<A
     #[inline(always)]
     fn look_at_once(&self, key: Key) -> Option<Look> {
         Some(self.booked.lock(&self.rt).table().look_up(key))
+    }
+
+    #[inline(always)]
+    fn read_at_once(
+        &self,
+        key: Key,
+        high: Fence,
+        limit: usize,
+        list: &mut Vec<(Key, u64)>,
+    ) -> Option<Fence> {
+        self.booked
+            .lock(&self.rt)
+            .table()
+            .read_leaf(key, high, limit, list)
     }
 
     #[inline(always)]

@@ -8,7 +8,7 @@ ghost use Rattle.bw_work.specs.Hands.{Sums};
 
 use crate::gate::Gate;
 use bw_delta::{Chain, NoMemory};
-use bw_keys::{Config, Key, Pid, Version};
+use bw_keys::{Config, Fence, Key, Pid, Version};
 use bw_procedures::{Account, Ends, Keep, Steps, Trail, is_consolidated_behind};
 use bw_step::{
     Action, CopyFault, Denied, Kind, Look, Next, Performed, Place, Receipt, Step, Unperformed, View,
@@ -196,6 +196,18 @@ impl<'t, A: Allocator + Copy, S: Shared<A, Step<A>>, G: Gate, T: Trail> Steps<A,
         };
         self.account.looked(key, keep, Some(look));
         Ok(Some(look))
+    }
+
+    #[inline(always)]
+    fn read_at_once(
+        &mut self,
+        key: Key,
+        high: Fence,
+        limit: usize,
+        list: &mut Vec<(Key, u64)>,
+    ) -> Result<Option<Fence>, NoMemory> {
+        list.reserve(limit.min(self.account.config().fanout as usize + 1))?;
+        Ok(self.tree.read_at_once(key, high, limit, list))
     }
 
     // Longer chains stay as they are, as a tending would leave them.
