@@ -46,7 +46,7 @@ impl<A: Allocator + Copy> Table<A> {
     ) -> Result<Performed, Unperformed>
         ensures { Performs (actions.Change key wished) self.old result self.new }
     {
-        let Some(page) = self.page_by_walk(key) else {
+        let Some(page) = self.page_to_change(key) else {
             return Err(Unperformed::StepByStep);
         };
         let Some(receipt) = self.change_at_rest(page, key, wished) else {
@@ -222,6 +222,7 @@ impl<A: Allocator + Copy> Table<A> {
             return None;
         }
         let _new = self.free.take_last();
+        self.last_from = Fence::Top;
         Some(new)
     }
 
@@ -398,7 +399,7 @@ fn note(book: &mut Book, key: Key, done: InPlace) -> Receipt
 impl<A: Allocator + Copy> Slot<A> {
     /// Whether this is a posted leaf whose range holds the key.
     #[inline(always)]
-    fn is_posted_leaf(&self, key: Key) -> bool
+    pub(crate) fn is_posted_leaf(&self, key: Key) -> bool
         ensures { IsTrue result → IsPostedLeaf self.now key }
     {
         self.stage == Stage::Posted && self.summary.level == 0 && self.holds(key)
