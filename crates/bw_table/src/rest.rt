@@ -5,6 +5,7 @@ ghost use Rattle.std.specs.Prelude.{◌≡◌, ◌<◌, true, length, IfSome, If
 ghost use Rattle.bw_step.specs.Stages.{is_in_row};
 ghost use Rattle.bw_law.specs.Laws.{IsLeafOf};
 ghost use Rattle.bw_law.specs.Tables.{Lawful, slot_at};
+ghost use Rattle.bw_table.specs.InPlaces.{IsPostedLeaf};
 ghost use Rattle.bw_table.specs.Rests.{MeetsTodo, is_unfinished, next_by_routes};
 ghost use Rattle.bw_table.specs.SlotFacts.{HasSoundChain};
 ghost use Rattle.bw_table.specs.Views.{view_of};
@@ -58,6 +59,54 @@ impl<A: Allocator + Copy> Table<A> {
                 Some(next) => page = next,
                 None => return Some(page),
             }
+        }
+    }
+
+    /// Returns what [`Table::page_at_rest`] does. A key of the last leaf needs no walk: that leaf is
+    /// noted when a walk comes to it, and forgotten when a split or a removal begins, so that a walk
+    /// would meet nothing unfinished.
+    #[inline(always)]
+    pub(crate) fn page_to_change(&mut self, key: Key) -> Option<Pid>
+        ensures leaf { IfSome result (λ page. IsPostedLeaf (slot_at self.old page.0) key) }
+        ensures unfinished { IfNone result (MeetsTodo self.old key) }
+        ensures unchanged { self.new ≡ self.old }
+    {
+        if let Some(last) = self.last_leaf_for(key) {
+            return Some(last);
+        }
+        let page = self.page_by_walk(key)?;
+        if self.slot_in_row(page).summary.high == Fence::Top {
+            self.note_last_leaf();
+        }
+        Some(page)
+    }
+
+    /// The last leaf, if it is noted and its range holds the key. The note is a hint, so the leaf is
+    /// asked.
+    #[inline(always)]
+    fn last_leaf_for(&self, key: Key) -> Option<Pid>
+        ensures { IfSome result (λ page. IsPostedLeaf (slot_at self.now page.0) key) }
+    {
+        if self.last_from.is_above(key) {
+            return None;
+        }
+        let last = Pid(self.last_leaf);
+        if !self.slot(last)?.is_posted_leaf(key) {
+            return None;
+        }
+        Some(last)
+    }
+
+    /// Notes the last leaf, if the walk to the greatest key meets nothing unfinished: walks to the
+    /// other keys of that leaf go through the same pages.
+    #[inline(never)]
+    fn note_last_leaf(&mut self)
+        ensures { self.new ≡ self.old }
+    {
+        if let Some(page) = self.page_at_rest(Key::MAX) {
+            let low = self.slot_in_row(page).summary.low;
+            self.last_leaf = page.0;
+            self.last_from = Fence::Key(low);
         }
     }
 

@@ -15,7 +15,7 @@ use crate::free::FreeList;
 use crate::fresh::first_slots;
 use crate::slot::Slot;
 use bw_delta::NoMemory;
-use bw_keys::{Config, Key, Pid};
+use bw_keys::{Config, Fence, Key, Pid};
 use bw_step::{Book, Look, Place, Stage, Summary, View};
 use std::alloc::{Allocator, Global};
 use std::marker::Model;
@@ -29,6 +29,9 @@ use std::marker::Model;
 pub struct Table<A: Allocator> {
     pub(crate) book: Book,
     pub(crate) root: u32,
+    // A hint: the last leaf, and from which key on changes ask it first. It isn't noted at `Top`.
+    pub(crate) last_leaf: u32,
+    pub(crate) last_from: Fence,
     pub(crate) slots: Vec<Slot<A>>,
     pub(crate) free: FreeList,
     pub(crate) config: Config,
@@ -76,6 +79,8 @@ impl<A: Allocator + Copy> Table<A> {
             slots,
             free,
             root: 0,
+            last_leaf: 0,
+            last_from: Fence::Top,
             book: Book {
                 inserted: 0,
                 removed: 0,

@@ -48,7 +48,7 @@ impl<A: Allocator + Copy> Table<A> {
     ) -> Result<Performed, Unperformed>
         ensures { Performs (actions.Change key wished) self.old result self.new }
     {
-        let Some(page) = self.page_by_walk(key) else {
+        let Some(page) = self.page_to_change(key) else {
             return Err(Unperformed::StepByStep);
         };
         let Some(receipt) = self.change_at_rest(page, key, wished) else {
@@ -250,6 +250,7 @@ impl<A: Allocator + Copy> Table<A> {
         };
         cut_at(&mut self.slots, page, new, separator, base);
         let _new = self.free.take_last();
+        self.last_from = Fence::Top;
         Ok(new)
     }
 
@@ -496,9 +497,14 @@ fn note(book: &mut Book, key: Key, done: InPlace) -> Receipt
 impl<A: Allocator + Copy> Slot<A> {
     /// Whether this is a posted leaf whose range holds the key.
     #[inline(always)]
+<<<<<<< HEAD
     fn is_posted_leaf(&self, key: Key) -> bool
         ensures leaf { IsTrue result → IsPostedLeaf self.now key }
         ensures unfit { result ≡ false → IsPostedLeaf self.now key → ⊥ }
+=======
+    pub(crate) fn is_posted_leaf(&self, key: Key) -> bool
+        ensures { IsTrue result → IsPostedLeaf self.now key }
+>>>>>>> 764247fa0ad9de3b0e60aa3abcee171ff9d338ac
     {
         self.stage == Stage::Posted && self.summary.level == 0 && self.holds(key)
     }

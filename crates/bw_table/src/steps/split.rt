@@ -43,6 +43,7 @@ impl<A: Allocator + Copy> Table<A> {
             ..
         } = step;
         let new = Pid(self.free.take_last());
+        self.last_from = Fence::Top;
         split_at(&mut self.slots, page, new, separator, base, spare);
         Receipt::Shaped {
             kind: Kind::Split,
