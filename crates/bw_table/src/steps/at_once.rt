@@ -497,14 +497,9 @@ fn note(book: &mut Book, key: Key, done: InPlace) -> Receipt
 impl<A: Allocator + Copy> Slot<A> {
     /// Whether this is a posted leaf whose range holds the key.
     #[inline(always)]
-<<<<<<< HEAD
-    fn is_posted_leaf(&self, key: Key) -> bool
+    pub(crate) fn is_posted_leaf(&self, key: Key) -> bool
         ensures leaf { IsTrue result → IsPostedLeaf self.now key }
         ensures unfit { result ≡ false → IsPostedLeaf self.now key → ⊥ }
-=======
-    pub(crate) fn is_posted_leaf(&self, key: Key) -> bool
-        ensures { IsTrue result → IsPostedLeaf self.now key }
->>>>>>> 764247fa0ad9de3b0e60aa3abcee171ff9d338ac
     {
         self.stage == Stage::Posted && self.summary.level == 0 && self.holds(key)
     }
