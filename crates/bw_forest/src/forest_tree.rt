@@ -109,6 +109,7 @@ impl<R: Wait + Drop, A: Allocator + Copy, I: MadeBy, D: Ledger> Shared<A, Step<A
         Some(self.plot.lock(&self.rt).table().look_up(key))
     }
 
+    #[tactic(auto, using(bw_tree::proofs::Trees::tree_read))]
     #[inline(always)]
     fn read_at_once(
         &self,

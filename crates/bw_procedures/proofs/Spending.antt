@@ -1,5 +1,5 @@
 -- What steps that only cost effort leave, one after the other.
-use Rattle.std.proofs.Common.{◌≡◌, ℕ, List, [], ◌∷◌, ◌++◌, Option, Some, None, Result, Ok, Err, ap, ◌∙◌, arith}
+use Rattle.std.proofs.Common.{ℕ, List, [], ◌∷◌, ◌++◌, Option, Some, None, Result, Ok, Err, ap, ◌∙◌, arith}
 use Rattle.bw_delta.specs.declared.fault.NoMemory.{NoMemory}
 use Rattle.bw_step.specs.declared.view.Look.{Look}
 use Rattle.bw_step.specs.declared.place.Go.{Go}
@@ -12,19 +12,6 @@ use Rattle.bw_procedures.specs.Calls.{OnlySpends, Sought}
 
 same_then : (a b c : Seen) → SameButEffort a b → SameButEffort b c → SameButEffort a c
 same_then a b c p q = record { config = q.config ∙ p.config; trail = q.trail ∙ p.trail; full = q.full ∙ p.full; tall = q.tall ∙ p.tall; worn = q.worn ∙ p.worn }
-
--- what is left as it was
-pub spends_stay : (a b : Seen) → b ≡ a → OnlySpends a b
-spends_stay a b stay = record {
-  same = record {
-    config = ap (λ (s : Seen). s.config) stay;
-    trail = ap (λ (s : Seen). s.trail) stay;
-    full = ap (λ (s : Seen). s.full) stay;
-    tall = ap (λ (s : Seen). s.tall) stay;
-    worn = ap (λ (s : Seen). s.worn) stay;
-  };
-  effort = omega (arith, ap (λ (s : Seen). s.effort) stay);
-}
 
 pub spends_visited : (a b c : Seen) (go : Go) → OnlySpends a b → Visited go b c → OnlySpends a c
 spends_visited a b c Gone p q = record { same = same_then a b c p.same q.0; effort = omega arith }

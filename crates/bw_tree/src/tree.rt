@@ -151,6 +151,7 @@ impl<R: Wait + Drop, A: Allocator + Copy, I: MadeBy, D: Ledger> Shared<A, Step<A
         Some(self.booked.lock(&self.rt).table().look_up(key))
     }
 
+    #[tactic(auto, using(crate::proofs::Trees::tree_read))]
     #[inline(always)]
     fn read_at_once(
         &self,

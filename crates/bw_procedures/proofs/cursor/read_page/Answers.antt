@@ -1,1 +1,0 @@
-use Rattle.bw_procedures.proofs.cursor.read_page.Goals as goal
