@@ -74,7 +74,8 @@ impl<A: Allocator + Copy> Does<Table<A>> for Splitting {
 
     #[inline(always)]
     fn run(self, table: &mut Table<A>) -> Option<(Pid, bool)> {
-        table.split_under(self.parent, self.page, self.number)
+        let (new, posted) = table.split_under(self.parent, self.page, self.number).ok()?;
+        Some((new, posted.is_ok()))
     }
 }
 
@@ -93,6 +94,6 @@ impl<A: Allocator + Copy> Does<Table<A>> for Merging {
     ghost does = { λ it old answer new. Merges it.parent.0 it.page.0 old answer new };
 
     fn run(self, table: &mut Table<A>) -> Option<Pid> {
-        table.merge_under(self.parent, self.page)
+        table.merge_under(self.parent, self.page).ok()
     }
 }

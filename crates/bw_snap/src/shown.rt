@@ -102,7 +102,7 @@ fn carry_out(machine: Global, table: &mut Table<Global>, page: Pid, action: Acti
             let spare = action.spare(machine);
             table.perform(machine, action, spare).is_ok()
         }
-        Action::Post { child } => table.post_at_once(page, child),
+        Action::Post { child } => table.post_at_once(page, child).is_ok(),
     }
 }
 

@@ -1,6 +1,6 @@
 -- A change made in place is a step and the consolidation after it.
 use Rattle.std.proofs.Common.{◌≡◌, ◌≢◌, ℕ, suc, ◌+◌, ◌<◌, ◌≤◌, ◌^◌, Bool, true, false, eqb, cond, List, [], ◌∷◌, length, set, refl, ap, sym, subst, ◌∙◌, arith}
-use Rattle.std.specs.Prelude.{Option, Some, None, unwrap_or, nat_lt, nat_le}
+use Rattle.std.specs.Prelude.{Option, Some, None, Result, Ok, Err, OnOk, OnErr, is_ok, unwrap_or, nat_lt, nat_le}
 use Rattle.std.proofs.lemmas.Bool.{eq-eqb}
 use Rattle.std.proofs.lemmas.Bool.Decides.{nat_tests}
 use Rattle.std.proofs.lemmas.List.{set-set, set-get_or}
@@ -18,6 +18,9 @@ use Rattle.bw_delta.specs.Sound.{LiesIn, page_for, listed_for}
 use Rattle.bw_keys.specs.declared.wished.Wished.{Wished}
 use Rattle.bw_keys.specs.declared.wished.Wished.TheVariants as wishes
 use Rattle.bw_chain.specs.InPlaces.{delta_for}
+use Rattle.bw_step.specs.declared.action.Unperformed.{Unperformed}
+use Rattle.bw_step.specs.declared.action.Unperformed.TheVariants.{Denied, StepByStep}
+use Rattle.bw_step.specs.declared.fault.Denied.TheVariants as denials
 use Rattle.bw_step.specs.declared.receipt.Receipt.{Receipt}
 use Rattle.bw_step.specs.declared.receipt.Receipt.TheVariants.{Deleted, Modified, Looked, Shaped}
 use Rattle.bw_step.specs.declared.receipt.Kind.TheVariants as kinds
@@ -34,7 +37,7 @@ use Rattle.bw_law.specs.Tables.{TableValue, TellsMap, SameMap, slot_at, slot_fen
 use Rattle.bw_law.proofs.Facts.{last_id_is_free, here_is_inside, leaf_count_fits, inner_count_fits, slots_are_few}
 use Rattle.bw_law.proofs.SameTests.{same_page_tells}
 use Rattle.bw_law.proofs.Slots.{slot_written, slot_kept}
-use Rattle.bw_table.specs.InPlaces.{IsPostedLeaf, MayChangeAtOnce, MayPostAtOnce, MayCut, MaySplitAtOnce, TakesCut, slot_cut, TakesInPlace, TakesBoth, both_steps, LooksOrTakes, IsDoneAtOnce, IsPosted, count_after, slot_with, receipt_for, step_for}
+use Rattle.bw_table.specs.InPlaces.{IsPostedLeaf, IsWhyUndone, HasNoTerm, MayChangeAtOnce, MayPost, MayPostAtOnce, MayCut, MaySplitAtOnce, TakesCut, slot_cut, TakesInPlace, TakesBoth, both_steps, LooksOrTakes, IsDoneAtOnce, IsPosted, count_after, slot_with, receipt_for, slots_posted_at_once, step_for}
 use Rattle.bw_table.specs.Whole.{IsWhole}
 use Rattle.bw_law.proofs.AllSteps.{step_law}
 use Rattle.bw_table.proofs.Writes.{set-swap}
@@ -385,11 +388,19 @@ module _ {table : TableValue} {room : ℕ} (whole : IsWhole table room) (parent 
       (ap (λ (s : List SlotValue). record table { slots = s }) (slots_are ∙ sym in_order))
 
   -- what the test of the parent's list decided
-  pub posted_or_not : (done : Bool) (slots : List SlotValue) → (done ≡ true → at (slot_at table child).low (routes_in (slot_at table parent)) ≡ None) → (done ≡ true → is_leaf (chain_in (slot_at table parent)) ≡ false)
-      → (done ≡ true → slots ≡ set (set table.slots parent (slot_with (Some term) (slot_at table parent))) child (with_stage Posted (slot_at table child))) → (done ≡ false → slots ≡ table.slots)
-      → IsPosted table parent (pid child) done (record table { slots = slots })
-  posted_or_not true slots absent inner posted same = posted_at_once slots (absent refl) (inner refl) (posted refl)
-  posted_or_not false slots absent inner posted same = ap (λ (s : List SlotValue). record table { slots = s }) (same refl)
+  pub posted_or_not : (done : Result (Unit {0}) Unperformed) (slots : List SlotValue)
+      → OnOk done (HasNoTerm table.slots parent child) → OnOk done (is_leaf (chain_in (slot_at table parent)) ≡ false)
+      → OnOk done (slots ≡ slots_posted_at_once parent (pid child) table.slots) → OnErr done (slots ≡ table.slots)
+      → IsPosted table parent (pid child) (is_ok done) (record table { slots = slots })
+  posted_or_not (Ok done) slots absent inner posted same = posted_at_once slots absent inner posted
+  posted_or_not (Err why) slots absent inner posted same = ap (λ (s : List SlotValue). record table { slots = s }) same
+
+  -- why it wasn't posted
+  pub unposted_why : (why : Unperformed)
+      → IsWhyUndone (HasNoTerm table.slots parent child) why → IsWhyUndone (MayPost table.slots parent child) why
+  unposted_why StepByStep there = λ may. there may.absent
+  unposted_why (Denied denials.NoMemory) absent = record { takes = may; absent = absent }
+  unposted_why (Denied (denials.Refused reason)) never = never
 
 pub whole_if_posted : (table : TableValue) (room parent : ℕ) (child : Pid) (done : Bool) (new : TableValue) → IsWhole table room → IsPosted table parent child done new → IsWhole new room
 whole_if_posted table room parent child true new whole posted =
@@ -469,7 +480,13 @@ module _ {table : TableValue} {room : ℕ} (whole : IsWhole table room) {page se
       let Lies : Fences → Type 0 = λ f. LiesIn separator f in
       let Begins : Fences → Type 0 = λ f. f.low < separator in
       let same = split_chain.1.fence ∙ ap fences (sym split_chain_is) in
-      record { version = may.cut.version; within = subst Lies same separator_in_range; after_low = subst Begins same may.cut.after_low }
+      record {
+        version = may.cut.version;
+        chain = rw split_chain.1.its_chain refl;
+        no_records = omega (arith, may.cut.no_records, split_chain.1.depth, ap depth split_chain_is);
+        within = subst Lies same separator_in_range;
+        after_low = subst Begins same may.cut.after_low;
+      }
 
   own_kind : is_leaf (chain_in (slot_at table page)) ≡ eqb (slot_at table page).level 0
   own_kind = ap is_leaf split_chain_is ∙ split_chain.1.kind

@@ -23,7 +23,7 @@ use Rattle.bw_law.specs.Runs.{TakesInTurn}
 use Rattle.bw_law.specs.Slots.{chain_in, pairs_in}
 use Rattle.bw_law.specs.Tables.{TableValue, slot_at, number_of, outlines}
 use Rattle.bw_table.specs.Answers.{IsDenialFor}
-use Rattle.bw_table.specs.InPlaces.{step_for, consolidating, halving, half_reasons}
+use Rattle.bw_table.specs.InPlaces.{MayPost, MaySplitAtOnce, step_for, consolidating, halving, half_reasons}
 use Rattle.bw_table.specs.Rests.{MeetsTodo}
 use Rattle.bw_step.specs.declared.action.Action.{Action}
 use Rattle.bw_step.specs.declared.action.Action.TheVariants as actions
@@ -149,24 +149,39 @@ pub record IsAbove (table : TableValue) (key level page : ℕ) : Type 0 where
   pub above : (slot_at table page).level ≡ level + 1
   pub spans : Spans (outlines table.slots page) key
 
+-- the page is the parent of the child, and that is true of it
+abbrev pub HasParent : TableValue → ℕ → (ℕ → Type 0) → Type 0
+HasParent table child Why =
+    (parent : ℕ) × IsAbove table (slot_at table child).low (slot_at table child).level parent
+    × Why parent
+
+-- the page isn't unposted, or it is on the root's level, or that is true of its parent
+abbrev pub StaysUnposted : TableValue → ℕ → (ℕ → Type 0) → Type 0
+StaysUnposted table child Why =
+    ((slot_at table child).stage ≢ Unposted)
+    ⊎ ((slot_at table table.root).level ≤ (slot_at table child).level)
+    ⊎ HasParent table child Why
+
 -- the page isn't unposted, or it is on the root's level, or its term is refused in its parent
 abbrev pub TakesNoTerm : TableValue → ℕ → Type 0
 TakesNoTerm table child =
-    ((slot_at table child).stage ≢ Unposted)
-    ⊎ ((slot_at table table.root).level ≤ (slot_at table child).level)
-    ⊎ ((parent : ℕ) × IsAbove table (slot_at table child).low (slot_at table child).level parent
-    × IsRefused table (Some (term_of table parent child)))
+    StaysUnposted table child (λ parent. IsRefused table (Some (term_of table parent child)))
 
--- why the action isn't done in one hold, where there is memory; a cut and a post may always be left
--- to single steps
+-- the split of the page in half is accepted, and may be done in one hold with its consolidation
+pub record MayCutInHalf (table : TableValue) (page seen : ℕ) : Type 0 where
+  pub accepted : reshaping_refusal table page seen reshapings.Halve ≡ None
+  pub splits : MaySplitAtOnce table page (middle_of table page)
+
+-- why the action isn't done in one hold, where there is memory
 abbrev pub IsStepByStep : TableValue → Action → Type 0
 IsStepByStep table (actions.Change key wished) = StopsAt table key (IsUnfit table)
 IsStepByStep table (actions.Record key wished) =
     StopsAt table key (λ page. IsRefused table (wished_step table page key wished))
 IsStepByStep table (actions.Reshape page seen how) = ⊥
 IsStepByStep table (actions.AddTerm child) = TakesNoTerm table child.0
-IsStepByStep table (actions.Cut page seen) = Unit {0}
-IsStepByStep table (actions.Post child) = Unit {0}
+IsStepByStep table (actions.Cut page seen) = MayCutInHalf table page.0 seen.0 → ⊥
+IsStepByStep table (actions.Post child) =
+    StaysUnposted table child.0 (λ parent. MayPost table.slots parent child.0 → ⊥)
 
 -- Why it isn't performed: a page that is named is reshaped unless the step is refused or memory is
 -- short, and the others are done at once unless there is a reason to go step by step or memory is
@@ -177,6 +192,10 @@ IsWhyNot table (actions.Reshape page seen how) (Denied denied) =
 IsWhyNot table action (Denied (denials.Refused reason)) = ⊥
 IsWhyNot table (actions.Change key wished) (Denied denials.NoMemory) =
     (page : ℕ) × IsLeafOf table key page × (inserts wished (had_at table page key) ≡ true)
+IsWhyNot table (actions.Cut page seen) (Denied denials.NoMemory) =
+    MayCutInHalf table page.0 seen.0
+IsWhyNot table (actions.Post child) (Denied denials.NoMemory) =
+    HasParent table child.0 (λ parent. MayPost table.slots parent child.0)
 IsWhyNot table action (Denied denials.NoMemory) = Unit {0}
 IsWhyNot table action StepByStep = IsStepByStep table action
 

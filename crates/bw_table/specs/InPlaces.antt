@@ -1,12 +1,12 @@
 -- A change of a key and the consolidation of its page, one after the other, as one call does them.
-use Rattle.std.specs.Prelude.{◌≡◌, ℕ, suc, ◌+◌, ◌-◌, ◌<◌, ◌≤◌, ◌^◌, nat_lt, Bool, true, false, List, [], ◌∷◌, ◌++◌, slice_set, length, ◌≢◌, Option, Some, None, is_none, is_some, unwrap_or}
+use Rattle.std.specs.Prelude.{◌≡◌, ℕ, suc, ◌+◌, ◌-◌, ◌<◌, ◌≤◌, ◌^◌, nat_lt, Bool, true, false, List, [], ◌∷◌, ◌++◌, slice_set, length, ◌≢◌, Option, Some, None, is_none, is_some, option_map, unwrap_or}
 use Rattle.bw_keys.specs.declared.page.Pid.{Pid}
 use Rattle.bw_keys.specs.declared.range.Fence.TheVariants.{Key}
 use Rattle.bw_keys.specs.Ranges.{is_within}
 use Rattle.bw_keys.specs.Reasons.{when}
 use Rattle.bw_delta.specs.declared.chain.Delta.{Delta}
 use Rattle.bw_delta.specs.declared.chain.Delta.TheVariants as deltas
-use Rattle.bw_delta.specs.Entries.{at}
+use Rattle.bw_delta.specs.Entries.{at, last_below}
 use Rattle.bw_delta.specs.Fence.{fences}
 use Rattle.bw_delta.specs.Pages.{Page, listed_length, upper_part}
 use Rattle.bw_delta.specs.Records.{bare, above, depth}
@@ -15,6 +15,9 @@ use Rattle.bw_chain.specs.Pages.Halves.{listed_key_at, listed_middle_key}
 use Rattle.bw_chain.specs.InPlaces.{joined_chain}
 use Rattle.bw_keys.specs.declared.wished.Wished.{Wished}
 use Rattle.bw_keys.specs.declared.wished.Wished.TheVariants as wishes
+use Rattle.bw_step.specs.declared.action.Unperformed.{Unperformed}
+use Rattle.bw_step.specs.declared.action.Unperformed.TheVariants.{Denied, StepByStep}
+use Rattle.bw_step.specs.declared.fault.Denied.TheVariants as denials
 use Rattle.bw_step.specs.declared.receipt.Kind.TheVariants as kinds
 use Rattle.bw_step.specs.declared.receipt.Receipt.{Receipt}
 use Rattle.bw_step.specs.declared.receipt.Receipt.TheVariants.{Inserted, Deleted, Modified, Looked, Shaped}
@@ -27,6 +30,13 @@ use Rattle.bw_law.specs.Refusals.{is_bad_key, is_leaving_at, is_outside, last_id
 use Rattle.bw_law.specs.Runs.{TakesInTurn}
 use Rattle.bw_law.specs.Slots.{SlotValue, slot_in, free_slot, chain_in, pairs_in, routes_in}
 use Rattle.bw_law.specs.Tables.{TableValue, slot_at, number_of}
+
+-- Why something isn't done in one hold that may be done where this is true: it isn't true, or it is
+-- and memory is short.
+abbrev pub IsWhyUndone : Type 0 → Unperformed → Type 0
+IsWhyUndone May StepByStep = May → ⊥
+IsWhyUndone May (Denied denials.NoMemory) = May
+IsWhyUndone May (Denied (denials.Refused reason)) = ⊥
 
 -- a posted leaf whose range holds the key
 pub record IsPostedLeaf (slot : SlotValue) (key : ℕ) : Type 0 where
@@ -66,6 +76,11 @@ abbrev pub HasNoTerm : List SlotValue → ℕ → ℕ → Type 0
 HasNoTerm slots parent child =
     at (slot_in slots child).low (routes_in (slot_in slots parent)) ≡ None
 
+-- the parent takes the term of the child, and has none yet that begins where the child does
+pub record MayPost (slots : List SlotValue) (parent child : ℕ) : Type 0 where
+  pub takes : MayPostAtOnce (slot_in slots parent) (slot_in slots child)
+  pub absent : HasNoTerm slots parent child
+
 -- a posted page without records has the separator as a later key, and its version can rise twice
 pub record MayCut (slot : SlotValue) (separator : ℕ) : Type 0 where
   pub posted : slot.stage ≡ Posted
@@ -75,9 +90,11 @@ pub record MayCut (slot : SlotValue) (separator : ℕ) : Type 0 where
   pub good : is_bad_key slot false separator ≡ false
   pub version : slot.version + 2 < 2 ^ 64
 
--- the slot's version can rise twice, and its chain can end at the separator
+-- the slot's version can rise twice, and its chain, which has no records, can end at the separator
 pub record TakesCut (slot : SlotValue) (separator : ℕ) : Type 0 where
   pub version : slot.version + 2 < 2 ^ 64
+  pub chain : is_some slot.chain ≡ true
+  pub no_records : depth (chain_in slot) ≡ 0
   pub within : LiesIn separator (fences (chain_in slot))
   pub after_low : (fences (chain_in slot)).low < separator
 
@@ -88,6 +105,13 @@ pub record MaySplitAtOnce (table : TableValue) (page separator : ℕ) : Type 0 w
   pub staying : is_leaving_at table.slots (at separator (routes_in (slot_at table page))) ≡ false
   pub room : last_id table.free ≡ Some (new_id table)
   pub new_version : (slot_at table (new_id table)).version + 1 < 2 ^ 64
+
+-- the page may be split at the key of its entry with the number, counted from 0
+pub record MaySplitBefore (table : TableValue) (page number : ℕ) : Type 0 where
+  pub separator : ℕ
+  pub its_key : listed_key_at number (page_for (chain_in (slot_at table page))).listed
+      ≡ Some separator
+  pub splits : MaySplitAtOnce table page separator
 
 -- the number of entries with what the record makes of them
 abbrev pub count_after : Delta → ℕ → ℕ
@@ -264,6 +288,18 @@ abbrev pub MayMergeUnder : TableValue → ℕ → ℕ → ℕ → Type 0
 MayMergeUnder table parent left page =
     MayMerge (slot_at table parent) (slot_at table left) (slot_at table page) page
     table.config.fanout
+
+-- the page of the parent's route before the one where the page begins
+abbrev pub left_under : TableValue → ℕ → ℕ → Option Pid
+left_under table parent page =
+    option_map (λ route. route.1)
+    (last_below (slot_at table page).low (routes_in (slot_at table parent)))
+
+-- the page may be merged under the parent into the page of the route before
+pub record MayMergeLeft (table : TableValue) (parent page : ℕ) : Type 0 where
+  pub left : Pid
+  pub before : left_under table parent page ≡ Some left
+  pub merges : MayMergeUnder table parent left.0 page
 
 -- the numbers of the slot can rise, and its chain ends where the right one begins
 pub record Meets (into right : SlotValue) : Type 0 where

@@ -1,6 +1,7 @@
 -- Steps of the tree's shape alone leave the map as it is.
 use Rattle.std.proofs.Common.{◌≡◌, ℕ, Bool, true, false, List, [], Option, Some, None, refl}
-use Rattle.std.specs.Prelude.{IfSome, IfNone, is_some, ◌<◌}
+use Rattle.std.specs.Prelude.{IfSome, IfNone, IfOk, OnErr, Result, Ok, Err, is_ok, is_some, ◌<◌}
+use Rattle.bw_step.specs.declared.action.Unperformed.{Unperformed}
 use Rattle.bw_keys.specs.Ranges.{key_count}
 use Rattle.bw_keys.specs.declared.page.Pid.{Pid}
 use Rattle.bw_law.specs.Effects.{pid}
@@ -33,17 +34,18 @@ module _ (old new : TableValue) (parent page number : ℕ) (law : Lawful old) (b
   split_is_shape page parent new_page true = refl
   split_is_shape page parent new_page false = refl
 
-  pub split_same : (split : Option (Pid × Bool))
-      → IfSome split (λ it. IsSplitUnder old parent page number it.0 it.1 new) → IfNone split (new ≡ old) → SameMap old.slots new.slots
-  split_same None done unchanged = rw unchanged (same_as_it_is old.slots)
-  split_same (Some it) done unchanged =
-      reshaped_same old new [] (receipts_of_split (pid page) (pid parent) it.0 it.1) refl (split_leads old new parent page number it.0 it.1 [] law booked done)
-      (split_is_shape (pid page) (pid parent) it.0 it.1)
+  pub split_same : (split : Result (Pid × Result (Unit {0}) Unperformed) Unperformed)
+      → IfOk split (λ it. IsSplitUnder old parent page number it.0 (is_ok it.1) new) → OnErr split (new ≡ old) → SameMap old.slots new.slots
+  split_same (Err why) done unchanged = rw unchanged (same_as_it_is old.slots)
+  split_same (Ok it) done unchanged =
+      reshaped_same old new [] (receipts_of_split (pid page) (pid parent) it.0 (is_ok it.1)) refl
+      (split_leads old new parent page number it.0 (is_ok it.1) [] law booked done)
+      (split_is_shape (pid page) (pid parent) it.0 (is_ok it.1))
 
-  pub split_config : (split : Option (Pid × Bool))
-      → IfSome split (λ it. IsSplitUnder old parent page number it.0 it.1 new) → IfNone split (new ≡ old) → new.config ≡ old.config
-  split_config None done unchanged = rw unchanged refl
-  split_config (Some it) done unchanged = split_keeps_config old new parent page number it.0 it.1 done
+  pub split_config : (split : Result (Pid × Result (Unit {0}) Unperformed) Unperformed)
+      → IfOk split (λ it. IsSplitUnder old parent page number it.0 (is_ok it.1) new) → OnErr split (new ≡ old) → new.config ≡ old.config
+  split_config (Err why) done unchanged = rw unchanged refl
+  split_config (Ok it) done unchanged = split_keeps_config old new parent page number it.0 (is_ok it.1) done
 
 -- a pair that was set is put into the list
 pub set_is_put : (old new : TableValue) → Lawful old → Lawful new → (key value : ℕ) → key < key_count → (set : Option Set)

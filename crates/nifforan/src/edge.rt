@@ -193,7 +193,7 @@ impl<A: Allocator + Copy> Worker<A> {
         self.owner.table.value.law();
         let split = self.owner.table.value.split_under(parent, page, number);
         self.owner.table.value.law();
-        let (new, _posted) = split?;
+        let (new, _posted) = split.ok()?;
         Some(new)
     }
 

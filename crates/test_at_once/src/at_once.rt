@@ -218,7 +218,10 @@ fn split(
 ) -> Result<(Option<(Pid, bool)>, bool), Fail> {
     let by_steps = full_after_both(alloc, before, steps)?;
     let mut table = after_both(alloc, &FULL, before)?;
-    let done = table.split_under(Pid(2), Pid(3), 2);
+    let done = match table.split_under(Pid(2), Pid(3), 2) {
+        Ok((new, posted)) => Some((new, posted.is_ok())),
+        Err(_) => None,
+    };
     Ok((done, are_alike(&table, &by_steps)))
 }
 
@@ -239,8 +242,8 @@ fn a_split_at_once_is_four_steps_or_two(rt: HostRuntime) -> Result<(), Fail> {
 fn moved(alloc: Global, number: usize) -> Result<Option<u64>, Fail> {
     let mut table = after(alloc, &FULL)?;
     match table.split_at_once(Pid(3), number) {
-        Some(new) => Ok(table.peek(new).map(|view| view.count)),
-        None => Ok(None),
+        Ok(new) => Ok(table.peek(new).map(|view| view.count)),
+        Err(_) => Ok(None),
     }
 }
 

@@ -292,7 +292,7 @@ impl Drawn {
             let steps = steps_of(parent, left.0, id);
             take_all(alloc, &mut self.twins.by_steps, &steps)?;
         }
-        Ok(done == left.ok())
+        Ok(done.ok() == left.ok())
     }
 
     /// Merges a drawn page under its parent, or now and then under any page.

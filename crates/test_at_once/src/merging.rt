@@ -164,7 +164,7 @@ fn merged(
         take_all(alloc, &mut by_steps, &steps_of(parent, left, page))?;
     }
     let mut table = after_both(alloc, &BARE, before)?;
-    let done = table.merge_under(Pid(parent), Pid(page));
+    let done = table.merge_under(Pid(parent), Pid(page)).ok();
     Ok((done, are_same(alloc, &table, &by_steps)?))
 }
 
@@ -229,7 +229,7 @@ fn merged_worn(
     }
     let mut table = made_anew(alloc, page, times)?;
     let done = table.merge_under(Pid(2), Pid(1));
-    Ok((done.is_some(), are_same(alloc, &table, &by_steps)?))
+    Ok((done.is_ok(), are_same(alloc, &table, &by_steps)?))
 }
 
 #[test]

@@ -1,15 +1,16 @@
 //! A change of one key and the consolidation of its page, made in the place where the page lies.
 
-ghost use Rattle.std.specs.Prelude.{◌≡◌, ◌≢◌, ◌⊎◌, ◌+◌, ◌<◌, ◌≤◌, ◌^◌, None, Some, true, false, IsTrue, IfSome, IfNone, length};
+ghost use Rattle.std.specs.Prelude.{◌≡◌, ◌≢◌, ◌⊎◌, ◌+◌, ◌<◌, ◌≤◌, ◌^◌, None, Some, true, false, IsTrue, IfSome, IfNone, IfOk, IfErr, OnOk, OnErr, is_ok, length};
 ghost use Rattle.bw_delta.specs.declared.chain.Delta.TheVariants as deltas;
 ghost use Rattle.bw_delta.specs.Entries.{at};
 ghost use Rattle.bw_delta.specs.Fence.{is_leaf};
 ghost use Rattle.bw_delta.specs.Pages.{upper_part};
 ghost use Rattle.bw_delta.specs.Records.{Records, depth};
+ghost use Rattle.bw_delta.specs.Slices.{list_of};
 ghost use Rattle.bw_delta.specs.Sound.{page_for};
 ghost use Rattle.bw_table.specs.SlotFacts.{HasSoundChain, upper_summary};
 ghost use Rattle.bw_chain.specs.InPlaces.{WantsMemory, delta_for, inserts, is_flat};
-ghost use Rattle.bw_chain.specs.Pages.Halves.{listed_key_at};
+ghost use Rattle.bw_chain.specs.Pages.Halves.{key_at, listed_key_at};
 ghost use Rattle.bw_step.specs.declared.action.Action.TheVariants as actions;
 ghost use Rattle.bw_step.specs.declared.view.Stage.TheVariants.{Posted};
 ghost use Rattle.bw_step.specs.declared.receipt.Kind.TheVariants as kinds;
@@ -17,16 +18,17 @@ ghost use Rattle.bw_step.specs.declared.receipt.Receipt.TheVariants.{Shaped};
 ghost use Rattle.bw_step.specs.Stages.{is_in_row};
 ghost use Rattle.bw_step.specs.Tellings.{telling_of};
 ghost use Rattle.bw_law.specs.Laws.{IsLeafOf};
+ghost use Rattle.bw_law.specs.Refusals.{last_id};
 ghost use Rattle.bw_law.specs.Slots.{slot_in, chain_in, pairs_in, routes_in};
 ghost use Rattle.bw_law.specs.Tables.{TellsMap, slot_at, number_of, book_with};
 ghost use Rattle.bw_table.specs.Actions.{Performs, IsUnfit, IsUsedUp, had_at};
-ghost use Rattle.bw_table.specs.InPlaces.{IsPostedLeaf, MayCut, MayPostAtOnce, MaySplitAtOnce, TakesCut, TakesInPlace, IsSplitAtOnce, IsSplitUnder, IsPosted, HasNoTerm, TakesTerm, slot_cut, IsDoneAtOnce, count_after, slot_with, slots_with, slots_posted_at_once, slots_split_at_once, receipt_for};
+ghost use Rattle.bw_table.specs.InPlaces.{IsPostedLeaf, IsWhyUndone, MayCut, MayPost, MayPostAtOnce, MaySplitAtOnce, MaySplitBefore, TakesCut, TakesInPlace, IsSplitAtOnce, IsSplitUnder, IsPosted, HasNoTerm, TakesTerm, slot_cut, IsDoneAtOnce, count_after, slot_with, slots_with, slots_posted_at_once, slots_split_at_once, receipt_for};
 
 use crate::book::number_of;
 use crate::slot::Slot;
 use crate::table::Table;
 use bw_chain::{InPlace, change_in_place, cut_in_place, route_in_place, upper_part_of};
-use bw_delta::{Base, Delta, Node};
+use bw_delta::{Base, Delta, Entries, EntrySlice, Node};
 use bw_keys::{Fence, Key, Pid, Wished};
 use bw_step::{Book, Denied, Performed, Receipt, Stage, Summary, Unperformed};
 use std::alloc::Allocator;
@@ -69,8 +71,8 @@ impl<A: Allocator + Copy> Table<A> {
     }
 
     /// The same on a page, without a walk. Returns `None` and changes nothing where it isn't such a
-    /// leaf, where its range doesn't hold the key, where a number is used up, and where memory is
-    /// short.
+    /// leaf, where its range doesn't hold the key, where a number is used up, and where memory for a
+    /// new pair is short.
     #[inline(always)]
     pub fn change_leaf(&mut self, page: Pid, key: Key, wished: Wished) -> Option<Receipt>
         ensures done { IfSome result (λ receipt.
@@ -79,6 +81,8 @@ impl<A: Allocator + Copy> Table<A> {
             TellsMap (telling_of receipt) self.old.slots self.new.slots) }
         ensures leaf { IfSome result (λ _. IsLeafOf self.old key page.0) }
         ensures unchanged { IfNone result (self.new ≡ self.old) }
+        ensures undone { IfNone result ((IsPostedLeaf (slot_at self.old page.0) key → ⊥)
+            ⊎ IsUnfit self.old page.0 ⊎ (inserts wished (had_at self.old page.0 key) ≡ true)) }
     {
         if !self.slot(page)?.is_posted_leaf(key) {
             return None;
@@ -121,21 +125,25 @@ impl<A: Allocator + Copy> Table<A> {
 
 impl<A: Allocator + Copy> Table<A> {
     /// Names a page that no parent names yet in its parent, and consolidates the parent, as the two
-    /// steps one after the other do. Returns false and changes nothing where the parent isn't a
-    /// posted page without records whose range holds the low of the child, where a number is used
-    /// up, and where memory is short.
-    pub fn post_at_once(&mut self, parent: Pid, child: Pid) -> bool
-        ensures { IsPosted self.old parent.0 child result self.new }
+    /// steps one after the other do. Fails and changes nothing with `StepByStep` where the parent
+    /// isn't a posted page without records whose range holds the low of the child, where it has a
+    /// term that begins there, and where a number is used up, and with `NoMemory` where memory is
+    /// short.
+    pub fn post_at_once(&mut self, parent: Pid, child: Pid) -> Result<(), Unperformed>
+        ensures posted { IsPosted self.old parent.0 child (is_ok result) self.new }
+        ensures why { IfErr result (IsWhyUndone (MayPost self.old.slots parent.0 child.0)) }
     {
         if !self.may_post_at_once(parent, child) {
-            return false;
+            return Err(Unperformed::StepByStep);
         }
         post_at(&mut self.slots, parent, child)
     }
 
     fn may_post_at_once(&self, parent: Pid, child: Pid) -> bool
-        ensures { IsTrue result
+        ensures may { IsTrue result
             → MayPostAtOnce (slot_at self.now parent.0) (slot_at self.now child.0) }
+        ensures unfit { result ≡ false
+            → MayPostAtOnce (slot_at self.now parent.0) (slot_at self.now child.0) → ⊥ }
     {
         let (Some(over), Some(under)) = (self.slot(parent), self.slot(child)) else {
             return false;
@@ -145,29 +153,35 @@ impl<A: Allocator + Copy> Table<A> {
 }
 
 /// Adds the term in the slot of the parent, and posts the child.
-fn post_at<A: Allocator + Copy>(slots: &mut Vec<Slot<A>>, parent: Pid, child: Pid) -> bool
+fn post_at<A: Allocator + Copy>(
+    slots: &mut Vec<Slot<A>>,
+    parent: Pid,
+    child: Pid,
+) -> Result<(), Unperformed>
     requires exists { parent.0 < length slots.old.items }
     requires child_exists { child.0 < length slots.old.items }
     requires apart { child.0 ≢ parent.0 }
     requires takes { TakesTerm slots.old.items parent.0 child.0 }
     requires version { (slot_in slots.old.items child.0).version + 1 < 2 ^ 64 }
-    ensures absent { result ≡ true → HasNoTerm slots.old.items parent.0 child.0 }
-    ensures inner { result ≡ true → is_leaf (chain_in (slot_in slots.old.items parent.0)) ≡ false }
-    ensures posted { result ≡ true
-        → slots.new.items ≡ slots_posted_at_once parent.0 child slots.old.items }
-    ensures unchanged { result ≡ false → slots.new.items ≡ slots.old.items }
+    ensures absent { OnOk result (HasNoTerm slots.old.items parent.0 child.0) }
+    ensures inner { OnOk result (is_leaf (chain_in (slot_in slots.old.items parent.0)) ≡ false) }
+    ensures posted { OnOk result
+        (slots.new.items ≡ slots_posted_at_once parent.0 child slots.old.items) }
+    ensures why { IfErr result (IsWhyUndone (HasNoTerm slots.old.items parent.0 child.0)) }
+    ensures unchanged { OnErr result (slots.new.items ≡ slots.old.items) }
 {
     let low = slots[child.0 as usize].low();
     if !slots[parent.0 as usize].route_in_place(low, child) {
-        return false;
+        return Err(slots[parent.0 as usize].why_not_routed(low));
     }
     slots[child.0 as usize].post();
-    true
+    Ok(())
 }
 
 impl<A: Allocator + Copy> Slot<A> {
     fn may_post(&self, under: &Slot<A>) -> bool
-        ensures { IsTrue result → MayPostAtOnce self.now under.now }
+        ensures may { IsTrue result → MayPostAtOnce self.now under.now }
+        ensures unfit { result ≡ false → MayPostAtOnce self.now under.now → ⊥ }
     {
         self.stage == Stage::Posted
             && under.stage == Stage::Unposted
@@ -176,6 +190,18 @@ impl<A: Allocator + Copy> Slot<A> {
             && self.holds(under.summary.low)
             && self.version < u64::MAX - 1
             && under.version < u64::MAX
+    }
+
+    /// Why an inner page without records got no route at the separator: it has one there, or memory
+    /// was short.
+    #[inline(never)]
+    fn why_not_routed(&self, separator: Key) -> Unperformed
+        ensures { IsWhyUndone (at separator (routes_in self.now) ≡ None) result }
+    {
+        match self.route_at(separator) {
+            Some(_) => Unperformed::StepByStep,
+            None => Unperformed::Denied(Denied::NoMemory),
+        }
     }
 
     /// Adds a route in the base page's own list.
@@ -203,49 +229,118 @@ impl<A: Allocator + Copy> Slot<A> {
 impl<A: Allocator + Copy> Table<A> {
     /// Splits a page before the entry with the number, counted from 0, and consolidates it, as the
     /// two steps one after the other do. The new page has room for as many entries as it may get
-    /// before it is split. Returns the new page, or returns `None` and changes nothing where the
-    /// page isn't a posted one without records, where that entry is its first or isn't there or
-    /// leads to a page that is leaving, where no slot is free, where a number is used up, and where
-    /// memory is short.
-    pub fn split_at_once(&mut self, page: Pid, number: usize) -> Option<Pid>
-        ensures done { IfSome result (λ new.
+    /// before it is split. Returns the new page. Fails and changes nothing with `StepByStep` where
+    /// the page isn't a posted one without records, where that entry is its first or isn't there or
+    /// leads to a page that is leaving, where no slot is free, and where a number is used up, and
+    /// with `NoMemory` where memory is short.
+    pub fn split_at_once(&mut self, page: Pid, number: usize) -> Result<Pid, Unperformed>
+        ensures done { IfOk result (λ new.
             IsSplitAtOnce self.old page.0 number (Shaped kinds.Split page (Some new)) self.new) }
-        ensures unchanged { IfNone result (self.new ≡ self.old) }
+        ensures why { IfErr result (IsWhyUndone (MaySplitBefore self.old page.0 number)) }
+        ensures unchanged { OnErr result (self.new ≡ self.old) }
     {
-        let room = self.config.fanout as usize + 1;
-        let (separator, base) = self.slot(page)?.upper_part(number, room)?;
-        if !self.may_split_at_once(page, separator) {
-            return None;
-        }
-        let new = Pid(self.free.last()?);
-        if !cut_at(&mut self.slots, page, new, separator, base) {
-            return None;
-        }
+        let Some(separator) = self.key_at(page, number) else {
+            return Err(Unperformed::StepByStep);
+        };
+        let Some(new) = self.slot_to_split_to(page, separator) else {
+            return Err(Unperformed::StepByStep);
+        };
+        let Some((_separator, base)) = self.upper_part(page, number) else {
+            return Err(Unperformed::Denied(Denied::NoMemory));
+        };
+        cut_at(&mut self.slots, page, new, separator, base);
         let _new = self.free.take_last();
-        Some(new)
+        Ok(new)
     }
 
     /// Splits a page as [`Table::split_at_once`] does, then names the new page in the parent as
-    /// [`Table::post_at_once`] does. Returns the new page, and whether it is posted: where the
-    /// parent doesn't take it, the page is split all the same.
-    pub fn split_under(&mut self, parent: Pid, page: Pid, number: usize) -> Option<(Pid, bool)>
-        ensures done { IfSome result (λ done.
-            IsSplitUnder self.old parent.0 page.0 number done.0 done.1 self.new) }
-        ensures unchanged { IfNone result (self.new ≡ self.old) }
+    /// [`Table::post_at_once`] does. Returns the new page, and whether it is posted or why not:
+    /// where the parent doesn't take it, the page is split all the same. Fails and changes nothing
+    /// where the page isn't split.
+    pub fn split_under(
+        &mut self,
+        parent: Pid,
+        page: Pid,
+        number: usize,
+    ) -> Result<(Pid, Result<(), Unperformed>), Unperformed>
+        ensures done { IfOk result (λ done.
+            IsSplitUnder self.old parent.0 page.0 number done.0 (is_ok done.1) self.new) }
+        ensures unposted { IfOk result (λ done. IfErr done.1
+            (IsWhyUndone (MayPost self.new.slots parent.0 done.0.0))) }
+        ensures why { IfErr result (IsWhyUndone (MaySplitBefore self.old page.0 number)) }
+        ensures unchanged { OnErr result (self.new ≡ self.old) }
     {
-        let new = self.split_at_once(page, number)?;
+        let new = match self.split_at_once(page, number) {
+            Ok(new) => new,
+            Err(why) => return Err(why),
+        };
         let posted = self.post_at_once(parent, new);
-        Some((new, posted))
+        Ok((new, posted))
+    }
+
+    /// The key of the page's entry with the number, where no record stands on it.
+    fn key_at(&self, page: Pid, number: usize) -> Option<Key>
+        ensures key { IfSome result (λ key.
+            listed_key_at number (page_for (chain_in (slot_at self.now page.0))).listed
+            ≡ Some key) }
+        ensures missing { IfNone result (MaySplitBefore self.now page.0 number → ⊥) }
+    {
+        self.slot(page)?.key_at(number)
+    }
+
+    /// The free page for the upper part of the page, where that may be split at the separator.
+    fn slot_to_split_to(&self, page: Pid, separator: Key) -> Option<Pid>
+        ensures may { IfSome result (λ new. MaySplitAtOnce self.now page.0 separator) }
+        ensures last { IfSome result (λ new. Some new.0 ≡ last_id self.now.free) }
+        ensures unfit { IfNone result (MaySplitAtOnce self.now page.0 separator → ⊥) }
+    {
+        let id = self.free.last()?;
+        if !self.may_split_at_once(page, separator) {
+            return None;
+        }
+        Some(Pid(id))
     }
 
     fn may_split_at_once(&self, page: Pid, separator: Key) -> bool
-        ensures { IsTrue result → MaySplitAtOnce self.now page.0 separator }
+        ensures may { IsTrue result → MaySplitAtOnce self.now page.0 separator }
+        ensures unfit { result ≡ false → MaySplitAtOnce self.now page.0 separator → ⊥ }
     {
         let (Some(slot), Some(new)) = (self.slot(page), self.new_slot()) else {
             return false;
         };
         slot.may_cut(separator) && !new.is_worn() && !self.is_leaving_at(slot, separator)
     }
+
+    /// The page's entries from the one with the number on, with the key of that, if there is memory.
+    fn upper_part(&self, page: Pid, number: usize) -> Option<(Key, Base<A>)>
+        ensures separator { IfSome result (λ part.
+            listed_key_at number (page_for (chain_in (slot_at self.now page.0))).listed
+            ≡ Some part.0) }
+        ensures page { IfSome result (λ part.
+            part.1 ≡ upper_part part.0 (page_for (chain_in (slot_at self.now page.0)))) }
+    {
+        let room = self.config.fanout as usize + 1;
+        self.slot(page)?.upper_part(number, room)
+    }
+}
+
+/// The key of the entry with the number, counted from 0, if there is one.
+fn key_of<A: Allocator + Copy>(base: &Base<A>, number: usize) -> Option<Key>
+    ensures { result ≡ listed_key_at number base.now.listed }
+{
+    match &base.entries {
+        Entries::Pairs(pairs) => key_listed(pairs.as_slice(), number),
+        Entries::Routes(routes) => key_listed(routes.as_slice(), number),
+    }
+}
+
+fn key_listed<X: Copy>(entries: EntrySlice<'_, X>, number: usize) -> Option<Key>
+    ensures { result ≡ key_at number (list_of entries.entry) }
+{
+    if entries.len() <= number {
+        return None;
+    }
+    Some(entries.key(number))
 }
 
 /// Ends the page before the separator, and moves its upper part to the new one.
@@ -255,27 +350,30 @@ fn cut_at<A: Allocator + Copy>(
     new: Pid,
     separator: Key,
     base: Base<A>,
-) -> bool
+)
     requires exists { page.0 < length slots.old.items }
     requires new_exists { new.0 < length slots.old.items }
     requires apart { new.0 ≢ page.0 }
     requires takes { TakesCut (slot_in slots.old.items page.0) separator }
     requires new_version { (slot_in slots.old.items new.0).version + 1 < 2 ^ 64 }
-    ensures split { result ≡ true
-        → slots.new.items ≡ slots_split_at_once page.0 new separator base slots.old.items }
-    ensures unchanged { result ≡ false → slots.new.items ≡ slots.old.items }
+    ensures { slots.new.items ≡ slots_split_at_once page.0 new separator base slots.old.items }
 {
     let count = base.len() as u64;
-    match slots[page.0 as usize].cut_in_place(separator, new, count) {
-        Some(upper) => {
-            slots[new.0 as usize].hold(Stage::Unposted, upper, base);
-            true
-        }
-        None => false,
-    }
+    let upper = slots[page.0 as usize].cut_in_place(separator, new, count);
+    slots[new.0 as usize].hold(Stage::Unposted, upper, base);
 }
 
 impl<A: Allocator + Copy> Slot<A> {
+    /// The key of the entry with the number, where no record stands on the chain.
+    fn key_at(&self, number: usize) -> Option<Key>
+        ensures key { IfSome result (λ key.
+            listed_key_at number (page_for (chain_in self.now)).listed ≡ Some key) }
+        ensures missing { IfNone result ((chain : Records) → self.now.chain ≡ Some chain
+            → depth chain ≡ 0 → listed_key_at number (page_for (chain_in self.now)).listed ≡ None) }
+    {
+        key_of(self.bare_page()?, number)
+    }
+
     /// Its entries from the one with the number on, with the key of that.
     fn upper_part(&self, number: usize, room: usize) -> Option<(Key, Base<A>)>
         ensures separator { IfSome result (λ part.
@@ -291,7 +389,8 @@ impl<A: Allocator + Copy> Slot<A> {
 
     fn may_cut(&self, separator: Key) -> bool
         requires sound { HasSoundChain self.now }
-        ensures { IsTrue result → MayCut self.now separator }
+        ensures may { IsTrue result → MayCut self.now separator }
+        ensures unfit { result ≡ false → MayCut self.now separator → ⊥ }
     {
         self.stage == Stage::Posted
             && self.summary.depth == 0
@@ -302,11 +401,10 @@ impl<A: Allocator + Copy> Slot<A> {
     }
 
     /// Ends the page before the separator, and returns the summary of the part from it on.
-    fn cut_in_place(&mut self, separator: Key, new: Pid, count: u64) -> Option<Summary>
+    fn cut_in_place(&mut self, separator: Key, new: Pid, count: u64) -> Summary
         requires takes { TakesCut self.old separator }
-        ensures upper { IfSome result (λ upper. upper ≡ upper_summary separator count self.old) }
-        ensures lower { IfSome result (λ upper. self.new ≡ slot_cut separator new count self.old) }
-        ensures unchanged { IfNone result (self.new ≡ self.old) }
+        ensures upper { result ≡ upper_summary separator count self.old }
+        ensures lower { self.new ≡ slot_cut separator new count self.old }
     {
         let upper = Summary {
             low: separator,
@@ -315,17 +413,17 @@ impl<A: Allocator + Copy> Slot<A> {
             ..self.summary
         };
         let Some(chain) = &mut self.chain else {
-            return None;
+            unreachable!()
         };
         if !cut_in_place(chain, separator, new) {
-            return None;
+            unreachable!()
         }
         self.version += 2;
         self.summary.count = self.summary.count.saturating_sub(count);
         self.summary.depth = 0;
         self.summary.high = Fence::Key(separator);
         self.summary.right = Some(new);
-        Some(upper)
+        upper
     }
 }
 
@@ -399,7 +497,8 @@ impl<A: Allocator + Copy> Slot<A> {
     /// Whether this is a posted leaf whose range holds the key.
     #[inline(always)]
     fn is_posted_leaf(&self, key: Key) -> bool
-        ensures { IsTrue result → IsPostedLeaf self.now key }
+        ensures leaf { IsTrue result → IsPostedLeaf self.now key }
+        ensures unfit { result ≡ false → IsPostedLeaf self.now key → ⊥ }
     {
         self.stage == Stage::Posted && self.summary.level == 0 && self.holds(key)
     }

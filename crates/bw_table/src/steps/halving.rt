@@ -74,8 +74,9 @@ impl<A: Allocator + Copy> Table<A> {
         let Some(middle) = middle_key(base) else {
             return Err(Unperformed::StepByStep);
         };
-        let Some(new) = self.split_at_once(page, number) else {
-            return Err(Unperformed::StepByStep);
+        let new = match self.split_at_once(page, number) {
+            Ok(new) => new,
+            Err(why) => return Err(why),
         };
         let receipt = Receipt::Shaped {
             kind: Kind::Split,
@@ -142,7 +143,7 @@ fn may_halve<A: Allocator + Copy>(
 
 impl<A: Allocator + Copy> Slot<A> {
     /// The base page, where no record stands over it.
-    fn bare_page(&self) -> Option<&Base<A>>
+    pub(super) fn bare_page(&self) -> Option<&Base<A>>
         ensures page { IfSome result (λ base. base.now ≡ page_for (chain_in self.now)) }
         ensures bare { IfSome result (λ base. (records : Records)
             → self.now.chain ≡ Some records → depth records ≡ 0) }
@@ -211,8 +212,8 @@ impl<A: Allocator + Copy> Table<A> {
         let Some(parent) = self.page_above(under) else {
             return Err(Unperformed::StepByStep);
         };
-        if !self.post_at_once(parent.pid, child) {
-            return Err(Unperformed::StepByStep);
+        if let Err(why) = self.post_at_once(parent.pid, child) {
+            return Err(why);
         }
         let receipt = Receipt::Shaped {
             kind: Kind::TermAdd,

@@ -1,42 +1,51 @@
 //! The merge of a page into the page on its left, with every step that it takes, made in the place
 //! where the pages lie.
 
-ghost use Rattle.std.specs.Prelude.{◌≡◌, ◌+◌, ◌<◌, Some, true, false, IsTrue, IfSome, IfNone};
+ghost use Rattle.std.specs.Prelude.{◌≡◌, ◌+◌, ◌<◌, Some, true, false, IsTrue, IfSome, IfNone, IfOk, IfErr, OnErr};
 ghost use Rattle.bw_delta.specs.declared.chain.Delta.TheVariants as deltas;
 ghost use Rattle.bw_law.specs.Slots.{slot_in};
-ghost use Rattle.bw_table.specs.InPlaces.{FitsInto, IsBare, IsLeftOf, IsMergedUnder, IsOver, LosesTerm, Meets, MayMerge, MayMergeUnder, MergesIn, slot_joined, slot_with, slots_merged_at_once};
+ghost use Rattle.bw_table.specs.InPlaces.{FitsInto, IsBare, IsLeftOf, IsMergedUnder, IsOver, IsWhyUndone, LosesTerm, Meets, MayMerge, MayMergeLeft, MayMergeUnder, MergesIn, left_under, slot_joined, slot_with, slots_merged_at_once};
 
 use crate::slot::Slot;
 use crate::table::Table;
 use bw_chain::{join_in_place, unroute_in_place};
 use bw_keys::{Key, Pid};
-use bw_step::Stage;
+use bw_step::{Denied, Stage, Unperformed};
 use std::alloc::Allocator;
 use std::mem;
 
 impl<A: Allocator + Copy> Table<A> {
     /// Merges a page into the page on its left and takes its term out of the parent, and
     /// consolidates these two, as the five steps one after the other do. Returns the page on the
-    /// left, or returns `None` and changes nothing where one of the three isn't a posted page without records, where the
-    /// parent isn't above the two and begins before the page, where the entries of both are too
-    /// many for a page, where a number is used up, and where memory is short.
-    pub fn merge_under(&mut self, parent: Pid, page: Pid) -> Option<Pid>
-        ensures done { IfSome result (λ left.
+    /// left. Fails and changes nothing with `StepByStep` where one of the three isn't a posted page
+    /// without records, where the parent isn't above the two and begins before the page, where the
+    /// entries of both are too many for a page, and where a number is used up, and with `NoMemory`
+    /// where memory is short.
+    pub fn merge_under(&mut self, parent: Pid, page: Pid) -> Result<Pid, Unperformed>
+        ensures done { IfOk result (λ left.
             IsMergedUnder self.old parent.0 page.0 left self.new) }
-        ensures fanout { IfSome result (λ left. FitsInto self.old left.0 page.0) }
-        ensures unchanged { IfNone result (self.new ≡ self.old) }
+        ensures fanout { IfOk result (λ left. FitsInto self.old left.0 page.0) }
+        ensures why { IfErr result (IsWhyUndone (MayMergeLeft self.old parent.0 page.0)) }
+        ensures unchanged { OnErr result (self.new ≡ self.old) }
     {
-        let left = self.left_under(parent, page)?;
+        let Some(left) = self.left_under(parent, page) else {
+            return Err(Unperformed::StepByStep);
+        };
         if !self.may_merge_under(parent, left, page) {
-            return None;
+            return Err(Unperformed::StepByStep);
         }
-        let version = merge_at(&mut self.slots, parent, left, page)?;
+        let Some(version) = merge_at(&mut self.slots, parent, left, page) else {
+            return Err(Unperformed::Denied(Denied::NoMemory));
+        };
         self.free.give_back(page, version);
-        Some(left)
+        Ok(left)
     }
 
     /// The page by the route before the page's.
-    fn left_under(&self, parent: Pid, page: Pid) -> Option<Pid> {
+    fn left_under(&self, parent: Pid, page: Pid) -> Option<Pid>
+        ensures left { IfSome result (λ left. left_under self.now parent.0 page.0 ≡ Some left) }
+        ensures none { IfNone result (MayMergeLeft self.now parent.0 page.0 → ⊥) }
+    {
         let low = self.slot(page)?.low();
         let over = self.slot(parent)?;
         if !over.stage.is_in_row() {
@@ -49,7 +58,8 @@ impl<A: Allocator + Copy> Table<A> {
     }
 
     fn may_merge_under(&self, parent: Pid, left: Pid, page: Pid) -> bool
-        ensures { IsTrue result → MayMergeUnder self.now parent.0 left.0 page.0 }
+        ensures may { IsTrue result → MayMergeUnder self.now parent.0 left.0 page.0 }
+        ensures unfit { result ≡ false → MayMergeUnder self.now parent.0 left.0 page.0 → ⊥ }
     {
         let (Some(over), Some(into), Some(slot)) = (
             self.slot(parent),
@@ -65,7 +75,8 @@ impl<A: Allocator + Copy> Table<A> {
 impl<A: Allocator + Copy> Slot<A> {
     /// Whether the page on the left takes in the other under this one.
     fn may_merge(&self, into: &Slot<A>, slot: &Slot<A>, page: Pid, most: u64) -> bool
-        ensures { IsTrue result → MayMerge self.now into.now slot.now page.0 most }
+        ensures may { IsTrue result → MayMerge self.now into.now slot.now page.0 most }
+        ensures unfit { result ≡ false → MayMerge self.now into.now slot.now page.0 most → ⊥ }
     {
         self.is_bare()
             && into.is_bare()
@@ -78,21 +89,24 @@ impl<A: Allocator + Copy> Slot<A> {
     }
 
     fn is_bare(&self) -> bool
-        ensures { IsTrue result → IsBare self.now }
+        ensures may { IsTrue result → IsBare self.now }
+        ensures unfit { result ≡ false → IsBare self.now → ⊥ }
     {
         self.stage == Stage::Posted && self.summary.depth == 0
     }
 
     /// Whether this is the page above the other, and not the first one under it.
     fn is_over(&self, slot: &Slot<A>) -> bool
-        ensures { IsTrue result → IsOver self.now slot.now }
+        ensures may { IsTrue result → IsOver self.now slot.now }
+        ensures unfit { result ≡ false → IsOver self.now slot.now → ⊥ }
     {
         self.is_above(slot) && self.holds(slot.summary.low) && self.summary.low < slot.summary.low
     }
 
     /// Whether the page links to the other, and both together have no more entries than that.
     fn is_left_of(&self, slot: &Slot<A>, page: Pid, most: u64) -> bool
-        ensures { IsTrue result → IsLeftOf self.now slot.now page.0 most }
+        ensures may { IsTrue result → IsLeftOf self.now slot.now page.0 most }
+        ensures unfit { result ≡ false → IsLeftOf self.now slot.now page.0 most → ⊥ }
     {
         self.summary.right == Some(page)
             && self.summary.count <= most

@@ -1,3 +1,5 @@
+use Rattle.std.proofs.Common.{sym, ◌∙◌}
+use Rattle.std.specs.Prelude.{is_ok}
 use Rattle.bw_snap.proofs.Changes.{made_where_some, made_where_posted}
 use Rattle.bw_snap.proofs.shown.carry_out.Goals as goal
 
@@ -10,4 +12,5 @@ pub returns-in-Post-clause-done : goal.returns-in-Post-clause-done
 returns-in-Post-clause-done c holds =
     let it = c.in-Post in
     let posted = c.post_at_once in
-    rw it.is (made_where_posted c.args.table.now posted.new.self c.args.page it.child posted.result posted.ensures holds)
+    rw it.is (made_where_posted c.args.table.now posted.new.self c.args.page it.child (is_ok posted.result)
+    posted.ensures.posted (sym c.is_ok-in-Post.ensures.value ∙ holds))

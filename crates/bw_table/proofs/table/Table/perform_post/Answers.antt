@@ -3,6 +3,7 @@ use Rattle.bw_keys.specs.declared.page.Pid.{Pid}
 use Rattle.bw_law.specs.Tables.{slot_at}
 use Rattle.bw_table.specs.Actions.{Takes, consolidated_behind, term_of}
 use Rattle.bw_table.proofs.Actions.{low_in_view, took_both}
+use Rattle.bw_table.proofs.Undone.{seen_is_there, unposted_why}
 use Rattle.bw_table.proofs.table.Table.perform_post.Goals as goal
 
 pub returns : goal.returns
@@ -13,8 +14,8 @@ returns g c =
     let parent = c.in-Some-page_above.parent.pid in
     let reported = c.performed.ensures in
     let child = c.args.child.0 in
-    let takes =
-    took_both table new it parent (term_of table parent.0 child) _ reported.page reported.receipt c.if-not-post_at_once.ensures in
+    let done = c.in_default-post_at_once.ensures.posted in
+    let takes = took_both table new it parent (term_of table parent.0 child) _ reported.page reported.receipt done in
     record {
       done = record {
         finds = reported.key ∙ low_in_view table c.args.child c.in-Some.under c.in-Some.ensures.view;
@@ -26,4 +27,16 @@ returns g c =
       };
       why = tt;
       unchanged = tt;
+    }
+
+pub returns-in-Err : goal.returns-in-Err
+returns-in-Err g c =
+    let table = c.args.self.now in
+    let seen = seen_is_there table c.args.child c.in-Some.under c.in-Some.ensures.view in
+    let undone = c.in-Err.ensures in
+    record {
+      done = tt;
+      why = unposted_why table c.args.child c.in-Some.under c.in-Some-page_above.parent seen
+          c.in-Some-page_above.ensures.above c.in-Err.why undone.why;
+      unchanged = undone.posted;
     }
