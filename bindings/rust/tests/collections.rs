@@ -306,6 +306,25 @@ fn a_worn_map_stays_as_it_was() -> Result<(), Fault> {
     Ok(())
 }
 
+/// The first set takes two of the leaf's three versions, one for the change and one for the leaf made anew, and the second
+/// one takes the last.
+#[test]
+fn pairs_before_a_fault_are_in_the_map() -> Result<(), Fault> {
+    let settings = Settings {
+        first_version: u64::MAX - 3,
+        ..Settings::default()
+    };
+    let mut map = Map::new(&settings)?;
+    assert_eq!(
+        map.try_extend((0..100).map(|key| (key, 9))),
+        Err(Fault::Worn)
+    );
+    assert!(map.iter().eq([(0, 9), (1, 9)]));
+    assert_eq!(map.update(.., |key, _| key), Err(Fault::Worn));
+    assert!(map.iter().eq([(0, 9), (1, 9)]));
+    Ok(())
+}
+
 #[test]
 fn a_function_takes_maps_of_both_kinds() {
     fn sum(map: &Reads) -> u64 {

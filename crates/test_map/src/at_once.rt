@@ -1,5 +1,5 @@
 //! A map changes pairs in place and splits leaves at once: it leaves no record on one, however long
-//! a chain may be. A leaf that was found before a change is tended as one that is searched for.
+//! a chain may be.
 
 use crate::assert_same::assert_same;
 use bw_keys::Pid;
@@ -62,59 +62,6 @@ fn a_map_leaves_no_record_on_a_leaf(rt: HostRuntime) -> Result<(), Fail> {
         let (wrong, has_split) = seen_of(machine, config)?;
         assert_same(&rt, wrong, None, ("fanout, chain", fanout, chain));
         assert_same(&rt, has_split, true, "pages were split");
-    }
-    Ok(())
-}
-
-/// Upserts the key, which changes the leaf that was found, and puts it in the other map.
-fn add(map: &mut Map<Global>, other: &mut Map<Global>, key: u64) -> Result<(), Fail> {
-    let _done = map.upsert(key, |_old| 0)?;
-    let _put = other.put(key, 0)?;
-    Ok(())
-}
-
-/// Takes the key out of the leaf that was found, and deletes it from the other map.
-fn remove(map: &mut Map<Global>, other: &mut Map<Global>, key: u64) -> Result<(), Fail> {
-    let _done = map.compare_and_set(key, Some(0), None)?;
-    let _deleted = other.delete(key)?;
-    Ok(())
-}
-
-/// Adds each key, and then removes each. Returns the first after which not as many pages are free in
-/// both maps.
-fn first_untended(map: &mut Map<Global>, other: &mut Map<Global>) -> Result<Option<u64>, Fail> {
-    for round in 0..2 * KEYS {
-        let key = round % KEYS;
-        if round < KEYS {
-            add(map, other, key)?;
-        } else {
-            remove(map, other, key)?;
-        }
-        if map.free_pages() != other.free_pages() {
-            return Ok(Some(key));
-        }
-    }
-    Ok(None)
-}
-
-/// Makes both maps, empty, and changes them side by side.
-fn first_untended_of(machine: Global, config: Config) -> Result<Option<u64>, Fail> {
-    let mut map = Map::new(machine, machine, config)?;
-    let mut other = Map::new(machine, machine, config)?;
-    first_untended(&mut map, &mut other)
-}
-
-#[test]
-fn a_leaf_that_was_found_is_tended(rt: HostRuntime) -> Result<(), Fail> {
-    let machine = rt.alloc();
-    for (fanout, chain) in TABLES {
-        let config = Config {
-            fanout,
-            chain,
-            ..Config::default()
-        };
-        let wrong = first_untended_of(machine, config)?;
-        assert_same(&rt, wrong, None, ("fanout, chain", fanout, chain));
     }
     Ok(())
 }

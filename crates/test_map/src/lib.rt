@@ -1,5 +1,5 @@
-//! Maps for one thread beside the kit's `BTreeMap`, by the same drawn calls, and how they use their pages:
-//! as they are loaded, grow and shrink, and take pages ahead.
+//! What no contract says of a map for one thread: how it uses its pages, that it is made where there is memory
+//! for it, and how it is shown.
 #![tactic(auto)]
 
 #[cfg(test)]
@@ -7,18 +7,10 @@ mod assert_same;
 #[cfg(test)]
 mod at_once;
 #[cfg(test)]
-mod beyond;
-#[cfg(test)]
-mod drawn;
-#[cfg(test)]
-mod growing;
+mod faults;
 #[cfg(test)]
 mod loading;
 #[cfg(test)]
-mod many;
-#[cfg(test)]
-mod pairs;
-#[cfg(test)]
 mod reserving;
 #[cfg(test)]
-mod updating;
+mod shown;

@@ -1,34 +1,12 @@
-//! Pages taken ahead and given back, and maps of the usual configuration, small and large, beside the
-//! kit's map.
+//! How many pages a map takes ahead and gives back, and how many a small one has.
 
 use crate::assert_same::assert_same;
-use crate::pairs::is_same;
 use nifforan::{Config, Map, NoMemory, usual_config};
-use rand_core::{Rng, SeedableRng};
-use rand_pcg::Pcg32;
 use std::alloc::Global;
-use std::collections::BTreeMap;
 use std::test::Fail;
-
-/// Fanout, chain and pages: leaves of 64 and of few pairs, and short and long chains.
-const MAPS: [(u32, u32, u32); 4] = [
-    (64, 1, 1 << 24),
-    (64, 8, 4096),
-    (4, 1, 16_384),
-    (8, 32, 16_384),
-];
 
 /// How many keys are put.
 const KEYS: u32 = 5000;
-
-fn config_of(fanout: u32, chain: u32, pages: u32) -> Config {
-    Config {
-        fanout,
-        chain,
-        pages,
-        ..Config::default()
-    }
-}
 
 /// Returns a key for each place: they rise, fall, or are mixed.
 fn key_at(order: u32, place: u32) -> u64 {
@@ -92,7 +70,13 @@ fn pages_ahead(map: &mut Map<Global>) -> Result<[usize; 4], NoMemory> {
 
 /// Returns the numbers of pages of a map of at most a thousand, and how many are free in the end.
 fn thousand_ahead(machine: Global) -> Result<([usize; 4], usize), Fail> {
-    let mut map = Map::new(machine, machine, config_of(4, 1, 1000))?;
+    let config = Config {
+        fanout: 4,
+        chain: 1,
+        pages: 1000,
+        ..Config::default()
+    };
+    let mut map = Map::new(machine, machine, config)?;
     Ok((pages_ahead(&mut map)?, map.free_pages()))
 }
 
@@ -118,89 +102,6 @@ fn as_many_pages_are_taken_as_there_may_be(rt: HostRuntime) -> Result<(), Fail> 
         true,
         ("pages", pages),
     );
-    Ok(())
-}
-
-/// A map and the kit's, on which the same calls are made.
-#[derive(Drop)]
-struct Both {
-    map: Map<Global>,
-    plain: BTreeMap<u64, u64>,
-}
-
-impl Both {
-    fn set(&mut self, key: u64, value: u64) -> Result<(), Fail> {
-        let _done = self.map.set(key, value)?;
-        self.plain.insert(key, value)?;
-        Ok(())
-    }
-
-    fn delete(&mut self, key: u64) -> Result<(), Fail> {
-        let _done = self.map.delete(key)?;
-        self.plain.remove(&key);
-        Ok(())
-    }
-
-    /// Makes a drawn call, mostly a set or mostly a deletion.
-    fn call(&mut self, rng: &mut Pcg32, fills: bool) -> Result<(), Fail> {
-        let key = u64::from(rng.next_u32() % (3 * KEYS));
-        let value = rng.next_u64();
-        if (rng.next_u32() % 4 == 0) != fills {
-            self.set(key, value)
-        } else {
-            self.delete(key)
-        }
-    }
-
-    fn are_same(&self) -> bool {
-        is_same(&self.map, &self.plain)
-    }
-
-    /// Makes many drawn calls.
-    fn call_often(&mut self, rng: &mut Pcg32, fills: bool) -> Result<(), Fail> {
-        for _ in 0..2 * KEYS {
-            self.call(rng, fills)?;
-        }
-        Ok(())
-    }
-
-    /// Fills both, empties them mostly, and makes the map anew. Returns whether they have the same
-    /// pairs throughout, and the map fewer pages in the end, as free ones.
-    fn are_fitted(&mut self, rng: &mut Pcg32) -> Result<bool, Fail> {
-        let mut are_same = true;
-        for fills in [true, false] {
-            self.call_often(rng, fills)?;
-            are_same &= self.are_same();
-            self.map.reserve(u64::from(KEYS))?;
-        }
-        let (pages, config) = (self.map.pages(), self.map.config());
-        self.map.shrink_to_fit()?;
-        let fitted = self.map.pages();
-        self.call(rng, true)?;
-        Ok(are_same && self.are_same() && self.map.config() == config && fitted <= pages)
-    }
-}
-
-/// Makes both, and returns whether they are fitted.
-fn are_fitted(machine: Global, config: Config) -> Result<bool, Fail> {
-    let mut both = Both {
-        map: Map::new(machine, machine, config)?,
-        plain: BTreeMap::new(machine),
-    };
-    both.are_fitted(&mut Pcg32::seed_from_u64(config.pages.into()))
-}
-
-#[test]
-fn a_map_that_is_made_anew_has_its_pairs(rt: HostRuntime) -> Result<(), Fail> {
-    for (fanout, chain, pages) in MAPS {
-        let are_fitted = are_fitted(rt.alloc(), config_of(fanout, chain, pages))?;
-        assert_same(
-            &rt,
-            are_fitted,
-            true,
-            ("fanout, chain, pages", fanout, chain, pages),
-        );
-    }
     Ok(())
 }
 

@@ -1,15 +1,10 @@
-//! Handles for C beside the kit's `BTreeMap`, by the same drawn calls, and what the workers of a shared
-//! tree are answered, call by call.
+//! What the workers of a shared tree are answered, call by call, and what the statuses of a handle read as.
 #![tactic(auto)]
 
 #[cfg(test)]
 mod assert_same;
 #[cfg(test)]
-mod beside;
-#[cfg(test)]
-mod both_ends;
-#[cfg(test)]
-mod frozen;
+mod drawn;
 #[cfg(test)]
 mod given_up;
 #[cfg(test)]
@@ -20,5 +15,3 @@ mod queries;
 mod shared;
 #[cfg(test)]
 mod texts;
-#[cfg(test)]
-mod walks;

@@ -1,7 +1,7 @@
 //! What workers ask of the map, and a table that is shared again, beside the kit's map.
 
 use crate::assert_same::assert_same;
-use crate::both_ends::{BOUNDS, Calls, TABLES, owned};
+use crate::drawn::{BOUNDS, Calls, TABLES, owned};
 use nifforan_shared::{
     Calls as _, Config, Each, Fault, GivenUp, Job, NoMemory, Pages, Queries, ReadingJob, Reads,
     ShareFault, Steps, Table, Worker, share, share_table, share_with_readers,
