@@ -1,6 +1,6 @@
 -- One more leaf that was read of a tree.
-use Rattle.std.proofs.Common.{◌≡◌, ℕ, zero, suc, ◌+◌, ◌<◌, ◌≤◌, [], ◌∷◌, ◌++◌, get_or, min, Bool, true, false, List, length, take, drop, Option, Result, Ok, Err, refl, ap, sym, subst, ◌∙◌, length-append, arith}
-use Rattle.std.specs.Prelude.{IsOk, IsErr, nat_lt, if◌then◌else◌}
+use Rattle.std.proofs.Common.{◌≡◌, ℕ, zero, suc, ◌+◌, ◌<◌, ◌≤◌, [], ◌∷◌, ◌++◌, get_or, min, cond, Bool, true, false, List, length, take, drop, Option, Result, Ok, Err, refl, ap, sym, subst, ◌∙◌, length-append, arith}
+use Rattle.std.specs.Prelude.{IsOk, IsErr, nat_lt}
 use Rattle.std.proofs.lemmas.Bool.Decides.{nat_tests}
 use Rattle.std.proofs.lemmas.List.{length-take-le, take-append-drop}
 use Rattle.bw_delta.specs.Entries.{at, below, rises}
@@ -80,7 +80,7 @@ front_is low end high (suc limit) [] rise = no_front high (suc limit) [] (λ som
 front_is low end high (suc limit) (e ∷ es) rise = by_side (nat_lt e.0 high) refl
   where
     by_side : (test : Bool) → nat_lt e.0 high ≡ test
-        → IsFront high (suc limit) (e ∷ es) (take (suc limit) (if test then e ∷ below high es else below high es))
+        → IsFront high (suc limit) (e ∷ es) (take (suc limit) (cond test (e ∷ below high es) (below high es)))
     by_side true is =
         let rest = front_is (e.0 + 1) end high limit es (grind (arith, nat_tests, rise)) in
         record {
