@@ -1,35 +1,130 @@
 -- Pairs that are put behind all others of a leaf: each step of it is accepted, and what comes of all of them is written at once.
-use Rattle.std.proofs.Common.{◌≡◌, ℕ, suc, ◌+◌, ◌*◌, ◌<◌, ◌≤◌, ◌^◌, Bool, true, List, [], ◌∷◌, ◌++◌, length, set, refl, ap, sym, subst, ◌∙◌, arith}
-use Rattle.std.specs.Prelude.{Option, Some, None, unwrap_or, cond}
+use Rattle.std.proofs.Common.{◌≡◌, ℕ, suc, ◌+◌, ◌*◌, ◌<◌, ◌≤◌, Bool, true, false, List, [], ◌∷◌, ◌++◌, length, set, refl, ap, sym, subst, ◌∙◌, arith}
+use Rattle.std.specs.Prelude.{Option, Some, None, unwrap_or, cond, option_map, slice_get, ◌-◌}
 use Rattle.std.proofs.lemmas.Bool.Decides.{nat_tests}
 use Rattle.std.proofs.lemmas.List.{set-set, set-get_or, length-set}
-use Rattle.bw_keys.specs.Ranges.{end_of}
+use Rattle.bw_keys.specs.declared.range.Fence.{Fence}
+use Rattle.bw_keys.specs.Ranges.{end_of, is_within, key_count}
 use Rattle.bw_delta.specs.declared.chain.Delta.TheVariants.{Insert}
 use Rattle.bw_delta.specs.declared.fences.Fences.{Fences}
-use Rattle.bw_delta.specs.Entries.{at, put, rises}
-use Rattle.bw_delta.specs.Fence.{fences, is_leaf}
+use Rattle.bw_delta.specs.Entries.{first_from, put, rises}
+use Rattle.bw_delta.specs.Fence.{fences}
 use Rattle.bw_delta.specs.Pages.{pairs_of, routes_of}
 use Rattle.bw_delta.specs.Pairs.{pairs, pairs_listed, routes}
 use Rattle.bw_delta.specs.Records.{Records, bare, above}
 use Rattle.bw_delta.specs.Sound.{page_for}
-use Rattle.bw_delta.proofs.Rises.{rises-lower}
+use Rattle.bw_delta.proofs.Rises.{rises-append, rises-lower}
 use Rattle.bw_chain.specs.Ascends.{IsAscending}
+use Rattle.bw_chain.proofs.Ascending.{pairs_ascend}
 use Rattle.bw_chain.specs.InPlaces.{chain_with_each}
-use Rattle.bw_chain.proofs.Appends.{put_next, absent_before, still_ascends}
-use Rattle.bw_step.specs.declared.receipt.Receipt.{Receipt}
+use Rattle.bw_chain.proofs.Appends.{put_next, absent_before, lies_inside, still_ascends, ascends_before_none}
+use Rattle.bw_step.specs.declared.action.Unperformed.{Unperformed}
+use Rattle.bw_step.specs.declared.action.Unperformed.TheVariants.{Denied, StepByStep}
+use Rattle.bw_step.specs.declared.fault.Denied.TheVariants as denials
 use Rattle.bw_step.specs.declared.receipt.Receipt.TheVariants.{Inserted}
-use Rattle.bw_step.specs.declared.survey.Book.{Book}
-use Rattle.bw_step.specs.Proposals.{Proposal, insert}
+use Rattle.bw_step.specs.Proposals.{insert}
 use Rattle.bw_step.specs.Stages.{is_in_row}
 use Rattle.bw_step.specs.Tellings.{telling_of}
-use Rattle.bw_law.specs.Slots.{SlotValue, slot_in, chain_in, pairs_in, empty_page, free_slot}
-use Rattle.bw_law.specs.Tables.{TableValue, slot_at, slot_fences, number_of, book_with, IsPageOf}
+use Rattle.bw_law.specs.Slots.{SlotValue, chain_in, pairs_in, empty_page, free_slot}
+use Rattle.bw_law.specs.Tables.{TableValue, slot_at, number_of, book_with, IsPageOf}
 use Rattle.bw_law.proofs.Facts.{here_is_inside, leaf_count_fits}
 use Rattle.bw_law.proofs.Slots.{slot_written}
-use Rattle.bw_table.specs.Appends.{AppendsInTurn, MayAppend, TakesPairs, TakesEach, slot_with_each, slots_with_each}
-use Rattle.bw_table.specs.InPlaces.{MayChangeAtOnce, TakesBoth, slot_with}
+use Rattle.bw_table.specs.Appends.{AppendsInTurn, MayAppend, MayAppendBehind, TakesPairs, TakesEach, slot_with_each, slots_with_each}
+use Rattle.bw_table.specs.InPlaces.{IsWhyUndone, MayChangeAtOnce, TakesBoth, slot_with}
+use Rattle.bw_table.specs.SlotFacts.{HasSoundChain}
 use Rattle.bw_table.specs.Whole.{IsWhole}
 use Rattle.bw_table.proofs.InPlaces.{leaf_is_inside, leaf_here, inserts, whole_both}
+
+-- whether pairs come behind a list shows by what it has from the first of them on
+rises_upto : (key low past : ℕ) (es : List (ℕ × ℕ)) → rises low past es ≡ true → first_from key es ≡ None → rises low key es ≡ true
+rises_upto key low past [] rise none = refl
+rises_upto key low past (e ∷ es) rise none = grind (arith, nat_tests, rises_upto key (e.0 + 1) past es)
+
+pub comes_behind : (f : ℕ × ℕ) (es fs : List (ℕ × ℕ)) → IsAscending es → IsAscending (f ∷ fs) → first_from f.0 es ≡ None
+    → IsAscending (es ++ f ∷ fs)
+comes_behind f es fs rise more none =
+    let few : f.0 < key_count = grind (arith, nat_tests, more) in
+    let later : rises f.0 key_count (f ∷ fs) ≡ true = grind (arith, nat_tests, more) in
+    rises-append key_count 0 f.0 es (f ∷ fs) (omega arith) few (rises_upto f.0 0 key_count es rise none) later
+
+pub none_from_next : (low end : ℕ) (f : ℕ × ℕ) (es fs : List (ℕ × ℕ)) → rises low end (es ++ f ∷ fs) ≡ true
+    → (low ≤ f.0) × (first_from f.0 es ≡ None)
+none_from_next low end f [] fs rise = (grind (arith, nat_tests), refl)
+none_from_next low end f (e ∷ es) fs rise =
+    let from : low ≤ e.0 = grind (arith, nat_tests) in
+    let rest : rises (e.0 + 1) end (es ++ f ∷ fs) ≡ true = grind (arith, nat_tests) in
+    let more = none_from_next (e.0 + 1) end f es fs rest in
+    let above : e.0 + 1 ≤ f.0 = more.0 in
+    let none = more.1 in
+    (omega (arith, from, above), grind (arith, nat_tests, above, none))
+
+-- the keys of a list that rises in a range lie there, the first and the last
+last_inside : (low end : ℕ) (last e : ℕ × ℕ) (es : List (ℕ × ℕ)) → rises low end (e ∷ es) ≡ true
+    → slice_get (e ∷ es) (length es) ≡ Some last → (low ≤ last.0) × (last.0 < end)
+last_inside low end last e [] rise is =
+    let same : e ≡ last = cc in
+    let here : (low ≤ e.0) × (e.0 < end) = ((grind (arith, nat_tests)), (grind (arith, nat_tests))) in
+    rw (← same) here
+last_inside low end last e (d ∷ es) rise is =
+    let from : low ≤ e.0 = grind (arith, nat_tests) in
+    let rest : rises (e.0 + 1) end (d ∷ es) ≡ true = grind (arith, nat_tests) in
+    let it = last_inside (e.0 + 1) end last d es rest is in
+    (omega (arith, from, it.0), it.1)
+
+-- so its first and its last tell whether it lies in the range of a page
+module _ (low : ℕ) (high : Fence) where
+  abbrev is_inside : List (ℕ × ℕ) → Bool
+  is_inside es = rises low (end_of high) es
+
+  -- no pairs do
+  pub inside_if_no_first : (es : List (ℕ × ℕ)) → None ≡ slice_get es 0 → true ≡ is_inside es
+  inside_if_no_first [] none = refl
+  inside_if_no_first (e ∷ es) none = cc
+
+  last_is_there : (e : ℕ × ℕ) (es : List (ℕ × ℕ)) → slice_get (e ∷ es) (length es) ≡ None → ⊥
+  last_is_there e [] none = cc
+  last_is_there e (d ∷ es) none = last_is_there d es none
+
+  pub inside_if_no_last : (es : List (ℕ × ℕ)) → None ≡ slice_get es (length es - 1) → true ≡ is_inside es
+  inside_if_no_last [] none = refl
+  inside_if_no_last (e ∷ es) none =
+      let n : length (e ∷ es) - 1 ≡ length es = omega arith in
+      absurd (last_is_there e es (rw n at (sym none)))
+
+  pub outside_if_first : (first : ℕ × ℕ) (es : List (ℕ × ℕ)) → Some first ≡ slice_get es 0 → is_within low high first.0 ≡ false
+      → is_inside es ≡ false
+  outside_if_first first [] is_first out = cc
+  outside_if_first first (e ∷ es) is_first out =
+      let same : first ≡ e = cc in
+      let outside : is_within low high e.0 ≡ false = subst (λ (x : ℕ × ℕ). is_within low high x.0 ≡ false) same out in
+      grind (arith, nat_tests, outside)
+
+  pub inside_if_ends : (first last : ℕ × ℕ) (es : List (ℕ × ℕ)) → IsAscending es → Some first ≡ slice_get es 0
+      → Some last ≡ slice_get es (length es - 1) → is_within low high first.0 ≡ true → is_within low high last.0 ≡ is_inside es
+  inside_if_ends first last es rise is_first is_last from_low = by_last (is_within low high last.0) refl
+    where
+      above : low ≤ first.0
+      above = grind (arith, nat_tests, from_low)
+
+      by_last : (inside : Bool) → is_within low high last.0 ≡ inside → is_within low high last.0 ≡ is_inside es
+      by_last true below =
+          let less : last.0 < end_of high = grind (arith, nat_tests, below) in
+          below ∙ sym (lies_inside low (end_of high) first last es rise is_first is_last above less)
+      by_last false past = past ∙ sym (not_all es is_first is_last)
+        where
+          not_all : (es : List (ℕ × ℕ)) → Some first ≡ slice_get es 0 → Some last ≡ slice_get es (length es - 1) → is_inside es ≡ false
+          not_all [] none some = cc
+          not_all (e ∷ es) one other =
+              by_test (is_inside (e ∷ es)) refl
+            where
+              by_test : (inside : Bool) → is_inside (e ∷ es) ≡ inside → is_inside (e ∷ es) ≡ false
+              by_test false out = out
+              by_test true all =
+                  let n : length (e ∷ es) - 1 ≡ length es = omega arith in
+                  let it = last_inside low (end_of high) last e es all (rw n at (sym other)) in
+                  let from : low ≤ last.0 = it.0 in
+                  let upto : last.0 < end_of high = it.1 in
+                  absurd (grind (arith, nat_tests, past, from, upto))
 
 abbrev Pairs : Type 0
 Pairs = List (ℕ × ℕ)
@@ -207,3 +302,39 @@ module _ (page : ℕ) where
         subst (AppendsInTurn t page ps)
         (sym (ap (λ (s : List SlotValue). written t s (t.book.inserted + length ps)) is ∙ table_each ps t append_is_inside))
         (appends room ps t whole may behind)
+
+-- a page has its pairs in rising order, so pairs come behind them if it has none from the first of those on
+module _ (slot : SlotValue) where
+  own_rise : is_in_row slot.stage ≡ true → HasSoundChain slot → IsAscending (pairs_in slot)
+  own_rise in_row sound =
+      let own = sound in_row in
+      let its : pairs own.0 ≡ pairs_in slot = sym (ap (λ (c : Option Records). unwrap_or (option_map pairs c) []) own.1) in
+      subst IsAscending its (pairs_ascend own.0 own.2.built)
+
+  pub none_behind : (ps : Pairs) → is_in_row slot.stage ≡ true → HasSoundChain slot → None ≡ slice_get ps 0
+      → IsAscending (pairs_in slot ++ ps)
+  none_behind ps here sound none = ascends_before_none (pairs_in slot) ps (own_rise here sound) none
+
+  pub all_behind : (first : ℕ × ℕ) (ps : Pairs) → is_in_row slot.stage ≡ true → HasSoundChain slot → IsAscending ps
+      → Some first ≡ slice_get ps 0 → first_from first.0 (pairs_in slot) ≡ None → IsAscending (pairs_in slot ++ ps)
+  all_behind first [] here sound rise is none = cc
+  all_behind first (p ∷ ps) here sound rise is none =
+      let same : first ≡ p = cc in
+      comes_behind p (pairs_in slot) ps (own_rise here sound) rise
+      (subst (λ (x : ℕ × ℕ). first_from x.0 (pairs_in slot) ≡ None) same none)
+
+pub not_behind : (first next : ℕ × ℕ) (es ps : Pairs) → Some first ≡ slice_get ps 0 → first_from first.0 es ≡ Some next
+    → IsAscending (es ++ ps) → ⊥
+not_behind first next es [] is some rise = cc
+not_behind first next es (p ∷ ps) is some rise =
+    let same : first ≡ p = cc in
+    let none : first_from p.0 es ≡ None = (none_from_next 0 key_count p es ps rise).1 in
+    cc (none, subst (λ (x : ℕ × ℕ). first_from x.0 es ≡ Some next) same some)
+
+-- why they aren't appended
+module _ (table : TableValue) (page : ℕ) (pairs : Pairs) where
+  pub unappended_why : MayAppend table page pairs → (why : Unperformed)
+      → IsWhyUndone (IsAscending (pairs_in (slot_at table page) ++ pairs)) why → IsWhyUndone (MayAppendBehind table page pairs) why
+  unappended_why may StepByStep not = λ all. not all.behind
+  unappended_why may (Denied denials.NoMemory) behind = record { takes = may; behind = behind }
+  unappended_why may (Denied (denials.Refused reason)) never = never

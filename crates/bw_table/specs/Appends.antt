@@ -1,13 +1,14 @@
 -- Pairs that are put behind all pairs of a leaf.
-use Rattle.std.specs.Prelude.{◌≡◌, ℕ, suc, ◌+◌, ◌*◌, ◌<◌, ◌^◌, true, List, [], ◌∷◌, length, Some, slice_set}
+use Rattle.std.specs.Prelude.{◌≡◌, ℕ, suc, ◌+◌, ◌*◌, ◌<◌, ◌^◌, true, List, [], ◌∷◌, ◌++◌, length, Some, slice_set}
 use Rattle.bw_keys.specs.Ranges.{end_of}
+use Rattle.bw_chain.specs.Ascends.{IsAscending}
 use Rattle.bw_delta.specs.declared.chain.Delta.TheVariants as deltas
 use Rattle.bw_delta.specs.Entries.{rises}
 use Rattle.bw_delta.specs.Fence.{fences}
 use Rattle.bw_step.specs.declared.receipt.Receipt.TheVariants.{Inserted}
 use Rattle.bw_step.specs.declared.view.Stage.TheVariants.{Posted}
 use Rattle.bw_step.specs.Proposals.{insert}
-use Rattle.bw_law.specs.Slots.{SlotValue, slot_in, chain_in}
+use Rattle.bw_law.specs.Slots.{SlotValue, slot_in, chain_in, pairs_in}
 use Rattle.bw_law.specs.Tables.{TableValue, slot_at, number_of}
 use Rattle.bw_table.specs.InPlaces.{TakesBoth, slot_with}
 
@@ -33,6 +34,11 @@ pub record TakesPairs (slot : SlotValue) (number : ℕ) (pairs : List (ℕ × �
 
 abbrev pub MayAppend : TableValue → ℕ → List (ℕ × ℕ) → Type 0
 MayAppend table page pairs = TakesPairs (slot_at table page) (number_of table.book) pairs
+
+-- the page takes the pairs, and they are behind all that it has
+pub record MayAppendBehind (table : TableValue) (page : ℕ) (pairs : List (ℕ × ℕ)) : Type 0 where
+  pub takes : MayAppend table page pairs
+  pub behind : IsAscending (pairs_in (slot_at table page) ++ pairs)
 
 -- the numbers of a slot without records can rise, and its chain takes the pairs
 pub record TakesEach (slot : SlotValue) (pairs : List (ℕ × ℕ)) : Type 0 where

@@ -85,7 +85,7 @@ impl Edge {
         if self.room < count {
             return false;
         }
-        if !table.append_to_leaf(leaf, run) {
+        if table.append_to_leaf(leaf, run).is_err() {
             return false;
         }
         self.room -= count;

@@ -1,4 +1,3 @@
-use Rattle.std.proofs.Common.{refl, ap, sym, ◌∙◌}
 use Rattle.bw_delta.specs.Slices.{list_of}
 use Rattle.bw_table.proofs.Appends.{slot_appended}
 use Rattle.bw_table.proofs.slot.Slot.append_in_place.Goals as goal

@@ -1,5 +1,4 @@
-use Rattle.std.proofs.Common.{ap, inl, inr}
-use Rattle.bw_law.specs.Slots.{SlotValue}
+use Rattle.std.proofs.Common.{inl, inr}
 use Rattle.bw_table.proofs.Undone.{no_leaf_is_changed, none_unless}
 use Rattle.bw_table.proofs.table.Table.change_leaf.Goals as goal
 

@@ -1,4 +1,4 @@
-use Rattle.bw_table.proofs.Undone.{no_page_merges, no_parent_merges, none_is_over}
+use Rattle.bw_table.proofs.Undone.{no_page_merges, no_parent_merges}
 use Rattle.bw_table.proofs.table.Table.left_under.Goals as goal
 
 pub returns-in_err-slot-clause-none : goal.returns-in_err-slot-clause-none
