@@ -6,6 +6,7 @@ mod entries;
 mod legend;
 mod length;
 mod links;
+mod pen;
 mod row;
 mod strip;
 mod style;

@@ -1,6 +1,7 @@
 //! The boxes of a page.
 
 use crate::drawing::length::Length;
+use crate::drawing::text::characters;
 
 /// The height of a line of text.
 pub(crate) const LINE: Length = Length(15);
@@ -45,7 +46,7 @@ impl Block {
     pub(crate) fn width(&self) -> usize {
         let mut longest = 0;
         for line in self.lines.iter() {
-            longest = longest.max(line.chars().count());
+            longest = longest.max(characters(line.as_str()));
         }
         longest.div_ceil(self.columns.max(1))
     }

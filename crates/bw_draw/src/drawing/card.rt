@@ -2,7 +2,7 @@
 
 use crate::drawing::block::{INSET, LINE};
 use crate::drawing::length::Length;
-use crate::drawing::text::{Short, undone};
+use crate::drawing::text::{Short, characters, undone};
 use crate::drawing::tower::Tower;
 use crate::page::Page;
 use crate::picture::Picture;
@@ -99,7 +99,7 @@ impl Card {
     /// Returns the number of characters in a column.
     pub(crate) fn characters(&self) -> usize {
         let head = self.title.len().max(self.count.len());
-        let head = head.max(self.range.chars().count());
+        let head = head.max(characters(self.range.as_str()));
         let mut longest = head.div_ceil(self.tower.columns.max(1));
         for block in self.tower.blocks.iter() {
             longest = longest.max(block.width());

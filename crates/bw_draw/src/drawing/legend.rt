@@ -4,7 +4,7 @@ use crate::drawing::block::{Block, Kind};
 use crate::drawing::card::{CHARACTER, Card};
 use crate::drawing::length::Length;
 use crate::drawing::row::Row;
-use crate::drawing::text::is_cut;
+use crate::drawing::text::{characters, is_cut};
 use bw_delta::NoMemory;
 use bw_step::Stage;
 use std::alloc::Global;
@@ -111,7 +111,7 @@ impl Legend {
     /// Appends an item, on a new line if there is no room.
     fn add(&mut self, mark: Mark, text: &'static str) -> Result<(), NoMemory> {
         let width = mark.width() + CHARACTER * text.len();
-        if self.left + width > self.width {
+        if (self.left + width).0 > self.width.0 {
             self.left = Length(0);
             self.top = self.top + ITEM_LINE;
         }
@@ -135,7 +135,7 @@ impl Mark {
     pub(crate) fn width(self) -> Length {
         match self {
             Mark::Box(_) | Mark::Line(_) => MARK,
-            Mark::Text(_, sample) => CHARACTER * sample.chars().count() + Length(8),
+            Mark::Text(_, sample) => CHARACTER * characters(sample) + Length(8),
         }
     }
 }

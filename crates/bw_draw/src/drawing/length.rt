@@ -7,12 +7,16 @@ use std::fmt;
 use std::ops::{Add, Mul, Sub};
 
 /// A length or a place of a drawing, in pixels. Its arithmetic saturates.
-#[derive(Clone, Copy, PartialEq, Eq, PartialOrd, Ord)]
+#[derive(Clone, Copy)]
 pub(crate) struct Length(pub(crate) usize);
 
 impl Length {
     pub(crate) fn half(self) -> Length {
         Length(self.0 / 2)
+    }
+
+    pub(crate) fn max(self, other: Length) -> Length {
+        Length(self.0.max(other.0))
     }
 
     /// Returns one of the places that divide the length into this number of parts and one.

@@ -2,7 +2,7 @@
 
 use crate::drawing::card::CHARACTER;
 use crate::drawing::length::Length;
-use crate::drawing::text::{Short, undone};
+use crate::drawing::text::{Short, characters, undone};
 use crate::page::Page;
 use crate::picture::Picture;
 use bw_delta::NoMemory;
@@ -107,11 +107,11 @@ impl Strip {
 
     /// Makes the cells as wide as the longest text.
     fn widen(&mut self) {
-        let mut characters = 0;
+        let mut longest = 0;
         for cell in self.cells.iter() {
-            characters = characters.max(cell.text.chars().count());
+            longest = longest.max(characters(cell.text.as_str()));
         }
-        self.cell = LEAST_CELL.max(CHARACTER * characters + CELL_SIDES);
+        self.cell = LEAST_CELL.max(CHARACTER * longest + CELL_SIDES);
     }
 
     /// Returns the number of slots without a page.

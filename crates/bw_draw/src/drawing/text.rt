@@ -35,6 +35,11 @@ fn head_of(number: u64) -> (u64, u32) {
     (head, digits)
 }
 
+/// Returns the number of characters of a text.
+pub(crate) fn characters(text: &str) -> usize {
+    text.chars().count()
+}
+
 /// Returns whether the text has a number without its middle.
 pub(crate) fn is_cut(text: &str) -> bool {
     text.contains('‹')
@@ -46,14 +51,20 @@ pub(crate) struct Described(pub(crate) Delta);
 
 impl fmt::Display for Described {
     fn fmt<W: fmt::Write>(&self, f: &mut fmt::Formatter<W>) -> fmt::Result {
+        let (verb, key) = match self.0 {
+            Delta::Insert(key, _) => ("insert", key),
+            Delta::Modify(key, _) => ("modify", key),
+            Delta::Delete(key) => ("delete", key),
+            Delta::Split(key, _) => ("split at", key),
+            Delta::Remove => return f.write_str("remove"),
+            Delta::TermAdd(key, _) => ("add term", key),
+            Delta::TermDelete(key) => ("drop term", key),
+        };
+        write!(f, "{verb} {}", Short(key))?;
         match self.0 {
-            Delta::Insert(key, value) => write!(f, "insert {}:{}", Short(key), Short(value)),
-            Delta::Modify(key, value) => write!(f, "modify {}:{}", Short(key), Short(value)),
-            Delta::Delete(key) => write!(f, "delete {}", Short(key)),
-            Delta::Split(key, page) => write!(f, "split at {} → {page}", Short(key)),
-            Delta::Remove => f.write_str("remove"),
-            Delta::TermAdd(key, page) => write!(f, "add term {} → {page}", Short(key)),
-            Delta::TermDelete(key) => write!(f, "drop term {}", Short(key)),
+            Delta::Insert(_, value) | Delta::Modify(_, value) => write!(f, ":{}", Short(value)),
+            Delta::Split(_, page) | Delta::TermAdd(_, page) => write!(f, " → {page}"),
+            Delta::Delete(_) | Delta::Remove | Delta::TermDelete(_) => Ok(()),
         }
     }
 }
