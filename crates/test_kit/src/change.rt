@@ -150,7 +150,7 @@ fn merge<A: Allocator + Copy>(
 }
 
 /// Returns the step, with these versions of the pages that it names.
-pub fn step_with<A: Allocator + Copy, S: Pages<A>>(
+pub(crate) fn step_with<A: Allocator + Copy, S: Pages<A>>(
     alloc: A,
     pages: &S,
     change: Change,

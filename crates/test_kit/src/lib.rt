@@ -20,7 +20,7 @@ mod worker;
 
 pub use bw_keys::Pid;
 pub use bw_step::{Kind, Receipt};
-pub use change::{Change, THREE_LEAVES, step_of, step_with, take, take_all};
+pub use change::{Change, THREE_LEAVES, step_of, take, take_all};
 pub use configs::{LARGE, SMALL};
 pub use dice::{drawn_step, install_drawn};
 pub use drawn::{DRAWN_KEYS, drawn_calls};
@@ -32,5 +32,5 @@ pub use pages::{Pages, seen};
 pub use play::{Ended, NoTree, Play, Played, Turns, play_on_new_tree};
 pub use sights::{are_alike, are_own_pairs, are_same_pages, leaves_of};
 pub use tally::{Tally, partition_the_keys};
-pub use trees::{FREED, FULL, MARKED, MERGED, SPLIT, after, begun, three_leaves};
+pub use trees::{FREED, MARKED, MERGED, SPLIT, after, begun, three_leaves};
 pub use worker::{Call, Reply, Reported, Task, work, work_by_hand};

@@ -19,13 +19,6 @@ pub const FREED: [Change; 3] = [
     Change::TermDelete(2, 1),
 ];
 
-/// The last leaf has the keys from 5 to 9.
-pub const FULL: [Change; 3] = [
-    Change::Insert(3, 8, 8),
-    Change::Insert(3, 9, 9),
-    Change::Consolidate(3),
-];
-
 /// The last leaf is split at the key 7.
 pub const SPLIT: [Change; 4] = [
     Change::Insert(3, 8, 8),

@@ -9,7 +9,6 @@ mod assert_same;
 #[cfg(test)]
 mod drawn_steps;
 #[cfg(test)]
-#[cfg(test)]
 mod four_puts;
 #[cfg(test)]
 mod growing;

@@ -1,14 +1,14 @@
 //! Chains in a heap of their own: all memory is freed, and refusals are reported.
 
 use crate::assert_same::assert_same;
-use bw_keys::{Config, Key};
-use bw_step::Step;
-use bw_table::{CopyFault, Refused, Table};
+use bw_keys::{Config, Key, Pid};
+use bw_step::{Denied, Reshaping, Step};
+use bw_table::{Action, CopyFault, Refused, Table, Unperformed, Wished};
 use linked_list_allocator::LocalHeap;
 use std::alloc::Global;
 use std::test::Fail;
 use test_kit::{
-    Change, MERGED, Pages, Rooms, SMALL, THREE_LEAVES, growing_heaps, seen, step_of, take,
+    Change, MERGED, Pages, Rooms, SMALL, THREE_LEAVES, after, growing_heaps, seen, step_of, take,
     take_all, three_leaves,
 };
 
@@ -253,5 +253,64 @@ fn each_request_of_a_twin_or_a_copy_may_be_refused(rt: HostRuntime) -> Result<()
         "copies",
     );
     assert_same(&rt, is_nothing_left(&heaps), true, "memory that is left");
+    Ok(())
+}
+
+/// Reshapes a page of the tree of three leaves into the heap, and returns whether it was done. Where
+/// memory is short the page stays as it was.
+fn is_reshaped_in<'a>(
+    machine: Global,
+    ample: &'a LocalHeap,
+    heap: &'a LocalHeap,
+    page: Pid,
+    how: Reshaping,
+) -> Result<bool, Fail> {
+    let mut table = three_leaves(machine, ample)?;
+    let (before, seen) = (table.peek(page), seen(&table, page.0));
+    match table.perform(heap, Action::Reshape { page, seen, how }, None) {
+        Ok(_) => Ok(true),
+        Err(Unperformed::Denied(Denied::NoMemory)) if table.peek(page) == before => Ok(false),
+        Err(_) => Err("another answer".into()),
+    }
+}
+
+/// Reshapes a page into each heap. The first has room for a tree of three leaves.
+fn reshaped_in_each<'a>(
+    machine: Global,
+    heaps: &'a [LocalHeap],
+    page: Pid,
+    how: Reshaping,
+) -> Result<Rooms, Fail> {
+    let (ample, tight) = heaps.split_first().ok_or("no heap")?;
+    let mut rooms = Rooms::NONE;
+    for heap in tight {
+        rooms.count(is_reshaped_in(machine, ample, heap, page, how)?, heap);
+    }
+    Ok(rooms)
+}
+
+#[test]
+fn each_request_of_a_page_reshaped_at_once_may_be_refused(rt: HostRuntime) -> Result<(), Fail> {
+    let heaps = growing_heaps(rt.alloc(), 50)?;
+    for (page, how) in [(Pid(0), Reshaping::Consolidate), (Pid(3), Reshaping::Halve)] {
+        let rooms = reshaped_in_each(rt.alloc(), &heaps, page, how)?;
+        assert_same(&rt, rooms.are_fair(), true, ("how, rooms", how, rooms));
+    }
+    Ok(())
+}
+
+#[test]
+fn what_may_be_done_at_once_is_where_there_is_memory(rt: HostRuntime) -> Result<(), Fail> {
+    let mut table = after(rt.alloc(), &[Change::Consolidate(2)])?;
+    let (parent, leaf, new) = (Pid(2), Pid(3), Pid(4));
+    let is_put = table.change_leaf(leaf, 8, Wished::Put(8)).is_some();
+    let split = table.split_under(parent, leaf, 2);
+    let merged = table.merge_under(parent, new);
+    assert_same(
+        &rt,
+        (is_put, split, merged),
+        (true, Ok((new, Ok(()))), Ok(leaf)),
+        "a put, a split and a merge",
+    );
     Ok(())
 }
