@@ -57,18 +57,18 @@ impl Stats {
         let picture = Picture::of(alloc, table)?;
         let pages = picture.pages.as_slice();
         Ok(Stats {
+            levels: levels_of(alloc, pages, picture.root.level)?,
             pairs: pairs_of(table),
             slots: picture.slots,
             free: free_slots(table, picture.slots),
             unposted: pages_at(pages, Stage::Unposted),
             marked: pages_at(pages, Stage::Marked),
             merged: pages_at(pages, Stage::Merged),
-            leaves: entries_in(alloc, pages, true)?,
-            inner: entries_in(alloc, pages, false)?,
-            records: depths(alloc, pages)?,
+            leaves: Spread::of(&entries_in(alloc, pages, true)?),
+            inner: Spread::of(&entries_in(alloc, pages, false)?),
+            records: Spread::of(&depths(alloc, pages)?),
             stored: stored_entries(pages),
             links: stored_links(pages),
-            levels: levels_of(alloc, pages, picture.root.level)?,
         })
     }
 }
@@ -122,19 +122,14 @@ impl Stats {
     }
 
     fn write_counts<W: fmt::Write>(&self, f: &mut fmt::Formatter<W>) -> fmt::Result {
-        for (name, number) in [
-            ("pairs", self.pairs),
-            ("\nunposted", self.unposted as u64),
-            (" marked", self.marked as u64),
-            (" merged", self.merged as u64),
-            ("\nslots", u64::from(self.slots)),
-            (" free", u64::from(self.free)),
-        ] {
-            write!(f, "{name} {number}")?;
-        }
         writeln!(
             f,
-            "\nleaf entries {}\ninner entries {}\nchain records {}",
+            "pairs {}\nunposted {} marked {} merged {}\nslots {} free {}",
+            self.pairs, self.unposted, self.marked, self.merged, self.slots, self.free
+        )?;
+        writeln!(
+            f,
+            "leaf entries {}\ninner entries {}\nchain records {}",
             self.leaves, self.inner, self.records
         )
     }

@@ -1,11 +1,9 @@
 //! Numbers of the pages in rows.
 
 ghost use Rattle.std.specs.Prelude.{◌≡◌, IfOk, count_by};
-ghost use Rattle.bw_draw.specs.Figures.{IsSpreadOf, is_at, counts_of, depths_of};
-ghost use Rattle.bw_draw.specs.Figures.{levels_of, pages_on};
+ghost use Rattle.bw_draw.specs.Figures.{is_at, counts_of, depths_of, levels_of, pages_on};
 
 use crate::page::Page;
-use crate::stats::spread::Spread;
 use bw_delta::NoMemory;
 use bw_step::Stage;
 use std::alloc::Global;
@@ -39,26 +37,28 @@ pub(crate) fn pages_at(pages: &[Page], stage: Stage) -> usize
     pages.iter().filter(|page| page.view.stage == stage).count()
 }
 
-/// Returns the numbers of entries of the leaves in their row, or of the inner pages.
-pub(crate) fn entries_in(alloc: Global, pages: &[Page], leaves: bool) -> Result<Spread, NoMemory>
-    ensures { IfOk result (IsSpreadOf (counts_of leaves pages.now)) }
+/// Returns the number of entries of each leaf in its row, or of each inner page.
+pub(crate) fn entries_in(alloc: Global, pages: &[Page], leaves: bool) -> Result<Vec<u64>, NoMemory>
+    ensures { IfOk result (λ counts. counts.items ≡ counts_of leaves pages.now) }
 {
-    let counts: Vec<u64> = pages
-        .iter()
-        .filter(|page| page.view.stage.is_in_row() && (page.view.level == 0) == leaves)
-        .map(|page| page.view.count)
-        .collect(alloc)?;
-    Ok(Spread::of(&counts))
+    Ok(
+        pages
+            .iter()
+            .filter(|page| page.view.stage.is_in_row() && (page.view.level == 0) == leaves)
+            .map(|page| page.view.count)
+            .collect(alloc)?,
+    )
 }
 
-/// Returns the numbers of records of the pages in rows, along the deepest path.
-pub(crate) fn depths(alloc: Global, pages: &[Page]) -> Result<Spread, NoMemory>
-    ensures { IfOk result (IsSpreadOf (depths_of pages.now)) }
+/// Returns the number of records of each page in a row, along the deepest path.
+pub(crate) fn depths(alloc: Global, pages: &[Page]) -> Result<Vec<u64>, NoMemory>
+    ensures { IfOk result (λ depths. depths.items ≡ depths_of pages.now) }
 {
-    let depths: Vec<u64> = pages
-        .iter()
-        .filter(|page| page.view.stage.is_in_row())
-        .map(|page| u64::from(page.view.depth))
-        .collect(alloc)?;
-    Ok(Spread::of(&depths))
+    Ok(
+        pages
+            .iter()
+            .filter(|page| page.view.stage.is_in_row())
+            .map(|page| u64::from(page.view.depth))
+            .collect(alloc)?,
+    )
 }
