@@ -5,13 +5,14 @@ ghost use Rattle.clap.specs.Words.{found_of};
 ghost use Rattle.bw_trace.specs.declared.program.options.Field.TheVariants as fields;
 ghost use Rattle.bw_trace.specs.Options.{IsFilmedBy, IsFit, IsForward};
 
+use crate::program::draft::Draft;
 use crate::program::help::OF_FILM;
-use crate::program::options::{Field, file_arg, if_given, optional};
-use crate::program::setting::{Setting, with_setting};
-use crate::program::show_options::{key_option, steps_flag};
+use crate::program::options::{Field, if_given};
+use crate::program::setting::Setting;
+use crate::program::show_options::KEY;
 use bw_keys::Key;
-use clap::{ArgMatches, Command};
-use std::alloc::{AllocError, Global};
+use clap::ArgMatches;
+use std::alloc::Global;
 
 /// What is filmed, and which moments of it are drawn.
 #[derive(Clone, Copy)]
@@ -60,18 +61,16 @@ pub(crate) fn check_from(from: u64, moments: u64) -> Result<(), Field>
 }
 
 /// Returns the command `film` with its options and defaults.
-pub(crate) fn film_command<'a>(alloc: Global) -> Result<Command<'a>, AllocError> {
-    let film = Command::new(alloc, "film")
-        .about("Writes a page that shows the table after each step")
-        .after_help(OF_FILM);
-    with_setting(alloc, film)?
-        .arg(steps_flag(alloc)?)?
-        .arg(optional(alloc, "from", "The first moment, 0 if absent"))?
-        .arg(optional(
-            alloc,
-            "to",
-            "The last moment, that of the last step if absent",
-        ))?
-        .arg(key_option(alloc))?
-        .arg(file_arg(alloc))
+pub(crate) fn film_command<'a>(alloc: Global) -> Draft<'a> {
+    Draft::new(
+        alloc,
+        "film",
+        "Writes a page that shows the table after each step",
+        OF_FILM,
+    )
+    .shown(&[
+        ("from", "The first moment, 0 if absent"),
+        ("to", "The last moment, that of the last step if absent"),
+        KEY,
+    ])
 }

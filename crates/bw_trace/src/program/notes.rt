@@ -8,31 +8,19 @@ use std::io::Write;
 /// Writes a line for each fault that stands beside the replies, with the number of its rows, and its
 /// cure.
 pub(crate) fn write_notes<N: Write>(notes: &mut N, replies: &[Reply]) -> io::Result<()> {
-    note(
-        notes,
-        replies,
-        Fault::Contended,
-        "had no effort left: more --tries",
-    )?;
-    note(notes, replies, Fault::NoMemory, "found no memory")?;
-    note(
-        notes,
-        replies,
-        Fault::TableFull,
-        "found the table full: more --pages",
-    )?;
-    note(
-        notes,
-        replies,
-        Fault::TooTall,
-        "found the tree too tall: a greater --fanout",
-    )?;
-    note(
-        notes,
-        replies,
-        Fault::Worn,
-        "found a version used up: a new run",
-    )
+    for (fault, told) in [
+        (Fault::Contended, "had no effort left: more --tries"),
+        (Fault::NoMemory, "found no memory"),
+        (Fault::TableFull, "found the table full: more --pages"),
+        (
+            Fault::TooTall,
+            "found the tree too tall: a greater --fanout",
+        ),
+        (Fault::Worn, "found a version used up: a new run"),
+    ] {
+        note(notes, replies, fault, told)?;
+    }
+    Ok(())
 }
 
 fn note<N: Write>(notes: &mut N, replies: &[Reply], fault: Fault, told: &str) -> io::Result<()> {

@@ -4,11 +4,12 @@ ghost use Rattle.std.specs.Prelude.{◌≤◌, IfOk};
 ghost use Rattle.clap.specs.Words.{found_of};
 ghost use Rattle.bw_trace.specs.Options.{IsNumberFor, IsOptionFor};
 
+use crate::program::draft::Draft;
 use crate::program::film_options::film_command;
 use crate::program::help::{OF_ALL, OF_CHECK, OF_MAKE, OF_STEPS, VERSION};
 use crate::program::run_options::run_command;
 use crate::program::show_options::{draw_command, stats_command};
-use clap::{Arg, ArgMatches, Command};
+use clap::{ArgMatches, Command};
 use std::alloc::{AllocError, Global};
 use thiserror::Error;
 
@@ -60,67 +61,45 @@ impl Field {
 
 /// Returns the program's commands, with their options and defaults.
 pub(crate) fn commands<'a>(alloc: Global) -> Result<Command<'a>, AllocError> {
-    Command::new(alloc, "bwtree")
+    let made = Command::new(alloc, "bwtree")
         .about("A Bw-tree in memory: traces, and histories of workers")
         .after_help(OF_ALL)
         .version(VERSION)
-        .bin_name("bwtree")?
         .no_binary_name(true)
         .subcommand_required(true)
-        .subcommand(run_command(alloc)?)?
-        .subcommand(draw_command(alloc)?)?
-        .subcommand(film_command(alloc)?)?
-        .subcommand(stats_command(alloc)?)?
-        .subcommand(steps_command(alloc)?)?
-        .subcommand(make_command(alloc)?)?
-        .subcommand(check_command(alloc)?)
+        .bin_name("bwtree");
+    Draft { alloc, made }
+        .command(run_command(alloc))
+        .command(draw_command(alloc))
+        .command(film_command(alloc))
+        .command(stats_command(alloc))
+        .command(steps_command(alloc))
+        .command(make_command(alloc))
+        .command(check_command(alloc))
+        .made()
 }
 
-fn steps_command<'a>(alloc: Global) -> Result<Command<'a>, AllocError> {
-    Command::new(alloc, "steps")
-        .about("Answers each line of a script of steps")
-        .after_help(OF_STEPS)
-        .arg(file_arg(alloc))
+fn steps_command<'a>(alloc: Global) -> Draft<'a> {
+    Draft::new(
+        alloc,
+        "steps",
+        "Answers each line of a script of steps",
+        OF_STEPS,
+    )
+    .file()
 }
 
-fn make_command<'a>(alloc: Global) -> Result<Command<'a>, AllocError> {
-    Command::new(alloc, "make")
-        .about("Prints a seeded trace")
-        .after_help(OF_MAKE)
-        .arg(option(alloc, "seed", "0", "The seed of the generator"))?
-        .arg(option(alloc, "rows", "100", "How many rows, at most 1000000"))?
-        .arg(option(
-            alloc,
-            "workers",
-            "1",
-            "How many workers take turns, 1 to 64",
-        ))?
-        .arg(option(alloc, "span", "1000", "Keys are below it, 1 to 4294967295"))
+fn make_command<'a>(alloc: Global) -> Draft<'a> {
+    Draft::new(alloc, "make", "Prints a seeded trace", OF_MAKE).options(&[
+        ("seed", "0", "The seed of the generator"),
+        ("rows", "100", "How many rows, at most 1000000"),
+        ("workers", "1", "How many workers take turns, 1 to 64"),
+        ("span", "1000", "Keys are below it, 1 to 4294967295"),
+    ])
 }
 
-fn check_command<'a>(alloc: Global) -> Result<Command<'a>, AllocError> {
-    Command::new(alloc, "check")
-        .about("Says whether a history is legal")
-        .after_help(OF_CHECK)
-        .arg(file_arg(alloc))
-}
-
-/// Returns the file that is read in place of standard input.
-pub(crate) fn file_arg<'a>(alloc: Global) -> Arg<'a> {
-    Arg::new(alloc, "FILE").help("Reads this file, and not standard input")
-}
-
-/// Returns an option whose value is a number.
-pub(crate) fn option<'a>(alloc: Global, name: &'a str, default: &'a str, help: &'a str) -> Arg<'a> {
-    optional(alloc, name, help).default_value(default)
-}
-
-/// Returns an option whose value is a number, and that may be absent.
-pub(crate) fn optional<'a>(alloc: Global, name: &'a str, help: &'a str) -> Arg<'a> {
-    Arg::new(alloc, name)
-        .long(name)
-        .help(help)
-        .value_parser(clap::value_parser!(u64))
+fn check_command<'a>(alloc: Global) -> Draft<'a> {
+    Draft::new(alloc, "check", "Says whether a history is legal", OF_CHECK).file()
 }
 
 /// Returns the value of an option that may be absent.

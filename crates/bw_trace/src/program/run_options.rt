@@ -5,12 +5,13 @@ ghost use Rattle.std.specs.Option.{ForSome};
 ghost use Rattle.clap.specs.Words.{found_of};
 ghost use Rattle.bw_trace.specs.Options.{IsAskedFor, IsFit, IsOptionFor};
 
+use crate::program::draft::{Draft, optional};
 use crate::program::help::OF_RUN;
-use crate::program::options::{Field, file_arg, if_given, optional};
-use crate::program::setting::{Setting, flag, with_setting};
+use crate::program::options::{Field, if_given};
+use crate::program::setting::Setting;
 use bw_forest::MAX_TREES;
-use clap::{Arg, ArgMatches, Command};
-use std::alloc::{AllocError, Global};
+use clap::ArgMatches;
+use std::alloc::Global;
 
 /// How a trace is run, and what is printed of it.
 #[derive(Clone, Copy)]
@@ -57,29 +58,26 @@ fn trees_of(matches: &ArgMatches) -> Result<Option<u32>, Field>
 }
 
 /// Returns the command `run` with its options and defaults.
-pub(crate) fn run_command<'a>(alloc: Global) -> Result<Command<'a>, AllocError> {
-    let run = Command::new(alloc, "run")
-        .about("Runs a trace")
-        .after_help(OF_RUN);
-    with_setting(alloc, run)?
-        .arg(trees_option(alloc)?)?
-        .arg(flag(alloc, "replies", "Prints the replies, too"))?
-        .arg(flag(alloc, "history", "Prints the history alone"))?
-        .arg(flag(
-            alloc,
-            "quiet",
-            "Says nothing of a run that ends well, not even on a terminal",
-        ))?
-        .arg(file_arg(alloc))
+pub(crate) fn run_command<'a>(alloc: Global) -> Draft<'a> {
+    Draft::new(alloc, "run", "Runs a trace", OF_RUN)
+        .setting()
+        .trees()
+        .flags(&[
+            ("replies", "Prints the replies, too"),
+            ("history", "Prints the history alone"),
+            (
+                "quiet",
+                "Says nothing of a run that ends well, not even on a terminal",
+            ),
+        ])
+        .file()
 }
 
-/// Returns the option for a forest. It conflicts with what is to be had of one tree alone.
-fn trees_option<'a>(alloc: Global) -> Result<Arg<'a>, AllocError> {
-    optional(
-        alloc,
-        "trees",
-        "Runs it on this many trees by ranges of keys, 1 to 1024, and not on one",
-    )
-    .conflicts_with("readers")?
-    .conflicts_with("history")
+impl<'a> Draft<'a> {
+    /// Adds the option for a forest. It conflicts with what is to be had of one tree alone.
+    fn trees(self) -> Draft<'a> {
+        let help = "Runs it on this many trees by ranges of keys, 1 to 1024, and not on one";
+        let trees = optional(self.alloc, "trees", help);
+        self.apart(trees, &["readers", "history"])
+    }
 }

@@ -4,11 +4,11 @@ ghost use Rattle.std.specs.Prelude.{IfOk};
 ghost use Rattle.clap.specs.Words.{found_of};
 ghost use Rattle.bw_trace.specs.Options.{IsFit, IsSettingFor};
 
-use crate::program::options::{Field, option, ranged};
+use crate::program::draft::Draft;
+use crate::program::options::{Field, ranged};
 use bw_keys::{Config, MAX_WORKERS};
 use bw_snap::MAX_READERS;
-use clap::{Arg, ArgAction, ArgMatches, Command};
-use std::alloc::{AllocError, Global};
+use clap::ArgMatches;
 
 /// How a trace is run.
 #[derive(Clone, Copy)]
@@ -48,34 +48,20 @@ impl Setting {
     }
 }
 
-/// Returns the command with these options and their defaults.
-pub(crate) fn with_setting<'a>(
-    alloc: Global,
-    command: Command<'a>,
-) -> Result<Command<'a>, AllocError> {
-    command
-        .arg(option(alloc, "fanout", "16", "Entries of a page at most, 4 to 64"))?
-        .arg(option(alloc, "chain", "8", "Consolidate at this depth, 1 to 32"))?
-        .arg(option(alloc, "pages", "4096", "Pages at most, 8 to 65536"))?
-        .arg(option(
-            alloc,
-            "tries",
-            "1000",
-            "Effort of one call at most, 1 to 1000",
-        ))?
-        .arg(option(alloc, "workers", "1", "Workers who do the rows, 1 to 64"))?
-        .arg(option(
-            alloc,
-            "readers",
-            "0",
-            "Workers who read without the lock, 0 to 16 and to --workers",
-        ))
-}
-
-/// Returns an option without a value.
-pub(crate) fn flag<'a>(alloc: Global, name: &'a str, help: &'a str) -> Arg<'a> {
-    Arg::new(alloc, name)
-        .long(name)
-        .help(help)
-        .action(ArgAction::SetTrue)
+impl<'a> Draft<'a> {
+    /// Adds the options of a setting.
+    pub(crate) fn setting(self) -> Draft<'a> {
+        self.options(&[
+            ("fanout", "16", "Entries of a page at most, 4 to 64"),
+            ("chain", "8", "Consolidate at this depth, 1 to 32"),
+            ("pages", "4096", "Pages at most, 8 to 65536"),
+            ("tries", "1000", "Effort of one call at most, 1 to 1000"),
+            ("workers", "1", "Workers who do the rows, 1 to 64"),
+            (
+                "readers",
+                "0",
+                "Workers who read without the lock, 0 to 16 and to --workers",
+            ),
+        ])
+    }
 }

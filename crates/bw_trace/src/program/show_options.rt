@@ -4,12 +4,13 @@ ghost use Rattle.std.specs.Prelude.{IfOk};
 ghost use Rattle.clap.specs.Words.{found_of};
 ghost use Rattle.bw_trace.specs.Options.{IsDrawnBy, IsFit, IsShownBy};
 
+use crate::program::draft::{Draft, flag};
 use crate::program::help::{OF_DRAW, OF_STATS};
-use crate::program::options::{Field, file_arg, if_given, optional};
-use crate::program::setting::{Setting, flag, with_setting};
+use crate::program::options::{Field, if_given};
+use crate::program::setting::Setting;
 use bw_keys::Key;
-use clap::{Arg, ArgMatches, Command};
-use std::alloc::{AllocError, Global};
+use clap::ArgMatches;
+use std::alloc::Global;
 
 /// What makes the table that is shown.
 #[derive(Clone, Copy)]
@@ -56,48 +57,47 @@ impl DrawOptions {
     }
 }
 
+/// An option that may be absent, with its help.
+const AFTER: (&str, &str) = ("after", "Does this many rows or lines, not all");
+
+pub(crate) const KEY: (&str, &str) = (
+    "key",
+    "Draws the path to this key's leaf, and the leaves beside it",
+);
+
 /// Returns the command `draw` with its options and defaults.
-pub(crate) fn draw_command<'a>(alloc: Global) -> Result<Command<'a>, AllocError> {
-    let draw = Command::new(alloc, "draw")
-        .about("Draws the table that a trace leaves, as SVG")
-        .after_help(OF_DRAW);
-    with_setting(alloc, draw)?
-        .arg(steps_flag(alloc)?)?
-        .arg(after_option(alloc))?
-        .arg(key_option(alloc))?
-        .arg(file_arg(alloc))
+pub(crate) fn draw_command<'a>(alloc: Global) -> Draft<'a> {
+    Draft::new(
+        alloc,
+        "draw",
+        "Draws the table that a trace leaves, as SVG",
+        OF_DRAW,
+    )
+    .shown(&[AFTER, KEY])
 }
 
 /// Returns the command `stats` with its options and defaults.
-pub(crate) fn stats_command<'a>(alloc: Global) -> Result<Command<'a>, AllocError> {
-    let stats = Command::new(alloc, "stats")
-        .about("Prints the numbers of the table that a trace leaves")
-        .after_help(OF_STATS);
-    with_setting(alloc, stats)?
-        .arg(steps_flag(alloc)?)?
-        .arg(after_option(alloc))?
-        .arg(file_arg(alloc))
-}
-
-fn after_option<'a>(alloc: Global) -> Arg<'a> {
-    optional(alloc, "after", "Does this many rows or lines, not all")
-}
-
-pub(crate) fn key_option<'a>(alloc: Global) -> Arg<'a> {
-    optional(
+pub(crate) fn stats_command<'a>(alloc: Global) -> Draft<'a> {
+    Draft::new(
         alloc,
-        "key",
-        "Draws the path to this key's leaf, and the leaves beside it",
+        "stats",
+        "Prints the numbers of the table that a trace leaves",
+        OF_STATS,
     )
+    .shown(&[AFTER])
 }
 
-/// Returns the option for scripts of steps. It conflicts with all others.
-pub(crate) fn steps_flag<'a>(alloc: Global) -> Result<Arg<'a>, AllocError> {
-    flag(alloc, "steps", "Reads a script of steps, not a trace")
-        .conflicts_with("fanout")?
-        .conflicts_with("chain")?
-        .conflicts_with("pages")?
-        .conflicts_with("tries")?
-        .conflicts_with("workers")?
-        .conflicts_with("readers")
+impl<'a> Draft<'a> {
+    /// Adds the options of what shows a table, and these, which may be absent. A script of steps
+    /// has its own setting.
+    pub(crate) fn shown(self, more: &[(&'a str, &'a str)]) -> Draft<'a> {
+        let steps = flag(self.alloc, "steps", "Reads a script of steps, not a trace");
+        self.setting()
+            .apart(
+                steps,
+                &["fanout", "chain", "pages", "tries", "workers", "readers"],
+            )
+            .optional(more)
+            .file()
+    }
 }
