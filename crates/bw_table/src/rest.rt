@@ -71,14 +71,13 @@ impl<A: Allocator + Copy> Table<A> {
         ensures unfinished { IfNone result (MeetsTodo self.old key) }
         ensures unchanged { self.new ≡ self.old }
     {
+        if key < self.last_from {
+            return self.page_by_walk(key);
+        }
         if let Some(last) = self.last_leaf_for(key) {
             return Some(last);
         }
-        let page = self.page_by_walk(key)?;
-        if self.slot_in_row(page).summary.high == Fence::Top {
-            self.note_last_leaf();
-        }
-        Some(page)
+        self.walk_towards_last(key)
     }
 
     /// The last leaf, if it is noted and its range holds the key. The note is a hint, so the leaf is
@@ -87,9 +86,6 @@ impl<A: Allocator + Copy> Table<A> {
     fn last_leaf_for(&self, key: Key) -> Option<Pid>
         ensures { IfSome result (λ page. IsPostedLeaf (slot_at self.now page.0) key) }
     {
-        if self.last_from.is_above(key) {
-            return None;
-        }
         let last = Pid(self.last_leaf);
         if !self.slot(last)?.is_posted_leaf(key) {
             return None;
@@ -97,16 +93,29 @@ impl<A: Allocator + Copy> Table<A> {
         Some(last)
     }
 
+    /// Walks to the key's leaf. Notes it if it is the last; otherwise the last one lies past it.
+    #[inline(never)]
+    fn walk_towards_last(&mut self, key: Key) -> Option<Pid>
+        ensures leaf { IfSome result (λ page. IsPostedLeaf (slot_at self.old page.0) key) }
+        ensures unfinished { IfNone result (MeetsTodo self.old key) }
+        ensures unchanged { self.new ≡ self.old }
+    {
+        let page = self.page_at_rest(key)?;
+        match self.slot_in_row(page).summary.high {
+            Fence::Top => self.note_last_leaf(),
+            Fence::Key(high) => self.last_from = high,
+        }
+        Some(page)
+    }
+
     /// Notes the last leaf, if the walk to the greatest key meets nothing unfinished: walks to the
     /// other keys of that leaf go through the same pages.
-    #[inline(never)]
     fn note_last_leaf(&mut self)
         ensures { self.new ≡ self.old }
     {
         if let Some(page) = self.page_at_rest(Key::MAX) {
-            let low = self.slot_in_row(page).summary.low;
+            self.last_from = self.slot_in_row(page).summary.low;
             self.last_leaf = page.0;
-            self.last_from = Fence::Key(low);
         }
     }
 

@@ -15,10 +15,13 @@ use crate::free::FreeList;
 use crate::fresh::first_slots;
 use crate::slot::Slot;
 use bw_delta::NoMemory;
-use bw_keys::{Config, Fence, Key, Pid};
+use bw_keys::{Config, Key, Pid};
 use bw_step::{Book, Look, Place, Stage, Summary, View};
 use std::alloc::{Allocator, Global};
 use std::marker::Model;
+
+/// The id of no page: a table has fewer.
+pub(crate) const NO_PAGE: u32 = u32::MAX;
 
 /// The mapping table: an entry for each page id, the ids that are free, the root, and the book of
 /// the map's changes. The law of the tree is a fact of this type.
@@ -29,9 +32,9 @@ use std::marker::Model;
 pub struct Table<A: Allocator> {
     pub(crate) book: Book,
     pub(crate) root: u32,
-    // A hint: the last leaf, and from which key on changes ask it first. It isn't noted at `Top`.
+    // A hint: the last leaf, or no page, and the key from which on changes ask it first.
     pub(crate) last_leaf: u32,
-    pub(crate) last_from: Fence,
+    pub(crate) last_from: Key,
     pub(crate) slots: Vec<Slot<A>>,
     pub(crate) free: FreeList,
     pub(crate) config: Config,
@@ -79,8 +82,8 @@ impl<A: Allocator + Copy> Table<A> {
             slots,
             free,
             root: 0,
-            last_leaf: 0,
-            last_from: Fence::Top,
+            last_leaf: NO_PAGE,
+            last_from: 0,
             book: Book {
                 inserted: 0,
                 removed: 0,

@@ -26,7 +26,7 @@ ghost use Rattle.bw_table.specs.InPlaces.{IsPostedLeaf, IsWhyUndone, MayCut, May
 
 use crate::book::number_of;
 use crate::slot::Slot;
-use crate::table::Table;
+use crate::table::{NO_PAGE, Table};
 use bw_chain::{InPlace, change_in_place, cut_in_place, route_in_place, upper_part_of};
 use bw_delta::{Base, Delta, Entries, EntrySlice, Node};
 use bw_keys::{Fence, Key, Pid, Wished};
@@ -250,7 +250,7 @@ impl<A: Allocator + Copy> Table<A> {
         };
         cut_at(&mut self.slots, page, new, separator, base);
         let _new = self.free.take_last();
-        self.last_from = Fence::Top;
+        self.last_leaf = NO_PAGE;
         Ok(new)
     }
 

@@ -8,9 +8,9 @@ ghost use Rattle.bw_table.specs.Answers.{AnswersFirst, fine_unless};
 ghost use Rattle.bw_table.specs.SlotFacts.{MayGrowDeeper};
 
 use crate::slot::Slot;
-use crate::table::Table;
+use crate::table::{NO_PAGE, Table};
 use bw_delta::{Delta, Spare};
-use bw_keys::{Fence, MAX_DEPTH};
+use bw_keys::MAX_DEPTH;
 use bw_step::{Kind, Mark, Receipt, Refused, Stage};
 use std::alloc::Allocator;
 
@@ -32,7 +32,7 @@ impl<A: Allocator + Copy> Table<A> {
     {
         let Mark { page, spare, .. } = step;
         self.slots[page.0 as usize].mark(spare);
-        self.last_from = Fence::Top;
+        self.last_leaf = NO_PAGE;
         Receipt::Shaped {
             kind: Kind::Mark,
             page,

@@ -12,7 +12,7 @@ ghost use Rattle.bw_table.specs.SlotFacts.{HasSoundChain, MayGrowDeeper, upper_s
 
 use crate::slot::Slot;
 use crate::steps::shared::{check_open, check_room};
-use crate::table::Table;
+use crate::table::{NO_PAGE, Table};
 use bw_delta::{Base, Delta, Spare};
 use bw_keys::{Fence, Key, Pid};
 use bw_step::{Kind, Receipt, Refused, Split, Stage, Summary};
@@ -43,7 +43,7 @@ impl<A: Allocator + Copy> Table<A> {
             ..
         } = step;
         let new = Pid(self.free.take_last());
-        self.last_from = Fence::Top;
+        self.last_leaf = NO_PAGE;
         split_at(&mut self.slots, page, new, separator, base, spare);
         Receipt::Shaped {
             kind: Kind::Split,
