@@ -2,11 +2,11 @@
 
 mod block;
 mod card;
+mod element;
 mod entries;
 mod legend;
 mod length;
 mod links;
-mod pen;
 mod row;
 mod strip;
 mod style;
@@ -14,11 +14,14 @@ mod svg;
 mod text;
 mod tower;
 
-use crate::drawing::legend::Legend;
+use crate::drawing::legend::{Marks, write_legend};
 use crate::drawing::length::Length;
+use crate::drawing::links::write_links;
 use crate::drawing::row::{Row, Window};
 use crate::drawing::strip::Strip;
+use crate::drawing::svg::{write_head, write_row, write_strip};
 use crate::drawing::text::undone;
+use crate::pen::Pen;
 use crate::picture::Picture;
 use bw_delta::NoMemory;
 use bw_keys::Key;
@@ -29,9 +32,7 @@ const LEFT: Length = Length(96);
 
 const MARGIN: Length = Length(20);
 
-/// Where the mapping table begins, and what lies between it and the rows.
-const TABLE_TOP: Length = Length(40);
-
+/// What lies between the mapping table and the rows.
 const TABLE_GAP: Length = Length(52);
 
 /// What lies between two rows, and between the last one and the legend.
@@ -61,12 +62,8 @@ const NEAR: usize = 3;
 /// page. For scripts, `data-page`, `data-slot`, `data-link` and `data-part` say what a part is of.
 #[derive(Drop)]
 pub struct Drawing {
-    /// From the leaves up.
-    rows: Vec<Row>,
-    strip: Strip,
-    legend: Legend,
-    width: Length,
-    height: Length,
+    /// Its last line has no line feed.
+    pub text: String,
 }
 
 impl Drawing {
@@ -86,37 +83,48 @@ impl Drawing {
 
     /// Draws the leaves of the window, and the pages above them.
     fn within(alloc: Global, picture: &Picture, leaves: Window) -> Result<Drawing, NoMemory> {
-        let mut rows = rows_of(alloc, picture, leaves)?;
-        let width = width_of(&rows);
-        let inner = width - MARGIN * 2;
-        let legend = Legend::of(alloc, &rows, inner)?;
-        let mut strip = Strip::of(alloc, picture)?;
-        strip.place(MARGIN, TABLE_TOP, inner);
-        let end = place_down(&mut rows, strip.bottom() + TABLE_GAP);
-        Ok(Drawing {
-            height: end + LEGEND_GAP + legend.height() + MARGIN.half(),
-            rows,
-            strip,
-            legend,
-            width,
-        })
+        let mut pen = Pen::new(alloc);
+        write(&mut pen, picture, leaves);
+        let text = pen.finish()?;
+        Ok(Drawing { text })
     }
 }
 
+/// Writes the image of the leaves of the window, and of the pages above them.
+fn write(pen: &mut Pen, picture: &Picture, leaves: Window) {
+    let mut rows = rows_of(pen, picture, leaves);
+    let marks = Marks::of(&rows, pen.has_cut);
+    let width = width_of(&rows);
+    let inner = width - MARGIN * 2;
+    let strip = Strip::of(pen, picture, inner);
+    let end = place_down(&mut rows, strip.bottom() + TABLE_GAP);
+    let bottom = write_legend(pen, &marks, inner, end + LEGEND_GAP);
+    let legend = pen.take();
+    let size = (width, bottom + MARGIN.half());
+    write_head(pen, (strip.pages, rows.len()), size);
+    write_strip(pen, &strip);
+    write_links(pen, &rows);
+    for row in rows.iter().rev() {
+        write_row(pen, row);
+    }
+    pen.write(legend.as_str());
+    pen.write("</svg>");
+}
+
 /// Returns the rows, from the leaves of the window up, each placed over the one below it.
-fn rows_of(alloc: Global, picture: &Picture, leaves: Window) -> Result<Vec<Row>, NoMemory> {
+fn rows_of(pen: &mut Pen, picture: &Picture, leaves: Window) -> Vec<Row> {
     let mut window = leaves;
-    let mut rows = Vec::new(alloc);
+    let mut rows = Vec::new(pen.alloc);
     for level in 0..=picture.root.level {
-        let mut row = Row::of(alloc, picture, level, window)?;
+        let mut row = Row::of(pen, picture, level, window);
         row.place(LEFT, rows.last());
         window = match window {
             Window::Whole => Window::Whole,
             Window::Around(_, _) | Window::Over(_, _) => row.window_above(),
         };
-        rows.push(row)?;
+        pen.push(&mut rows, row);
     }
-    Ok(rows)
+    rows
 }
 
 /// Returns the least key of the first page that is half done, or else the least key.

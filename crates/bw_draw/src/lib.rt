@@ -3,6 +3,7 @@
 
 mod drawing;
 mod page;
+mod pen;
 mod picture;
 mod stats;
 

@@ -4,21 +4,22 @@ ghost use Rattle.std.specs.Prelude.{◌≡◌, IfOk};
 ghost use Rattle.bw_law.specs.Slots.{is_free};
 ghost use Rattle.bw_law.specs.Tables.{pair_count, slot_at};
 ghost use Rattle.bw_draw.specs.Figures.{IsStatsOf, free_below};
+ghost use Rattle.bw_draw.specs.Pictures.{IsPictureOf};
 
 mod memory;
 mod pages;
 mod spread;
 
+use crate::pen::Pen;
 use crate::picture::Picture;
 use crate::stats::memory::{entry_bytes, link_bytes, slot_bytes, stored_entries, stored_links};
-use crate::stats::pages::{depths, entries_in, levels_of, pages_at};
+use crate::stats::pages::{levels_of, pages_at, spread_in, spread_of_depths};
 use bw_delta::NoMemory;
 use bw_keys::Pid;
 use bw_step::Stage;
 use bw_table::Table;
 pub use spread::Spread;
 use std::alloc::Global;
-use std::fmt;
 
 /// A table in numbers.
 #[derive(Drop)]
@@ -55,7 +56,17 @@ impl Stats {
         ensures { IfOk result (IsStatsOf table.now) }
     {
         let picture = Picture::of(alloc, table)?;
+        Stats::over(alloc, table, &picture)
+    }
+
+    fn over(alloc: Global, table: &Table<Global>, picture: &Picture) -> Result<Stats, NoMemory>
+        requires { IsPictureOf table.now picture.now }
+        ensures { IfOk result (IsStatsOf table.now) }
+    {
         let pages = picture.pages.as_slice();
+        let leaves = spread_in(alloc, pages, true)?;
+        let inner = spread_in(alloc, pages, false)?;
+        let records = spread_of_depths(alloc, pages)?;
         Ok(Stats {
             levels: levels_of(alloc, pages, picture.root.level)?,
             pairs: pairs_of(table),
@@ -64,12 +75,47 @@ impl Stats {
             unposted: pages_at(pages, Stage::Unposted),
             marked: pages_at(pages, Stage::Marked),
             merged: pages_at(pages, Stage::Merged),
-            leaves: Spread::of(&entries_in(alloc, pages, true)?),
-            inner: Spread::of(&entries_in(alloc, pages, false)?),
-            records: Spread::of(&depths(alloc, pages)?),
+            leaves,
+            inner,
+            records,
             stored: stored_entries(pages),
             links: stored_links(pages),
         })
+    }
+
+    /// Returns a line for each number, or for several that belong together. The last line has no line
+    /// feed.
+    pub fn text(&self, alloc: Global) -> Result<String, NoMemory> {
+        let mut pen = Pen::new(alloc);
+        self.write_levels(&mut pen);
+        self.write_counts(&mut pen);
+        pen.finish()
+    }
+
+    fn write_levels(&self, pen: &mut Pen) {
+        pen.put("levels ", self.levels.len());
+        let mut level = self.levels.len();
+        for pages in self.levels.iter().rev() {
+            level = level.saturating_sub(1);
+            pen.put("\nlevel ", level);
+            pen.put(" pages ", *pages);
+        }
+    }
+
+    fn write_counts(&self, pen: &mut Pen) {
+        pen.number("\npairs ", self.pairs);
+        pen.put("\nunposted ", self.unposted);
+        pen.put(" marked ", self.marked);
+        pen.put(" merged ", self.merged);
+        pen.number("\nslots ", u64::from(self.slots));
+        pen.number(" free ", u64::from(self.free));
+        self.leaves.write(pen, "\nleaf entries ");
+        self.inner.write(pen, "\ninner entries ");
+        self.records.write(pen, "\nchain records ");
+        let slots = u64::from(self.slots).saturating_mul(slot_bytes());
+        pen.number("\nbytes slots ", slots);
+        pen.number(" pages ", self.stored.saturating_mul(entry_bytes()));
+        pen.number(" records ", self.links.saturating_mul(link_bytes()));
     }
 }
 
@@ -97,40 +143,4 @@ fn is_free(table: &Table<Global>, pid: Pid) -> bool
     ensures { result ≡ is_free (slot_at table.now pid.0).stage }
 {
     table.peek(pid).is_none()
-}
-
-/// Writes a line for each number, or for several that belong together. The last line has no line
-/// feed.
-impl fmt::Display for Stats {
-    fn fmt<W: fmt::Write>(&self, f: &mut fmt::Formatter<W>) -> fmt::Result {
-        self.write_levels(f)?;
-        self.write_counts(f)?;
-        let slots = u64::from(self.slots).saturating_mul(slot_bytes());
-        let pages = self.stored.saturating_mul(entry_bytes());
-        let records = self.links.saturating_mul(link_bytes());
-        write!(f, "bytes slots {slots} pages {pages} records {records}")
-    }
-}
-
-impl Stats {
-    fn write_levels<W: fmt::Write>(&self, f: &mut fmt::Formatter<W>) -> fmt::Result {
-        writeln!(f, "levels {}", self.levels.len())?;
-        for (level, pages) in self.levels.iter().enumerate().rev() {
-            writeln!(f, "level {level} pages {pages}")?;
-        }
-        Ok(())
-    }
-
-    fn write_counts<W: fmt::Write>(&self, f: &mut fmt::Formatter<W>) -> fmt::Result {
-        writeln!(
-            f,
-            "pairs {}\nunposted {} marked {} merged {}\nslots {} free {}",
-            self.pairs, self.unposted, self.marked, self.merged, self.slots, self.free
-        )?;
-        writeln!(
-            f,
-            "leaf entries {}\ninner entries {}\nchain records {}",
-            self.leaves, self.inner, self.records
-        )
-    }
 }

@@ -146,6 +146,6 @@ fn frame_of(
         row: row.to_string(alloc)?,
         note: String::new(alloc),
         crew: Vec::from_slice(alloc, crew)?,
-        drawing: format!(in alloc; "{drawing}")?,
+        drawing: drawing.text,
     })
 }

@@ -1,5 +1,6 @@
 //! The boxes of a page.
 
+use crate::drawing::entries::Lines;
 use crate::drawing::length::Length;
 use crate::drawing::text::characters;
 
@@ -32,20 +33,18 @@ pub(crate) struct Block {
     pub(crate) columns: usize,
     /// From the top of the boxes.
     pub(crate) top: Length,
-    pub(crate) lines: Vec<String>,
-    /// The number of lines of what the page has. The others are of what a split took away.
-    pub(crate) kept: usize,
+    pub(crate) lines: Lines,
 }
 
 impl Block {
     pub(crate) fn height(&self) -> Length {
-        LINE * self.lines.len() + INSET
+        LINE * self.lines.all.len() + INSET
     }
 
     /// Returns the number of characters in a column.
     pub(crate) fn width(&self) -> usize {
         let mut longest = 0;
-        for line in self.lines.iter() {
+        for line in self.lines.all.iter() {
             longest = longest.max(characters(line.as_str()));
         }
         longest.div_ceil(self.columns.max(1))

@@ -2,14 +2,13 @@
 
 use crate::drawing::block::{INSET, LINE};
 use crate::drawing::length::Length;
-use crate::drawing::text::{Short, characters, undone};
+use crate::drawing::text::{characters, undone};
 use crate::drawing::tower::Tower;
 use crate::page::Page;
+use crate::pen::Pen;
 use crate::picture::Picture;
-use bw_delta::{Chain, NoMemory};
 use bw_keys::{Fence, Key};
 use bw_step::{Stage, View};
-use std::alloc::{AllocError, Global};
 
 /// The width of a character.
 pub(crate) const CHARACTER: Length = Length(7);
@@ -42,58 +41,26 @@ pub(crate) struct Card {
 }
 
 impl Card {
-    pub(crate) fn of(alloc: Global, picture: &Picture, page: &Page) -> Result<Card, NoMemory> {
+    pub(crate) fn of(pen: &mut Pen, picture: &Picture, page: &Page) -> Card {
         let view = page.view;
-        let mut card = Card {
+        let over = view.count.saturating_sub(u64::from(picture.fanout));
+        pen.page("page ", view.pid);
+        let title = pen.take();
+        write_range(pen, view);
+        let range = pen.take();
+        write_count(pen, view, over);
+        Card {
             view,
             is_root: view.pid == picture.root.pid,
-            title: String::new(alloc),
-            range: String::new(alloc),
-            count: String::new(alloc),
-            over: view.count.saturating_sub(u64::from(picture.fanout)),
-            tower: Tower::none(alloc),
+            title,
+            range,
+            count: pen.take(),
+            over,
+            tower: Tower::of(pen, &page.chain),
             column: Length(0),
             left: Length(0),
             top: Length(0),
-        };
-        card.fill(alloc, &page.chain)?;
-        Ok(card)
-    }
-
-    /// Writes the head, and draws the chain.
-    fn fill(&mut self, alloc: Global, chain: &Option<Chain<Global>>) -> Result<(), NoMemory> {
-        write!(self.title, "page {}", self.view.pid)?;
-        self.write_range()?;
-        self.write_count()?;
-        match chain {
-            Some(chain) => self.tower.draw(alloc, chain),
-            None => Ok(()),
         }
-    }
-
-    fn write_range(&mut self) -> Result<(), AllocError> {
-        let low = Short(self.view.low);
-        match self.view.high {
-            _ if self.view.stage == Stage::Merged => write!(self.range, "from {low}"),
-            Fence::Key(high) => write!(self.range, "{low} to {}", Short(high)),
-            Fence::Top => write!(self.range, "{low} to top"),
-        }
-    }
-
-    /// Writes the number of entries, and how many are more than a page keeps, if the page is in a
-    /// row.
-    fn write_count(&mut self) -> Result<(), AllocError> {
-        if self.view.stage == Stage::Merged {
-            return Ok(());
-        }
-        let (count, over) = (self.view.count, self.over);
-        let kind = if self.view.level == 0 { "key" } else { "term" };
-        let end = if count == 1 { "" } else { "s" };
-        write!(self.count, "{count} {kind}{end}")?;
-        if over > 0 {
-            write!(self.count, ", {over} over")?;
-        }
-        Ok(())
     }
 
     /// Returns the number of characters in a column.
@@ -154,5 +121,29 @@ impl Card {
     /// Returns whether the page is in a row and its range holds the key.
     pub(crate) fn holds(&self, key: Key) -> bool {
         self.view.stage.is_in_row() && self.view.low <= key && self.view.high.is_above(key)
+    }
+}
+
+fn write_range(pen: &mut Pen, view: View) {
+    if view.stage == Stage::Merged {
+        return pen.short("from ", view.low);
+    }
+    pen.short("", view.low);
+    match view.high {
+        Fence::Key(high) => pen.short(" to ", high),
+        Fence::Top => pen.write(" to top"),
+    }
+}
+
+/// Writes the number of entries, and how many are more than a page keeps, if the page is in a row.
+fn write_count(pen: &mut Pen, view: View, over: u64) {
+    if view.stage == Stage::Merged {
+        return;
+    }
+    let kind = if view.level == 0 { " key" } else { " term" };
+    pen.count(view.count, kind);
+    if over > 0 {
+        pen.number(", ", over);
+        pen.write(" over");
     }
 }

@@ -1,26 +1,26 @@
 //! The meanings of the marks of a drawing: a line of text for each mark in it.
 
+use crate::drawing::MARGIN;
 use crate::drawing::block::{Block, Kind};
 use crate::drawing::card::{CHARACTER, Card};
 use crate::drawing::length::Length;
 use crate::drawing::row::Row;
-use crate::drawing::text::{characters, is_cut};
-use bw_delta::NoMemory;
+use crate::drawing::text::characters;
+use crate::pen::Pen;
 use bw_step::Stage;
-use std::alloc::Global;
 
 /// The width of a mark, with what lies between it and its text.
-pub(crate) const MARK: Length = Length(28);
+const MARK: Length = Length(28);
 
 /// What lies between two items.
 const APART: Length = Length(22);
 
 /// The height of a line of items.
-pub(crate) const ITEM_LINE: Length = Length(21);
+const ITEM_LINE: Length = Length(21);
 
 /// A mark of a drawing.
 #[derive(Clone, Copy)]
-pub(crate) enum Mark {
+enum Mark {
     /// A box of the class.
     Box(&'static str),
     /// A line of the class.
@@ -29,30 +29,18 @@ pub(crate) enum Mark {
     Text(&'static str, &'static str),
 }
 
-/// A mark, and what it means.
-#[derive(Clone, Copy)]
-pub(crate) struct Item {
-    pub(crate) mark: Mark,
-    pub(crate) text: &'static str,
-    /// From the left of the legend.
-    pub(crate) left: Length,
-    /// From the top of the legend.
-    pub(crate) top: Length,
-}
-
-/// The marks that are in a drawing.
+/// Where the next item of a legend goes.
 #[derive(Drop)]
-pub(crate) struct Legend {
-    pub(crate) items: Vec<Item>,
-    width: Length,
-    /// Where the next item goes.
+struct Legend {
     left: Length,
     top: Length,
+    /// Where the lines end.
+    right: Length,
 }
 
 /// Which marks a drawing has.
-#[derive(Clone, Copy)]
-struct Marks {
+#[derive(Drop)]
+pub(crate) struct Marks {
     change: bool,
     shape: bool,
     term: bool,
@@ -66,82 +54,90 @@ struct Marks {
     cut: bool,
 }
 
+/// Writes the meanings of the marks, in lines of this width, and returns where they end.
+pub(crate) fn write_legend(pen: &mut Pen, marks: &Marks, width: Length, top: Length) -> Length {
+    let mut legend = Legend {
+        left: MARGIN,
+        top,
+        right: MARGIN + width,
+    };
+    pen.write("<g data-part=\"legend\">\n");
+    legend.add_all(pen, marks);
+    pen.write("</g>\n");
+    legend.top + ITEM_LINE
+}
+
 impl Legend {
-    /// Returns the legend of the rows, in lines of this width.
-    pub(crate) fn of(alloc: Global, rows: &[Row], width: Length) -> Result<Legend, NoMemory> {
-        let mut legend = Legend {
-            items: Vec::new(alloc),
-            width,
-            left: Length(0),
-            top: Length(0),
-        };
-        legend.add_all(Marks::of(rows))?;
-        Ok(legend)
+    /// Writes an item for each of the marks.
+    fn add_all(&mut self, pen: &mut Pen, marks: &Marks) {
+        let (half, cut) = (Mark::Box("half"), Mark::Text("text", "1‹5›9"));
+        self.add(pen, true, Mark::Box("base"), "base page");
+        self.add(pen, marks.change, Mark::Box("change"), "change of a key");
+        self.add(pen, marks.shape, Mark::Box("shape"), "change of shape");
+        self.add(pen, marks.gone, Mark::Text("gone", "5:50"), "split off");
+        self.add(pen, marks.term, Mark::Line("line"), "term");
+        self.add(
+            pen,
+            marks.stub,
+            Mark::Line("stub"),
+            "terms of pages not drawn",
+        );
+        self.add(pen, marks.side, Mark::Line("side"), "side link");
+        self.add(pen, marks.unposted, half, "unposted: no term yet");
+        self.add(pen, marks.coming, Mark::Line("coming"), "term to come");
+        self.add(
+            pen,
+            marks.marked,
+            half,
+            "marked: takes no change, to be merged",
+        );
+        self.add(pen, marks.merged, half, "merged: its keys went left");
+        self.add(pen, marks.merged, Mark::Line("going"), "term to go");
+        self.add(pen, marks.cut, cut, "a number, 5 digits left out");
     }
 
-    /// Appends an item for each of the marks.
-    fn add_all(&mut self, marks: Marks) -> Result<(), NoMemory> {
-        let half = Mark::Box("half");
-        for (is_there, mark, text) in [
-            (true, Mark::Box("base"), "base page"),
-            (marks.change, Mark::Box("change"), "change of a key"),
-            (marks.shape, Mark::Box("shape"), "change of shape"),
-            (marks.gone, Mark::Text("gone", "5:50"), "split off"),
-            (marks.term, Mark::Line("line"), "term"),
-            (marks.stub, Mark::Line("stub"), "terms of pages not drawn"),
-            (marks.side, Mark::Line("side"), "side link"),
-            (marks.unposted, half, "unposted: no term yet"),
-            (marks.coming, Mark::Line("coming"), "term to come"),
-            (marks.marked, half, "marked: takes no change, to be merged"),
-            (marks.merged, half, "merged: its keys went left"),
-            (marks.merged, Mark::Line("going"), "term to go"),
-            (
-                marks.cut,
-                Mark::Text("text", "1‹5›9"),
-                "a number, 5 digits left out",
-            ),
-        ] {
-            if is_there {
-                self.add(mark, text)?;
-            }
+    /// Writes an item if its mark is there, on a new line if there is no room.
+    fn add(&mut self, pen: &mut Pen, is_there: bool, mark: Mark, text: &str) {
+        if !is_there {
+            return;
         }
-        Ok(())
-    }
-
-    /// Appends an item, on a new line if there is no room.
-    fn add(&mut self, mark: Mark, text: &'static str) -> Result<(), NoMemory> {
         let width = mark.width() + CHARACTER * text.len();
-        if (self.left + width).0 > self.width.0 {
-            self.left = Length(0);
+        if (self.left + width).0 > self.right.0 {
+            self.left = MARGIN;
             self.top = self.top + ITEM_LINE;
         }
-        self.items.push(Item {
-            mark,
-            text,
-            left: self.left,
-            top: self.top,
-        })?;
+        mark.write(pen, self.left, self.top);
+        pen.text("soft", self.left + mark.width(), self.top, text);
         self.left = self.left + width + APART;
-        Ok(())
-    }
-
-    pub(crate) fn height(&self) -> Length {
-        self.top + ITEM_LINE
     }
 }
 
 impl Mark {
     /// Returns its width, with what lies between it and its text.
-    pub(crate) fn width(self) -> Length {
+    fn width(self) -> Length {
         match self {
             Mark::Box(_) | Mark::Line(_) => MARK,
             Mark::Text(_, sample) => CHARACTER * characters(sample) + Length(8),
         }
     }
+
+    fn write(self, pen: &mut Pen, left: Length, top: Length) {
+        match self {
+            Mark::Box(class) => pen.rect(class, (left, top), (Length(20), Length(14))),
+            Mark::Line(class) => {
+                pen.open("<path", class);
+                pen.put("\" d=\"M", left.0);
+                pen.put(" ", (top + Length(7)).0);
+                pen.write("h20\"/>\n");
+            }
+            Mark::Text(class, sample) => pen.text(class, left, top, sample),
+        }
+    }
 }
 
 impl Marks {
-    fn of(rows: &[Row]) -> Marks {
+    /// Returns the marks of the rows, in which a number may be without its middle.
+    pub(crate) fn of(rows: &[Row], cut: bool) -> Marks {
         let mut marks = Marks {
             change: false,
             shape: false,
@@ -153,7 +149,7 @@ impl Marks {
             marked: false,
             merged: false,
             gone: false,
-            cut: false,
+            cut,
         };
         let mut below: Option<&Row> = None;
         for row in rows {
@@ -191,7 +187,6 @@ impl Marks {
             Stage::Merged => self.merged = true,
             Stage::Free | Stage::Posted => {}
         }
-        self.cut = self.cut || is_cut(card.range.as_str());
         for block in card.tower.blocks.iter() {
             self.see_block(block);
         }
@@ -203,9 +198,6 @@ impl Marks {
             Kind::Shape => self.shape = true,
             Kind::Base | Kind::More => {}
         }
-        self.gone = self.gone || block.kept < block.lines.len();
-        for line in block.lines.iter() {
-            self.cut = self.cut || is_cut(line.as_str());
-        }
+        self.gone = self.gone || block.lines.kept < block.lines.all.len();
     }
 }

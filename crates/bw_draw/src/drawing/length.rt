@@ -1,9 +1,8 @@
 //! Lengths and places in a drawing.
 
-ghost use Rattle.std.specs.Prelude.{◌≡◌, ◌+◌, ◌-◌, ◌*◌, Some, decimal};
+ghost use Rattle.std.specs.Prelude.{◌≡◌, ◌+◌, ◌-◌, ◌*◌};
 ghost use Rattle.bw_draw.specs.Figures.{capped};
 
-use std::fmt;
 use std::ops::{Add, Mul, Sub};
 
 /// A length or a place of a drawing, in pixels. Its arithmetic saturates.
@@ -61,13 +60,5 @@ impl Mul<usize> for Length {
 
     fn mul(self, times: usize) -> Length {
         Length(self.0.saturating_mul(times))
-    }
-}
-
-impl fmt::Display for Length {
-    ghost output = { λ length. Some (decimal length.0) };
-
-    fn fmt<W: fmt::Write>(&self, f: &mut fmt::Formatter<W>) -> fmt::Result {
-        write!(f, "{}", self.0)
     }
 }

@@ -3,17 +3,16 @@
 use crate::drawing::block::LINE;
 use crate::drawing::card::Card;
 use crate::drawing::length::Length;
-use crate::drawing::pen::Pen;
 use crate::drawing::row::{BETWEEN, HIDDEN_WIDTH, Row};
+use crate::pen::Pen;
 use bw_keys::Pid;
 use bw_step::Stage;
-use std::fmt;
 
 /// The length of a line that stands for terms of pages that aren't drawn.
 const STUB: Length = Length(14);
 
 /// Writes the terms and the side links of all rows.
-pub(crate) fn write_links<W: fmt::Write>(pen: &mut Pen<W>, rows: &[Row]) {
+pub(crate) fn write_links(pen: &mut Pen, rows: &[Row]) {
     let mut below: Option<&Row> = None;
     for row in rows {
         write_side_links(pen, row);
@@ -27,7 +26,7 @@ pub(crate) fn write_links<W: fmt::Write>(pen: &mut Pen<W>, rows: &[Row]) {
 }
 
 /// Writes the lines from a page to those below it, drawn or not.
-fn write_terms<W: fmt::Write>(pen: &mut Pen<W>, parent: &Card, bottom: Length, below: &Row) {
+fn write_terms(pen: &mut Pen, parent: &Card, bottom: Length, below: &Row) {
     let children = below.begun_in(parent);
     let mut place = 0usize;
     for child in below.cards.iter() {
@@ -42,7 +41,7 @@ fn write_terms<W: fmt::Write>(pen: &mut Pen<W>, parent: &Card, bottom: Length, b
 }
 
 /// Writes short lines at the sides of a page that has terms of pages which aren't drawn.
-fn write_stubs<W: fmt::Write>(pen: &mut Pen<W>, parent: &Card, below: &Row) {
+fn write_stubs(pen: &mut Pen, parent: &Card, below: &Row) {
     let height = parent.bottom() - STUB;
     if below.begins_after(parent) {
         write_stub(pen, parent.left - STUB, height);
@@ -52,16 +51,16 @@ fn write_stubs<W: fmt::Write>(pen: &mut Pen<W>, parent: &Card, below: &Row) {
     }
 }
 
-fn write_stub<W: fmt::Write>(pen: &mut Pen<W>, left: Length, height: Length) {
-    pen.put("<path class=\"stub\" d=\"M", &left);
-    pen.put(" ", &height);
-    pen.put("h", &STUB);
-    pen.write(&"\"/>\n");
+fn write_stub(pen: &mut Pen, left: Length, height: Length) {
+    pen.put("<path class=\"stub\" d=\"M", left.0);
+    pen.put(" ", height.0);
+    pen.put("h", STUB.0);
+    pen.write("\"/>\n");
 }
 
 /// Writes a line down to a page: straight beside the boxes of both rows, and bent between the rows.
-fn write_term<W: fmt::Write>(
-    pen: &mut Pen<W>,
+fn write_term(
+    pen: &mut Pen,
     (parent, (left, top)): (Pid, (Length, Length)),
     (bend, end): (Length, Length),
     child: &Card,
@@ -73,24 +72,24 @@ fn write_term<W: fmt::Write>(
     };
     let right = child.middle();
     let middle = (bend + end).half();
-    pen.put("<path class=\"", &class);
-    pen.put("\" data-link=\"", &parent);
-    pen.put(" ", &child.view.pid);
-    pen.put("\" d=\"M", &left);
-    pen.put(" ", &top);
-    pen.put("V", &bend);
-    pen.put("C", &left);
-    pen.put(" ", &middle);
-    pen.put(" ", &right);
-    pen.put(" ", &middle);
-    pen.put(" ", &right);
-    pen.put(" ", &end);
-    pen.put("V", &child.top);
-    pen.write(&"\"/>\n");
+    pen.open("<path", class);
+    pen.page("\" data-link=\"", parent);
+    pen.page(" ", child.view.pid);
+    pen.put("\" d=\"M", left.0);
+    pen.put(" ", top.0);
+    pen.put("V", bend.0);
+    pen.put("C", left.0);
+    pen.put(" ", middle.0);
+    pen.put(" ", right.0);
+    pen.put(" ", middle.0);
+    pen.put(" ", right.0);
+    pen.put(" ", end.0);
+    pen.put("V", child.top.0);
+    pen.write("\"/>\n");
 }
 
 /// Writes an arrow from each page of a row to the page on its right.
-fn write_side_links<W: fmt::Write>(pen: &mut Pen<W>, row: &Row) {
+fn write_side_links(pen: &mut Pen, row: &Row) {
     let height = row.top + LINE;
     let mut last: Option<&Card> = None;
     for card in row.cards.iter() {
@@ -107,21 +106,12 @@ fn write_side_links<W: fmt::Write>(pen: &mut Pen<W>, row: &Row) {
 }
 
 /// Writes the arrow to a page from the one before it in its row, or from the box of hidden ones.
-fn write_link_to<W: fmt::Write>(
-    pen: &mut Pen<W>,
-    row: &Row,
-    last: Option<&Card>,
-    card: &Card,
-    height: Length,
-) {
+fn write_link_to(pen: &mut Pen, row: &Row, last: Option<&Card>, card: &Card, height: Length) {
     match last {
         Some(last) => {
-            pen.put("<path class=\"side\" data-link=\"", &last.view.pid);
-            pen.put(" ", &card.view.pid);
-            pen.put("\" marker-end=\"url(#side)\" d=\"M", &last.right());
-            pen.put(" ", &height);
-            pen.put("H", &card.left);
-            pen.write(&"\"/>\n");
+            pen.page("<path class=\"side\" data-link=\"", last.view.pid);
+            pen.page(" ", card.view.pid);
+            write_across(pen, last.right(), card.left, height);
         }
         None if row.hidden_before > 0 => {
             write_arrow(pen, row.left() - BETWEEN, card.left, height)
@@ -131,12 +121,14 @@ fn write_link_to<W: fmt::Write>(
 }
 
 /// Writes an arrow from or to a box of hidden pages.
-fn write_arrow<W: fmt::Write>(pen: &mut Pen<W>, left: Length, right: Length, height: Length) {
-    pen.put(
-        "<path class=\"side\" marker-end=\"url(#side)\" d=\"M",
-        &left,
-    );
-    pen.put(" ", &height);
-    pen.put("H", &right);
-    pen.write(&"\"/>\n");
+fn write_arrow(pen: &mut Pen, left: Length, right: Length, height: Length) {
+    pen.write("<path class=\"side");
+    write_across(pen, left, right, height);
+}
+
+fn write_across(pen: &mut Pen, left: Length, right: Length, height: Length) {
+    pen.put("\" marker-end=\"url(#side)\" d=\"M", left.0);
+    pen.put(" ", height.0);
+    pen.put("H", right.0);
+    pen.write("\"/>\n");
 }

@@ -2,11 +2,10 @@
 
 use crate::drawing::card::Card;
 use crate::drawing::length::Length;
+use crate::pen::Pen;
 use crate::picture::Picture;
-use bw_delta::NoMemory;
 use bw_keys::{Fence, Key};
 use bw_step::Stage;
-use std::alloc::Global;
 
 /// What lies between two cards.
 pub(crate) const BETWEEN: Length = Length(24);
@@ -43,18 +42,13 @@ pub(crate) enum Window {
 }
 
 impl Row {
-    pub(crate) fn of(
-        alloc: Global,
-        picture: &Picture,
-        level: u8,
-        window: Window,
-    ) -> Result<Row, NoMemory> {
-        let order = order_of(alloc, picture, level)?;
+    pub(crate) fn of(pen: &mut Pen, picture: &Picture, level: u8, window: Window) -> Row {
+        let order = order_of(pen, picture, level);
         let (first, end) = window.places(&order);
         let merged = merged_of(picture, level);
         let mut row = Row {
             level,
-            cards: Vec::new(alloc),
+            cards: Vec::new(pen.alloc),
             hidden_before: first,
             hidden_after: order.len().saturating_sub(end),
             in_row: order.len().saturating_sub(merged),
@@ -62,26 +56,20 @@ impl Row {
             top: Length(0),
         };
         for at in first..end {
-            row.add(alloc, picture, order.get(at))?;
+            row.add(pen, picture, order.get(at));
         }
         row.widen();
-        Ok(row)
+        row
     }
 
     /// Appends the card of the page at a place of the picture.
-    fn add(
-        &mut self,
-        alloc: Global,
-        picture: &Picture,
-        place: Option<&(Key, usize)>,
-    ) -> Result<(), NoMemory> {
-        let Some((_, place)) = place else {
-            return Ok(());
-        };
-        if let Some(page) = picture.pages.get(*place) {
-            self.cards.push(Card::of(alloc, picture, page)?)?;
+    fn add(&mut self, pen: &mut Pen, picture: &Picture, place: Option<&(Key, usize)>) {
+        if let Some((_, place)) = place
+            && let Some(page) = picture.pages.get(*place)
+        {
+            let card = Card::of(pen, picture, page);
+            pen.push(&mut self.cards, card);
         }
-        Ok(())
     }
 
     /// Returns the pages one level above that have terms of those that are drawn.
@@ -246,15 +234,17 @@ fn begun(order: &[(Key, usize)], key: Key) -> (usize, usize) {
 }
 
 /// Returns the places of the level's pages, by their least keys.
-fn order_of(alloc: Global, picture: &Picture, level: u8) -> Result<Vec<(Key, usize)>, NoMemory> {
-    let mut order = Vec::new(alloc);
-    for (place, page) in picture.pages.iter().enumerate() {
+fn order_of(pen: &mut Pen, picture: &Picture, level: u8) -> Vec<(Key, usize)> {
+    let mut order = Vec::new(pen.alloc);
+    let mut place = 0usize;
+    for page in picture.pages.iter() {
         if page.view.level == level {
-            order.push((page.view.low, place))?;
+            pen.push(&mut order, (page.view.low, place));
         }
+        place = place.saturating_add(1);
     }
-    order.sort()?;
-    Ok(order)
+    pen.sort(&mut order);
+    order
 }
 
 fn merged_of(picture: &Picture, level: u8) -> usize {

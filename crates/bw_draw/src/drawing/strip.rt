@@ -2,13 +2,11 @@
 
 use crate::drawing::card::CHARACTER;
 use crate::drawing::length::Length;
-use crate::drawing::text::{Short, characters, undone};
-use crate::page::Page;
+use crate::drawing::text::{characters, undone};
+use crate::pen::Pen;
 use crate::picture::Picture;
-use bw_delta::NoMemory;
 use bw_keys::Pid;
 use bw_step::{Stage, View};
-use std::alloc::Global;
 
 /// The least width of a cell, what is wider than its text, and its height.
 const LEAST_CELL: Length = Length(38);
@@ -22,6 +20,9 @@ pub(crate) const CELL_GAP: Length = Length(4);
 
 /// The most cells that are drawn.
 const MOST: usize = 64;
+
+/// Where the mapping table begins.
+pub(crate) const TABLE_TOP: Length = Length(40);
 
 /// A slot as it is drawn.
 #[derive(Drop)]
@@ -44,65 +45,60 @@ pub(crate) struct Strip {
     pub(crate) hidden: usize,
     /// The width of a cell.
     pub(crate) cell: Length,
-    pub(crate) left: Length,
-    pub(crate) top: Length,
     /// The number of cells in a line.
     pub(crate) in_line: usize,
 }
 
 impl Strip {
-    pub(crate) fn of(alloc: Global, picture: &Picture) -> Result<Strip, NoMemory> {
+    /// Returns the cells of the pages and of the free slots before them, and one free one more, in as
+    /// many lines of this width as they take.
+    pub(crate) fn of(pen: &mut Pen, picture: &Picture, width: Length) -> Strip {
         let mut strip = Strip {
             slots: picture.slots as usize,
             pages: picture.pages.len(),
             undone: 0,
-            cells: Vec::new(alloc),
+            cells: Vec::new(pen.alloc),
             hidden: 0,
             cell: LEAST_CELL,
-            left: Length(0),
-            top: Length(0),
             in_line: 1,
         };
-        strip.fill(alloc, &picture.pages)?;
+        for page in picture.pages.iter() {
+            strip.add(pen, page.view);
+        }
+        if strip.cells.len() < strip.slots.min(MOST) {
+            strip.add_free(pen);
+        }
         strip.widen();
-        Ok(strip)
-    }
-
-    /// Appends the cells of the pages and of the free slots before them, and one free one more.
-    fn fill(&mut self, alloc: Global, pages: &[Page]) -> Result<(), NoMemory> {
-        for page in pages {
-            self.add(alloc, page.view)?;
-        }
-        if self.cells.len() < self.slots.min(MOST) {
-            self.add_free(alloc)?;
-        }
-        Ok(())
+        strip.in_line = (strip.cell + CELL_GAP).fits(width + CELL_GAP);
+        strip
     }
 
     /// Appends the cell of a page, after those of the free slots before it.
-    fn add(&mut self, alloc: Global, view: View) -> Result<(), NoMemory> {
+    fn add(&mut self, pen: &mut Pen, view: View) {
         if undone(view.stage).is_some() {
             self.undone = self.undone.saturating_add(1);
         }
         let Pid(id) = view.pid;
         for _ in self.cells.len()..(id as usize).min(MOST) {
-            self.add_free(alloc)?;
+            self.add_free(pen);
         }
         if self.cells.len() >= MOST {
             self.hidden = self.hidden.saturating_add(1);
-            return Ok(());
+            return;
         }
-        let text = format!(in alloc; "v{}", Short(view.version.0))?;
-        self.add_cell(view.stage, text)
+        pen.short("v", view.version.0);
+        self.add_cell(pen, view.stage);
     }
 
-    fn add_free(&mut self, alloc: Global) -> Result<(), NoMemory> {
-        let text = "free".to_string(alloc)?;
-        self.add_cell(Stage::Free, text)
+    fn add_free(&mut self, pen: &mut Pen) {
+        pen.write("free");
+        self.add_cell(pen, Stage::Free);
     }
 
-    fn add_cell(&mut self, stage: Stage, text: String) -> Result<(), NoMemory> {
-        Ok(self.cells.push(Cell { stage, text })?)
+    /// Appends a cell with what the pen has written.
+    fn add_cell(&mut self, pen: &mut Pen, stage: Stage) {
+        let text = pen.take();
+        pen.push(&mut self.cells, Cell { stage, text });
     }
 
     /// Makes the cells as wide as the longest text.
@@ -119,16 +115,9 @@ impl Strip {
         self.slots.saturating_sub(self.pages)
     }
 
-    /// Places the cells between the two sides, in as many lines as they take.
-    pub(crate) fn place(&mut self, left: Length, top: Length, width: Length) {
-        self.left = left;
-        self.top = top;
-        self.in_line = (self.cell + CELL_GAP).fits(width + CELL_GAP);
-    }
-
     /// Returns where the last line ends.
     pub(crate) fn bottom(&self) -> Length {
         let lines = self.cells.len().div_ceil(self.in_line.max(1));
-        self.top + (CELL_HEIGHT + CELL_GAP) * lines
+        TABLE_TOP + (CELL_HEIGHT + CELL_GAP) * lines
     }
 }

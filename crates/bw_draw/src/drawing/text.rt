@@ -1,31 +1,78 @@
-//! The texts in the boxes of a drawing.
+//! The texts in a drawing.
 
+use crate::pen::Pen;
 use bw_delta::Delta;
+use bw_keys::{Key, Pid};
 use bw_step::Stage;
-use std::fmt;
 
 /// The greatest number that is written whole.
 const LONGEST: u64 = 999_999_999;
 
-/// A number. A long one is written as its first and last three digits, with the number of digits
-/// left out between them, as 184‹14›615.
-#[derive(Clone, Copy)]
-pub(crate) struct Short(pub(crate) u64);
+impl Pen {
+    /// Writes a text, and the number of a page behind it.
+    pub(crate) fn page(&mut self, text: &str, page: Pid) {
+        self.number(text, u64::from(page.0));
+    }
 
-impl fmt::Display for Short {
-    fn fmt<W: fmt::Write>(&self, f: &mut fmt::Formatter<W>) -> fmt::Result {
-        if self.0 <= LONGEST {
-            return write!(f, "{}", self.0);
+    /// Writes how many there are of what has this name.
+    pub(crate) fn count(&mut self, number: u64, name: &str) {
+        self.number("", number);
+        self.write(name);
+        if number != 1 {
+            self.write("s");
         }
-        let (head, digits) = head_of(self.0);
-        let (digits, end) = (digits.saturating_sub(3), self.0 % 1000);
-        write!(f, "{head}‹{digits}›{end:03}")
+    }
+
+    /// Writes how many more there are.
+    pub(crate) fn more(&mut self, number: usize) {
+        self.put("… ", number);
+        self.write(" more");
+    }
+
+    /// Writes a text, and a key or a value behind it. A long number is written as its first and last
+    /// three digits, with the number of digits left out between them, as 184‹14›615.
+    pub(crate) fn short(&mut self, text: &str, number: u64) {
+        if number <= LONGEST {
+            return self.number(text, number);
+        }
+        self.has_cut = true;
+        let (head, digits) = head_of(number);
+        self.number(text, head);
+        self.put("‹", digits.saturating_sub(3));
+        self.number("›", number / 100 % 10);
+        self.number("", number / 10 % 10);
+        self.number("", number % 10);
+    }
+
+    /// Writes a text, and a pair behind it.
+    pub(crate) fn pair(&mut self, text: &str, key: Key, value: u64) {
+        self.short(text, key);
+        self.short(":", value);
+    }
+
+    /// Writes a text, and a route behind it.
+    pub(crate) fn route(&mut self, text: &str, key: Key, page: Pid) {
+        self.short(text, key);
+        self.page(" → ", page);
+    }
+
+    /// Writes what a record does to the page.
+    pub(crate) fn record(&mut self, delta: Delta) {
+        match delta {
+            Delta::Insert(key, value) => self.pair("insert ", key, value),
+            Delta::Modify(key, value) => self.pair("modify ", key, value),
+            Delta::Delete(key) => self.short("delete ", key),
+            Delta::Split(key, page) => self.route("split at ", key, page),
+            Delta::Remove => self.write("remove"),
+            Delta::TermAdd(key, page) => self.route("add term ", key, page),
+            Delta::TermDelete(key) => self.short("drop term ", key),
+        }
     }
 }
 
 /// Returns the first three digits of a number, and how many there are behind them.
-fn head_of(number: u64) -> (u64, u32) {
-    let (mut head, mut digits) = (number, 0u32);
+fn head_of(number: u64) -> (u64, usize) {
+    let (mut head, mut digits) = (number, 0usize);
     for _ in 0..17 {
         if head >= 1000 {
             head /= 10;
@@ -38,40 +85,6 @@ fn head_of(number: u64) -> (u64, u32) {
 /// Returns the number of characters of a text.
 pub(crate) fn characters(text: &str) -> usize {
     text.chars().count()
-}
-
-/// Returns whether the text has a number without its middle.
-pub(crate) fn is_cut(text: &str) -> bool {
-    text.contains('‹')
-}
-
-/// What a record does to the page.
-#[derive(Clone, Copy)]
-pub(crate) struct Described(pub(crate) Delta);
-
-impl fmt::Display for Described {
-    fn fmt<W: fmt::Write>(&self, f: &mut fmt::Formatter<W>) -> fmt::Result {
-        let (verb, key) = match self.0 {
-            Delta::Insert(key, _) => ("insert", key),
-            Delta::Modify(key, _) => ("modify", key),
-            Delta::Delete(key) => ("delete", key),
-            Delta::Split(key, _) => ("split at", key),
-            Delta::Remove => return f.write_str("remove"),
-            Delta::TermAdd(key, _) => ("add term", key),
-            Delta::TermDelete(key) => ("drop term", key),
-        };
-        write!(f, "{verb} {}", Short(key))?;
-        match self.0 {
-            Delta::Insert(_, value) | Delta::Modify(_, value) => write!(f, ":{}", Short(value)),
-            Delta::Split(_, page) | Delta::TermAdd(_, page) => write!(f, " → {page}"),
-            Delta::Delete(_) | Delta::Remove | Delta::TermDelete(_) => Ok(()),
-        }
-    }
-}
-
-/// Returns the ending of a plural, or none for 1.
-pub(crate) fn plural(number: usize) -> &'static str {
-    if number == 1 { "" } else { "s" }
 }
 
 /// Returns the name of a stage at which a page is half done.

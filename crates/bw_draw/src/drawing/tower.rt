@@ -1,13 +1,12 @@
 //! A chain as it is drawn: the newest record on top, and below a merge its two chains side by side.
 
 use crate::drawing::block::{Block, INSET, Kind, LINE};
-use crate::drawing::entries::lines_of;
+use crate::drawing::entries::{Lines, lines_of};
 use crate::drawing::length::Length;
-use crate::drawing::text::{Described, Short};
-use bw_delta::{Base, Chain, Delta, NoMemory, Node};
+use crate::pen::Pen;
+use bw_delta::{Base, Chain, Delta, Node};
 use bw_keys::{Fence, Key};
 use std::alloc::{Allocator, Global};
-use std::fmt;
 
 /// The most records between two merges that are drawn.
 const MOST: usize = 8;
@@ -44,132 +43,108 @@ struct Extent {
 }
 
 impl Tower {
-    /// The tower of a page that has no chain.
-    pub(crate) fn none(alloc: Global) -> Tower {
-        Tower {
-            blocks: Vec::new(alloc),
+    /// Draws the chain of a page, if it has one.
+    pub(crate) fn of(pen: &mut Pen, chain: &Option<Chain<Global>>) -> Tower {
+        let mut tower = Tower {
+            blocks: Vec::new(pen.alloc),
             columns: 1,
             height: Length(0),
-        }
-    }
-
-    /// Draws the chain of a page.
-    pub(crate) fn draw(&mut self, alloc: Global, chain: &Chain<Global>) -> Result<(), NoMemory> {
-        let spot = Spot {
-            column: 0,
-            top: Length(0),
-            room: MOST,
-            hidden: 0,
-            end: Fence::Top,
         };
-        let extent = self.stack(alloc, chain, spot)?;
-        self.columns = extent.columns;
-        self.height = extent.bottom;
-        Ok(())
+        if let Some(chain) = chain {
+            let spot = Spot {
+                column: 0,
+                top: Length(0),
+                room: MOST,
+                hidden: 0,
+                end: Fence::Top,
+            };
+            let extent = tower.stack(pen, chain, spot);
+            tower.columns = extent.columns;
+            tower.height = extent.bottom;
+        }
+        tower
     }
 
     /// Draws a chain from the spot on.
     fn stack<A: Allocator + Copy>(
         &mut self,
-        alloc: Global,
+        pen: &mut Pen,
         chain: &Chain<A>,
         spot: Spot,
-    ) -> Result<Extent, NoMemory> {
+    ) -> Extent {
         match &chain.node {
             Node::Bare(base) => {
-                let spot = self.tell_hidden(alloc, spot)?;
-                self.base(alloc, base, spot)
+                let spot = self.tell_hidden(pen, spot);
+                self.base(pen, base, spot)
             }
             Node::Above(delta, below) => {
                 let spot = spot.ending_by(*delta);
                 if spot.room == 0 {
-                    return self.stack(alloc, below, spot.hiding());
+                    return self.stack(pen, below, spot.hiding());
                 }
-                let extent = self.stack(alloc, below, spot.below())?;
-                self.record(alloc, *delta, spot, extent.columns)?;
-                Ok(extent)
+                let extent = self.stack(pen, below, spot.below());
+                pen.record(*delta);
+                self.one_line(pen, kind_of(*delta), spot, extent.columns);
+                extent
             }
             Node::Merged(merging, left, right) => {
-                let spot = self.tell_hidden(alloc, spot)?;
+                let spot = self.tell_hidden(pen, spot);
                 let below = spot.below_a_merge(0).ending_at(merging.separator);
-                let left = self.stack(alloc, left, below)?;
-                let right = self.stack(alloc, right, spot.below_a_merge(left.columns))?;
+                let left = self.stack(pen, left, below);
+                let right = self.stack(pen, right, spot.below_a_merge(left.columns));
                 let columns = left.columns.saturating_add(right.columns);
-                let separator = Short(merging.separator);
-                let line = &format_args!("merge at {separator}");
-                self.one_line(alloc, Kind::Shape, line, spot, columns)?;
-                Ok(Extent {
+                pen.short("merge at ", merging.separator);
+                self.one_line(pen, Kind::Shape, spot, columns);
+                Extent {
                     columns,
                     bottom: left.bottom.max(right.bottom),
-                })
+                }
             }
         }
     }
 
-    fn base<A: Allocator + Copy>(
-        &mut self,
-        alloc: Global,
-        base: &Base<A>,
-        spot: Spot,
-    ) -> Result<Extent, NoMemory> {
-        let listed = lines_of(alloc, base, spot.end)?;
-        let bottom = spot.top + LINE * listed.lines.len() + INSET;
-        self.blocks.push(Block {
-            kind: Kind::Base,
-            column: spot.column,
-            columns: 1,
-            top: spot.top,
-            kept: listed.kept,
-            lines: listed.lines,
-        })?;
-        Ok(Extent { columns: 1, bottom })
-    }
-
-    fn record(
-        &mut self,
-        alloc: Global,
-        delta: Delta,
-        spot: Spot,
-        columns: usize,
-    ) -> Result<(), NoMemory> {
-        let kind = match delta {
-            Delta::Insert(_, _) | Delta::Modify(_, _) | Delta::Delete(_) => Kind::Change,
-            Delta::Split(_, _) | Delta::Remove | Delta::TermAdd(_, _) | Delta::TermDelete(_) => {
-                Kind::Shape
-            }
-        };
-        self.one_line(alloc, kind, &Described(delta), spot, columns)
+    fn base<A: Allocator + Copy>(&mut self, pen: &mut Pen, base: &Base<A>, spot: Spot) -> Extent {
+        let lines = lines_of(pen, base, spot.end);
+        let bottom = spot.top + LINE * lines.all.len() + INSET;
+        self.add(pen, Kind::Base, spot, 1, lines);
+        Extent { columns: 1, bottom }
     }
 
     /// Draws the number of hidden records, and returns the spot below.
-    fn tell_hidden(&mut self, alloc: Global, spot: Spot) -> Result<Spot, NoMemory> {
+    fn tell_hidden(&mut self, pen: &mut Pen, spot: Spot) -> Spot {
         if spot.hidden == 0 {
-            return Ok(spot);
+            return spot;
         }
-        let line = &format_args!("… {} more", spot.hidden);
-        self.one_line(alloc, Kind::More, line, spot, 1)?;
-        Ok(spot.below())
+        pen.more(spot.hidden);
+        self.one_line(pen, Kind::More, spot, 1);
+        spot.below()
     }
 
-    fn one_line<S: fmt::Display>(
-        &mut self,
-        alloc: Global,
-        kind: Kind,
-        line: &S,
-        spot: Spot,
-        columns: usize,
-    ) -> Result<(), NoMemory> {
-        let mut lines = Vec::new(alloc);
-        lines.push(format!(in alloc; "{line}")?)?;
-        self.blocks.push(Block {
+    /// Draws a box of what the pen has written.
+    fn one_line(&mut self, pen: &mut Pen, kind: Kind, spot: Spot, columns: usize) {
+        let mut all = Vec::new(pen.alloc);
+        pen.line(&mut all);
+        self.add(pen, kind, spot, columns, Lines { all, kept: 1 });
+    }
+
+    fn add(&mut self, pen: &mut Pen, kind: Kind, spot: Spot, columns: usize, lines: Lines) {
+        let block = Block {
             kind,
             column: spot.column,
             columns,
             top: spot.top,
-            kept: 1,
             lines,
-        })?;
-        Ok(())
+        };
+        pen.push(&mut self.blocks, block);
+    }
+}
+
+fn kind_of(delta: Delta) -> Kind {
+    match delta {
+        Delta::Insert(_, _) | Delta::Modify(_, _) | Delta::Delete(_) => Kind::Change,
+        Delta::Split(_, _) | Delta::Remove | Delta::TermAdd(_, _) | Delta::TermDelete(_) => {
+            Kind::Shape
+        }
     }
 }
 

@@ -1,9 +1,10 @@
 //! Numbers of the pages in rows.
 
 ghost use Rattle.std.specs.Prelude.{◌≡◌, IfOk, count_by};
-ghost use Rattle.bw_draw.specs.Figures.{is_at, counts_of, depths_of, levels_of, pages_on};
+ghost use Rattle.bw_draw.specs.Figures.{IsSpreadOf, is_at, counts_of, depths_of, levels_of, pages_on};
 
 use crate::page::Page;
+use crate::stats::spread::Spread;
 use bw_delta::NoMemory;
 use bw_step::Stage;
 use std::alloc::Global;
@@ -37,8 +38,15 @@ pub(crate) fn pages_at(pages: &[Page], stage: Stage) -> usize
     pages.iter().filter(|page| page.view.stage == stage).count()
 }
 
-/// Returns the number of entries of each leaf in its row, or of each inner page.
-pub(crate) fn entries_in(alloc: Global, pages: &[Page], leaves: bool) -> Result<Vec<u64>, NoMemory>
+/// Returns a summary of the numbers of entries of the leaves in their row, or of the inner pages.
+pub(crate) fn spread_in(alloc: Global, pages: &[Page], leaves: bool) -> Result<Spread, NoMemory>
+    ensures { IfOk result (IsSpreadOf (counts_of leaves pages.now)) }
+{
+    let counts = entries_in(alloc, pages, leaves)?;
+    Ok(Spread::of(&counts))
+}
+
+fn entries_in(alloc: Global, pages: &[Page], leaves: bool) -> Result<Vec<u64>, NoMemory>
     ensures { IfOk result (λ counts. counts.items ≡ counts_of leaves pages.now) }
 {
     Ok(
@@ -50,8 +58,15 @@ pub(crate) fn entries_in(alloc: Global, pages: &[Page], leaves: bool) -> Result<
     )
 }
 
-/// Returns the number of records of each page in a row, along the deepest path.
-pub(crate) fn depths(alloc: Global, pages: &[Page]) -> Result<Vec<u64>, NoMemory>
+/// Returns a summary of the numbers of records of the pages in rows, along the deepest path.
+pub(crate) fn spread_of_depths(alloc: Global, pages: &[Page]) -> Result<Spread, NoMemory>
+    ensures { IfOk result (IsSpreadOf (depths_of pages.now)) }
+{
+    let depths = depths(alloc, pages)?;
+    Ok(Spread::of(&depths))
+}
+
+fn depths(alloc: Global, pages: &[Page]) -> Result<Vec<u64>, NoMemory>
     ensures { IfOk result (λ depths. depths.items ≡ depths_of pages.now) }
 {
     Ok(

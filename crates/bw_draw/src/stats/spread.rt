@@ -1,7 +1,7 @@
 ghost use Rattle.std.specs.Prelude.{◌≡◌, sum};
 ghost use Rattle.bw_draw.specs.Figures.{IsSpreadOf, capped, least, greatest};
 
-use std::fmt;
+use crate::pen::Pen;
 
 /// A summary of some numbers.
 #[derive(Clone, Copy)]
@@ -27,6 +27,21 @@ impl Spread {
             greatest: greatest_of(numbers),
             sum: sum_of(numbers),
         }
+    }
+
+    /// Writes a text, and behind it the least, the mean with two decimals and the greatest, or `none`.
+    pub(crate) fn write(self, pen: &mut Pen, text: &str) {
+        let count = self.count as u64;
+        pen.write(text);
+        if count == 0 {
+            return pen.write("none");
+        }
+        pen.number("least ", self.least);
+        pen.number(" mean ", self.sum / count);
+        let hundredths = (self.sum % count).saturating_mul(100) / count;
+        pen.number(".", hundredths / 10);
+        pen.number("", hundredths % 10);
+        pen.number(" greatest ", self.greatest);
     }
 }
 
@@ -58,20 +73,4 @@ fn sum_of(numbers: &[u64]) -> u64
         total = total.saturating_add(*number);
     }
     total
-}
-
-/// The least, the mean with two decimals and the greatest, or `none`.
-impl fmt::Display for Spread {
-    fn fmt<W: fmt::Write>(&self, f: &mut fmt::Formatter<W>) -> fmt::Result {
-        let (least, greatest, count) = (self.least, self.greatest, self.count as u64);
-        if count == 0 {
-            return f.write_str("none");
-        }
-        let whole = self.sum / count;
-        let hundredths = (self.sum % count).saturating_mul(100) / count;
-        write!(
-            f,
-            "least {least} mean {whole}.{hundredths:02} greatest {greatest}"
-        )
-    }
 }

@@ -15,10 +15,10 @@ use bw_table::Table;
 use bw_texts::read_trace;
 use bw_work::Open;
 use std::alloc::Global;
-use std::io::{BufWriter, Read, Write};
+use std::io;
+use std::io::{Read, Write};
 use std::sync::Wait;
 use std::thread::Threads;
-use std::{fmt, io};
 
 /// Returns the table that the trace or the script leaves, and notes which lines of the script were
 /// refused.
@@ -62,7 +62,7 @@ pub(crate) fn draw<T: Threads + Wait + Sync + Send + Copy, R: Read + Drop, W: Wr
         None => Drawing::of(alloc, &picture),
         Some(key) => Drawing::near(alloc, &picture, key),
     };
-    write_shown(alloc, output, &drawing?)
+    write_shown(output, &drawing?.text)
 }
 
 /// Writes the page that shows the film of the trace or of the script, unless that ends before the
@@ -122,19 +122,12 @@ pub(crate) fn tell_stats<
     notes: &mut N,
 ) -> Result<(), Fault> {
     let stats = Stats::of(alloc, &table_of(rt, alloc, options, input, notes)?)?;
-    write_shown(alloc, output, &stats)
+    write_shown(output, &stats.text(alloc)?)
 }
 
 /// Writes the text and a line feed.
-fn write_shown<W: Write, S: fmt::Display>(
-    alloc: Global,
-    output: &mut W,
-    shown: &S,
-) -> Result<(), Fault> {
-    let Ok(mut lines) = BufWriter::new(alloc, output) else {
-        return Err(Fault::Memory);
-    };
-    writeln!(lines, "{shown}")?;
-    lines.flush()?;
+fn write_shown<W: Write>(output: &mut W, text: &str) -> Result<(), Fault> {
+    writeln!(output, "{text}")?;
+    output.flush()?;
     Ok(())
 }
