@@ -221,9 +221,27 @@ static bool refuse(uint64_t at) {
     return met;
 }
 
+/* Whether a request was refused while a map was made of pairs whose keys rise: then there is none, or it has all pairs. */
+static bool refuse_sorted(uint64_t at) {
+    nifforan map = NIFFORAN_CLOSED;
+    const nifforan_settings settings = { sizeof(nifforan_settings), 4, 1, 1024, 1000, 0 };
+    nifforan_pair pairs[KEYS];
+    for (uint64_t key = 0; key < KEYS; key++) pairs[key] = (nifforan_pair){ key, key };
+    requests = 0;
+    refused_at = at;
+    const uint32_t status = nifforan_from_sorted(&map, &settings, pairs, KEYS).status;
+    const bool met = requests >= at;
+    MUST(status == NIFFORAN_OK || (met && status == NIFFORAN_NO_MEMORY && map.at == NULL));
+    MUST(status != NIFFORAN_OK || nifforan_pairs(&map).pairs == KEYS);
+    nifforan_close(&map);
+    MUST(blocks == 0);
+    return met;
+}
+
 int main(void) {
     uint64_t met = 0;
     for (uint64_t at = 1; at <= REFUSALS; at++) met += refuse(at);
+    for (uint64_t at = 1; refuse_sorted(at); at++) continue;
     printf("%" PRIu64 " of %d requests refused, %" PRIu64 " of them told, and each map has its pairs\n", met, REFUSALS, told);
     return met == REFUSALS ? 0 : 1;
 }

@@ -1,6 +1,8 @@
-//! Four threads fill one map, each with keys of its own. Four with readers fill another, and scan
-//! what they put without the lock.
+//! Four threads fill one map, each with keys of its own, and two kinds of workers go on with it. Four
+//! with readers fill another, and scan what they put without the lock.
 #![tactic(auto)]
+
+mod each;
 
 use anyhow::Result;
 use nifforan_shared::{
@@ -51,6 +53,9 @@ fn main(rt: HostRuntime) -> Result<()> {
         output?;
     }
     println!(rt; "{:?}", shared.table.get(1000))?;
+    for output in each::share_again(rt, rt.alloc(), shared.table)? {
+        println!(rt; "{output:?}")?;
+    }
     let shared = share_with_readers(rt, rt.alloc(), Config::default(), 4, &Fill)?;
     for found in shared.outputs {
         println!(rt; "found {:?}", found?)?;

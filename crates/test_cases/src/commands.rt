@@ -7,7 +7,9 @@
 //! |---|---|
 //! | `$` | a case begins, and these are its words; after a bar are those of a second call, which reads what the first prints |
 //! | `+` | with these words after its own the answer is the same |
+//! | `~` | the case is run so many times, and `%` in its words is the run's number, from 0 on |
 //! | `<` | a line of the input |
+//! | `<A..B` | such lines, in which `%` is each number from A to B |
 //! | `<-` | a line of the input, without its line feed |
 //! | `<!` | from here on the input can't be read |
 //! | `*` | somebody watches the faults, as on a terminal |
@@ -20,12 +22,12 @@
 //! An empty line says nothing. The lines of the answer stand in this order.
 
 use crate::program::{Answer, Input, answer_to};
-use anyhow::{Result, bail, ensure};
+use crate::texts::compare;
+use anyhow::{Context, Result, bail, ensure};
 use std::alloc::Global;
 use std::rt::Files;
 use std::sync::Wait;
 use std::thread::Threads;
-use test_scripts::texts::compare;
 
 /// An input of the program, and the answer wanted.
 #[derive(Drop)]
@@ -33,6 +35,8 @@ struct Case<'a> {
     words: &'a str,
     /// Further words after these, with which the answer is the same.
     more: Option<&'a str>,
+    /// How many times it is run.
+    times: u64,
     input: String,
     has_failure: bool,
     /// Whether somebody watches the faults.
@@ -70,6 +74,7 @@ fn read_case<'a>(alloc: Global, block: &'a str) -> Result<Case<'a>> {
     let mut case = Case {
         words,
         more: None,
+        times: 1,
         input: String::new(alloc),
         has_failure: false,
         is_watched: false,
@@ -89,16 +94,41 @@ impl<'a> Case<'a> {
         match mark {
             "" | "#" => {}
             "+" => self.more = Some(text),
+            "~" => self.times = text.parse()?,
             "<" => writeln!(self.input, "{text}")?,
             "<-" => self.input.push_str(text)?,
             "<!" => self.has_failure = true,
             "*" => self.is_watched = true,
             ".." => self.has_more = true,
             ">" | ">-" | "!" | "!-" | "=" => writeln!(self.wanted, "{mark} {text}")?,
-            _ => bail!("{mark} is no mark of a line"),
+            _ => return self.take_numbered(mark, text),
         }
         Ok(())
     }
+
+    /// Takes a line that stands for such lines of the input.
+    fn take_numbered(&mut self, mark: &str, text: &str) -> Result<()> {
+        let numbers = mark.strip_prefix('<').and_then(|it| it.split_once(".."));
+        let (first, last) = numbers.context("a line has no mark")?;
+        for number in first.parse::<u64>()?..=last.parse::<u64>()? {
+            add_numbered(&mut self.input, text, number)?;
+            writeln!(self.input)?;
+        }
+        Ok(())
+    }
+}
+
+/// Adds a text to another one, with the number for each `%`.
+fn add_numbered(to: &mut String, text: &str, number: u64) -> Result<()> {
+    let mut is_first = true;
+    for part in text.split('%') {
+        if !is_first {
+            write!(to, "{number}")?;
+        }
+        to.push_str(part)?;
+        is_first = false;
+    }
+    Ok(())
 }
 
 /// Fails where the program first doesn't answer the case of a block as wanted.
@@ -117,21 +147,26 @@ fn judge<R: Threads + Wait + Sync + Send + Copy + Files>(
     alloc: Global,
     case: &Case,
 ) -> Result<()> {
-    judge_with(rt, alloc, case, "")?;
-    match case.more {
-        Some(more) => judge_with(rt, alloc, case, more),
-        None => Ok(()),
+    for number in 0..case.times {
+        let mut words = String::new(alloc);
+        add_numbered(&mut words, case.words, number)?;
+        judge_with(rt, alloc, case, &words, "")?;
+        if let Some(more) = case.more {
+            judge_with(rt, alloc, case, &words, more)?;
+        }
     }
+    Ok(())
 }
 
-/// Fails where it first doesn't, with more words after the case's own.
+/// Fails where it first doesn't, by these words and more after them.
 fn judge_with<R: Threads + Wait + Sync + Send + Copy + Files>(
     rt: R,
     alloc: Global,
     case: &Case,
+    words: &str,
     more: &str,
 ) -> Result<()> {
-    let lines = answer_with(rt, alloc, case, more)?.lines(alloc)?;
+    let lines = answer_with(rt, alloc, case, words, more)?.lines(alloc)?;
     let many = case.wanted.lines().count();
     let above = lines.lines().count().saturating_sub(many);
     compare(
@@ -145,9 +180,10 @@ fn answer_with<R: Threads + Wait + Sync + Send + Copy + Files>(
     rt: R,
     alloc: Global,
     case: &Case,
+    words: &str,
     more: &str,
 ) -> Result<Answer> {
-    let (words, next) = case.words.split_once(" | ").unwrap_or((case.words, ""));
+    let (words, next) = words.split_once(" | ").unwrap_or((words, ""));
     let input = Input {
         text: case.input.as_bytes(),
         has_failure: case.has_failure,

@@ -1,11 +1,11 @@
 //! Films of scripts, compared with pages byte for byte.
 
 use crate::program::output_of;
+use crate::texts::{compare, read_part};
 use anyhow::Result;
 use std::rt::Files;
 use std::sync::Wait;
 use std::thread::Threads;
-use test_scripts::texts::{compare, read_part};
 
 /// Films the script with this name, by the further words beside it, and compares the page with the
 /// one at the path.

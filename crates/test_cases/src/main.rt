@@ -8,7 +8,10 @@ mod commands;
 mod films;
 mod program;
 mod scripts;
+mod shared;
+mod texts;
 mod vectors;
+mod ways;
 
 use anyhow::{Result, bail};
 use std::process::ExitCode;
@@ -16,7 +19,6 @@ use std::rt::Files;
 use std::sync::Wait;
 use std::thread::Threads;
 use std::{env, io};
-use test_scripts::{shared, texts};
 
 /// Returns what is printed for an argument. A case that isn't answered as foretold is an error,
 /// too.

@@ -1,6 +1,7 @@
 //! Scripts of steps that are built by hand: played, with an answer to each, and drawn.
 
 use crate::program::output_of;
+use crate::texts::{compare, read_part};
 use anyhow::{Result, bail};
 use bw_draw::{Drawing, Picture};
 use bw_scripts::{Answer, Player};
@@ -8,7 +9,6 @@ use std::alloc::Global;
 use std::rt::Files;
 use std::sync::Wait;
 use std::thread::Threads;
-use test_scripts::texts::{compare, read_part};
 
 /// Has the program answer the script, and compares its answers with those that lie beside it.
 pub(crate) fn agree<R: Threads + Wait + Sync + Send + Copy + Files + AllocGlobal>(
@@ -51,7 +51,7 @@ fn drawing(alloc: Global, player: &Player) -> Result<String> {
         bail!("line {}: there is no table yet", player.lines());
     };
     let picture = Picture::of(alloc, table)?;
-    let drawing = Drawing::of(alloc, &picture)?;
+    let drawing = Drawing::of(alloc, &picture)?.text;
     Ok(format!(in alloc; "{drawing}\n")?)
 }
 

@@ -4,42 +4,36 @@ ghost use Rattle.std.specs.Prelude.{IfOk};
 ghost use Rattle.bw_delta.specs.Sound.{IsSound};
 
 use crate::assert_same::assert_same;
-use crate::builders::{Listed, Part, Plan, add_record, built, lists_pairs};
+use crate::leaves::{joined, leaf, lists_pairs};
 use bw_chain::{HalveFault, append_pairs, consolidate, depth, halve, same};
-use bw_delta::{Base, BaseFault, Chain, Delta, NoMemory, Spare};
-use bw_keys::{Fence, Key, MAX_DEPTH, Pid};
+use bw_delta::{BaseFault, Chain, Delta, NoMemory, Spare};
+use bw_keys::{Key, MAX_DEPTH, Pid};
 use linked_list_allocator::LocalHeap;
 use std::alloc::{Allocator, Global};
 use std::test::Fail;
 
-/// A leaf that was split at 5 and has taken its right half back: 1 deleted, and 6 inserted.
-static MERGED: Plan = Plan {
-    left: Part {
-        low: 0,
-        listed: Listed::Pairs(&[(1, 10), (3, 30), (5, 50)]),
-        records: &[Delta::Split(5, Pid(7)), Delta::Delete(1)],
-    },
-    right: Some(Part {
-        low: 5,
-        listed: Listed::Pairs(&[(5, 50)]),
-        records: &[Delta::Insert(6, 60)],
-    }),
-    records: &[],
-};
-
-/// Copies the leaf, consolidates and halves the copy, and lists its pairs. Reports whether all
-/// results are right.
-fn is_right<A: Allocator + Copy>(alloc: A) -> Result<bool, HalveFault> {
-    let Ok(chain) = built(alloc, &MERGED) else {
-        return Err(HalveFault::NoMemory);
-    };
-    let Ok(copy) = chain.copy_in(alloc) else {
-        return Err(HalveFault::NoMemory);
-    };
-    are_right(alloc, &copy)
+/// Builds a leaf that was split at 5 and has taken its right half back: 1 is deleted, and 6 inserted.
+fn merged<A: Allocator + Copy>(alloc: A) -> Result<Chain<A>, BaseFault>
+    ensures { IfOk result IsSound }
+{
+    let records = [Delta::Split(5, Pid(7)), Delta::Delete(1)];
+    let left = leaf(alloc, 0, &[(1, 10), (3, 30), (5, 50)], &records)?;
+    let right = leaf(alloc, 5, &[(5, 50)], &[Delta::Insert(6, 60)])?;
+    joined(alloc, left, right)
 }
 
-/// Consolidates the copy, halves that, and lists the pairs of the copy.
+/// Copies the leaf, and returns whether the copy is right.
+fn is_right<A: Allocator + Copy>(alloc: A) -> Result<bool, HalveFault> {
+    let Ok(chain) = merged(alloc) else {
+        return Err(HalveFault::NoMemory);
+    };
+    match chain.copy_in(alloc) {
+        Ok(copy) => are_right(alloc, &copy),
+        Err(_) => Err(HalveFault::NoMemory),
+    }
+}
+
+/// Consolidates the copy, halves that, and lists the pairs of the copy. Returns whether all are right.
 fn are_right<A: Allocator + Copy>(alloc: A, copy: &Chain<A>) -> Result<bool, HalveFault>
     requires { IsSound copy.now }
 {
@@ -47,36 +41,13 @@ fn are_right<A: Allocator + Copy>(alloc: A, copy: &Chain<A>) -> Result<bool, Hal
         return Err(HalveFault::NoMemory);
     };
     let (separator, upper) = halve(alloc, &whole)?;
-    let is_whole = lists_pairs(&whole, &[(3, 30), (5, 50), (6, 60)]);
-    let is_upper = lists_pairs(&upper, &[(5, 50), (6, 60)]);
-    let are_listed = lists_the_same(alloc, copy, &whole)?;
-    Ok(is_whole && separator == 5 && is_upper && are_listed)
-}
-
-/// Reports whether the chain lists the pairs of the page.
-fn lists_the_same<A: Allocator + Copy>(
-    alloc: A,
-    chain: &Chain<A>,
-    page: &Base<A>,
-) -> Result<bool, HalveFault>
-    requires { IsSound chain.now }
-{
+    let is_upper = separator == 5 && lists_pairs(&upper, &[(5, 50), (6, 60)]);
     let mut pairs = Vec::new(alloc);
-    appends_those_of(chain, page, &mut pairs)
-}
-
-/// Appends the pairs of the chain, and reports whether the list is that of the page then.
-fn appends_those_of<A: Allocator + Copy>(
-    chain: &Chain<A>,
-    page: &Base<A>,
-    pairs: &mut Vec<(Key, u64), A>,
-) -> Result<bool, HalveFault>
-    requires { IsSound chain.now }
-{
-    if append_pairs(chain, pairs).is_err() {
+    if append_pairs(copy, &mut pairs).is_err() {
         return Err(HalveFault::NoMemory);
     }
-    Ok(lists_pairs(page, pairs.as_slice()))
+    let are_listed = pairs.as_slice() == [(3, 30), (5, 50), (6, 60)].as_slice();
+    Ok(is_upper && are_listed && lists_pairs(&whole, pairs.as_slice()))
 }
 
 // A heap grows by 16 bytes from run to run, so each request is once the first to be refused.
@@ -85,24 +56,13 @@ fn each_request_may_be_refused(rt: HostRuntime) -> Result<(), Fail> {
     let (mut made, mut refused) = (false, false);
     for cells in 1..400usize {
         let heap = LocalHeap::new(rt.alloc(), 16 * cells)?;
-        match is_right(&heap) {
-            Ok(is_right) => {
-                assert_same(&rt, is_right, true, ("right results, cells", cells));
-                made = true;
-            }
-            Err(fault) => {
-                assert_same(&rt, fault, HalveFault::NoMemory, ("fault, cells", cells));
-                refused = true;
-            }
-        }
-        assert_same(&rt, heap.used(), 0, ("memory that is left, cells", cells));
+        let answer = is_right(&heap);
+        made |= answer == Ok(true);
+        refused |= answer == Err(HalveFault::NoMemory);
+        let is_fair = answer == Ok(true) || answer == Err(HalveFault::NoMemory);
+        assert_same(&rt, (is_fair, heap.used()), (true, 0), ("cells", cells));
     }
-    assert_same(
-        &rt,
-        made && refused,
-        true,
-        "made in some heaps, refused in others",
-    );
+    assert_same(&rt, (made, refused), (true, true), "made and refused");
     Ok(())
 }
 
@@ -115,26 +75,18 @@ fn hundred_pairs() -> [(Key, u64); 100] {
     pairs
 }
 
-/// Returns the record of this number: each fourth key from 100 on deleted, the next one modified, and
-/// smaller ones inserted.
-fn record_numbered(number: u64) -> Delta {
-    match number % 4 {
-        0 => Delta::Delete(number.saturating_add(100)),
-        1 => Delta::Modify(number.saturating_add(100), 7),
-        _ => Delta::Insert(number, 7),
+/// Returns as many records as a chain may have: each fourth key from 100 on deleted, the next one modified,
+/// and smaller ones inserted.
+fn most_records() -> [Delta; MAX_DEPTH as usize] {
+    let mut records = [Delta::Remove; MAX_DEPTH as usize];
+    for i in 0..u64::from(MAX_DEPTH) {
+        records[i as usize] = match i % 4 {
+            0 => Delta::Delete(100 + i),
+            1 => Delta::Modify(100 + i, 7),
+            _ => Delta::Insert(i, 7),
+        };
     }
-}
-
-/// Builds a leaf with 100 to 199 under as many records as a chain may have.
-fn deepest_leaf<A: Allocator + Copy>(alloc: A) -> Result<Chain<A>, BaseFault>
-    ensures { IfOk result IsSound }
-{
-    let pairs = hundred_pairs();
-    let mut chain = Chain::bare(Base::leaf(alloc, 0, Fence::Top, None, &pairs)?);
-    'records: for number in 0..u64::from(MAX_DEPTH) {
-        add_record(alloc, &mut chain, record_numbered(number))?;
-    }
-    Ok(chain)
+    records
 }
 
 /// Takes all the memory that the heap still has.
@@ -152,30 +104,14 @@ fn fill<'a>(alloc: Global, heap: &'a LocalHeap) -> Result<Vec<Vec<u8, &'a LocalH
 #[test]
 fn a_comparison_takes_no_memory(rt: HostRuntime) -> Result<(), Fail> {
     let heap = LocalHeap::new(rt.alloc(), 65536)?;
-    let chain = deepest_leaf(&heap)?;
+    let chain = leaf(&heap, 0, &hundred_pairs(), &most_records())?;
     let page = consolidate(&heap, &chain)?;
-    let mut pairs = Vec::with_capacity(rt.alloc(), 200)?;
     let filling = fill(rt.alloc(), &heap)?;
     let used = heap.used();
-    assert_same(
-        &rt,
-        Spare::new(&heap).is_err() && same(&page, &chain),
-        true,
-        "comparison in a full heap",
-    );
-    append_pairs(&chain, &mut pairs)?;
-    assert_same(
-        &rt,
-        lists_pairs(&page, pairs.as_slice()),
-        true,
-        "pairs of the chain",
-    );
-    assert_same(
-        &rt,
-        consolidate(&heap, &chain).err(),
-        Some(NoMemory),
-        "consolidation in a full heap",
-    );
+    let is_same = Spare::new(&heap).is_err() && same(&page, &chain);
+    assert_same(&rt, is_same, true, "comparison in a full heap");
+    let refused = consolidate(&heap, &chain).err();
+    assert_same(&rt, refused, Some(NoMemory), "consolidation in a full heap");
     assert_same(&rt, heap.used(), used, "memory after a refusal");
     drop(filling);
     Ok(())
@@ -185,30 +121,16 @@ fn a_comparison_takes_no_memory(rt: HostRuntime) -> Result<(), Fail> {
 #[test]
 fn a_result_is_reserved_once_and_the_deepest_chain_given_back(rt: HostRuntime) -> Result<(), Fail> {
     let heap = LocalHeap::new(rt.alloc(), 65536)?;
-    let chain = deepest_leaf(&heap)?;
+    let chain = leaf(&heap, 0, &hundred_pairs(), &most_records())?;
     let used = heap.used();
     let page = consolidate(&heap, &chain)?;
-    assert_same(
-        &rt,
-        heap.used().checked_sub(used),
-        Some(148 * 16),
-        "memory of the page",
-    );
-    assert_same(
-        &rt,
-        (page.len(), depth(&chain)),
-        (116, MAX_DEPTH),
-        "entries and records",
-    );
+    let taken = heap.used().checked_sub(used);
+    assert_same(&rt, (taken, page.len()), (Some(148 * 16), 116), "the page");
     drop(page);
     let copy = chain.copy_in(&heap)?;
     drop(chain);
-    assert_same(
-        &rt,
-        (heap.used(), depth(&copy)),
-        (used, MAX_DEPTH),
-        "memory and records of the copy",
-    );
+    let left = (heap.used(), depth(&copy));
+    assert_same(&rt, left, (used, MAX_DEPTH), "the copy");
     drop(copy);
     assert_same(&rt, heap.used(), 0, "memory that is left");
     Ok(())

@@ -1,17 +1,16 @@
-//! What the workers of a shared tree are answered, call by call, and what the statuses of a handle read as.
+//! What no contract says of the map in its three forms: how a map for one thread uses its pages, and what the
+//! workers of a shared tree and of a forest are answered.
 #![tactic(auto)]
 
 #[cfg(test)]
+mod asked;
+#[cfg(test)]
 mod assert_same;
 #[cfg(test)]
-mod drawn;
+mod forests;
 #[cfg(test)]
-mod given_up;
+mod maps;
 #[cfg(test)]
-mod looks;
-#[cfg(test)]
-mod queries;
+mod readers;
 #[cfg(test)]
 mod shared;
-#[cfg(test)]
-mod texts;

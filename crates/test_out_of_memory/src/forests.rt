@@ -2,9 +2,9 @@
 
 use crate::acts::{ACTS, Acting, act_all};
 use crate::ending::{Ending, Stop, hold};
-use crate::plain::{KEYS, Plain};
+use crate::plain::Plain;
 use crate::workers::audited;
-use bw_keys::{Fence, Key};
+use bw_keys::Key;
 use bw_step::Receipt;
 use bw_work::{Act, Fault, Reply};
 use nifforan_forest::{
@@ -18,60 +18,38 @@ use std::sync::atomic::{AtomicU32, Ordering};
 use std::thread::Threads;
 use test_kit::SMALL;
 
-/// Where the trees begin, two for each worker. The range that is cleared goes over both.
-const LOWS: [Key; 4] = [0, 6, 16, 22];
+/// Where the trees begin. The range that is cleared goes over two of them.
+const LOWS: [Key; 3] = [0, 6, 16];
 
-/// Returns where the keys of a worker begin, which no other worker uses.
-fn base_of(worker: u32) -> Key {
-    u64::from(worker) * KEYS as u64
-}
-
-/// A worker whose acts are of keys that lie so much higher.
+/// A worker of a forest, whose acts are those of a tree's worker.
 #[derive(Drop)]
-struct Above<'f, 'b, H: ForestHand> {
+struct Across<'f, 'b, H: ForestHand> {
     forest: &'f mut ForestWorker<'b, H>,
-    base: Key,
 }
 
-impl<'f, 'b, H: ForestHand> Acting for Above<'f, 'b, H> {
+impl<'f, 'b, H: ForestHand> Acting for Across<'f, 'b, H> {
     fn act(&mut self, machine: Global, act: Act) -> Result<Reply, Fault> {
-        let base = self.base;
-        match act {
-            Act::Put { key, value } => {
-                let done = self.forest.put(base.saturating_add(key), value)?;
-                Ok(Reply::Put(done))
-            }
-            Act::Set { key, value } => {
-                let done = self.forest.set(base.saturating_add(key), value)?;
-                Ok(Reply::Set(done))
-            }
-            Act::Delete { key } => {
-                let done = self.forest.delete(base.saturating_add(key))?;
-                Ok(Reply::Delete(done))
-            }
-            Act::Get { key } => Ok(Reply::Get(self.forest.get(base.saturating_add(key))?)),
-            Act::Clear { low, high } => {
-                let high = match high {
-                    Fence::Key(high) => Fence::Key(base.saturating_add(high)),
-                    Fence::Top => Fence::Top,
-                };
-                let low = base.saturating_add(low);
-                Ok(Reply::Clear(self.forest.clear(machine, low, high)))
-            }
-        }
+        Ok(match act {
+            Act::Put { key, value } => Reply::Put(self.forest.put(key, value)?),
+            Act::Set { key, value } => Reply::Set(self.forest.set(key, value)?),
+            Act::Delete { key } => Reply::Delete(self.forest.delete(key)?),
+            Act::Get { key } => Reply::Get(self.forest.get(key)?),
+            Act::Clear { low, high } => Reply::Clear(self.forest.clear(machine, low, high)),
+        })
     }
 }
 
-/// What a worker leaves at its keys, and how it ended.
+/// What a worker leaves, and how it ended.
 type Left = Result<(Plain, Ending), Stop>;
 
 type Outcome = ForestOutcome<Left, Vec<Receipt>>;
 
-/// Each worker's acts, and a scan of what they leave.
+/// The first worker's acts, and a scan of what they leave. A second one only looks on, so that as much memory is
+/// requested whatever the order in which they come.
 #[derive(Drop)]
 struct Trial {
     machine: Global,
-    /// What each worker finds at its keys.
+    /// What the first worker finds.
     found: Plain,
     begun: AtomicU32,
 }
@@ -83,32 +61,32 @@ impl ForestJob for Trial {
 
     fn work<H: ForestHand>(&self, worker: u32, forest: &mut ForestWorker<'_, H>) -> Left {
         self.begun.fetch_add(1, Ordering::SeqCst);
-        let base = base_of(worker);
         let mut plain = self.found;
-        let mut above = Above {
+        if worker > 0 {
+            return Ok((plain, Ending::Whole));
+        }
+        let mut across = Across {
             forest: &mut *forest,
-            base,
         };
-        let acted = act_all(&mut above, self.machine, &ACTS, &mut plain)?;
-        let scanned = scan(self.machine, forest, base, &plain)?;
+        let acted = act_all(&mut across, self.machine, &ACTS, &mut plain)?;
+        let scanned = scan(self.machine, forest, &plain)?;
         Ok((plain, acted.and(scanned)))
     }
 }
 
-/// Scans the worker's keys. If memory was refused, the list has the first of the pairs, and a further
+/// Scans all keys. If memory was refused, the list has the first of the pairs, and a further
 /// scan has all of them.
 fn scan<H: ForestHand>(
     machine: Global,
     forest: &mut ForestWorker<'_, H>,
-    base: Key,
     plain: &Plain,
 ) -> Result<Ending, Stop> {
     let mut list = Vec::new(machine);
     let mut ending = Ending::Whole;
-    if let Err(fault) = forest.scan(base, plain.len(), &mut list) {
+    if let Err(fault) = forest.scan(0, plain.len(), &mut list) {
         hold(fault == Fault::NoMemory, "memory alone is wanting")?;
         let first = replace(&mut list, Vec::new(machine));
-        let again = forest.scan(base, plain.len(), &mut list);
+        let again = forest.scan(0, plain.len(), &mut list);
         hold(again.is_ok(), "memory is refused once")?;
         hold(
             list.starts_with(first.as_slice()),
@@ -116,11 +94,7 @@ fn scan<H: ForestHand>(
         )?;
         ending = Ending::Refused;
     }
-    let rest = plain.strip(base, &list);
-    hold(
-        rest.is_some_and(|rest| rest.is_empty()),
-        "a scan lists all pairs",
-    )?;
+    hold(plain.has(&list), "a scan lists all pairs")?;
     Ok(ending)
 }
 
@@ -216,24 +190,18 @@ fn reclose(
     }
 }
 
-/// Fails unless the forest has the pairs of all workers' maps. Returns how the workers ended.
+/// Fails unless the forest has the pairs of the first worker's map. Returns how that worker ended.
 fn see_pairs(
     machine: Global,
     forest: &ClosedForest<Global>,
     workers: &[Returned<Left, Vec<Receipt>>],
 ) -> Result<Ending, Stop> {
+    let Some(first) = workers.first() else {
+        return Err(Stop::Broken("a forest has its worker"));
+    };
+    let (plain, ending) = first.output?;
     let pairs = forest.pairs(machine)?;
-    let mut rest = Some(pairs.as_slice());
-    let mut ending = Ending::Whole;
-    for (returned, worker) in workers.iter().zip(0u32..) {
-        let (plain, ended) = returned.output?;
-        rest = rest.and_then(|rest| plain.strip(base_of(worker), rest));
-        ending = ending.and(ended);
-    }
-    hold(
-        rest.is_some_and(|rest| rest.is_empty()) && forest.len() == pairs.len() as u64,
-        "the pairs are the scripts'",
-    )?;
+    hold(plain.has(&pairs), "the pairs are the script's")?;
     Ok(ending)
 }
 
@@ -251,8 +219,8 @@ fn last_trails(
     Ok(trails)
 }
 
-/// Fails unless the trees have the pairs of all workers' maps, and the audit explains the trails at
-/// each tree. Returns how the workers ended.
+/// Fails unless the trees have the pairs of the first worker's map, and the audit explains the trails at each tree.
+/// Returns how that worker ended.
 fn judge(machine: Global, outcome: Outcome) -> Result<Ending, Stop> {
     let ForestOutcome {
         forest,
@@ -266,8 +234,7 @@ fn judge(machine: Global, outcome: Outcome) -> Result<Ending, Stop> {
     Ok(ending)
 }
 
-/// The trial of two workers, of whom each has trees of its own, so that they request as much memory
-/// whatever the order in which they come.
+/// The trial of two workers.
 pub(crate) fn forest_of_two<R: Threads + Wait + Sync + Send + Copy>(
     rt: R,
     machine: Global,

@@ -1,6 +1,7 @@
 //! A plain map beside a tree.
 
 use crate::ending::{Deviation, Ending};
+use bw_audit::is_ascending;
 use bw_keys::{Fence, Key};
 use bw_work::{Act, Cleared, Del, Fault, Put, Reply, Set};
 
@@ -122,24 +123,13 @@ impl Plain {
         len
     }
 
-    /// Returns what follows its pairs, in the order of their keys, which lie so much higher. None if
-    /// the pairs don't begin with them.
-    pub(crate) fn strip<'p>(&self, base: Key, pairs: &'p [(Key, u64)]) -> Option<&'p [(Key, u64)]> {
-        let mut rest = pairs;
-        for key in 0..KEYS as u64 {
-            if let Some(value) = self.get(key) {
-                let (first, others) = rest.split_first()?;
-                if *first != (base.saturating_add(key), value) {
-                    return None;
-                }
-                rest = others;
-            }
-        }
-        Some(rest)
-    }
-
     /// Returns whether these are its pairs, in the order of their keys.
     pub(crate) fn has(&self, pairs: &[(Key, u64)]) -> bool {
-        self.strip(0, pairs).is_some_and(|rest| rest.is_empty())
+        for (key, value) in pairs {
+            if self.get(*key) != Some(*value) {
+                return false;
+            }
+        }
+        is_ascending(pairs) && pairs.len() == self.len()
     }
 }

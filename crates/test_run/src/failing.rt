@@ -1,9 +1,7 @@
 //! Readers and writers that move one byte a call, of whose calls each fails in turn.
 
 use crate::assert_same::assert_same;
-use bw_trace::{
-    OutFault, TextFault, command, read_history, read_trace, write_history, write_trace,
-};
+use bw_trace::command;
 use std::alloc::Global;
 use std::io;
 use std::io::{Read, Write};
@@ -231,47 +229,6 @@ fn each_call_of_an_end_may_fail(rt: HostRuntime) -> Result<(), Fail> {
                 ("case, failing, failed", case, failing, failed),
             );
         }
-    }
-    Ok(())
-}
-
-fn trace_is_read(alloc: Global, calls: u64) -> bool {
-    match read_trace(alloc, End::new(alloc, TRACE, calls), 1) {
-        Ok(rows) => rows.len() == 3 && calls > TRACE.len() as u64,
-        Err(fault) => fault == TextFault::Read,
-    }
-}
-
-fn history_is_read(alloc: Global, calls: u64) -> bool {
-    match read_history(alloc, End::new(alloc, HISTORY, calls)) {
-        Ok(history) => history.pairs.len() == 1 && calls > HISTORY.len() as u64,
-        Err(fault) => fault == TextFault::Read,
-    }
-}
-
-fn is_reported(written: Result<End, OutFault>, text: &str) -> bool {
-    match written {
-        Ok(output) => output.taken.as_slice() == text.as_bytes(),
-        Err(fault) => fault == OutFault::Write,
-    }
-}
-
-#[test]
-fn a_failed_read_or_write_of_a_text_is_reported(rt: HostRuntime) -> Result<(), Fail> {
-    let alloc = rt.alloc();
-    let rows = read_trace(alloc, TRACE.as_bytes(), 1)?;
-    let history = read_history(alloc, HISTORY.as_bytes())?;
-    for calls in 0..60 {
-        let are_read = trace_is_read(alloc, calls) && history_is_read(alloc, calls);
-        let trace = write_trace(End::new(alloc, "", calls), &rows);
-        let end = End::new(alloc, "", calls);
-        let history = write_history(end, &history.trails, &history.pairs);
-        assert_same(
-            &rt,
-            are_read && is_reported(trace, TRACE) && is_reported(history, HISTORY),
-            true,
-            ("calls", calls),
-        );
     }
     Ok(())
 }

@@ -1,6 +1,6 @@
-//! Tests of runs, texts and the command by public calls alone, beyond what files of cases can say:
-//! workers side by side, runs with a fault, texts that are written and read again, long ones, and
-//! ends that fail. The cases stand in `test_cases`.
+//! Tests of runs, texts and the command by public calls alone, beyond what files of cases can say: workers side by
+//! side, a worker that stops, texts that are written and read again, the longest ones, and ends that fail. The cases
+//! stand in `test_cases`.
 #![tactic(auto)]
 
 #[cfg(test)]
@@ -8,15 +8,7 @@ mod assert_same;
 #[cfg(test)]
 mod failing;
 #[cfg(test)]
-mod faults;
-#[cfg(test)]
-mod forests;
-#[cfg(test)]
 mod lines;
-#[cfg(test)]
-mod rows;
-#[cfg(test)]
-mod runs;
 #[cfg(test)]
 mod texts;
 #[cfg(test)]

@@ -1,9 +1,10 @@
 //! Texts that are read and written, and the faults of runs.
 
 use crate::assert_same::assert_same;
-use bw_keys::Pid;
+use bw_keys::{BadConfig, Field, Pid};
 use bw_step::{Kind, Receipt};
 use bw_trace::{RunFault, read_history, read_trace, tell_run_fault, write_history, write_trace};
+use bw_work::Fault;
 use std::test::Fail;
 
 /// Rows with quotes, zeros in front, an empty one and two ends of a line; the last has none.
@@ -34,35 +35,36 @@ fn what_is_written_is_what_was_read(rt: HostRuntime) -> Result<(), Fail> {
     Ok(())
 }
 
-static FAULTS: [(RunFault, u8, &str); 7] = [
-    (RunFault::Workers, 2, "bwtree: bad workers\n"),
-    (RunFault::Readers, 2, "bwtree: bad readers\n"),
-    (RunFault::Trees, 2, "bwtree: bad trees\n"),
+/// Faults, the status of each, and its text.
+static FAULTS: [(RunFault, u8, &str); 9] = [
+    (RunFault::Config(BadConfig(Field::Pages)), 2, "bad pages"),
+    (RunFault::Workers, 2, "bad workers"),
+    (RunFault::Readers, 2, "bad readers"),
+    (RunFault::Trees, 2, "bad trees"),
+    (RunFault::OtherRange, 3, "a tree has another range"),
+    (RunFault::NoReader, 3, "reader"),
+    (RunFault::Threads, 3, "threads"),
+    (RunFault::Memory, 3, "memory"),
     (
-        RunFault::OtherRange,
+        RunFault::Stopped(0, 4, Fault::Worn),
         3,
-        "bwtree: a tree has another range\n",
+        "worker 0 row 4: worn",
     ),
-    (RunFault::NoReader, 3, "bwtree: reader\n"),
-    (RunFault::Threads, 3, "bwtree: threads\n"),
-    (RunFault::Memory, 3, "bwtree: memory\n"),
 ];
 
 #[test]
 fn the_fault_of_a_run_has_a_line_and_a_status(rt: HostRuntime) -> Result<(), Fail> {
-    for (fault, status, line) in FAULTS.iter() {
+    for (fault, status, text) in FAULTS.iter() {
         let mut reported = Vec::new(rt.alloc());
+        let ended = tell_run_fault(&mut reported, *fault);
+        let line = format!(in rt.alloc(); "bwtree: {fault}\n")?;
+        assert_same(&rt, ended, *status, ("status of", fault));
+        assert_same(&rt, std::str::from_utf8(&reported)?, line.as_str(), "line");
         assert_same(
             &rt,
-            tell_run_fault(&mut reported, *fault),
-            *status,
-            ("status of", fault),
-        );
-        assert_same(
-            &rt,
-            std::str::from_utf8(&reported)?,
-            *line,
-            ("line of", fault),
+            line.trim().strip_prefix("bwtree: "),
+            Some(*text),
+            "text",
         );
     }
     Ok(())

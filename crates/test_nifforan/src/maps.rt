@@ -1,0 +1,177 @@
+//! A map for one thread: how many pages it takes and gives back, that it changes its leaves in place, where a
+//! fault stands, and how it is shown.
+
+use crate::assert_same::assert_same;
+use bw_keys::Pid;
+use nifforan::{Config, Fault, Fence, Map, Table, usual_config};
+use std::alloc::Global;
+use std::process::Abort;
+use std::test::Fail;
+
+/// Why a call may not fail.
+const MEMORY: &str = "there is memory";
+
+/// Makes a map by good settings.
+fn new_map<R: Abort + AllocGlobal>(rt: &R, config: Config) -> Map<Global> {
+    Map::new(rt.alloc(), rt.alloc(), config).expect(rt, MEMORY)
+}
+
+/// Returns whether a leaf has a record.
+fn has_record(table: &Table<Global>) -> bool {
+    for page in 0..table.config().pages {
+        if let Some(view) = table.peek(Pid(page)) {
+            if view.level == 0 && view.depth > 0 {
+                return true;
+            }
+        }
+    }
+    false
+}
+
+/// Puts odd keys, and sets the even ones twice, in a mixed order. Returns whether a leaf was split, and none
+/// ever has a record.
+fn leaves_no_record<R: Abort + AllocGlobal>(rt: &R, config: Config) -> bool {
+    let mut map = new_map(rt, config);
+    for key in 0..500 {
+        map.put(2 * key + 1, key).expect(rt, MEMORY);
+    }
+    let free = map.free_pages();
+    for round in 0..1000 {
+        map.set(2 * (7919 * round % 500), round).expect(rt, MEMORY);
+        if has_record(map.table()) {
+            return false;
+        }
+    }
+    map.free_pages() < free
+}
+
+#[test]
+fn a_map_leaves_no_record_on_a_leaf(rt: HostRuntime) {
+    for (fanout, chain) in [(4, 8), (64, 8), (8, 32)] {
+        let config = Config {
+            fanout,
+            chain,
+            pages: 1024,
+            ..Config::default()
+        };
+        let case = ("fanout, chain", fanout, chain);
+        assert_same(&rt, leaves_no_record(&rt, config), true, case);
+    }
+}
+
+#[test]
+fn a_fault_of_extend_stands_beside_its_reply(rt: HostRuntime) {
+    let config = Config {
+        fanout: 4,
+        pages: 8,
+        ..Config::default()
+    };
+    let mut map = new_map(&rt, config);
+    let done = map
+        .extend((0..100).map(|key| (key, key)))
+        .expect(&rt, MEMORY);
+    let left = (done.fault, map.len(), map.is_full());
+    assert_same(&rt, left, (Some(Fault::TableFull), 100, true), "overfilled");
+}
+
+// The only leaf has three versions left, of which the first set takes two, one for the change and one for the
+// page made anew, and the second one.
+#[test]
+fn a_fault_of_extend_stands_in_its_replys_place(rt: HostRuntime) {
+    let config = Config {
+        first_version: u64::MAX - 3,
+        ..Config::default()
+    };
+    let mut map = new_map(&rt, config);
+    let fault = map.extend((0..100).map(|key| (key, key))).err();
+    let later = map.update(.., |_, value| value.wrapping_add(1)).err();
+    let left = (fault, later, map.len());
+    assert_same(
+        &rt,
+        left,
+        (Some(Fault::Worn), Some(Fault::Worn), 2),
+        "worn out",
+    );
+}
+
+/// How many keys are put.
+const KEYS: u32 = 5000;
+
+/// Returns a key for each place: they rise, fall, or are mixed.
+fn key_at(order: u32, place: u32) -> u64 {
+    u64::from(match order {
+        0 => place,
+        1 => KEYS - place.min(KEYS),
+        _ => place.wrapping_mul(0x9e37_79b1),
+    })
+}
+
+#[test]
+fn pages_taken_ahead_do_for_their_pairs(rt: HostRuntime) {
+    for order in 0..3 {
+        let mut map = new_map(&rt, usual_config());
+        map.reserve(KEYS.into()).expect(&rt, MEMORY);
+        let pages = map.pages();
+        for place in 0..KEYS {
+            map.put(key_at(order, place), 0).expect(&rt, MEMORY);
+        }
+        let left = (map.pages(), map.len());
+        assert_same(&rt, left, (pages, KEYS.into()), ("order", order));
+    }
+}
+
+/// For how many pairs pages are taken ahead by a map of at most a thousand pages, and how many it has then.
+const AHEAD: [(u64, usize); 4] = [(0, 8), (200, 16), (201, 16), (u64::MAX, 1000)];
+
+#[test]
+fn a_map_has_the_pages_that_are_wanted(rt: HostRuntime) {
+    let config = Config {
+        fanout: 4,
+        chain: 1,
+        pages: 1000,
+        ..Config::default()
+    };
+    for (pairs, pages) in AHEAD {
+        let mut map = new_map(&rt, config);
+        map.reserve(pairs).expect(&rt, MEMORY);
+        assert_same(&rt, map.pages(), pages, ("pages for", pairs));
+    }
+    let mut map = new_map(&rt, usual_config());
+    map.reserve(1_000_000).expect(&rt, MEMORY);
+    let pages = map.pages();
+    assert_same(
+        &rt,
+        (32_258..33_000).contains(&pages),
+        true,
+        ("pages", pages),
+    );
+    for key in 0..10_000 {
+        map.put(key, 1).expect(&rt, MEMORY);
+    }
+    let cleared = map.clear(10, Fence::Top).removed;
+    map.shrink_to_fit().expect(&rt, MEMORY);
+    assert_same(&rt, (cleared, map.pages()), (9990, 8), "pages of ten pairs");
+}
+
+fn one_more(old: Option<u64>) -> u64 {
+    old.unwrap_or(0).wrapping_add(1)
+}
+
+/// Returns what an upsert replied, how many pairs weren't retained, the copy of the map, and how many pairs
+/// that has.
+fn shown(machine: Global) -> Result<String, Fail> {
+    let mut map = Map::from_pairs(machine, machine, usual_config(), [(3, 9), (1, 1)])?;
+    let done = map.upsert(3, one_more)?;
+    let _updated = map.update(.., |_, value| value.wrapping_mul(2))?;
+    let removed = map.retain(|key, _| key != 1).removed;
+    let copy = map.try_clone()?;
+    let count = copy.iter().size_hint();
+    Ok(format!(in machine; "{:?} {removed} {copy:?} {count:?}", done.reply)?)
+}
+
+#[test]
+fn a_map_is_made_changed_copied_and_shown(rt: HostRuntime) -> Result<(), Fail> {
+    let told = "Upsert { old: Some(9), new: 10 } 1 {3: 20} (1, Some(1))";
+    assert_same(&rt, shown(rt.alloc())?.as_str(), told, "map");
+    Ok(())
+}
