@@ -25,24 +25,34 @@ pub(crate) fn levels_of(alloc: Global, pages: &[Page], root: u8) -> Result<Vec<u
 fn pages_on(pages: &[Page], level: u32) -> usize
     ensures { result ≡ pages_on pages.now level }
 {
-    pages
-        .iter()
-        .filter(|page| page.view.stage.is_in_row() && u32::from(page.view.level) == level)
-        .count()
+    let mut found = 0usize;
+    for page in pages {
+        found += usize::from(page.view.stage.is_in_row() && u32::from(page.view.level) == level);
+    }
+    found
 }
 
 /// Returns the number of pages at the stage.
 pub(crate) fn pages_at(pages: &[Page], stage: Stage) -> usize
     ensures { result ≡ count_by (is_at stage) pages.now }
 {
-    pages.iter().filter(|page| page.view.stage == stage).count()
+    let mut found = 0usize;
+    for page in pages {
+        found += usize::from(page.view.stage == stage);
+    }
+    found
 }
 
 /// Returns a summary of the numbers of entries of the leaves in their row, or of the inner pages.
 pub(crate) fn spread_in(alloc: Global, pages: &[Page], leaves: bool) -> Result<Spread, NoMemory>
     ensures { IfOk result (IsSpreadOf (counts_of leaves pages.now)) }
 {
-    let counts = entries_in(alloc, pages, leaves)?;
+    let mut counts = Vec::new(alloc);
+    for page in pages {
+        if page.view.stage.is_in_row() && (page.view.level == 0) == leaves {
+            counts.push(page.view.count)?;
+        }
+    }
     Ok(Spread::of(&counts))
 }
 
@@ -62,7 +72,12 @@ fn entries_in(alloc: Global, pages: &[Page], leaves: bool) -> Result<Vec<u64>, N
 pub(crate) fn spread_of_depths(alloc: Global, pages: &[Page]) -> Result<Spread, NoMemory>
     ensures { IfOk result (IsSpreadOf (depths_of pages.now)) }
 {
-    let depths = depths(alloc, pages)?;
+    let mut depths = Vec::new(alloc);
+    for page in pages {
+        if page.view.stage.is_in_row() {
+            depths.push(u64::from(page.view.depth))?;
+        }
+    }
     Ok(Spread::of(&depths))
 }
 

@@ -21,11 +21,25 @@ impl Spread {
     pub fn of(numbers: &[u64]) -> Spread
         ensures { IsSpreadOf numbers.now result }
     {
+        let Some((first, rest)) = numbers.split_first() else {
+            return Spread {
+                count: 0,
+                least: 0,
+                greatest: 0,
+                sum: 0,
+            };
+        };
+        let (mut least, mut greatest, mut sum) = (*first, *first, *first);
+        for number in rest {
+            least = least.min(*number);
+            greatest = greatest.max(*number);
+            sum = sum.saturating_add(*number);
+        }
         Spread {
             count: numbers.len(),
-            least: least_of(numbers),
-            greatest: greatest_of(numbers),
-            sum: sum_of(numbers),
+            least,
+            greatest,
+            sum,
         }
     }
 
@@ -43,34 +57,4 @@ impl Spread {
         pen.number("", hundredths % 10);
         pen.number(" greatest ", self.greatest);
     }
-}
-
-fn least_of(numbers: &[u64]) -> u64
-    ensures { result ≡ least numbers.now }
-{
-    numbers
-        .iter()
-        .copied()
-        .reduce(|least, number| least.min(number))
-        .unwrap_or(0)
-}
-
-fn greatest_of(numbers: &[u64]) -> u64
-    ensures { result ≡ greatest numbers.now }
-{
-    numbers
-        .iter()
-        .copied()
-        .reduce(|greatest, number| greatest.max(number))
-        .unwrap_or(0)
-}
-
-fn sum_of(numbers: &[u64]) -> u64
-    ensures { result ≡ capped (sum numbers.now) }
-{
-    let mut total = 0u64;
-    for number in numbers {
-        total = total.saturating_add(*number);
-    }
-    total
 }

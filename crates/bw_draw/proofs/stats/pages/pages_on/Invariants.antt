@@ -1,0 +1,10 @@
+use Rattle.std.proofs.Common.{◌≡◌, ◌+◌, ◌≤◌, drop}
+use Rattle.std.specs.Prelude.{count_by}
+use Rattle.bw_draw.specs.Figures.{is_on}
+use Rattle.bw_draw.proofs.stats.pages.pages_on.Given as goal
+
+abbrev pub invariant-loop-page : goal.invariant-loop-page
+invariant-loop-page l = record {
+  rest : l.found + count_by (is_on l.level) (drop l.page-index l.pages) ≡ count_by (is_on l.level) l.pages;
+  few : l.found ≤ l.page-index;
+}
