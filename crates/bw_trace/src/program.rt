@@ -140,17 +140,30 @@ fn obey<T: Threads + Wait + Files + Sync + Send + Copy, R: Read + Drop, W: Write
     ensures { IfOk result (λ status. status ≤ 4) }
 {
     let matches = parse(alloc, words)?;
+    follow(rt, alloc, &matches, input, output, notes, progress)
+}
+
+/// Carries out what the words were found to say.
+fn follow<T: Threads + Wait + Files + Sync + Send + Copy, R: Read + Drop, W: Write, N: Write>(
+    rt: T,
+    alloc: Global,
+    matches: &ArgMatches,
+    input: R,
+    output: &mut W,
+    notes: &mut N,
+    progress: &Progress,
+) -> Result<u8, Fault>
+    ensures { IfOk result (λ status. status ≤ 4) }
+{
     let Some((name, options)) = matches.subcommand() else {
         return do_check(alloc, input, output);
     };
-    match options.get_str("FILE") {
-        None => carry_out(rt, alloc, name, options, input, output, notes, progress),
-        Some(path) => {
-            let Ok(file) = File::open(&rt, path) else {
-                return Err(Fault::Open(path.to_string(alloc)?));
-            };
-            carry_out(rt, alloc, name, options, file, output, notes, progress)
-        }
+    let Some(path) = options.get_str("FILE") else {
+        return carry_out(rt, alloc, name, options, input, output, notes, progress);
+    };
+    match File::open(&rt, path) {
+        Ok(file) => carry_out(rt, alloc, name, options, file, output, notes, progress),
+        Err(_) => Err(Fault::Open(path.to_string(alloc)?)),
     }
 }
 

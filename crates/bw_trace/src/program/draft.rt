@@ -3,127 +3,104 @@
 use clap::{Arg, ArgAction, Command};
 use std::alloc::{AllocError, Global};
 
-/// A command that is being made. Once memory is refused nothing more is added, and the end says so.
+/// A command that is being made. It remembers whether memory was refused, and the end says so.
 #[derive(Drop)]
 pub(crate) struct Draft<'a> {
-    pub(crate) alloc: Global,
-    pub(crate) made: Result<Command<'a>, AllocError>,
+    alloc: Global,
+    command: Command<'a>,
+    options: Vec<Arg<'a>>,
+    /// The commands below it.
+    below: Vec<Command<'a>>,
+    has_failed: bool,
 }
 
 impl<'a> Draft<'a> {
     pub(crate) fn new(alloc: Global, name: &'a str, about: &'a str, help: &'a str) -> Draft<'a> {
         Draft {
             alloc,
-            made: Ok(Command::new(alloc, name).about(about).after_help(help)),
+            command: Command::new(alloc, name).about(about).after_help(help),
+            options: Vec::new(alloc),
+            below: Vec::new(alloc),
+            has_failed: false,
         }
     }
 
-    /// Adds options whose values are numbers: the name of each, its default and its help.
-    pub(crate) fn options(self, options: &[(&'a str, &'a str, &'a str)]) -> Draft<'a> {
-        let mut draft = self;
-        for (name, default, help) in options {
-            let option = optional(draft.alloc, *name, *help).default_value(*default);
-            draft = draft.with(Ok(option));
-        }
-        draft
+    /// Adds an option whose value is a number, and its default.
+    pub(crate) fn number(&mut self, name: &'a str, default: &'a str, help: &'a str) {
+        let option = number(self.alloc, name, help).default_value(default);
+        self.add(option);
     }
 
-    /// Adds options whose values are numbers, and that may be absent.
-    pub(crate) fn optional(self, options: &[(&'a str, &'a str)]) -> Draft<'a> {
-        let mut draft = self;
-        for (name, help) in options {
-            let option = optional(draft.alloc, *name, *help);
-            draft = draft.with(Ok(option));
-        }
-        draft
+    /// Adds an option whose value is a number, and that may be absent.
+    pub(crate) fn optional(&mut self, name: &'a str, help: &'a str) {
+        let option = number(self.alloc, name, help);
+        self.add(option);
     }
 
-    /// Adds options without values.
-    pub(crate) fn flags(self, flags: &[(&'a str, &'a str)]) -> Draft<'a> {
-        let mut draft = self;
-        for (name, help) in flags {
-            let flag = flag(draft.alloc, *name, *help);
-            draft = draft.with(Ok(flag));
-        }
-        draft
+    /// Adds such an option, which conflicts with the others.
+    pub(crate) fn optional_apart(&mut self, name: &'a str, help: &'a str, others: &[&'a str]) {
+        let option = number(self.alloc, name, help);
+        self.add_apart(option, others);
+    }
+
+    /// Adds an option without a value.
+    pub(crate) fn flag(&mut self, name: &'a str, help: &'a str) {
+        let flag = option(self.alloc, name, help).action(ArgAction::SetTrue);
+        self.add(flag);
+    }
+
+    /// Adds an option without a value, which conflicts with the others.
+    pub(crate) fn flag_apart(&mut self, name: &'a str, help: &'a str, others: &[&'a str]) {
+        let flag = option(self.alloc, name, help).action(ArgAction::SetTrue);
+        self.add_apart(flag, others);
     }
 
     /// Adds the file that is read in place of standard input.
-    pub(crate) fn file(self) -> Draft<'a> {
+    pub(crate) fn file(&mut self) {
         let file = Arg::new(self.alloc, "FILE").help("Reads this file, and not standard input");
-        self.with(Ok(file))
+        self.add(file);
     }
 
-    /// Adds an option that conflicts with the others.
-    pub(crate) fn apart(self, option: Arg<'a>, others: &[&'a str]) -> Draft<'a> {
-        let mut option = Ok(option);
-        for other in others {
-            option = conflicting(option, *other);
+    fn add_apart(&mut self, option: Arg<'a>, others: &[&'a str]) {
+        match option.conflicts_with_all(others) {
+            Ok(option) => self.add(option),
+            Err(_) => self.has_failed = true,
         }
-        self.with(option)
     }
 
-    fn with(self, option: Result<Arg<'a>, AllocError>) -> Draft<'a> {
-        let Draft { alloc, made } = self;
-        Draft {
-            alloc,
-            made: with_option(made, option),
-        }
+    fn add(&mut self, option: Arg<'a>) {
+        self.has_failed |= self.options.push(option).is_err();
     }
 
     /// Adds a command below it.
-    pub(crate) fn command(self, below: Draft<'a>) -> Draft<'a> {
-        let Draft { alloc, made } = self;
-        let Draft {
-            alloc: _,
-            made: below,
-        } = below;
-        Draft {
-            alloc,
-            made: with_command(made, below),
+    pub(crate) fn command(&mut self, made: Result<Command<'a>, AllocError>) {
+        match made {
+            Ok(command) => self.has_failed |= self.below.push(command).is_err(),
+            Err(_) => self.has_failed = true,
         }
     }
 
     /// Returns the command, unless memory was refused.
     pub(crate) fn made(self) -> Result<Command<'a>, AllocError> {
-        let Draft { alloc: _, made } = self;
-        made
+        let Draft {
+            alloc: _,
+            command,
+            options,
+            below,
+            has_failed,
+        } = self;
+        if has_failed {
+            return Err(AllocError);
+        }
+        command.args(options)?.subcommands(below)
     }
 }
 
-fn with_option<'a>(
-    command: Result<Command<'a>, AllocError>,
-    option: Result<Arg<'a>, AllocError>,
-) -> Result<Command<'a>, AllocError> {
-    command?.arg(option?)
+/// Returns an option whose value is a number.
+fn number<'a>(alloc: Global, name: &'a str, help: &'a str) -> Arg<'a> {
+    option(alloc, name, help).value_parser(clap::value_parser!(u64))
 }
 
-fn with_command<'a>(
-    command: Result<Command<'a>, AllocError>,
-    below: Result<Command<'a>, AllocError>,
-) -> Result<Command<'a>, AllocError> {
-    command?.subcommand(below?)
-}
-
-/// Returns an option whose value is a number, and that may be absent.
-pub(crate) fn optional<'a>(alloc: Global, name: &'a str, help: &'a str) -> Arg<'a> {
-    Arg::new(alloc, name)
-        .long(name)
-        .help(help)
-        .value_parser(clap::value_parser!(u64))
-}
-
-/// Returns an option without a value.
-pub(crate) fn flag<'a>(alloc: Global, name: &'a str, help: &'a str) -> Arg<'a> {
-    Arg::new(alloc, name)
-        .long(name)
-        .help(help)
-        .action(ArgAction::SetTrue)
-}
-
-fn conflicting<'a>(
-    option: Result<Arg<'a>, AllocError>,
-    other: &'a str,
-) -> Result<Arg<'a>, AllocError> {
-    option?.conflicts_with(other)
+fn option<'a>(alloc: Global, name: &'a str, help: &'a str) -> Arg<'a> {
+    Arg::new(alloc, name).long(name).help(help)
 }

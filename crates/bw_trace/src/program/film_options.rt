@@ -9,10 +9,9 @@ use crate::program::draft::Draft;
 use crate::program::help::OF_FILM;
 use crate::program::options::{Field, if_given};
 use crate::program::setting::Setting;
-use crate::program::show_options::KEY;
 use bw_keys::Key;
-use clap::ArgMatches;
-use std::alloc::Global;
+use clap::{ArgMatches, Command};
+use std::alloc::{AllocError, Global};
 
 /// What is filmed, and which moments of it are drawn.
 #[derive(Clone, Copy)]
@@ -61,16 +60,13 @@ pub(crate) fn check_from(from: u64, moments: u64) -> Result<(), Field>
 }
 
 /// Returns the command `film` with its options and defaults.
-pub(crate) fn film_command<'a>(alloc: Global) -> Draft<'a> {
-    Draft::new(
-        alloc,
-        "film",
-        "Writes a page that shows the table after each step",
-        OF_FILM,
-    )
-    .shown(&[
-        ("from", "The first moment, 0 if absent"),
-        ("to", "The last moment, that of the last step if absent"),
-        KEY,
-    ])
+pub(crate) fn film_command<'a>(alloc: Global) -> Result<Command<'a>, AllocError> {
+    let about = "Writes a page that shows the table after each step";
+    let mut draft = Draft::new(alloc, "film", about, OF_FILM);
+    draft.shown();
+    draft.optional("from", "The first moment, 0 if absent");
+    draft.optional("to", "The last moment, that of the last step if absent");
+    draft.key();
+    draft.file();
+    draft.made()
 }

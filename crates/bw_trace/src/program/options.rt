@@ -61,45 +61,40 @@ impl Field {
 
 /// Returns the program's commands, with their options and defaults.
 pub(crate) fn commands<'a>(alloc: Global) -> Result<Command<'a>, AllocError> {
-    let made = Command::new(alloc, "bwtree")
-        .about("A Bw-tree in memory: traces, and histories of workers")
-        .after_help(OF_ALL)
-        .version(VERSION)
-        .no_binary_name(true)
-        .subcommand_required(true)
-        .bin_name("bwtree");
-    Draft { alloc, made }
-        .command(run_command(alloc))
-        .command(draw_command(alloc))
-        .command(film_command(alloc))
-        .command(stats_command(alloc))
-        .command(steps_command(alloc))
-        .command(make_command(alloc))
-        .command(check_command(alloc))
-        .made()
+    let about = "A Bw-tree in memory: traces, and histories of workers";
+    let mut draft = Draft::new(alloc, "bwtree", about, OF_ALL);
+    draft.command(run_command(alloc));
+    draft.command(draw_command(alloc));
+    draft.command(film_command(alloc));
+    draft.command(stats_command(alloc));
+    let about = "Answers each line of a script of steps";
+    draft.command(reader_command(alloc, "steps", about, OF_STEPS));
+    draft.command(make_command(alloc));
+    let about = "Says whether a history is legal";
+    draft.command(reader_command(alloc, "check", about, OF_CHECK));
+    let made = draft.made()?.version(VERSION).no_binary_name(true);
+    made.subcommand_required(true).bin_name("bwtree")
 }
 
-fn steps_command<'a>(alloc: Global) -> Draft<'a> {
-    Draft::new(
-        alloc,
-        "steps",
-        "Answers each line of a script of steps",
-        OF_STEPS,
-    )
-    .file()
+/// Returns a command that only reads.
+fn reader_command<'a>(
+    alloc: Global,
+    name: &'a str,
+    about: &'a str,
+    help: &'a str,
+) -> Result<Command<'a>, AllocError> {
+    let mut draft = Draft::new(alloc, name, about, help);
+    draft.file();
+    draft.made()
 }
 
-fn make_command<'a>(alloc: Global) -> Draft<'a> {
-    Draft::new(alloc, "make", "Prints a seeded trace", OF_MAKE).options(&[
-        ("seed", "0", "The seed of the generator"),
-        ("rows", "100", "How many rows, at most 1000000"),
-        ("workers", "1", "How many workers take turns, 1 to 64"),
-        ("span", "1000", "Keys are below it, 1 to 4294967295"),
-    ])
-}
-
-fn check_command<'a>(alloc: Global) -> Draft<'a> {
-    Draft::new(alloc, "check", "Says whether a history is legal", OF_CHECK).file()
+fn make_command<'a>(alloc: Global) -> Result<Command<'a>, AllocError> {
+    let mut draft = Draft::new(alloc, "make", "Prints a seeded trace", OF_MAKE);
+    draft.number("seed", "0", "The seed of the generator");
+    draft.number("rows", "100", "How many rows, at most 1000000");
+    draft.number("workers", "1", "How many workers take turns, 1 to 64");
+    draft.number("span", "1000", "Keys are below it, 1 to 4294967295");
+    draft.made()
 }
 
 /// Returns the value of an option that may be absent.

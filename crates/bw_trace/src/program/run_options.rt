@@ -5,13 +5,13 @@ ghost use Rattle.std.specs.Option.{ForSome};
 ghost use Rattle.clap.specs.Words.{found_of};
 ghost use Rattle.bw_trace.specs.Options.{IsAskedFor, IsFit, IsOptionFor};
 
-use crate::program::draft::{Draft, optional};
+use crate::program::draft::Draft;
 use crate::program::help::OF_RUN;
 use crate::program::options::{Field, if_given};
 use crate::program::setting::Setting;
 use bw_forest::MAX_TREES;
-use clap::ArgMatches;
-use std::alloc::Global;
+use clap::{ArgMatches, Command};
+use std::alloc::{AllocError, Global};
 
 /// How a trace is run, and what is printed of it.
 #[derive(Clone, Copy)]
@@ -57,27 +57,17 @@ fn trees_of(matches: &ArgMatches) -> Result<Option<u32>, Field>
     }
 }
 
-/// Returns the command `run` with its options and defaults.
-pub(crate) fn run_command<'a>(alloc: Global) -> Draft<'a> {
-    Draft::new(alloc, "run", "Runs a trace", OF_RUN)
-        .setting()
-        .trees()
-        .flags(&[
-            ("replies", "Prints the replies, too"),
-            ("history", "Prints the history alone"),
-            (
-                "quiet",
-                "Says nothing of a run that ends well, not even on a terminal",
-            ),
-        ])
-        .file()
-}
-
-impl<'a> Draft<'a> {
-    /// Adds the option for a forest. It conflicts with what is to be had of one tree alone.
-    fn trees(self) -> Draft<'a> {
-        let help = "Runs it on this many trees by ranges of keys, 1 to 1024, and not on one";
-        let trees = optional(self.alloc, "trees", help);
-        self.apart(trees, &["readers", "history"])
-    }
+/// Returns the command `run` with its options and defaults. That for a forest conflicts with what is to
+/// be had of one tree alone.
+pub(crate) fn run_command<'a>(alloc: Global) -> Result<Command<'a>, AllocError> {
+    let mut draft = Draft::new(alloc, "run", "Runs a trace", OF_RUN);
+    draft.setting();
+    let help = "Runs it on this many trees by ranges of keys, 1 to 1024, and not on one";
+    draft.optional_apart("trees", help, &["readers", "history"]);
+    draft.flag("replies", "Prints the replies, too");
+    draft.flag("history", "Prints the history alone");
+    let help = "Says nothing of a run that ends well, not even on a terminal";
+    draft.flag("quiet", help);
+    draft.file();
+    draft.made()
 }

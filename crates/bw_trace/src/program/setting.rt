@@ -50,18 +50,13 @@ impl Setting {
 
 impl<'a> Draft<'a> {
     /// Adds the options of a setting.
-    pub(crate) fn setting(self) -> Draft<'a> {
-        self.options(&[
-            ("fanout", "16", "Entries of a page at most, 4 to 64"),
-            ("chain", "8", "Consolidate at this depth, 1 to 32"),
-            ("pages", "4096", "Pages at most, 8 to 65536"),
-            ("tries", "1000", "Effort of one call at most, 1 to 1000"),
-            ("workers", "1", "Workers who do the rows, 1 to 64"),
-            (
-                "readers",
-                "0",
-                "Workers who read without the lock, 0 to 16 and to --workers",
-            ),
-        ])
+    pub(crate) fn setting(&mut self) {
+        self.number("fanout", "16", "Entries of a page at most, 4 to 64");
+        self.number("chain", "8", "Consolidate at this depth, 1 to 32");
+        self.number("pages", "4096", "Pages at most, 8 to 65536");
+        self.number("tries", "1000", "Effort of one call at most, 1 to 1000");
+        self.number("workers", "1", "Workers who do the rows, 1 to 64");
+        let help = "Workers who read without the lock, 0 to 16 and to --workers";
+        self.number("readers", "0", help);
     }
 }

@@ -8,8 +8,10 @@ use crate::program::film_options::{FilmOptions, check_from};
 use crate::program::setting::Setting;
 use crate::program::show_options::{DrawOptions, ShowOptions};
 use crate::program::steps::played_table;
+use bw_delta::NoMemory;
 use bw_draw::{Drawing, Picture, Stats};
 use bw_film::{Choice, film_rows, film_script, page_of};
+use bw_keys::Key;
 use bw_run::run;
 use bw_table::Table;
 use bw_texts::read_trace;
@@ -57,12 +59,17 @@ pub(crate) fn draw<T: Threads + Wait + Sync + Send + Copy, R: Read + Drop, W: Wr
     output: &mut W,
     notes: &mut N,
 ) -> Result<(), Fault> {
-    let picture = Picture::of(alloc, &table_of(rt, alloc, options.shown, input, notes)?)?;
-    let drawing = match options.key {
+    let table = table_of(rt, alloc, options.shown, input, notes)?;
+    let drawing = drawing_of(alloc, &table, options.key)?;
+    write_shown(output, &drawing.text)
+}
+
+fn drawing_of(alloc: Global, table: &Table<Global>, key: Option<Key>) -> Result<Drawing, NoMemory> {
+    let picture = Picture::of(alloc, table)?;
+    match key {
         None => Drawing::of(alloc, &picture),
         Some(key) => Drawing::near(alloc, &picture, key),
-    };
-    write_shown(output, &drawing?.text)
+    }
 }
 
 /// Writes the page that shows the film of the trace or of the script, unless that ends before the

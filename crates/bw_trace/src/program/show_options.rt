@@ -4,13 +4,13 @@ ghost use Rattle.std.specs.Prelude.{IfOk};
 ghost use Rattle.clap.specs.Words.{found_of};
 ghost use Rattle.bw_trace.specs.Options.{IsDrawnBy, IsFit, IsShownBy};
 
-use crate::program::draft::{Draft, flag};
+use crate::program::draft::Draft;
 use crate::program::help::{OF_DRAW, OF_STATS};
 use crate::program::options::{Field, if_given};
 use crate::program::setting::Setting;
 use bw_keys::Key;
-use clap::ArgMatches;
-use std::alloc::Global;
+use clap::{ArgMatches, Command};
+use std::alloc::{AllocError, Global};
 
 /// What makes the table that is shown.
 #[derive(Clone, Copy)]
@@ -57,47 +57,41 @@ impl DrawOptions {
     }
 }
 
-/// An option that may be absent, with its help.
-const AFTER: (&str, &str) = ("after", "Does this many rows or lines, not all");
-
-pub(crate) const KEY: (&str, &str) = (
-    "key",
-    "Draws the path to this key's leaf, and the leaves beside it",
-);
-
 /// Returns the command `draw` with its options and defaults.
-pub(crate) fn draw_command<'a>(alloc: Global) -> Draft<'a> {
-    Draft::new(
-        alloc,
-        "draw",
-        "Draws the table that a trace leaves, as SVG",
-        OF_DRAW,
-    )
-    .shown(&[AFTER, KEY])
+pub(crate) fn draw_command<'a>(alloc: Global) -> Result<Command<'a>, AllocError> {
+    let about = "Draws the table that a trace leaves, as SVG";
+    let mut draft = Draft::new(alloc, "draw", about, OF_DRAW);
+    draft.shown();
+    draft.after();
+    draft.key();
+    draft.file();
+    draft.made()
 }
 
 /// Returns the command `stats` with its options and defaults.
-pub(crate) fn stats_command<'a>(alloc: Global) -> Draft<'a> {
-    Draft::new(
-        alloc,
-        "stats",
-        "Prints the numbers of the table that a trace leaves",
-        OF_STATS,
-    )
-    .shown(&[AFTER])
+pub(crate) fn stats_command<'a>(alloc: Global) -> Result<Command<'a>, AllocError> {
+    let about = "Prints the numbers of the table that a trace leaves";
+    let mut draft = Draft::new(alloc, "stats", about, OF_STATS);
+    draft.shown();
+    draft.after();
+    draft.file();
+    draft.made()
 }
 
 impl<'a> Draft<'a> {
-    /// Adds the options of what shows a table, and these, which may be absent. A script of steps
-    /// has its own setting.
-    pub(crate) fn shown(self, more: &[(&'a str, &'a str)]) -> Draft<'a> {
-        let steps = flag(self.alloc, "steps", "Reads a script of steps, not a trace");
-        self.setting()
-            .apart(
-                steps,
-                &["fanout", "chain", "pages", "tries", "workers", "readers"],
-            )
-            .optional(more)
-            .file()
+    /// Adds the options of what shows a table. A script of steps has its own setting.
+    pub(crate) fn shown(&mut self) {
+        self.setting();
+        let others = &["fanout", "chain", "pages", "tries", "workers", "readers"];
+        self.flag_apart("steps", "Reads a script of steps, not a trace", others);
+    }
+
+    fn after(&mut self) {
+        self.optional("after", "Does this many rows or lines, not all");
+    }
+
+    pub(crate) fn key(&mut self) {
+        let help = "Draws the path to this key's leaf, and the leaves beside it";
+        self.optional("key", help);
     }
 }
