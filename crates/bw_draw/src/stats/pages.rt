@@ -56,18 +56,6 @@ pub(crate) fn spread_in(alloc: Global, pages: &[Page], leaves: bool) -> Result<S
     Ok(Spread::of(&counts))
 }
 
-fn entries_in(alloc: Global, pages: &[Page], leaves: bool) -> Result<Vec<u64>, NoMemory>
-    ensures { IfOk result (λ counts. counts.items ≡ counts_of leaves pages.now) }
-{
-    Ok(
-        pages
-            .iter()
-            .filter(|page| page.view.stage.is_in_row() && (page.view.level == 0) == leaves)
-            .map(|page| page.view.count)
-            .collect(alloc)?,
-    )
-}
-
 /// Returns a summary of the numbers of records of the pages in rows, along the deepest path.
 pub(crate) fn spread_of_depths(alloc: Global, pages: &[Page]) -> Result<Spread, NoMemory>
     ensures { IfOk result (IsSpreadOf (depths_of pages.now)) }
@@ -79,16 +67,4 @@ pub(crate) fn spread_of_depths(alloc: Global, pages: &[Page]) -> Result<Spread, 
         }
     }
     Ok(Spread::of(&depths))
-}
-
-fn depths(alloc: Global, pages: &[Page]) -> Result<Vec<u64>, NoMemory>
-    ensures { IfOk result (λ depths. depths.items ≡ depths_of pages.now) }
-{
-    Ok(
-        pages
-            .iter()
-            .filter(|page| page.view.stage.is_in_row())
-            .map(|page| u64::from(page.view.depth))
-            .collect(alloc)?,
-    )
 }
