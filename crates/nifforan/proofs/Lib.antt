@@ -1,3 +1,4 @@
+pub mod AtOnce
 pub mod Behind
 pub mod Changes
 pub mod Clearing

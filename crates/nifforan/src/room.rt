@@ -94,6 +94,22 @@ impl<A: Allocator + Copy> Map<A> {
         fault
     }
 
+    /// Inserts the pair, unless the key has a value, step by step.
+    #[cold]
+    #[inline(never)]
+    pub(crate) fn put_by_steps(&mut self, key: Key, value: u64) -> Result<Done<Put>, Fault>
+        ensures puts { IfOk result (λ done.
+            Puts key value (before_put done.reply) self.old.pairs self.new.pairs) }
+        ensures unchanged { OnErr result (self.new.pairs ≡ self.old.pairs) }
+        ensures full { fault_reported result ≡ Some faults.TableFull → HasAllPages self.new }
+        ensures pages { self.old.pages ≤ self.new.pages }
+        ensures config { self.new.config ≡ self.old.config }
+    {
+        self.make_room();
+        let answer = self.put_in_room(key, value);
+        self.reported(answer)
+    }
+
     /// Inserts the pair, unless the key has a value, with the pages that are there.
     #[inline(always)]
     pub(crate) fn put_in_room(&mut self, key: Key, value: u64) -> Result<Done<Put>, Fault>
@@ -104,6 +120,22 @@ impl<A: Allocator + Copy> Map<A> {
         ensures config { self.new.config ≡ self.old.config }
     {
         self.worker.put(key, value)
+    }
+
+    /// Sets the key to the value, step by step.
+    #[cold]
+    #[inline(never)]
+    pub(crate) fn set_by_steps(&mut self, key: Key, value: u64) -> Result<Done<Set>, Fault>
+        ensures sets { IfOk result (λ done.
+            Sets key value (before_set done.reply) self.old.pairs self.new.pairs) }
+        ensures unchanged { OnErr result (self.new.pairs ≡ self.old.pairs) }
+        ensures full { fault_reported result ≡ Some faults.TableFull → HasAllPages self.new }
+        ensures pages { self.old.pages ≤ self.new.pages }
+        ensures config { self.new.config ≡ self.old.config }
+    {
+        self.make_room();
+        let answer = self.set_in_room(key, value);
+        self.reported(answer)
     }
 
     /// Sets the key to the value, with the pages that are there.
@@ -133,6 +165,22 @@ impl<A: Allocator + Copy> Map<A> {
         ensures config { self.new.config ≡ self.old.config }
     {
         self.worker.set_found(found, key, value)
+    }
+
+    /// Deletes the key, step by step.
+    #[cold]
+    #[inline(never)]
+    pub(crate) fn delete_by_steps(&mut self, key: Key) -> Result<Done<Del>, Fault>
+        ensures deletes { IfOk result (λ done.
+            Deletes key (before_delete done.reply) self.old.pairs self.new.pairs) }
+        ensures unchanged { OnErr result (self.new.pairs ≡ self.old.pairs) }
+        ensures full { fault_reported result ≡ Some faults.TableFull → HasAllPages self.new }
+        ensures pages { self.old.pages ≤ self.new.pages }
+        ensures config { self.new.config ≡ self.old.config }
+    {
+        self.make_room();
+        let answer = self.delete_in_room(key);
+        self.reported(answer)
     }
 
     /// Deletes the key, with the pages that are there: a leaf that grew long for want of them is
