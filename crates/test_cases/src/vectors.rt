@@ -1,4 +1,5 @@
-//! Traces, with what an independent model of the map foretold of them, byte for byte.
+//! Traces, with what an independent model of the map foretold of them, or what was worked out by
+//! hand, byte for byte.
 
 use crate::program::output_of;
 use anyhow::{Context, Result};
