@@ -35,8 +35,9 @@ use std::ops::RangeBounds;
 /// it. A fault in place of a reply leaves the pairs unchanged. One beside a reply, in
 /// `Done::fault`, only cuts short the care for the pages, which a later call resumes.
 ///
-/// A put, a set and a delete take one action if a search for the key meets nothing unfinished,
-/// however little effort the configuration allows, and fail only if memory for a new pair is refused.
+/// A put, a set or a delete of a key at rest is one action, however little effort the configuration
+/// allows, and fails only if memory for a new pair is refused. A key is at rest if a search for it
+/// meets nothing unfinished and its leaf takes a change at once.
 #[derive(Drop)]
 pub struct Map<A: Allocator + Copy> {
     pub(crate) worker: Worker<A>,
