@@ -1,6 +1,6 @@
 /* Nifforan: an ordered map from uint64_t keys to uint64_t values, in memory. A map is used by one thread at a time; a
  * frozen map is read by many at once, through a handle each. A map that many threads change is one or more of these maps,
- * each behind a lock of the program's own: the library takes none. nifforan_cpp::Forest of examples/cpp/forest.hpp and
+ * each behind a lock of the program's own: the library takes none. nifforan_cpp::Forest of nifforan/forest.hpp and
  * Forest of bindings/rust are that, by ranges of keys. What a call does to a map is proved; those locks are not.
  *
  * A handle is eight bytes of the caller's. It begins as NIFFORAN_CLOSED, nifforan_create opens it, and

@@ -1,4 +1,4 @@
-// The forest of examples/cpp/forest.hpp: threads that change one at once, each beside a std::map of its own keys, and bounds at
+// The forest of nifforan/forest.hpp: threads that change one at once, each beside a std::map of its own keys, and bounds at
 // the ends of all keys. The first argument is how many calls the threads make together.
 #include <atomic>
 #include <cstdint>
@@ -12,7 +12,7 @@
 #include <utility>
 #include <vector>
 
-#include "forest.hpp"
+#include "nifforan/forest.hpp"
 
 using nifforan_cpp::Bounds;
 using nifforan_cpp::Fault;
@@ -105,7 +105,7 @@ static void call(Forest &forest, std::uint64_t threads, std::uint64_t thread, lo
             if (expected == had) give(plain, key, given);
         } else if (which < 15) {
             const auto toggled = [=](std::optional<std::uint64_t> it) { return it ? std::nullopt : std::optional(value); };
-            MUST(forest.update(key, toggled) == had);
+            MUST(forest.alter(key, toggled) == had);
             give(plain, key, toggled(had));
         } else {
             compare_scan(forest, plain, threads, thread, key);
@@ -144,13 +144,13 @@ static void at_once(std::uint64_t threads, std::size_t trees, long calls) {
     MUST(forest.first() == Forest::value_type(*plain.begin()) && forest.last() == Forest::value_type(*plain.rbegin()));
 }
 
-static void no_update_is_lost() {
+static void no_change_is_lost() {
     Forest forest(Bounds::even(4, 100));
     std::vector<std::thread> workers;
     for (int thread = 0; thread < 8; thread++)
         workers.emplace_back([&] {
             for (std::uint64_t turn = 0; turn < 2000; turn++)
-                forest.update(turn % 100, [](auto count) { return std::optional(count.value_or(0) + 1); });
+                forest.alter(turn % 100, [](auto count) { return std::optional(count.value_or(0) + 1); });
         });
     for (std::thread &worker : workers) worker.join();
     std::uint64_t seen = 0;
@@ -201,7 +201,7 @@ static void sorted_and_faults() {
     MUST(forest.size() == pairs.size() && forest.get(29997) == 9999 && forest.clear(0, NIFFORAN_BELOW(101)) == 34);
     pairs[5000].key = pairs[4999].key;
     must_throw<Fault>([&] { Forest falling(Bounds::even(3, 30000), pairs.data(), pairs.size()); });
-    must_throw<std::runtime_error>([&] { forest.update(300, [](auto) -> std::optional<std::uint64_t> { throw std::runtime_error("on purpose"); }); });
+    must_throw<std::runtime_error>([&] { forest.alter(300, [](auto) -> std::optional<std::uint64_t> { throw std::runtime_error("on purpose"); }); });
     MUST(forest.get(300) == 100 && forest.set(300, 1) == 100);
     nifforan_settings bad = NIFFORAN_USUAL_SETTINGS;
     bad.chain = 0;
@@ -213,7 +213,7 @@ int main(int argc, char **argv) {
     bounds();
     ends_of_keys();
     sorted_and_faults();
-    no_update_is_lost();
+    no_change_is_lost();
     const std::pair<std::uint64_t, std::size_t> shapes[] = {{1, 1}, {2, 3}, {4, 16}, {8, 64}, {8, 1}};
     for (const auto &[threads, trees] : shapes) at_once(threads, trees, calls);
     std::printf("the same as std::map: %ld calls, of 1 to 8 threads at once\n", calls);

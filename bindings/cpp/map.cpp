@@ -1,4 +1,4 @@
-// The class of examples/cpp/map.hpp: drawn calls beside std::map, also on a map that is made anew, iterators whose map is changed, faults of both forms, and
+// The class of nifforan/map.hpp: drawn calls beside std::map, also on a map that is made anew, iterators whose map is changed, faults of both forms, and
 // threads that read a frozen map at once. The first argument is how many calls are drawn.
 #include <algorithm>
 #include <cstdint>
@@ -14,7 +14,7 @@
 #include <utility>
 #include <vector>
 
-#include "map.hpp"
+#include "nifforan/map.hpp"
 
 using nifforan_cpp::Fault;
 using nifforan_cpp::Frozen;

@@ -2,7 +2,7 @@
 #include <cstdio>
 #include <thread>
 
-#include "map.hpp"
+#include "nifforan/map.hpp"
 
 using nifforan_cpp::Frozen;
 using nifforan_cpp::Map;

@@ -35,8 +35,8 @@ pub enum Fault {
     Contended,
     /// The library that is linked has settings of another size: it is of another version.
     BadSize,
-    /// A key isn't above the one before, where keys have to rise.
-    Unsorted,
+    /// The key of the pair with this number, counted from 0, isn't above the one before: see [`Map::from_sorted`].
+    Unsorted(usize),
     /// A status that this crate has no name for: the library that is linked is of a later version.
     Other(u32),
 }
@@ -56,10 +56,18 @@ impl Fault {
             ffi::WORN => Fault::Worn,
             ffi::CONTENDED => Fault::Contended,
             ffi::BAD_SIZE => Fault::BadSize,
-            ffi::UNSORTED => Fault::Unsorted,
+            ffi::UNSORTED => Fault::Unsorted(0),
             // those of closed, open and frozen handles don't come: see `Reads::handle`
             other => Fault::Other(other),
         })
+    }
+
+    /// The same, if this many pairs came before those that it counts.
+    pub(crate) fn after(self, pairs: usize) -> Fault {
+        match self {
+            Fault::Unsorted(number) => Fault::Unsorted(pairs + number),
+            other => other,
+        }
     }
 
     fn status(self) -> u32 {
@@ -74,7 +82,7 @@ impl Fault {
             Fault::Worn => ffi::WORN,
             Fault::Contended => ffi::CONTENDED,
             Fault::BadSize => ffi::BAD_SIZE,
-            Fault::Unsorted => ffi::UNSORTED,
+            Fault::Unsorted(_) => ffi::UNSORTED,
             Fault::Other(status) => status,
         }
     }
@@ -86,7 +94,7 @@ impl Fault {
     }
 }
 
-/// The library's text of the status.
+/// The library's text of the status, and the number of an unsorted pair.
 impl fmt::Display for Fault {
     fn fmt(&self, f: &mut fmt::Formatter<'_>) -> fmt::Result {
         // SAFETY: the call takes a number alone.
@@ -95,7 +103,11 @@ impl fmt::Display for Fault {
             .iter()
             .position(|byte| *byte == 0)
             .unwrap_or(text.len());
-        f.write_str(&String::from_utf8_lossy(&text[..end]))
+        f.write_str(&String::from_utf8_lossy(&text[..end]))?;
+        match self {
+            Fault::Unsorted(number) => write!(f, ": pair {number}, counted from 0"),
+            _ => Ok(()),
+        }
     }
 }
 

@@ -144,7 +144,7 @@ impl Tree {
 ///         scope.spawn(|| {
 ///             for key in 0..1000 {
 ///                 let one_more = |count: Option<u64>| Some(count.unwrap_or(0) + 1);
-///                 counts.update(key, one_more).expect("there is memory");
+///                 counts.alter(key, one_more).expect("there is memory");
 ///             }
 ///         });
 ///     }
@@ -168,7 +168,7 @@ impl Forest {
         Ok(Forest { bounds, trees })
     }
 
-    /// Makes a forest with these pairs, each of whose keys has to be above the one before: see [`Map::from_sorted`].
+    /// Makes a forest with these pairs, whose keys must rise: see [`Map::from_sorted`].
     ///
     /// ```
     /// # use nifforan::{Bounds, Forest, Settings};
@@ -182,26 +182,18 @@ impl Forest {
         bounds: Bounds,
         pairs: impl IntoIterator<Item = (u64, u64)>,
     ) -> Result<Forest, Fault> {
-        let mut pairs = pairs.into_iter().peekable();
+        let (mut pairs, mut before) = (pairs.into_iter().peekable(), 0);
         let ends = bounds.0.iter().skip(1).copied().map(Some).chain([None]);
         let maps = ends.map(|end| {
             let is_inside = |pair: &(u64, u64)| end.is_none_or(|end| pair.0 < end);
+            // (the pair that ended the part before is the first of this one, so no key lies below its range)
             let part = std::iter::from_fn(|| pairs.next_if(is_inside));
-            Map::from_sorted(settings, part)
+            let map = Map::from_sorted(settings, part).map_err(|fault| fault.after(before))?;
+            before += map.len();
+            Ok(map)
         });
         let trees = planted(maps)?;
-        let forest = Forest { bounds, trees };
-        match forest.is_in_its_ranges() {
-            true => Ok(forest),
-            false => Err(Fault::Unsorted),
-        }
-    }
-
-    /// Whether no tree has a key below its range.
-    fn is_in_its_ranges(&self) -> bool {
-        let firsts = self.trees.iter().map(|tree| tree.lock().first_key_value());
-        let mut pairs = firsts.zip(&self.bounds.0);
-        pairs.all(|(pair, first)| pair.is_none_or(|(key, _)| key >= *first))
+        Ok(Forest { bounds, trees })
     }
 
     /// Returns the bounds of its trees' ranges.
@@ -225,37 +217,43 @@ impl Forest {
         self.get(key).is_some()
     }
 
-    /// Gives the key the value unless it has one, and returns the one that it had, which it keeps then.
+    /// [`Map::put`].
     #[inline]
     pub fn put(&self, key: u64, value: u64) -> Result<Option<u64>, Fault> {
         self.map_of(key).put(key, value)
     }
 
-    /// Gives the key the value, whether it has one or not, and returns the one that it had.
+    /// [`Map::set`].
     #[inline]
-    pub fn insert(&self, key: u64, value: u64) -> Result<Option<u64>, Fault> {
+    pub fn set(&self, key: u64, value: u64) -> Result<Option<u64>, Fault> {
         self.map_of(key).set(key, value)
     }
 
-    /// Takes the key out, and returns the value that it had.
+    /// [`Forest::set`] by the name that it has in `BTreeMap`.
+    #[inline]
+    pub fn insert(&self, key: u64, value: u64) -> Result<Option<u64>, Fault> {
+        self.set(key, value)
+    }
+
+    /// [`Map::remove`].
     #[inline]
     pub fn remove(&self, key: u64) -> Result<Option<u64>, Fault> {
         self.map_of(key).remove(key)
     }
 
-    /// Gives the key what the function makes of its value, or of none, and takes it out where that is `None`. It returns the value
-    /// that the key had. No other thread comes between: the function runs under the tree's lock, and a call that it makes on
-    /// this forest may wait for ever. Where it panics, the key keeps what it has.
+    /// Gives the key the value that the function makes of its value, or of none. If the function returns `None`, the key is
+    /// taken out. Returns the value that the key had. No other thread comes between: the function runs under the tree's
+    /// lock, so a call that it makes on this forest may wait for ever. If it panics, the key keeps what it has.
     ///
     /// ```
     /// # use nifforan::{Bounds, Forest, Settings};
     /// let forest = Forest::new(&Settings::default(), Bounds::even(4, 100)?)?;
-    /// assert_eq!(forest.update(3, |_| Some(9))?, None);
-    /// assert_eq!(forest.update(3, |value| value.filter(|value| value % 2 == 0))?, Some(9));
+    /// assert_eq!(forest.alter(3, |_| Some(9))?, None);
+    /// assert_eq!(forest.alter(3, |value| value.filter(|value| value % 2 == 0))?, Some(9));
     /// assert_eq!(forest.get(3), None);
     /// # Ok::<(), Box<dyn std::error::Error>>(())
     /// ```
-    pub fn update(
+    pub fn alter(
         &self,
         key: u64,
         change: impl FnOnce(Option<u64>) -> Option<u64>,
@@ -265,6 +263,26 @@ impl Forest {
             Some(value) => map.set(key, value),
             None => map.remove(key),
         }
+    }
+
+    /// [`Map::update`], tree by tree: the function runs under the lock of the tree that has the pair.
+    ///
+    /// ```
+    /// # use nifforan::{Bounds, Forest, Settings};
+    /// let pairs = (0..100).map(|key| (key, key));
+    /// let forest = Forest::from_sorted(&Settings::default(), Bounds::even(4, 100)?, pairs)?;
+    /// forest.update(20..30, |_, value| value + 1000)?;
+    /// assert_eq!(forest.range(29..31).collect::<Vec<_>>(), [(29, 1029), (30, 30)]);
+    /// # Ok::<(), Box<dyn std::error::Error>>(())
+    /// ```
+    pub fn update(
+        &self,
+        keys: impl RangeBounds<u64>,
+        mut new: impl FnMut(u64, u64) -> u64,
+    ) -> Result<(), Fault> {
+        let keys = (keys.start_bound().cloned(), keys.end_bound().cloned());
+        let mut trees = self.touched(ends(&keys)).iter();
+        trees.try_for_each(|tree| tree.lock().update(keys, &mut new))
     }
 
     /// [`Map::compare_and_set`], with no other thread between.

@@ -27,10 +27,12 @@ pub struct Upsert {
     pub new: u64,
 }
 
-/// An ordered map from `u64` keys to `u64` values. It may go to another thread, and is used by one at a time: it is
-/// `Send`, and not `Sync`. The calls that only look at it are those of [`Reads`].
+/// An ordered map from `u64` keys to `u64` values. The calls that only look at it are those of [`Reads`].
 ///
-/// A call that changes it answers an error where it was not made; then the map has the pairs that it had.
+/// It is `Send` and not `Sync`: it can move to another thread, but threads can't share it. Threads that only read share a
+/// [`Frozen`], by [`Map::freeze`]; threads that also write share a [`Forest`](crate::Forest).
+///
+/// If a call that changes the map returns an error, the map has the pairs that it had.
 ///
 /// ```
 /// use nifforan::{Map, Settings};
@@ -87,16 +89,16 @@ impl Map {
         }
     }
 
-    /// Makes a map with these pairs, each of whose keys has to be above the one before: else it fails by
-    /// [`Fault::Unsorted`]. It fills its pages from left to right, in a fraction of the time that as many puts take. The
-    /// pairs are brought into one array first.
+    /// Makes a map with these pairs, whose keys must rise: at the first key that isn't above the one before, it fails with
+    /// [`Fault::Unsorted`] and the number of that pair. It first copies the pairs into one array, and then fills the pages
+    /// from left to right, in a fraction of the time that as many puts take.
     ///
     /// ```
     /// use nifforan::{Fault, Map, Settings};
     /// let squares = Map::from_sorted(&Settings::default(), (0..1000).map(|root| (root, root * root)))?;
     /// assert_eq!(squares.get(31), Some(961));
     /// let twice = Map::from_sorted(&Settings::default(), [(3, 9), (3, 9)]);
-    /// assert_eq!(twice.err(), Some(Fault::Unsorted));
+    /// assert_eq!(twice.err(), Some(Fault::Unsorted(1)));
     /// # Ok::<(), nifforan::Fault>(())
     /// ```
     pub fn from_sorted(
@@ -114,9 +116,14 @@ impl Map {
         }
         let in_c = settings.in_c();
         let (first, count) = (array.as_ptr(), array.len());
-        // SAFETY: the handle is closed and this call's own; the pairs are in the array.
-        let fill = |handle| unsafe { ffi::nifforan_from_sorted(handle, &in_c, first, count) };
-        Reads::opened_by(*settings, |handle| fill(handle).status).map(Map::of)
+        let mut number = 0;
+        let made = Reads::opened_by(*settings, |handle| {
+            // SAFETY: the handle is closed and this call's own; the pairs are in the array.
+            let filled = unsafe { ffi::nifforan_from_sorted(handle, &in_c, first, count) };
+            number = filled.count as usize;
+            filled.status
+        });
+        made.map(Map::of).map_err(|fault| fault.after(number))
     }
 
     /// Makes a map of the same settings with the same pairs.

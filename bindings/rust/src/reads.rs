@@ -20,11 +20,15 @@ use std::panic::RefUnwindSafe;
 /// assert_eq!(span(&map), Some(5));
 /// ```
 pub struct Reads {
-    /// Open from when it is made to `drop`, and frozen where a `Frozen` has it. Its word is written by the library's
-    /// calls alone, also by those that only look at the map. As it isn't `Sync`, there is one call at a time on it.
-    handle: UnsafeCell<ffi::Handle>,
+    /// Open from when it is made to `drop`, and frozen if a `Frozen` has it. Its word is written by the library's calls
+    /// alone, also by those that only look at the map. As it isn't `Sync`, there is one call at a time on it.
+    handle: UnsafeCell<ShareByForestOrFreeze>,
     settings: Settings,
 }
+
+/// A handle, by the name that the compiler shows to whoever shares a map between threads.
+#[repr(transparent)]
+struct ShareByForestOrFreeze(ffi::Handle);
 
 // SAFETY: the library proves its handle to be Send, also one whose frozen map other handles have.
 unsafe impl Send for Reads {}
@@ -43,7 +47,7 @@ impl Reads {
         };
         match Fault::of(open(&mut handle)) {
             None => Ok(Reads {
-                handle: UnsafeCell::new(handle),
+                handle: UnsafeCell::new(ShareByForestOrFreeze(handle)),
                 settings,
             }),
             Some(fault) => Err(fault),
@@ -52,7 +56,7 @@ impl Reads {
 
     /// The handle, for a call of the library.
     pub(crate) fn handle(&self) -> *mut ffi::Handle {
-        self.handle.get()
+        self.handle.get().cast()
     }
 
     /// Returns the settings that the map was made by.

@@ -347,10 +347,17 @@ fn maps_of_sorted_pairs() {
         assert_eq!(map.pop_last(), Ok(Some((u64::MAX, 0))));
         assert_eq!(map.clear(..), Ok(count));
     }
-    for unsorted in [[1, 0, 2], [0, 2, 1], [0, 0, 1], [0, 1, 1]] {
+    for (unsorted, number) in [
+        ([1, 0, 2], 1),
+        ([0, 2, 1], 2),
+        ([0, 0, 1], 1),
+        ([0, 1, 1], 2),
+    ] {
         let map = Map::from_sorted(&settings, unsorted.map(|key| (key, 0)));
-        assert_eq!(map.err(), Some(Fault::Unsorted));
+        assert_eq!(map.err(), Some(Fault::Unsorted(number)));
     }
+    let told = Fault::Unsorted(7).to_string();
+    assert!(told.ends_with(": pair 7, counted from 0"), "{told}");
     let worn = Settings {
         first_version: u64::MAX,
         ..settings

@@ -38,7 +38,7 @@ fn call(forest: &Forest, threads: u64, thread: u64) -> BTreeMap<u64, u64> {
         let had = plain.get(&key).copied();
         match dice.throw(16) {
             0..4 => assert_eq!(forest.get(key), had),
-            4..7 => assert_eq!(forest.insert(key, value), Ok(plain.insert(key, value))),
+            4..7 => assert_eq!(forest.set(key, value), Ok(plain.insert(key, value))),
             7..9 => {
                 assert_eq!(forest.put(key, value), Ok(had));
                 plain.entry(key).or_insert(value);
@@ -58,7 +58,7 @@ fn call(forest: &Forest, threads: u64, thread: u64) -> BTreeMap<u64, u64> {
             }
             13 => {
                 let toggled = |had: Option<u64>| if had.is_some() { None } else { Some(value) };
-                assert_eq!(forest.update(key, toggled), Ok(had));
+                assert_eq!(forest.alter(key, toggled), Ok(had));
                 plain.remove(&key);
                 plain.extend(toggled(had).map(|new| (key, new)));
             }
@@ -122,16 +122,14 @@ fn threads_change_a_forest_at_once() {
 }
 
 #[test]
-fn no_update_is_lost() {
+fn no_change_is_lost() {
     let forest = forest(Bounds::even(4, 100));
     thread::scope(|scope| {
         for _ in 0..8 {
             scope.spawn(|| {
                 for turn in 0..20_000 {
                     let one_more = |count: Option<u64>| Some(count.unwrap_or(0) + 1);
-                    forest
-                        .update(turn % 100, one_more)
-                        .expect("there is memory");
+                    forest.alter(turn % 100, one_more).expect("there is memory");
                 }
             });
         }
@@ -219,13 +217,35 @@ fn sorted_pairs_lie_in_their_trees() {
     );
     assert!(maps.into_iter().flat_map(Map::into_iter).eq(pairs));
     assert_eq!(made(vec![]).map(|forest| forest.len()).ok(), Some(0));
-    for falling in [
-        vec![(3, 0), (3, 0)],
-        vec![(200, 0), (3, 0)],
-        vec![(100, 0), (99, 0)],
-        vec![(90_000, 0), (4, 0)],
+    for (falling, number) in [
+        (vec![3, 3], 1),
+        (vec![200, 3], 1),
+        (vec![100, 99], 1),
+        (vec![90_000, 4], 1),
+        (vec![3, 150, 200, 120], 3),
+        (vec![3, 100, 101, 102, 6_000, 6_000, 7_000], 5),
     ] {
-        assert_eq!(made(falling).err(), Some(Fault::Unsorted));
+        let pairs = falling.into_iter().map(|key| (key, 0)).collect();
+        assert_eq!(made(pairs).err(), Some(Fault::Unsorted(number)));
+    }
+}
+
+#[test]
+fn an_update_goes_from_tree_to_tree() {
+    let pairs = (0..1_000).map(|key| (3 * key, key));
+    let bounds = Bounds::of(vec![0, 100, 101, 2_000]).expect("they are good");
+    let made = Forest::from_sorted(&Settings::default(), bounds, pairs.clone());
+    let forest = made.expect("they rise");
+    let mut plain: BTreeMap<u64, u64> = pairs.collect();
+    for (low, high) in [(0, 0), (9, 90), (90, 103), (50, 2_500), (2_999, 9_999)] {
+        assert_eq!(
+            forest.update(low..high, |key, value| 2 * value + key),
+            Ok(())
+        );
+        for (key, value) in plain.range_mut(low..high) {
+            *value = 2 * *value + key;
+        }
+        assert!(forest.iter().eq(plain.clone()));
     }
 }
 
@@ -234,7 +254,7 @@ fn a_panic_under_the_lock_changes_nothing() {
     let forest = forest(Bounds::even(2, 10));
     assert_eq!(forest.insert(3, 9), Ok(None));
     let thrown = panic::catch_unwind(AssertUnwindSafe(|| {
-        forest.update(3, |_| panic!("on purpose"))
+        forest.alter(3, |_| panic!("on purpose"))
     }));
     assert!(thrown.is_err());
     assert_eq!(forest.get(3), Some(9));

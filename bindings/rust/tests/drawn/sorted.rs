@@ -97,7 +97,11 @@ fn pairs_that_do_not_rise_make_no_map() {
                 let mut pairs = rising(140, false);
                 pairs[place].0 = pairs[place - 1].0.saturating_sub(less);
                 let made = Map::from_sorted(&settings, pairs);
-                assert_eq!(made.err(), Some(Fault::Unsorted), "{place}, {less} less");
+                assert_eq!(
+                    made.err(),
+                    Some(Fault::Unsorted(place)),
+                    "{place}, {less} less"
+                );
             }
         }
     }

@@ -131,10 +131,10 @@ public:
                                                  std::optional<std::uint64_t> value) {
         return in_tree_of(key, [=](Map &map) { return map.compare_and_set(key, expected, value); });
     }
-    // Gives the key what the function makes of its std::optional value, and takes it out where that is none. It answers the value
-    // that the key had. No other thread comes between: the function runs under the tree's lock, and makes no call on this
-    // forest.
-    template <typename Change> std::optional<std::uint64_t> update(std::uint64_t key, Change change) {
+    // Gives the key the value that the function makes of its std::optional value, or takes it out if that is none. Answers the
+    // value that the key had. No other thread comes between: the function runs under the tree's lock, and must make no call on
+    // this forest.
+    template <typename Change> std::optional<std::uint64_t> alter(std::uint64_t key, Change change) {
         return in_tree_of(key, [&](Map &map) {
             const std::optional<std::uint64_t> given = change(map.get(key));
             return given ? map.set(key, *given) : map.erase(key);
