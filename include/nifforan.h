@@ -1,30 +1,30 @@
-/* Nifforan: an ordered map from uint64_t keys to uint64_t values, in memory. A map is used by one thread at a time; a
- * frozen map is read by many at once, through a handle each. A map that many threads change is one or more of these maps,
- * each behind a lock of the program's own: the library takes none. nifforan_cpp::Forest of nifforan/forest.hpp and
- * Forest of bindings/rust are that, by ranges of keys. What a call does to a map is proved; those locks are not.
+/* Nifforan: an ordered map from uint64_t keys to uint64_t values, in memory. One thread at a time uses a map; many at once
+ * read a frozen map, each through its own handle. The library takes no lock. If many threads change a map, the program
+ * must put a lock around it; nifforan_cpp::Forest of nifforan/forest.hpp and Forest of bindings/rust do that with several
+ * maps, by ranges of keys. What a call does to a map is proved; those locks are not.
  *
- * A handle is eight bytes of the caller's. It begins as NIFFORAN_CLOSED, nifforan_create opens it, and
- * nifforan_close closes it. A call on a closed handle, or nifforan_create on an open one, does nothing and
- * says so by its status.
+ * A handle is eight bytes of the caller's memory. It begins as NIFFORAN_CLOSED, nifforan_create opens it, and
+ * nifforan_close closes it. A call on a closed handle, or nifforan_create on an open one, does nothing and says so by its
+ * status.
  *
- * What the library proves of a call holds as long as the caller keeps to this:
- *   - a handle's word is written by these calls alone, and begins as zero. They write it also where they only read the
- *     map, so no call takes a handle as const;
- *   - an open handle is not copied. To move it, copy it and set the old one to (nifforan)NIFFORAN_CLOSED, in
- *     C++ to nifforan NIFFORAN_CLOSED. nifforan_share makes another handle on a frozen map;
- *   - one call at a time on each handle, and none from a signal handler. A handle may go to any thread: that it is
- *     `Send` is proved. Who hands it over sees to it that the calls of the one thread come before those of the other:
- *     by a lock, by the start or the join of a thread, or by a sequentially consistent atomic. Calls on different
- *     handles may be made at once, by any threads, also where the handles share a frozen map;
- *   - pointers are valid, aligned and not null, also `pairs` where `room` or `count` is 0; `pairs` has `room` places, or
- *     `count` pairs; what a call writes overlaps none of its other arguments;
- *   - the program's malloc, realloc and free are one allocator's, with blocks aligned to 16 bytes, and where threads make
- *     calls at once, threads may call these three at once too.
+ * What the library proves of a call holds if the caller keeps these rules:
+ *   - Only these calls write a handle's word, which begins as zero. As they write it even if they only read the map, no
+ *     call takes a handle as const.
+ *   - Don't copy an open handle. To move it, copy it and set the old one to (nifforan)NIFFORAN_CLOSED, or in C++ to
+ *     nifforan NIFFORAN_CLOSED. nifforan_share makes another handle on a frozen map.
+ *   - Make one call at a time on each handle, and none from a signal handler. A handle may go to any thread: that it is
+ *     `Send` is proved. Whoever passes it on must ensure that the calls of one thread come before those of the other: by a
+ *     lock, by the start or the join of a thread, or by a sequentially consistent atomic. Any threads may make calls on
+ *     different handles at once, even if the handles share a frozen map.
+ *   - Pointers are valid, aligned and not null, even `pairs` if `room` or `count` is 0. `pairs` has `room` places, or
+ *     `count` pairs. What a call writes overlaps none of its other arguments.
+ *   - The program's malloc, realloc and free belong to one allocator, whose blocks are aligned to 16 bytes. If threads make
+ *     calls at once, they may also call these three at once.
  * A map that is never closed is never freed.
  *
- * A range of keys goes from its low on, which is in it, up to its high, which is NOT in it: NIFFORAN_BELOW(9) ends right
- * below the key 9, and NIFFORAN_TOP past all keys. It is so in each call with a high, in C, C++ and Rattle; Rust says so
- * itself, by `..9` and `..=9`. A range whose high doesn't lie above its low has no keys.
+ * A range of keys goes from its low, which is in it, up to its high, which is NOT in it: NIFFORAN_BELOW(9) ends right below
+ * the key 9, and NIFFORAN_TOP past all keys. This holds for each call with a high, in C, C++ and Rattle; Rust has `..9` and
+ * `..=9`. A range whose high isn't above its low has no keys.
  *
  * bindings/build FOLDER makes a folder with libnifforan_c.a, which is all that a program links, and a file for pkg-config. */
 #ifndef NIFFORAN_H
@@ -38,30 +38,30 @@
 extern "C" {
 #endif
 
-/* The version of this header, 10000 times its first number, 100 times its second, and its third; and as a text. */
+/* The version of this header: 10000 times its first number, plus 100 times its second, plus its third; and as a text. */
 #define NIFFORAN_VERSION 300
 #define NIFFORAN_VERSION_TEXT "0.3.0"
 
 /* The version of the library that the program is linked with, as NIFFORAN_VERSION. */
 uint32_t nifforan_version(void);
 
-/* What came of a call. */
+/* The outcome of a call. */
 enum {
     NIFFORAN_OK = 0,
     NIFFORAN_CLOSED_HANDLE = 1, /* the handle has no map */
     NIFFORAN_OPEN_HANDLE = 2,   /* nifforan_create, nifforan_from_sorted, nifforan_share: the handle to open has a map already */
-    NIFFORAN_BAD_FANOUT = 3,    /* nifforan_create, nifforan_from_sorted: a setting is out of its range; this is the first */
+    NIFFORAN_BAD_FANOUT = 3,    /* nifforan_create, nifforan_from_sorted: this setting is the first out of its range */
     NIFFORAN_BAD_CHAIN = 4,
     NIFFORAN_BAD_PAGES = 5,
     NIFFORAN_BAD_TRIES = 6,
-    NIFFORAN_NO_MEMORY = 7,  /* malloc or realloc gave none, be it for more pages, where the map may have more */
-    NIFFORAN_TABLE_FULL = 8, /* no page is free: the map has as many as its settings allow. Mostly told by `care`:
-                                pairs go in all the same, and pages grow longer than their fanout */
+    NIFFORAN_NO_MEMORY = 7,  /* malloc or realloc gave none, perhaps for pages that the map may still have */
+    NIFFORAN_TABLE_FULL = 8, /* no page is free: the map has as many as its settings allow. Usually `care` says this:
+                                pairs still go in, and pages grow longer than their fanout */
     NIFFORAN_TOO_TALL = 9,   /* the tree has its greatest height */
     NIFFORAN_WORN = 10,      /* the version of a page, or the number of changes, is used up (2^64) */
-    NIFFORAN_CONTENDED = 11, /* the call took all tries that its settings allow it */
+    NIFFORAN_CONTENDED = 11, /* the call made all the attempts that its settings allow */
     NIFFORAN_BAD_SIZE = 12,  /* the same two: the settings have another size than in the library's version */
-    NIFFORAN_FROZEN = 13,    /* the map is frozen: no call changes it, nor freezes it again */
+    NIFFORAN_FROZEN = 13,    /* the map is frozen: no call changes it, or freezes it again */
     NIFFORAN_NOT_FROZEN = 14, /* nifforan_share, nifforan_thaw: the map is not frozen */
     NIFFORAN_SHARED = 15,     /* nifforan_thaw: other handles have the map too */
     NIFFORAN_UNSORTED = 16    /* nifforan_from_sorted: a key isn't above the one before */
@@ -71,8 +71,8 @@ typedef struct nifforan_text {
     char text[64]; /* ends with a 0 */
 } nifforan_text;
 
-/* What a status means, in a few words: printf("%s\n", nifforan_status_text(status).text) in C11 or C++; in C99 keep the
- * answer in a variable first. */
+/* What a status means, in a few words: printf("%s\n", nifforan_status_text(status).text) in C11 or C++. In C99, put the
+ * answer into a variable first. */
 nifforan_text nifforan_status_text(uint32_t status);
 
 typedef struct nifforan {
@@ -82,18 +82,18 @@ typedef struct nifforan {
 /* How a handle begins: nifforan map = NIFFORAN_CLOSED; */
 #define NIFFORAN_CLOSED { NULL }
 
-/* What a map is made by. */
+/* The settings of a map. */
 typedef struct nifforan_settings {
-    size_t size;            /* sizeof(nifforan_settings), by which a later library knows which fields there are */
+    size_t size;            /* sizeof(nifforan_settings), which tells a later library which fields there are */
     uint32_t fanout;        /* the pairs that a page may have before it is split, 4 to 64 */
-    uint32_t chain;         /* the changes that a page may carry before it is written anew, 1 to 32 */
+    uint32_t chain;         /* the changes that a page may carry before it is rewritten, 1 to 32 */
     uint32_t pages;         /* the most pages that the map may have, 8 to 16777216. It begins with 8 and doubles them as it
-                               grows, so the usual 16777216 cost nothing: they are room for 520 million pairs in any
-                               order of insertion. Fewer bound the memory: n/31 + 6 pages are room for n pairs, and past
-                               that each put takes longer, and `care` says so */
+                               grows, so the usual 16777216 cost nothing; they have room for 520 million pairs, inserted
+                               in any order. Fewer limit the memory: n/31 + 6 pages have room for n pairs. Past that each
+                               put takes longer, and `care` says so */
     uint32_t tries;         /* the attempts that one call may make, 1 to 1000 */
-    uint64_t first_version; /* the version that each page begins with, 0 as a rule: each change of a page takes one, and
-                               one past 2^64 - 1 is NIFFORAN_WORN */
+    uint64_t first_version; /* the version that each page begins with, usually 0. Each change of a page raises it, and past
+                               2^64 - 1 the page is NIFFORAN_WORN */
 } nifforan_settings;
 
 /* The usual settings: nifforan_settings settings = NIFFORAN_USUAL_SETTINGS; */
@@ -115,7 +115,7 @@ typedef struct nifforan_high {
 
 /* A value, or none. */
 typedef struct nifforan_optional {
-    uint64_t value; /* ignored where there is none */
+    uint64_t value; /* ignored if there is none */
     bool is_some;   /* whether there is one */
 } nifforan_optional;
 
@@ -129,9 +129,9 @@ typedef struct nifforan_optional {
 
 /* What a call on one key answers. */
 typedef struct nifforan_reply {
-    uint32_t status; /* NIFFORAN_OK with a reply, or why there is none: then the map has the pairs that it had */
-    uint16_t care;   /* with a reply: NIFFORAN_OK, or what cut the care for the pages short. The reply stands, and a
-                        later call takes the care up again */
+    uint32_t status; /* NIFFORAN_OK with a reply, or why there is none; the pairs are then unchanged */
+    uint16_t care;   /* with a reply: NIFFORAN_OK, or what cut page maintenance short. The reply stands, and a later call
+                        resumes the maintenance */
     bool found;      /* whether the key had a value before the call */
     uint64_t value;  /* that value, or 0 */
 } nifforan_reply;
@@ -139,11 +139,11 @@ typedef struct nifforan_reply {
 typedef struct nifforan_count {
     uint32_t status; /* NIFFORAN_OK or NIFFORAN_CLOSED_HANDLE */
     uint64_t pairs;
-    uint64_t free_pages; /* how many pages more the map has room for; where there is none, no page is split */
+    uint64_t free_pages; /* how many more pages the map has room for; if 0, no page is split */
 } nifforan_count;
 
 typedef struct nifforan_cleared {
-    uint32_t status;  /* NIFFORAN_OK, or what ended the call before it was done */
+    uint32_t status;  /* NIFFORAN_OK, or what ended the call early */
     uint64_t removed; /* how many keys were taken out, in either case */
 } nifforan_cleared;
 
@@ -167,7 +167,7 @@ typedef struct nifforan_popped {
 /* What a call with many pairs answers. */
 typedef struct nifforan_filled {
     uint32_t status; /* NIFFORAN_OK, or what ended the call before its last pair */
-    uint16_t care;   /* with NIFFORAN_OK: NIFFORAN_OK, or what cut the care for the pages short first */
+    uint16_t care;   /* with NIFFORAN_OK: NIFFORAN_OK, or what first cut page maintenance short */
     uint64_t count;  /* how many pairs were set; with NIFFORAN_UNSORTED, the number of the first pair, counted from 0,
                         whose key isn't above the one before */
 } nifforan_filled;
@@ -184,19 +184,19 @@ typedef struct nifforan_read_answer {
     uint32_t status; /* NIFFORAN_OK or NIFFORAN_CLOSED_HANDLE */
 } nifforan_read_answer;
 
-/* Opens an empty map. With any status but NIFFORAN_OK the handle stays as it was: NIFFORAN_OPEN_HANDLE where it has a
- * map, else NIFFORAN_BAD_SIZE where the settings have another size than in the library, else the NIFFORAN_BAD_.. of the
- * first setting out of its range, else NIFFORAN_NO_MEMORY. */
+/* Opens an empty map. With any status but NIFFORAN_OK the handle stays as it was: NIFFORAN_OPEN_HANDLE if it has a map,
+ * else NIFFORAN_BAD_SIZE if the settings have another size than in the library, else the NIFFORAN_BAD_.. of the first
+ * setting out of its range, else NIFFORAN_NO_MEMORY. */
 uint32_t nifforan_create(nifforan *map, const nifforan_settings *settings);
 
-/* Opens a map with these pairs, each of whose keys has to be above the one before. It fills its pages from left to right,
- * in a fraction of the time that as many puts take. With any status but NIFFORAN_OK the handle stays as it was: that of
- * nifforan_create, or else NIFFORAN_UNSORTED, or what ended it, mostly NIFFORAN_NO_MEMORY. */
+/* Opens a map with these pairs, whose keys must rise. It fills the pages from left to right, in a fraction of the time that
+ * as many puts take. With any status but NIFFORAN_OK the handle stays as it was: a status of nifforan_create, or else
+ * NIFFORAN_UNSORTED, or what ended the call, usually NIFFORAN_NO_MEMORY. */
 nifforan_filled nifforan_from_sorted(nifforan *map, const nifforan_settings *settings, const nifforan_pair *pairs, size_t count);
 
-/* ---- Calls that look at a map, frozen or not. They take no memory, and give NIFFORAN_OK on each open handle. */
+/* ---- Calls that look at a map, frozen or not. They need no memory, and give NIFFORAN_OK on each open handle. */
 
-/* How many pairs the map has, and how many pages more it has room for. It takes no time to speak of. */
+/* How many pairs the map has, and how many more pages it has room for, in constant time. */
 nifforan_count nifforan_pairs(nifforan *map);
 
 /* The value at the key. */
@@ -211,35 +211,35 @@ nifforan_found nifforan_next_at(nifforan *map, uint64_t key);
 nifforan_found nifforan_previous_at(nifforan *map, uint64_t key);
 
 /* Writes the pairs of the range from `low` up to `high` to `pairs`, in the order of their keys, until `room` of them are
- * written or none is left. The whole map: begin with the range from 0 to NIFFORAN_TOP, and while there is a next pair, go
- * on from low = `next`. The map may be changed between two calls. */
+ * written or none is left. To read the whole map, begin with the range from 0 to NIFFORAN_TOP, and while there is a next
+ * pair, go on from low = `next`. The map may change between two calls. */
 nifforan_read_answer nifforan_read(nifforan *map, uint64_t low, nifforan_high high, nifforan_pair *pairs, size_t room);
 
-/* The same backwards: the pair with the greatest key of the range comes first. While there is a next pair, go on with the
- * high below the last key that was written, NIFFORAN_BELOW(pairs[count - 1].key). */
+/* The same backwards: the pair with the greatest key of the range comes first. While there is a next pair, go on with a high
+ * right below the last key that was written, NIFFORAN_BELOW(pairs[count - 1].key). */
 nifforan_read_answer nifforan_read_back(nifforan *map, uint64_t low, nifforan_high high, nifforan_pair *pairs, size_t room);
 
 /* ---- Calls that change a map. On a frozen map they change nothing, and answer NIFFORAN_FROZEN. */
 
-/* Gives the key the value, unless the key is there: then it keeps the value that it has, which the reply tells. */
+/* Gives the key the value, unless it has one, which it then keeps and the reply has. */
 nifforan_reply nifforan_put(nifforan *map, uint64_t key, uint64_t value);
 
-/* Gives the key the value, whether it is there or not. The reply tells the value that it had. */
+/* Gives the key the value, whether it has one or not. The reply has the old value. */
 nifforan_reply nifforan_set(nifforan *map, uint64_t key, uint64_t value);
 
-/* Takes the key out, if it is there. The reply tells the value that it had. */
+/* Takes the key out, if it is there. The reply has the old value. */
 nifforan_reply nifforan_delete(nifforan *map, uint64_t key);
 
-/* Gives the key the new value, or takes it out where that is none, if it has the expected one, or none where that is none:
- * in C, nifforan_compare_and_set(&map, 3, &NIFFORAN_SOME(9), &NIFFORAN_NONE). The reply tells the value that it had: it was
- * set if that is what was expected, and otherwise it keeps it. */
+/* If the key has the expected value, or no value if none is expected, gives it the new value, or takes it out if there is no
+ * new one: in C, nifforan_compare_and_set(&map, 3, &NIFFORAN_SOME(9), &NIFFORAN_NONE). The reply has the old value: if that
+ * is the expected one, the key was changed, and otherwise it keeps it. */
 nifforan_reply nifforan_compare_and_set(nifforan *map, uint64_t key, const nifforan_optional *expected, const nifforan_optional *value);
 
-/* Makes a value of the one that a key has, which is 0 where none was found. It makes no call on the map. */
+/* Makes a key's new value of its old one, which is 0 if none was found. It must make no call on the map. */
 typedef uint64_t (*nifforan_make)(void *context, bool found, uint64_t value);
 
-/* Gives the key what `make` makes of its value, or of none. The reply tells the value that it had. This is a nifforan_get and
- * then a nifforan_set, which fails after `make` was called, if it does. */
+/* Gives the key the value that `make` makes of its value, or of none. The reply has the old value. This is a nifforan_get and
+ * then a nifforan_set; if the set fails, `make` has been called. */
 static inline nifforan_reply nifforan_upsert(nifforan *map, uint64_t key, nifforan_make make, void *context)
 {
     const nifforan_reply had = nifforan_get(map, key);
@@ -251,44 +251,42 @@ static inline nifforan_reply nifforan_upsert(nifforan *map, uint64_t key, niffor
 nifforan_popped nifforan_pop_first(nifforan *map);
 nifforan_popped nifforan_pop_last(nifforan *map);
 
-/* Sets each of the pairs, one after the other: of pairs with the same key the last one stays. Where it ends early, the first
- * ones are set, as many as it tells. */
+/* Sets each of the pairs, one after the other, so of pairs with the same key the last one stays. If the call ends early, the
+ * first `count` of them are set. */
 nifforan_filled nifforan_extend(nifforan *map, const nifforan_pair *pairs, size_t count);
 
-/* Takes out the keys of the range from `low` up to `high`. Where it ends early, as many of them are out as it tells, and
- * no others. It ends early also where the care for the pages is cut short, which then stands in `status`. The same call
- * takes out those that are left: begin it again while it removes any. */
+/* Takes out the keys of the range from `low` up to `high`. If the call ends early, `removed` of them are out, and no others.
+ * It also ends early if page maintenance is cut short, and `status` says why. The same call takes out those that are left:
+ * repeat it while it removes any. */
 nifforan_cleared nifforan_clear(nifforan *map, uint64_t low, nifforan_high high);
 
-/* Takes memory ahead for pages enough for that many pairs more, in whatever order they are put, or for as many pages as
- * the map may have: some six bytes a pair. Puts then need no memory for more pages, but for what the pages themselves
- * take. With any status but NIFFORAN_OK all stays as it was: NIFFORAN_CLOSED_HANDLE, NIFFORAN_FROZEN, or
- * NIFFORAN_NO_MEMORY. */
+/* Takes memory ahead for the pages that so many more pairs may need, in any order, or for as many pages as the map may have:
+ * about six bytes a pair. Puts then need memory only for what the pages hold. With any status but NIFFORAN_OK nothing
+ * changes: NIFFORAN_CLOSED_HANDLE, NIFFORAN_FROZEN, or NIFFORAN_NO_MEMORY. */
 uint32_t nifforan_reserve(nifforan *map, uint64_t pairs);
 
-/* Makes the map anew, with the same pairs and settings and no more pages than they want, as after a nifforan_reserve for
- * too many, or after most keys were taken out. It takes some 0.3 us a pair, and meanwhile memory for both maps. With any
- * status but NIFFORAN_OK all stays as it was: NIFFORAN_CLOSED_HANDLE, NIFFORAN_FROZEN, or what ended it, mostly
+/* Rebuilds the map, with the same pairs and settings and no more pages than they need, such as after a nifforan_reserve for
+ * too many pairs, or after most keys were taken out. This takes about 0.3 us a pair, and memory for both maps meanwhile. With
+ * any status but NIFFORAN_OK nothing changes: NIFFORAN_CLOSED_HANDLE, NIFFORAN_FROZEN, or what ended the call, usually
  * NIFFORAN_NO_MEMORY. */
 uint32_t nifforan_shrink(nifforan *map);
 
 /* ---- Frozen maps, which many threads read at once without a lock, through a handle each. */
 
 /* Freezes the map: from now on no call changes it, and nifforan_share opens more handles on it. With any status but
- * NIFFORAN_OK all stays as it was: NIFFORAN_CLOSED_HANDLE, NIFFORAN_FROZEN where it is frozen already, or
- * NIFFORAN_NO_MEMORY. */
+ * NIFFORAN_OK nothing changes: NIFFORAN_CLOSED_HANDLE, NIFFORAN_FROZEN if it is frozen already, or NIFFORAN_NO_MEMORY. */
 uint32_t nifforan_freeze(nifforan *map);
 
-/* Opens `other`, which is closed, on the same frozen map: give it to another thread. With any status but NIFFORAN_OK
- * `other` stays as it was: NIFFORAN_OPEN_HANDLE where it has a map, else NIFFORAN_CLOSED_HANDLE where `map` has none,
- * NIFFORAN_NOT_FROZEN, or NIFFORAN_NO_MEMORY. Each handle on the map is closed by itself; the last one frees it. */
+/* Opens `other`, which is closed, on the same frozen map, for another thread. With any status but NIFFORAN_OK `other` stays
+ * as it was: NIFFORAN_OPEN_HANDLE if it has a map, else NIFFORAN_CLOSED_HANDLE if `map` has none, NIFFORAN_NOT_FROZEN, or
+ * NIFFORAN_NO_MEMORY. Close each handle; the last one frees the map. */
 uint32_t nifforan_share(nifforan *map, nifforan *other);
 
 /* Takes the frozen map back, to change it again. This must be the last handle that has it: with NIFFORAN_SHARED, as with
- * NIFFORAN_CLOSED_HANDLE and NIFFORAN_NOT_FROZEN, all stays as it was. */
+ * NIFFORAN_CLOSED_HANDLE and NIFFORAN_NOT_FROZEN, nothing changes. */
 uint32_t nifforan_thaw(nifforan *map);
 
-/* Closes the handle, and frees its map, unless it is frozen and other handles have it. A closed handle stays closed. */
+/* Closes the handle, and frees its map, unless that is frozen and other handles have it. A closed handle stays closed. */
 void nifforan_close(nifforan *map);
 
 #ifdef __cplusplus
