@@ -1,10 +1,10 @@
 // A map of C++17 that many threads read and change at once, over nifforan.h: several trees, each a map for a range of keys
 // behind a std::mutex of its own, so that threads with keys of different ranges seldom wait for each other.
 //
-// A call of one key is one call of the map that has it, under its lock. What each map does is proved; the locks and what is
-// written here around them are not. Calls of many keys go from tree to tree, and see each at a moment of its own.
+// A call on one key is one call on the map that has it, under its lock. What each map does is proved; the locks and the code here
+// around them are not. Calls on many keys go from tree to tree, and see each at a moment of its own.
 //
-// What can't be made throws, as of nifforan_cpp::Map. Where a caller's function throws under a lock, nothing is changed.
+// A call that fails throws, as with nifforan_cpp::Map. If a caller's function throws under a lock, nothing is changed.
 #pragma once
 
 #include <algorithm>
@@ -22,12 +22,12 @@
 
 namespace nifforan_cpp {
 
-// Where the ranges of a forest's trees begin: the first one at 0, each other above the one before.
+// Where the ranges of a forest's trees begin: the first at 0, each other above the one before.
 class Bounds {
 public:
     static constexpr std::size_t MOST_TREES = 1024;
 
-    // It throws std::invalid_argument where they don't rise from 0 on, or are none, or more than 1,024.
+    // Throws std::invalid_argument if they don't rise from 0 on, or if there are none or more than 1,024.
     explicit Bounds(std::vector<std::uint64_t> firsts) : keys(std::move(firsts)) {
         see(keys.size());
         if (keys.front() != 0) throw std::invalid_argument("nifforan: the first bound is not 0");
@@ -41,7 +41,7 @@ public:
         const std::uint64_t part = end / trees, rest = end % trees;
         return of_firsts(trees, [=](std::size_t tree) { return part * tree + rest * tree / trees; });
     }
-    // Cuts all keys into this many ranges, so that each has as many of these keys; where keys are the same, or too few, into fewer.
+    // Cuts all keys into this many ranges, each with as many of the sample's keys; into fewer if keys are equal or too few.
     static Bounds of_sample(std::vector<std::uint64_t> sample, std::size_t trees) {
         see(trees);
         std::sort(sample.begin(), sample.end());
@@ -70,7 +70,7 @@ private:
 class Forest {
     static constexpr std::size_t AT_ONCE = 64;
 
-    // A map by itself on its cache lines, also where those are fetched two by two.
+    // A map that shares its cache lines with nothing, even if they are fetched two by two.
     struct alignas(128) Tree {
         std::mutex lock;
         Map map = Map::closed();
@@ -92,7 +92,7 @@ public:
         : its_bounds(std::move(bounds)), trees(its_bounds.firsts().size()) {
         for (Tree &tree : trees) check(tree.map.try_open(settings));
     }
-    // With these pairs, each of whose keys has to be above the one before.
+    // With these pairs, whose keys must rise.
     Forest(Bounds bounds, const nifforan_pair *pairs, std::size_t count, const nifforan_settings &settings = NIFFORAN_USUAL_SETTINGS)
         : its_bounds(std::move(bounds)), trees(its_bounds.firsts().size()) {
         const auto not_rising = [](const nifforan_pair &one, const nifforan_pair &next) { return one.key >= next.key; };
@@ -114,26 +114,25 @@ public:
         return in_tree_of(key, [=](Map &map) { return map.get(key); });
     }
     bool contains(std::uint64_t key) { return get(key).has_value(); }
-    // Gives the key the value unless it has one, and answers the one that it had.
+    // Gives the key the value unless it has one, and returns the old one.
     std::optional<std::uint64_t> put(std::uint64_t key, std::uint64_t value) {
         return in_tree_of(key, [=](Map &map) { return map.put(key, value); });
     }
-    // Gives the key the value, and answers the one that it had.
+    // Gives the key the value, and returns the old one.
     std::optional<std::uint64_t> set(std::uint64_t key, std::uint64_t value) {
         return in_tree_of(key, [=](Map &map) { return map.set(key, value); });
     }
-    // Takes the key out, and answers the value that it had.
+    // Takes the key out, and returns its value.
     std::optional<std::uint64_t> erase(std::uint64_t key) {
         return in_tree_of(key, [=](Map &map) { return map.erase(key); });
     }
-    // As of a map, with no other thread between.
+    // As with a map, with no other thread in between.
     std::optional<std::uint64_t> compare_and_set(std::uint64_t key, std::optional<std::uint64_t> expected,
                                                  std::optional<std::uint64_t> value) {
         return in_tree_of(key, [=](Map &map) { return map.compare_and_set(key, expected, value); });
     }
-    // Gives the key the value that the function makes of its std::optional value, or takes it out if that is none. Answers the
-    // value that the key had. No other thread comes between: the function runs under the tree's lock, and must make no call on
-    // this forest.
+    // Gives the key the value that the function makes of its std::optional value, or takes it out if that is none. Returns the
+    // old value. No other thread comes between: the function runs under the tree's lock, and must make no call on this forest.
     template <typename Change> std::optional<std::uint64_t> alter(std::uint64_t key, Change change) {
         return in_tree_of(key, [&](Map &map) {
             const std::optional<std::uint64_t> given = change(map.get(key));
@@ -141,8 +140,8 @@ public:
         });
     }
 
-    // How many pairs the trees have, each counted at a moment of its own: while other threads change them, there need be no moment
-    // at which the forest had as many.
+    // How many pairs the trees have, each counted at a moment of its own. While other threads change them, the forest need never
+    // have had that many.
     std::uint64_t size() {
         std::uint64_t pairs = 0;
         for (Tree &tree : trees) pairs += tree.locked([](Map &map) { return map.size(); });
@@ -160,7 +159,7 @@ public:
             if (const auto pair = tree->locked([](Map &map) { return map.last(); })) return pair;
         return std::nullopt;
     }
-    // Takes out the keys from the low on and below the high, tree by tree, and answers how many. Where it throws, some are out.
+    // Takes out the keys from the low on and below the high, tree by tree, and returns how many. If it throws, some are out.
     std::uint64_t clear(std::uint64_t low = 0, nifforan_high high = NIFFORAN_TOP) {
         std::uint64_t removed = 0;
         if (!high.is_top && high.key <= low) return removed;
@@ -169,9 +168,8 @@ public:
             removed += trees[tree].locked([&](Map &map) { return map.clear(low, high); });
         return removed;
     }
-    // Hands each pair from the low on and below the high, in the order of their keys, to the function, until it answers false. Pairs are
-    // copied by 64 at most under a tree's lock, and no lock is held while the function runs: those that are copied at once are
-    // of one moment.
+    // Passes each pair from the low on and below the high, in the order of their keys, to the function, until that returns false.
+    // It copies at most 64 pairs at once under a tree's lock, which are of one moment, and holds no lock while the function runs.
     template <typename See> void scan(std::uint64_t low, nifforan_high high, See see) {
         std::vector<value_type> some;
         some.reserve(AT_ONCE);

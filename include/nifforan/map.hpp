@@ -1,12 +1,12 @@
-// Maps of C++17 over nifforan.h. A Map owns its handle, and is moved, never copied. A Frozen has a map that nobody changes:
-// threads read it at once, each through one of its own, which share makes.
+// Maps of C++17 over nifforan.h. A Map owns its handle, and can be moved but not copied. A Frozen has a map that nobody changes:
+// many threads read it at once, each through a Frozen of its own, which share makes.
 //
-// A call that can't be made throws: NoMemory, a std::bad_alloc as of other containers, or else a Fault. Its twin whose name begins
-// with try_ throws nothing, and answers the status as nifforan.h does, for programs without exceptions and for loops that
-// meet a full map often. What only cuts the care for the pages short is never thrown, since the answer stands: care() tells it.
+// A call that fails throws NoMemory, which is a std::bad_alloc as in other containers, or else a Fault. Its twin whose name
+// begins with try_ throws nothing, and returns the status as nifforan.h does, for programs without exceptions and for loops that
+// often meet a full map. A fault that only cuts page maintenance short is never thrown, since the answer stands: care() tells it.
 //
-// No call is const. Each writes the word of its handle, also one that only looks, so two threads may not make calls at once on
-// one Map or Frozen, and in C++ a const call promises that they may.
+// No call is const. Each writes the word of its handle, even if it only looks. So two threads may not make calls at once on one
+// Map or Frozen, which a const call would promise in C++.
 #pragma once
 
 #include <cstddef>
@@ -44,7 +44,7 @@ inline void check(std::uint32_t status) {
     if (status != NIFFORAN_OK) throw Fault(status);
 }
 
-// A handle, and the calls that look at its map. They take no memory. On a map that was moved from they throw.
+// A handle, and the calls that look at its map. They need no memory. If the map was moved from, they throw.
 class Reads {
 public:
     using key_type = std::uint64_t;
@@ -63,16 +63,16 @@ public:
 
     std::uint64_t size() { return count().pairs; }
     bool empty() { return size() == 0; }
-    // How many pages more there is room for. Where there is none, pairs go in all the same, into longer pages.
+    // How many more pages there is room for. If there is none, pairs still go in, and pages grow longer.
     std::uint64_t free_pages() { return count().free_pages; }
     std::optional<std::uint64_t> get(std::uint64_t key) { return value(nifforan_get(&handle, key)); }
     bool contains(std::uint64_t key) { return get(key).has_value(); }
-    // The value at the key, which throws std::out_of_range where there is none.
+    // The value at the key. Throws std::out_of_range if there is none.
     std::uint64_t at(std::uint64_t key) {
         if (const auto there = get(key)) return *there;
         throw std::out_of_range("nifforan: no such key");
     }
-    // The pairs with the least key and with the greatest, and those next to a key, or at it.
+    // The pairs with the least key and with the greatest, and the nearest ones at a key or beside it.
     std::optional<value_type> first() { return pair(nifforan_first(&handle)); }
     std::optional<value_type> last() { return pair(nifforan_last(&handle)); }
     std::optional<value_type> next_at(std::uint64_t key) { return pair(nifforan_next_at(&handle, key)); }
@@ -123,9 +123,9 @@ protected:
     std::uint64_t changes = 0;
 };
 
-// A place in a map: at a pair, or past all pairs. It has read a few pairs at once, and reads them anew where the map has changed:
-// so it stays good whatever is changed, also if its pair is erased, and goes on from its key in the map as it is then. It ends
-// with the map that it was made of, also if that is moved. As of a std::vector<bool>, *it is a value, and no reference.
+// A place in a map: at a pair, or past all pairs. It reads a few pairs at once, and again if the map has changed. So it stays
+// valid whatever changes, even if its pair is erased, and goes on from its key in the map as it is then. It is valid as long as
+// the map it was made from, which may not be moved. As with a std::vector<bool>, *it is a value, not a reference.
 class Reads::Iterator {
 public:
     using iterator_category = std::bidirectional_iterator_tag;
@@ -195,7 +195,7 @@ private:
         check(read.status);
         filled(read.count, 0, !read.has_next);
     }
-    // The window rises, also where it is read backwards.
+    // The window rises, even if it is read backwards.
     void read_below(nifforan_high high) {
         nifforan_pair falling[ROOM];
         const nifforan_read_answer read = nifforan_read_back(&map->handle, 0, high, falling, ROOM);
@@ -263,7 +263,7 @@ public:
         return *this;
     }
 
-    // A map with these pairs, each of whose keys has to be above the one before.
+    // A map with these pairs, whose keys must rise.
     static Map from_sorted(const nifforan_pair *pairs, std::size_t count, const nifforan_settings &settings = NIFFORAN_USUAL_SETTINGS) {
         Map map = closed();
         check(map.try_from_sorted(pairs, count, settings).status);
@@ -275,23 +275,23 @@ public:
         return nifforan_from_sorted(&handle, &settings, count == 0 ? &none : pairs, count);
     }
 
-    // A map that is closed, for try_open, which answers a status, NIFFORAN_OPEN_HANDLE where it isn't.
+    // A closed map, for try_open, which returns a status: NIFFORAN_OPEN_HANDLE if the map isn't closed.
     static Map closed() noexcept { return Map(nifforan{nullptr}); }
     [[nodiscard]] std::uint32_t try_open(const nifforan_settings &settings = NIFFORAN_USUAL_SETTINGS) noexcept {
         return nifforan_create(&handle, &settings);
     }
 
-    // Gives the key the value unless it has one, and answers the one that it had.
+    // Gives the key the value unless it has one, and returns the old one.
     std::optional<std::uint64_t> put(std::uint64_t key, std::uint64_t v) { return value(try_put(key, v)); }
     [[nodiscard]] nifforan_reply try_put(std::uint64_t key, std::uint64_t v) noexcept { return seen(nifforan_put(&handle, key, v)); }
-    // Gives the key the value, and answers the one that it had.
+    // Gives the key the value, and returns the old one.
     std::optional<std::uint64_t> set(std::uint64_t key, std::uint64_t v) { return value(try_set(key, v)); }
     [[nodiscard]] nifforan_reply try_set(std::uint64_t key, std::uint64_t v) noexcept { return seen(nifforan_set(&handle, key, v)); }
-    // Takes the key out, and answers the value that it had.
+    // Takes the key out, and returns its value.
     std::optional<std::uint64_t> erase(std::uint64_t key) { return value(try_erase(key)); }
     [[nodiscard]] nifforan_reply try_erase(std::uint64_t key) noexcept { return seen(nifforan_delete(&handle, key)); }
-    // Gives the key the new value, or takes it out where that is none, if it has the expected one, or none. It answers the value
-    // that it had: it was set if that is what was expected.
+    // If the key has the expected value, or no value if none is expected, gives it the new value, or takes it out if there is
+    // none. Returns the old value: if that is the expected one, the key was changed.
     std::optional<std::uint64_t> compare_and_set(std::uint64_t key, std::optional<std::uint64_t> expected, std::optional<std::uint64_t> v) {
         return value(try_compare_and_set(key, expected, v));
     }
@@ -300,31 +300,30 @@ public:
         const nifforan_optional wanted = optional(expected), given = optional(v);
         return seen(nifforan_compare_and_set(&handle, key, &wanted, &given));
     }
-    // Gives the key what the function makes of its value, or of none, and answers the value that it has then. It looks the key
-    // up twice.
+    // Gives the key the value that the function makes of its old one, or of none, and returns it. Looks the key up twice.
     template <typename Make> std::uint64_t upsert(std::uint64_t key, Make make) {
         const std::uint64_t made = make(get(key));
         set(key, made);
         return made;
     }
-    // Takes out the pair with the least key, and with the greatest, and answers it.
+    // Takes out the pair with the least key, or with the greatest, and returns it.
     std::optional<value_type> pop_first() { return pair(try_pop_first()); }
     std::optional<value_type> pop_last() { return pair(try_pop_last()); }
     [[nodiscard]] nifforan_popped try_pop_first() noexcept { return seen(nifforan_pop_first(&handle)); }
     [[nodiscard]] nifforan_popped try_pop_last() noexcept { return seen(nifforan_pop_last(&handle)); }
-    // Sets each of the pairs, one after the other. Where it throws, the first ones are set; try_extend tells how many.
+    // Sets each of the pairs, one after the other. If it throws, the first ones are set; try_extend says how many.
     void extend(const nifforan_pair *pairs, std::size_t count) { check(try_extend(pairs, count).status); }
     [[nodiscard]] nifforan_filled try_extend(const nifforan_pair *pairs, std::size_t count) noexcept {
         const nifforan_pair none{0, 0};
         return seen(nifforan_extend(&handle, count == 0 ? &none : pairs, count));
     }
-    // Takes the pair out at which the iterator is, and answers an iterator at the next one.
+    // Takes out the pair at the iterator, and returns an iterator at the next one.
     Iterator erase(Iterator at) {
         const std::uint64_t key = at->first;
         erase(key);
         return upper_bound(key);
     }
-    // Takes out the keys from the low on and below the high, and answers how many. Where it throws, some of them are out.
+    // Takes out the keys from the low on and below the high, and returns how many. If it throws, some of them are out.
     std::uint64_t clear(std::uint64_t low = 0, nifforan_high high = NIFFORAN_TOP) {
         const nifforan_cleared cleared = try_clear(low, high);
         check(cleared.status);
@@ -334,20 +333,20 @@ public:
         changes++;
         return nifforan_clear(&handle, low, high);
     }
-    // Takes memory ahead for that many pairs, as of an unordered_map: with those that are there already.
+    // Takes memory ahead for that many pairs, as in an unordered_map: those already there count.
     void reserve(std::uint64_t pairs) { check(try_reserve(pairs)); }
     [[nodiscard]] std::uint32_t try_reserve(std::uint64_t pairs) noexcept {
         const std::uint64_t there = nifforan_pairs(&handle).pairs;
         return nifforan_reserve(&handle, pairs > there ? pairs - there : 0);
     }
-    // Gives back the memory for pages that the pairs don't want, by making the map anew. Where it throws, it stays as it was.
+    // Rebuilds the map to give back the memory for pages that the pairs don't need. If it throws, the map stays as it was.
     void shrink_to_fit() { check(try_shrink_to_fit()); }
     [[nodiscard]] std::uint32_t try_shrink_to_fit() noexcept { return nifforan_shrink(&handle); }
-    // What cut the care for the pages short in the last call that changed the map, but for clear: NIFFORAN_OK, or a fault. Its answer stands
-    // all the same, and a later call takes the care up again.
+    // What cut page maintenance short in the last call that changed the map, except clear: NIFFORAN_OK, or a fault. The call's
+    // answer stands, and a later call resumes the maintenance.
     std::uint32_t care() const noexcept { return cut_short; }
 
-    // The map, which nobody changes from now on; this one is closed then, but where it throws it stays as it was.
+    // The map, which nobody changes from now on. This Map is then closed; if it throws, it stays as it was.
     Frozen freeze();
     [[nodiscard]] std::uint32_t try_freeze(Frozen &frozen) noexcept;
 
@@ -365,7 +364,7 @@ private:
     std::uint32_t cut_short = NIFFORAN_OK;
 };
 
-// A map that nobody changes. Threads read it at once, each through one of its own, which share makes.
+// A map that nobody changes. Many threads read it at once, each through a Frozen of its own, which share makes.
 class Frozen : public Reads {
 public:
     // Closed, for try_freeze and try_share.
@@ -383,20 +382,20 @@ public:
         check(try_share(another));
         return another;
     }
-    // It is put into `another`, unless the answer is a fault.
+    // Puts it into `another`, unless the answer is a fault.
     [[nodiscard]] std::uint32_t try_share(Frozen &another) noexcept {
         Frozen made;
         const std::uint32_t status = nifforan_share(&handle, &made.handle);
         if (status == NIFFORAN_OK) another = std::move(made);
         return status;
     }
-    // The map, to be changed again; this one is closed then. It throws NIFFORAN_SHARED, and stays, where others have it.
+    // The map, to be changed again. This Frozen is then closed. If others have the map, it throws NIFFORAN_SHARED, and stays.
     Map thaw() {
         Map map = Map::closed();
         check(try_thaw(map));
         return map;
     }
-    // It is put into `map`, unless the answer is a fault.
+    // Puts it into `map`, unless the answer is a fault.
     [[nodiscard]] std::uint32_t try_thaw(Map &map) noexcept {
         const std::uint32_t status = nifforan_thaw(&handle);
         if (status == NIFFORAN_OK) map = Map(let_go());

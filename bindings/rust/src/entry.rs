@@ -6,7 +6,7 @@ use std::fmt;
 
 /// The place of a key, which has a value or none. [`Map::entry`] makes it.
 ///
-/// What returns a `&mut V` in `BTreeMap` returns here the value that the key has then.
+/// What returns a `&mut V` in `BTreeMap` returns the key's new value here.
 ///
 /// ```
 /// use nifforan::Map;
@@ -42,18 +42,19 @@ impl<'m> Entry<'m> {
         }
     }
 
-    /// Gives the key the value unless it has one, and returns the one that it has then. [`Map::put`] does this in one
+    /// Gives the key the value unless it has one, and returns the value that it then has. [`Map::put`] does this in one
     /// look-up.
     pub fn or_insert(self, value: u64) -> Result<u64, Fault> {
         self.or_insert_with(|| value)
     }
 
-    /// Gives the key a value, which is made for it, unless it has one, and returns the one that it has then.
+    /// Unless the key has a value, gives it the one that the function makes. Returns the value that it then has.
     pub fn or_insert_with(self, value: impl FnOnce() -> u64) -> Result<u64, Fault> {
         self.or_insert_with_key(|_| value())
     }
 
-    /// Gives the key a value, which is made of it, unless it has one, and returns the one that it has then.
+    /// Unless the key has a value, gives it the one that the function makes of the key. Returns the value that it then
+    /// has.
     pub fn or_insert_with_key(self, value: impl FnOnce(u64) -> u64) -> Result<u64, Fault> {
         match self {
             Entry::Occupied(there) => Ok(there.value),
@@ -64,12 +65,12 @@ impl<'m> Entry<'m> {
         }
     }
 
-    /// Gives the key 0 unless it has a value, and returns the one that it has then.
+    /// Gives the key 0 unless it has a value, and returns the value that it then has.
     pub fn or_default(self) -> Result<u64, Fault> {
         self.or_insert(0)
     }
 
-    /// Has the value changed, if there is one: in a copy, which the key is then set to.
+    /// If there is a value, has a copy of it changed, and sets the key to that.
     pub fn and_modify(mut self, change: impl FnOnce(&mut u64)) -> Result<Self, Fault> {
         if let Entry::Occupied(there) = &mut self {
             let mut value = there.value;
@@ -124,18 +125,18 @@ impl<'m> OccupiedEntry<'m> {
         self.value
     }
 
-    /// Gives the key the value, and returns the one that it had.
+    /// Gives the key the value, and returns the old one.
     pub fn insert(&mut self, value: u64) -> Result<u64, Fault> {
         self.map.set(self.key, value)?;
         Ok(std::mem::replace(&mut self.value, value))
     }
 
-    /// Takes the key out, and returns the value that it had.
+    /// Takes the key out, and returns its value.
     pub fn remove(self) -> Result<u64, Fault> {
         self.remove_entry().map(|(_, value)| value)
     }
 
-    /// Takes the key out, and returns it with the value that it had.
+    /// Takes the key out, and returns it with its value.
     pub fn remove_entry(self) -> Result<(u64, u64), Fault> {
         self.map.remove(self.key)?;
         Ok((self.key, self.value))

@@ -2,7 +2,7 @@ use crate::{ffi, Map};
 use std::error::Error;
 use std::fmt;
 
-/// What ended a call, or cut it short. In the place of an answer it says that the map has the pairs that it had.
+/// What ended a call, or cut it short. If it comes in place of an answer, the pairs are unchanged.
 ///
 /// ```
 /// use nifforan::{Fault, Map, Settings};
@@ -22,22 +22,22 @@ pub enum Fault {
     BadPages,
     /// [`Settings::tries`](crate::Settings::tries) is out of its range.
     BadTries,
-    /// The allocator gave no memory, be it for more pages, where the settings allow more.
+    /// The allocator gave no memory, perhaps for pages that the settings still allow.
     NoMemory,
-    /// No page is free: the map has as many as its settings allow. Most calls do their work all the same,
-    /// pages grow longer than their fanout, and [`Map::care`] tells it.
+    /// No page is free: the map has as many as its settings allow. Most calls still do their work, pages grow longer
+    /// than their fanout, and [`Map::care`] says so.
     TableFull,
     /// The tree has its greatest height.
     TooTall,
     /// The version of a page, or the number of changes, is used up (2^64).
     Worn,
-    /// The call took all tries that its settings allow it.
+    /// The call made all the attempts that its settings allow.
     Contended,
-    /// The library that is linked has settings of another size: it is of another version.
+    /// The linked library has settings of another size, so it is of another version.
     BadSize,
     /// The key of the pair with this number, counted from 0, isn't above the one before: see [`Map::from_sorted`].
     Unsorted(usize),
-    /// A status that this crate has no name for: the library that is linked is of a later version.
+    /// A status that this crate has no name for, as the linked library is of a later version.
     Other(u32),
 }
 
@@ -87,7 +87,7 @@ impl Fault {
         }
     }
 
-    /// Ends a call that has no place for a fault, as those of `Extend` and `Clone`.
+    /// Ends a call that can't return a fault, such as those of `Extend` and `Clone`.
     #[track_caller]
     pub(crate) fn panic(self) -> ! {
         panic!("nifforan: {self}")
@@ -113,8 +113,8 @@ impl fmt::Display for Fault {
 
 impl Error for Fault {}
 
-/// How far a call that takes out many keys came, where it ended early. No other key was touched. The same call takes
-/// out those that are left: it can be made again while it removes any.
+/// How far a call that takes out many keys came before it ended early. No other key was touched. The same call takes
+/// out those that are left: repeat it while it removes any.
 ///
 /// ```
 /// use nifforan::{Fault, Map, Unfinished};
@@ -157,7 +157,7 @@ impl From<Unfinished> for Fault {
     }
 }
 
-/// A map that could not be frozen, and why: there was no memory for it.
+/// A map that couldn't be frozen, as there was no memory for that.
 ///
 /// ```
 /// use nifforan::{Fault, Frozen, Map};

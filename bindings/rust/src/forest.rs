@@ -14,7 +14,7 @@ use std::vec;
 /// The most trees of a forest.
 const MOST_TREES: usize = 1024;
 
-/// Where the ranges of a forest's trees begin: the first one at 0, each other above the one before.
+/// Where the ranges of a forest's trees begin: the first at 0, each other above the one before.
 ///
 /// ```
 /// use nifforan::{BadBounds, Bounds};
@@ -26,12 +26,12 @@ const MOST_TREES: usize = 1024;
 #[derive(Clone, Debug, PartialEq, Eq, Hash)]
 pub struct Bounds(Box<[u64]>);
 
-/// Why keys are no bounds.
+/// Why keys aren't bounds.
 #[derive(Clone, Copy, Debug, PartialEq, Eq, Hash)]
 pub enum BadBounds {
-    /// They are this many, and not from 1 to 1,024.
+    /// There are this many of them, not 1 to 1,024.
     Count(usize),
-    /// The first one is this, and not 0.
+    /// The first one is this, not 0.
     First(u64),
     /// The one with this number, counted from 0, isn't above the one before.
     Unsorted(usize),
@@ -64,8 +64,8 @@ impl Bounds {
         }
     }
 
-    /// Cuts the keys below the end into this many ranges of the same length; where these are fewer keys, into one of each.
-    /// Keys from the end on belong to the last one.
+    /// Cuts the keys below the end into this many ranges of the same length, or into one for each key if there are
+    /// fewer. Keys from the end on belong to the last one.
     ///
     /// ```
     /// # use nifforan::Bounds;
@@ -77,8 +77,8 @@ impl Bounds {
         Bounds::of_firsts(trees, first)
     }
 
-    /// Cuts all keys into this many ranges, so that each has as many of these keys; where keys are the same, or too few, into
-    /// fewer ranges.
+    /// Cuts all keys into this many ranges, each with as many of the sample's keys; into fewer if keys are equal or too
+    /// few.
     ///
     /// ```
     /// # use nifforan::Bounds;
@@ -96,7 +96,7 @@ impl Bounds {
         Bounds::of_firsts(trees, first)
     }
 
-    /// Those of the trees from 1 on, which don't fall, each once.
+    /// The bounds of these firsts, which don't fall, each taken once.
     fn of_firsts(trees: usize, first: impl Fn(usize) -> u64) -> Result<Bounds, BadBounds> {
         if !(1..=MOST_TREES).contains(&trees) {
             return Err(BadBounds::Count(trees));
@@ -118,7 +118,7 @@ impl Bounds {
     }
 }
 
-/// A map by itself on its cache lines, also where those are fetched two by two.
+/// A map that shares its cache lines with nothing, even if they are fetched two by two.
 #[repr(align(128))]
 struct Tree(Mutex<Map>);
 
@@ -133,8 +133,8 @@ impl Tree {
 /// An ordered map that many threads read and change at once: several trees, each a [`Map`] for a range of keys behind a
 /// lock of its own, so that threads with keys of different ranges seldom wait for each other. It is `Sync`.
 ///
-/// A call of one key is one call of the map that has it, under its lock. What each map does is proved; the locks and what is
-/// written here around them are not. Calls of many keys go from tree to tree, and see each at a moment of its own.
+/// A call on one key is one call on the map that has it, under its lock. What each map does is proved; the locks and
+/// the code here around them are not. Calls on many keys go from tree to tree, and see each at a moment of its own.
 ///
 /// ```
 /// use nifforan::{Bounds, Forest, Settings};
@@ -160,8 +160,8 @@ pub struct Forest {
 }
 
 impl Forest {
-    /// Makes a forest without pairs, each of whose trees has these settings. It fails by the first setting that is out of its
-    /// range, or by [`Fault::NoMemory`].
+    /// Makes an empty forest, each of whose trees has these settings. Fails with the first setting that is out of its
+    /// range, or with [`Fault::NoMemory`].
     pub fn new(settings: &Settings, bounds: Bounds) -> Result<Forest, Fault> {
         let maps = bounds.0.iter().map(|_| Map::new(settings));
         let trees = planted(maps)?;
@@ -295,8 +295,8 @@ impl Forest {
         self.map_of(key).compare_and_set(key, expected, new)
     }
 
-    /// Returns how many pairs the trees have, each counted at a moment of its own: while other threads change them, there
-    /// need be no moment at which the forest had as many.
+    /// Returns how many pairs the trees have, each counted at a moment of its own. While other threads change them, the
+    /// forest need never have had that many.
     pub fn len(&self) -> usize {
         self.trees.iter().map(|tree| tree.lock().len()).sum()
     }
@@ -318,7 +318,7 @@ impl Forest {
         trees.find_map(|tree| tree.lock().last_key_value())
     }
 
-    /// Takes the keys of a range out, and returns how many they were: tree by tree, as far as it comes.
+    /// Takes out the keys of a range, tree by tree, as far as the call comes, and returns how many there were.
     pub fn clear(&self, keys: impl RangeBounds<u64>) -> Result<u64, Unfinished> {
         let keys = (keys.start_bound().cloned(), keys.end_bound().cloned());
         let mut removed = 0;
@@ -343,9 +343,9 @@ impl Forest {
         &self.trees[self.bounds.tree_of(low)..=self.bounds.tree_of(last)]
     }
 
-    /// Returns the pairs of a range of keys, in the order of their keys. It copies them by 64 at most under a tree's lock, and
-    /// holds no lock while its caller works: those that are copied at once are of one moment, and what other threads put
-    /// or take out behind the last one is seen.
+    /// Returns the pairs of a range of keys, in the order of their keys. It copies at most 64 pairs at once under a
+    /// tree's lock, which are of one moment, and holds no lock while its caller works. It sees what other threads put
+    /// or take out after the last pair that it copied.
     pub fn range(&self, keys: impl RangeBounds<u64>) -> ForestRange<'_> {
         ForestRange {
             forest: self,
@@ -359,7 +359,7 @@ impl Forest {
         self.range(..)
     }
 
-    /// Returns the trees' maps, in the order of their ranges: to be frozen, say.
+    /// Returns the trees' maps, in the order of their ranges, for example to freeze them.
     pub fn into_maps(self) -> Vec<Map> {
         let maps = self.trees.into_vec().into_iter().map(|tree| tree.0);
         maps.map(|map| map.into_inner().unwrap_or_else(PoisonError::into_inner))

@@ -33,14 +33,14 @@ impl Frozen {
         Frozen { reads }
     }
 
-    /// Returns one more of the same map. It fails where there is no memory for it.
+    /// Returns one more of the same map. Fails if there is no memory for it.
     pub fn share(&self) -> Result<Frozen, Fault> {
         // SAFETY: see `Reads::handle`; the other one is closed.
         let share = |other| unsafe { ffi::nifforan_share(self.reads.handle(), other) };
         Reads::opened_by(*self.settings(), share).map(Frozen::of)
     }
 
-    /// Returns the map, to be changed again, where no other has it; otherwise this one.
+    /// Returns the map, to be changed again, if no other `Frozen` has it; otherwise returns this one.
     pub fn thaw(self) -> Result<Map, Frozen> {
         // SAFETY: see `Reads::handle`.
         match unsafe { ffi::nifforan_thaw(self.reads.handle()) } {
@@ -50,7 +50,7 @@ impl Frozen {
     }
 }
 
-/// [`Frozen::share`], which panics where there is no memory for it.
+/// [`Frozen::share`], which panics if there is no memory for it.
 impl Clone for Frozen {
     #[track_caller]
     fn clone(&self) -> Frozen {

@@ -1,4 +1,4 @@
-//! The iterators. Past its end none has anything more, which makes each a `FusedIterator`.
+//! The iterators. Each is a `FusedIterator`.
 
 use crate::ffi::High;
 use crate::walk::Walk;

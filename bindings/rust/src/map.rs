@@ -12,9 +12,9 @@ const AT_ONCE: usize = 64;
 /// What a [`Map::compare_and_set`] found.
 #[derive(Clone, Copy, Debug, PartialEq, Eq, Hash)]
 pub enum CompareAndSet {
-    /// The key had what was expected, and has the new value now, or none.
+    /// The key had the expected value, and now has the new one. Either may be none.
     Set,
-    /// The key had this value, or none, and keeps it.
+    /// The key had this value instead, or none, and keeps it.
     Differs(Option<u64>),
 }
 
@@ -58,7 +58,7 @@ pub struct Map {
 reads!(Map);
 
 impl Map {
-    /// Makes a map without pairs. It fails by the first setting that is out of its range, or by [`Fault::NoMemory`].
+    /// Makes an empty map. Fails with the first setting that is out of its range, or with [`Fault::NoMemory`].
     pub fn new(settings: &Settings) -> Result<Map, Fault> {
         let in_c = settings.in_c();
         // SAFETY: the handle is closed, and both are this call's own.
@@ -66,7 +66,7 @@ impl Map {
         Reads::opened_by(*settings, create).map(Map::of)
     }
 
-    /// Makes a map without pairs, and takes memory ahead for pages enough for this many: see [`Map::reserve`].
+    /// Makes an empty map, and takes memory ahead for this many pairs: see [`Map::reserve`].
     ///
     /// ```
     /// use nifforan::{Map, Settings};
@@ -126,23 +126,23 @@ impl Map {
         made.map(Map::of).map_err(|fault| fault.after(number))
     }
 
-    /// Makes a map of the same settings with the same pairs.
+    /// Makes a map with the same settings and the same pairs.
     pub fn try_clone(&self) -> Result<Map, Fault> {
         let mut map = Map::new(self.settings())?;
         map.try_extend(self)?;
         Ok(map)
     }
 
-    /// Takes memory ahead for pages enough for this many pairs more, in whatever order they are put, or for as many pages
-    /// as the settings allow: some six bytes a pair. It fails by [`Fault::NoMemory`], and then the map is as it was.
+    /// Takes memory ahead for the pages that this many more pairs may need, in any order, or for as many pages as the
+    /// settings allow: about six bytes a pair. Fails with [`Fault::NoMemory`], and leaves the map as it was.
     pub fn reserve(&mut self, additional: usize) -> Result<(), Fault> {
         // SAFETY: see `Reads::handle`.
         let status = unsafe { ffi::nifforan_reserve(self.reads.handle(), additional as u64) };
         Fault::of(status).map_or(Ok(()), Err)
     }
 
-    /// Gives back the memory for pages that the pairs don't want, by making the map anew, which takes some 0.3 µs a pair, and
-    /// meanwhile memory for both. Where it fails, the map is as it was.
+    /// Rebuilds the map, to give back the memory for pages that the pairs don't need. That takes about 0.3 µs a pair,
+    /// and memory for both maps meanwhile. If it fails, the map is as it was.
     ///
     /// ```
     /// let mut map: nifforan::Map = (0..100_000).map(|key| (key, 1)).collect();
@@ -157,14 +157,14 @@ impl Map {
         Fault::of(status).map_or(Ok(()), Err)
     }
 
-    /// Gives the key the value unless it has one, and returns the one that it had, which it keeps then.
+    /// Gives the key the value unless it has one, which it then keeps. Returns the old value.
     pub fn put(&mut self, key: u64, value: u64) -> Result<Option<u64>, Fault> {
         // SAFETY: see `Reads::handle`.
         let reply = unsafe { ffi::nifforan_put(self.reads.handle(), key, value) };
         self.before(reply)
     }
 
-    /// Gives the key the value, whether it has one or not, and returns the one that it had.
+    /// Gives the key the value, whether it has one or not, and returns the old one.
     pub fn set(&mut self, key: u64, value: u64) -> Result<Option<u64>, Fault> {
         // SAFETY: see `Reads::handle`.
         let reply = unsafe { ffi::nifforan_set(self.reads.handle(), key, value) };
@@ -176,14 +176,15 @@ impl Map {
         self.set(key, value)
     }
 
-    /// Takes the key out, and returns the value that it had.
+    /// Takes the key out, and returns its value.
     pub fn remove(&mut self, key: u64) -> Result<Option<u64>, Fault> {
         // SAFETY: see `Reads::handle`.
         let reply = unsafe { ffi::nifforan_delete(self.reads.handle(), key) };
         self.before(reply)
     }
 
-    /// Gives the key the new value, or takes it out where that is `None`, if it has the expected one, or none.
+    /// If the key has the expected value, or no value if `None` is expected, gives it the new value, or takes it out if
+    /// that is `None`.
     ///
     /// ```
     /// use nifforan::{CompareAndSet, Map};
@@ -211,7 +212,8 @@ impl Map {
         })
     }
 
-    /// Gives the key what the function makes of its value, or of none, and returns both. It looks the key up twice.
+    /// Gives the key the value that the function makes of its value, or of none, and returns both. Looks the key up
+    /// twice.
     ///
     /// ```
     /// use nifforan::{Map, Upsert};
@@ -253,7 +255,7 @@ impl Map {
         self.popped(popped)
     }
 
-    /// Returns the place of the key, to see what is there and to change it. That looks the key up once more than a
+    /// Returns the place of the key, to see what is there and to change it. This looks the key up once more than a
     /// `put`, a `set` or a `remove`.
     pub fn entry(&mut self, key: u64) -> Entry<'_> {
         let value = self.get(key);
@@ -272,7 +274,7 @@ impl Map {
         Some(OccupiedEntry::of(self, pair))
     }
 
-    /// Takes the keys of a range out, and returns how many they were. A range that ends before it begins has none.
+    /// Takes out the keys of a range, and returns how many there were. A range that ends before it begins has none.
     ///
     /// ```
     /// let mut map: nifforan::Map = (0..100).map(|key| (key, 2 * key)).collect();
@@ -295,8 +297,8 @@ impl Map {
         }
     }
 
-    /// Takes out the pairs that are not to be kept, and returns how many they were. Each is asked about once, by
-    /// rising keys, as far as the call comes.
+    /// Keeps the pairs for which the function returns true, takes out the others, and returns how many. It calls the
+    /// function once for each pair, by rising keys, as far as the call comes.
     ///
     /// ```
     /// let mut map: nifforan::Map = (0..100).map(|key| (key, 2 * key)).collect();
@@ -323,9 +325,9 @@ impl Map {
         Ok(removed)
     }
 
-    /// Gives each pair of a range the value that the function makes of it. Each is asked about once, by rising keys; one
-    /// that keeps its value isn't set. Where it ends early, a first part of the pairs have their new values, the others are
-    /// as they were, and what the function made of up to 64 of these is lost.
+    /// Sets each pair of a range to the value that the function makes of it. It calls the function once for each pair,
+    /// by rising keys, and sets no pair that keeps its value. If the call ends early, the first pairs have their new
+    /// values and the others are as they were, and what the function made of up to 64 of these is lost.
     ///
     /// ```
     /// let mut map: nifforan::Map = (0..100).map(|key| (key, key)).collect();
@@ -362,7 +364,7 @@ impl Map {
         Ok(())
     }
 
-    /// Sets each pair. Where it ends early, the pairs before that are in the map.
+    /// Sets each pair. If the call ends early, the pairs before that are in the map.
     ///
     /// ```
     /// let mut map = nifforan::Map::from([(3, 0)]);
@@ -390,9 +392,9 @@ impl Map {
         }
     }
 
-    /// Returns what cut the care for the pages short in the last call that changed the map, if anything did; where that
-    /// made many changes, in the last of them that was cut short. Its answer stands all the same; a split, a merge or
-    /// the help for one is left to a later call. [`Map::clear`] tells it in its answer.
+    /// Returns what cut page maintenance short in the last call that changed the map, if anything did. If that call
+    /// made many changes, it is from the last one that was cut short. The call's answer stands; a later call does the
+    /// split or the merge that is left. [`Map::clear`] says it in its answer.
     ///
     /// ```
     /// use nifforan::{Fault, Map, Settings};
@@ -406,8 +408,8 @@ impl Map {
         Fault::of(self.care)
     }
 
-    /// Freezes the map, so that nobody changes it and many threads may read it. It fails, and gives the map back, where
-    /// there is no memory for it.
+    /// Freezes the map, so that nobody changes it and many threads may read it. If there is no memory for that, it
+    /// fails and gives the map back.
     pub fn freeze(self) -> Result<Frozen, Unfrozen> {
         // SAFETY: see `Reads::handle`.
         match Fault::of(unsafe { ffi::nifforan_freeze(self.reads.handle()) }) {
@@ -453,7 +455,7 @@ impl Map {
         Fault::of(filled.status).map_or(Ok(()), Err)
     }
 
-    /// Makes one call of many: where its care isn't cut short, that of an earlier one stays.
+    /// Makes one call of many. If its maintenance isn't cut short, what an earlier one noted stays.
     fn also<T>(&mut self, call: impl FnOnce(&mut Map) -> T) -> T {
         let earlier = self.care;
         let answer = call(self);
@@ -464,7 +466,7 @@ impl Map {
     }
 }
 
-/// The usual settings. It panics where there is no memory.
+/// The usual settings. Panics if there is no memory.
 impl Default for Map {
     #[track_caller]
     fn default() -> Map {
@@ -506,7 +508,7 @@ impl FromIterator<(u64, u64)> for Map {
     }
 }
 
-/// Collects them; it panics at a fault.
+/// Collects the pairs; panics at a fault.
 impl<const N: usize> From<[(u64, u64); N]> for Map {
     #[track_caller]
     fn from(pairs: [(u64, u64); N]) -> Map {

@@ -9,7 +9,7 @@ use std::mem::MaybeUninit;
 use std::ops::{Bound, RangeBounds};
 use std::panic::RefUnwindSafe;
 
-/// The calls that look at a map, of a [`Map`](crate::Map) and a [`Frozen`](crate::Frozen) alike. They take no memory.
+/// The calls that look at a map, of a [`Map`](crate::Map) and a [`Frozen`](crate::Frozen) alike. They need no memory.
 ///
 /// ```
 /// use nifforan::{Map, Reads};
@@ -37,7 +37,7 @@ unsafe impl Send for Reads {}
 impl RefUnwindSafe for Reads {}
 
 impl Reads {
-    /// Opens a handle by the call, which gets a closed one. With the status `OK` the handle has to be open.
+    /// Opens a handle by the call, which gets a closed one. If the status is `OK`, the handle must be open.
     pub(crate) fn opened_by(
         settings: Settings,
         open: impl FnOnce(*mut ffi::Handle) -> u32,
@@ -59,12 +59,12 @@ impl Reads {
         self.handle.get().cast()
     }
 
-    /// Returns the settings that the map was made by.
+    /// Returns the settings that the map was made with.
     pub fn settings(&self) -> &Settings {
         &self.settings
     }
 
-    /// Returns how many pairs there are. It takes the same time however many.
+    /// Returns how many pairs there are, in constant time.
     pub fn len(&self) -> usize {
         // SAFETY: see `handle`.
         unsafe { ffi::nifforan_pairs(self.handle()) }.pairs as usize
@@ -75,13 +75,13 @@ impl Reads {
         self.len() == 0
     }
 
-    /// Returns how many pages more there is room for. It takes the same time however many.
+    /// Returns how many more pages there is room for, in constant time.
     pub fn free_pages(&self) -> usize {
         // SAFETY: see `handle`.
         unsafe { ffi::nifforan_pairs(self.handle()) }.free_pages as usize
     }
 
-    /// Returns whether there is room for no further page. Pairs go in all the same, into longer pages.
+    /// Returns whether there is no room for another page. If so, pairs still go in, and pages grow longer.
     pub fn is_full(&self) -> bool {
         self.free_pages() == 0
     }
@@ -318,7 +318,7 @@ impl High {
     }
 }
 
-/// The least key of a range, and what it ends below; none where it has no keys.
+/// The least key of a range, and what it ends below; none if it has no keys.
 pub(crate) fn ends(keys: &impl RangeBounds<u64>) -> Option<(u64, High)> {
     let low = match keys.start_bound() {
         Bound::Included(low) => *low,

@@ -1,6 +1,6 @@
 use crate::ffi;
 
-/// What a map is made by.
+/// The settings of a map.
 ///
 /// ```
 /// use nifforan::{Fault, Map, Settings};
@@ -11,17 +11,17 @@ use crate::ffi;
 pub struct Settings {
     /// How many pairs a page may have before it is split, 4 to 64.
     pub fanout: u32,
-    /// How many changes a page may carry before it is written anew, 1 to 32.
+    /// How many changes a page may carry before it is rewritten, 1 to 32.
     pub chain: u32,
-    /// The most pages that the map may have, 8 to 16,777,216. It takes them as it grows, so the usual 16,777,216 cost
-    /// nothing: they are room for 520 million pairs in any order of insertion. Fewer bound the memory, as
+    /// The most pages that the map may have, 8 to 16,777,216. The map takes them as it grows, so the usual 16,777,216
+    /// cost nothing; they have room for 520 million pairs, inserted in any order. Fewer limit the memory, as
     /// [`for_pairs`](Settings::for_pairs) does; past them each insertion takes longer, and
     /// [`Map::care`](crate::Map::care) says so.
     pub pages: u32,
     /// How many attempts one call may make, 1 to 1,000.
     pub tries: u32,
-    /// The version that every page begins with, 0 as a rule: each change of a page takes one, and past the last one
-    /// it is [`Fault::Worn`](crate::Fault::Worn).
+    /// The version that each page begins with, usually 0. Each change of a page raises it, and past the last one the
+    /// page is [`Fault::Worn`](crate::Fault::Worn).
     pub first_version: u64,
 }
 
@@ -31,7 +31,7 @@ const MOST_PAGES: u32 = 1 << 24;
 /// The most pages that a bound for pairs has.
 const MOST_BOUND: u32 = 65_536;
 
-/// The least that a split leaves to either page, where pages may have 64 pairs.
+/// The fewest pairs that a split leaves in either page, if pages may have 64.
 const HALF: u64 = 32;
 
 /// The most levels that 65,536 such pages make.
@@ -68,7 +68,7 @@ impl Settings {
 }
 
 impl Default for Settings {
-    /// Returns pages of 64 pairs, written anew after each change, the most of them that there may be, 1,000 tries, and
+    /// Returns pages of 64 pairs, rewritten after each change, as many of them as there may be, 1,000 tries, and
     /// versions from 0 on.
     fn default() -> Settings {
         Settings {

@@ -77,14 +77,14 @@ impl Window {
 pub(crate) struct Walk {
     /// Pairs from the front, by rising keys.
     front: Window,
-    /// Pairs from the back, by falling keys, once any was asked for there.
+    /// Pairs from the back, by falling keys, once one has been asked for there.
     back: Option<Box<Window>>,
     /// What may not be read yet, between the two.
     unread: Option<(u64, High)>,
 }
 
 impl Walk {
-    /// None of the ends: a range without keys.
+    /// A range without keys.
     #[inline]
     pub fn of(ends: Option<(u64, High)>) -> Walk {
         Walk {
