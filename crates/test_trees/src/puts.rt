@@ -5,8 +5,8 @@ use crate::calls::table_after;
 use crate::crew::{Beside, Crew, work_on_tree};
 use crate::dice::drawn_step;
 use bw_delta::Spare;
-use bw_keys::{Key, Pid, Version};
-use bw_step::{Book, Insert, Receipt, Step};
+use bw_keys::{Key, Pid, Version, Wished};
+use bw_step::{Action, Book, Insert, Receipt, Step};
 use bw_tree::{Share, Shared};
 use rand_core::SeedableRng;
 use rand_pcg::Pcg32;
@@ -62,8 +62,12 @@ impl Crew<bool> for FourPuts {
         let (mut share, first) = (share, if worker == 0 { 1 } else { 3 });
         let are_put = self.put(rt, tree, &mut share, first)
             && self.put(rt, tree, &mut share, first + 1);
+        let (key, wished) = (first, Wished::Set(first));
+        let is_set = tree
+            .perform(self.machine, &mut share, Action::Record { key, wished })
+            .is_ok();
         let is_found = tree.leaf_at_once(first).is_some() && tree.look_at_once(first).is_some();
-        (share, are_put && is_found)
+        (share, are_put && is_set && is_found)
     }
 }
 
