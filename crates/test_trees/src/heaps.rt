@@ -4,8 +4,8 @@
 use crate::assert_same::assert_same;
 use bw_chain::{consolidate, same};
 use bw_delta::Spare;
-use bw_keys::{Config, Key, Pid, Version};
-use bw_step::{Delete, Insert, Refused, Step};
+use bw_keys::{Config, Key, Pid, Version, Wished};
+use bw_step::{Refused, Step};
 use bw_table::Table;
 use bw_work::{Alone, Calls, Fault, Put};
 use linked_list_allocator::LocalHeap;
@@ -63,25 +63,13 @@ fn drop_merged<R: Abort>(rt: &R, machine: Global, heap: &LocalHeap) {
 fn deepest<'a, R: Abort>(rt: &R, machine: Global, heap: &'a LocalHeap) -> Table<&'a LocalHeap> {
     let mut table = table_in(rt, machine, heap, SMALL.pages);
     for number in 0..=64u64 {
-        let (page, seen) = (Pid(0), Version(number));
-        let spare = Spare::new(heap).expect(rt, "memory for a record");
-        let step = if number < 60 {
-            Step::Insert(Insert {
-                page,
-                seen,
-                key: number,
-                value: number,
-                spare,
-            })
+        let (key, wished) = if number < 60 {
+            (number, Wished::Put(number))
         } else {
-            let key = number.saturating_sub(60);
-            Step::Delete(Delete {
-                page,
-                seen,
-                key,
-                spare,
-            })
+            (number.saturating_sub(60), Wished::Delete)
         };
+        let spare = Spare::new(heap).expect(rt, "memory for a record");
+        let step = Step::of_wish(Pid(0), Version(number), key, wished, false, spare);
         let refused = table.install(step).err();
         let wanted = if number == 64 {
             Some(Refused::Deep)

@@ -6,7 +6,7 @@ use crate::crew::{Beside, Crew, work_on_tree};
 use crate::dice::drawn_step;
 use bw_delta::Spare;
 use bw_keys::{Key, Pid, Version, Wished};
-use bw_step::{Action, Book, Insert, Receipt, Step};
+use bw_step::{Action, Book, Receipt, Step};
 use bw_tree::{Share, Shared};
 use rand_core::SeedableRng;
 use rand_pcg::Pcg32;
@@ -35,13 +35,9 @@ impl FourPuts {
         key: Key,
     ) -> bool {
         for _attempt in 0..5 {
-            let step = Step::Insert(Insert {
-                page: Pid(0),
-                seen: tree.peek(Pid(0)).map_or(Version(0), |view| view.version),
-                key,
-                value: key,
-                spare: Spare::new(self.machine).expect(rt, "memory for a record"),
-            });
+            let seen = tree.peek(Pid(0)).map_or(Version(0), |view| view.version);
+            let spare = Spare::new(self.machine).expect(rt, "memory for a record");
+            let step = Step::of_wish(Pid(0), seen, key, Wished::Put(key), false, spare);
             if tree.install(share, step).is_ok() {
                 return true;
             }

@@ -7,7 +7,7 @@ use crate::calls::{table_after, tell_receipts};
 use bw_audit::{Deed, Event, Verdict, audit, is_ascending, replay};
 use bw_delta::Spare;
 use bw_keys::{Fence, Key, Pid, Version};
-use bw_step::{Insert, Step};
+use bw_step::Step;
 use bw_table::{Summary, Wished};
 use bw_work::{Packed, Trail};
 use std::alloc::Global;
@@ -67,14 +67,7 @@ fn what_may_be_done_at_once_is_where_there_is_memory(rt: HostRuntime) -> Result<
 fn put(worker: u32, key: Key, value: u64, spare: Spare<Global>) -> Event
     ensures { result.worker ≡ worker }
 {
-    let (page, seen) = (Pid(0), Version(0));
-    let step = Step::Insert(Insert {
-        page,
-        seen,
-        key,
-        value,
-        spare,
-    });
+    let step = Step::of_wish(Pid(0), Version(0), key, Wished::Put(value), false, spare);
     Event {
         worker,
         act: Deed::Step(step),
