@@ -49,12 +49,17 @@ impl Ask {
         forest: &mut ForestWorker<'_, H>,
     ) -> Result<(), Fault> {
         for number in 0..51u64 {
-            let tenth = if number < 40 { number + 1 } else { number - 30 };
+            let tenth = if number < 40 {
+                number.wrapping_add(1)
+            } else {
+                number.wrapping_sub(30)
+            };
             if tenth.checked_rem(self.workers) == Some(worker.into()) {
+                let key = tenth.wrapping_mul(10);
                 if number < 40 {
-                    forest.set(10 * tenth, 10 * tenth)?;
+                    forest.set(key, key)?;
                 } else {
-                    forest.delete(10 * tenth)?;
+                    forest.delete(key)?;
                 }
             }
         }

@@ -58,8 +58,8 @@ fn a_map_leaves_no_record_on_a_leaf(rt: HostRuntime) {
 #[test]
 fn a_fault_of_extend_stands_in_its_replys_place(rt: HostRuntime) {
     let mut pairs = [(0u64, 0u64); 100];
-    for (pair, key) in pairs.iter_mut().zip(0u64..) {
-        *pair = (key, key);
+    for key in 0..100u64 {
+        pairs[key as usize] = (key, key);
     }
     let config = Config {
         fanout: 4,

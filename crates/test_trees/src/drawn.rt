@@ -81,6 +81,10 @@ fn replies_in<R: Abort>(rt: &R, machine: Global, told: &str) -> String {
     replies
 }
 
+fn new_table<R: Abort>(rt: &R, machine: Global, config: Config) -> Table<Global> {
+    Table::new(machine, machine, config).expect(rt, "a table")
+}
+
 /// Makes the calls in each way, and compares them.
 fn compare<R: Threads + Wait + Abort + Sync + Send + Copy>(
     rt: R,
@@ -99,15 +103,15 @@ fn compare<R: Threads + Wait + Abort + Sync + Send + Copy>(
         is_stepwise: true,
         ..at_once
     };
-    let table = || Table::new(machine, machine, config).expect(&rt, "a table");
-    let alone = at_once.alone(&rt, table());
-    let once = at_once.on_tree(rt, table());
+    let alone = at_once.alone(&rt, new_table(&rt, machine, config));
+    let once = at_once.on_tree(rt, new_table(&rt, machine, config));
+    let stepwise = by_steps.on_tree(rt, new_table(&rt, machine, config));
     let each = [
-        (by_steps.on_tree(rt, table()), &alone, "by steps"),
+        (stepwise, &alone, "by steps"),
         (
             by_steps.on_read_tree(rt, config),
             &alone,
-            "beside a reader, by steps",
+            "by steps beside a reader",
         ),
         (at_once.on_read_tree(rt, config), &once, "beside a reader"),
     ];
@@ -117,13 +121,10 @@ fn compare<R: Threads + Wait + Abort + Sync + Send + Copy>(
     if config.chain > 1 {
         assert_same(&rt, &once, &alone, ("at once", config));
     } else if config.fanout == 4 && config.tries == 1000 && config.first_version == 0 {
-        let [one, other] = [&once, &alone].map(|it| replies_in(&rt, machine, it));
-        assert_same(
-            &rt,
-            (one == other, once == alone),
-            (true, false),
-            "pages are cut",
-        );
+        let one = replies_in(&rt, machine, &once);
+        let other = replies_in(&rt, machine, &alone);
+        let found = (one == other, once == alone);
+        assert_same(&rt, found, (true, false), "pages are cut");
     }
 }
 
