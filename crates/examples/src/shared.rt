@@ -62,13 +62,13 @@ impl Job for Work {
 
     fn work<W: Worker>(&self, _worker: u32, hand: &mut W) -> Result<u64, Fault> {
         match *self {
-            Work::Fill(first) => fill(hand, first),
+            Work::Fill(first) => put_from(hand, first),
             Work::Read(end) => greatest_up_to(hand, end),
         }
     }
 }
 
-fn fill<W: Worker>(hand: &mut W, first: Key) -> Result<u64, Fault> {
+fn put_from<W: Worker>(hand: &mut W, first: Key) -> Result<u64, Fault> {
     for key in (first..).take(1000) {
         hand.put(key, key % 700)?;
     }
