@@ -6,7 +6,7 @@ ghost use Rattle.std.specs.Prelude.{◌≡◌, ◌≢◌};
 use bw_delta::{NoMemory, Spare};
 use bw_keys::{Config, Key, Pid};
 use bw_table::{Insert, NewFault, Refused, Step, Table};
-use std::alloc::{AllocError, Allocator, Global};
+use std::alloc::{AllocError, Global};
 use std::process::ExitCode;
 use thiserror::Error;
 
@@ -50,7 +50,9 @@ impl From<NewFault> for Stop {
 }
 
 impl Stop {
-    fn status(self) -> u8 {
+    fn status(self) -> u8
+        ensures { self ≡ Stop.Memory → result ≡ 3 }
+    {
         match self {
             Stop::Memory => 3,
             Stop::BadConfig(_) | Stop::Refused(_) => 1,
@@ -59,7 +61,7 @@ impl Stop {
 }
 
 /// Puts the key with itself as value, by the version that the leaf has now.
-fn put<A: Allocator + Copy>(alloc: A, table: &mut Table<A>, key: Key) -> Result<(), Stop> {
+fn put(alloc: Global, table: &mut Table<Global>, key: Key) -> Result<(), Stop> {
     let page = Pid(0);
     let view = table.peek(page).ok_or(Stop::Refused(Refused::Absent))?;
     let step = Step::Insert(Insert {
@@ -77,17 +79,17 @@ fn put<A: Allocator + Copy>(alloc: A, table: &mut Table<A>, key: Key) -> Result<
 
 /// Returns the lines that the program prints: each leaf, and then the numbers of pairs inserted,
 /// removed and there.
-fn report<A: Allocator + Copy>(machine: Global, alloc: A) -> Result<String, Stop> {
-    let mut table = Table::new(machine, alloc, Config::default())?;
+fn report(alloc: Global) -> Result<String, Stop> {
+    let mut table = Table::new(alloc, alloc, Config::default())?;
     for key in 1..5 {
         put(alloc, &mut table, key)?;
     }
-    let survey = table.survey(machine)?;
-    Ok(format!(in machine; "{survey}\n")?)
+    let survey = table.survey(alloc)?;
+    Ok(format!(in alloc; "{survey}\n")?)
 }
 
 fn main(rt: HostRuntime) -> ExitCode {
-    match report(rt.alloc(), rt.alloc()) {
+    match report(rt.alloc()) {
         Ok(text) => match print!(rt; "{text}") {
             Ok(()) => ExitCode::SUCCESS,
             Err(_) => ExitCode::FAILURE,
@@ -96,35 +98,5 @@ fn main(rt: HostRuntime) -> ExitCode {
             let _ = eprintln!(rt; "first: {stop}");
             ExitCode::from(stop.status())
         }
-    }
-}
-
-#[cfg(test)]
-mod tests {
-    use super::*;
-    use linked_list_allocator::LocalHeap;
-    use std::test::Fail;
-
-    // A heap grows by 16 bytes from run to run, so each request is once the first to be refused.
-    #[test]
-    fn each_request_refused_ends_the_program(rt: HostRuntime) -> Result<(), Fail> {
-        let mut refused = false;
-        let mut served = false;
-        for cells in 1..200usize {
-            let heap = LocalHeap::new(rt.alloc(), 16 * cells)?;
-            match report(rt.alloc(), &heap) {
-                Ok(text) => {
-                    assert_eq!(rt; text.as_str(), "0 top 4\ninserted 4 removed 0 pairs 4\n");
-                    served = true;
-                }
-                Err(stop) => {
-                    assert_eq!(rt; stop.status(), 3);
-                    refused = true;
-                }
-            }
-            assert_eq!(rt; heap.used(), 0);
-        }
-        assert!(rt; refused && served);
-        Ok(())
     }
 }

@@ -4,9 +4,7 @@
 mod configs;
 mod leaves;
 mod meeting;
-mod receipts;
 
-pub use bw_step::Receipt;
 pub use configs::{LARGE, SMALL};
 pub use leaves::partition_the_keys;
 pub use meeting::Meeting;

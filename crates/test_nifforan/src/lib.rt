@@ -3,14 +3,10 @@
 #![tactic(auto)]
 
 #[cfg(test)]
-mod asked;
-#[cfg(test)]
 mod assert_same;
 #[cfg(test)]
 mod forests;
 #[cfg(test)]
 mod maps;
-#[cfg(test)]
-mod readers;
 #[cfg(test)]
 mod shared;

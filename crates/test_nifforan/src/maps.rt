@@ -28,23 +28,7 @@ fn has_record(table: &Table<Global>) -> bool {
     false
 }
 
-/// Puts odd keys, and sets the even ones twice, in a mixed order. Returns whether a leaf was split, and none
-/// ever has a record.
-fn leaves_no_record<R: Abort + AllocGlobal>(rt: &R, config: Config) -> bool {
-    let mut map = new_map(rt, config);
-    for key in 0..500 {
-        map.put(2 * key + 1, key).expect(rt, MEMORY);
-    }
-    let free = map.free_pages();
-    for round in 0..1000 {
-        map.set(2 * (7919 * round % 500), round).expect(rt, MEMORY);
-        if has_record(map.table()) {
-            return false;
-        }
-    }
-    map.free_pages() < free
-}
-
+/// Odd keys are put, and the even ones set twice, in a mixed order.
 #[test]
 fn a_map_leaves_no_record_on_a_leaf(rt: HostRuntime) {
     for (fanout, chain) in [(4, 8), (64, 8), (8, 32)] {
@@ -54,44 +38,52 @@ fn a_map_leaves_no_record_on_a_leaf(rt: HostRuntime) {
             pages: 1024,
             ..Config::default()
         };
-        let case = ("fanout, chain", fanout, chain);
-        assert_same(&rt, leaves_no_record(&rt, config), true, case);
+        let mut map = new_map(&rt, config);
+        for key in 0..500 {
+            map.put(2 * key + 1, key).expect(&rt, MEMORY);
+        }
+        let free = map.free_pages();
+        let mut has_records = false;
+        for round in 0..1000 {
+            map.set(2 * (7919 * round % 500), round).expect(&rt, MEMORY);
+            has_records |= has_record(map.table());
+        }
+        let found = (has_records, map.free_pages() < free);
+        assert_same(&rt, found, (false, true), ("fanout, chain", fanout, chain));
     }
 }
 
+// The table is full after some of the pairs. Or its only leaf has three versions left, of which the first set takes two,
+// one for the change and one for the page made anew, and the second one.
 #[test]
-fn a_fault_of_extend_stands_beside_its_reply(rt: HostRuntime) {
+fn a_fault_of_extend_stands_in_its_replys_place(rt: HostRuntime) {
+    let mut pairs = [(0u64, 0u64); 100];
+    for key in 0..100u64 {
+        pairs[key as usize] = (key, key);
+    }
     let config = Config {
         fanout: 4,
         pages: 8,
         ..Config::default()
     };
     let mut map = new_map(&rt, config);
-    let done = map
-        .extend((0..100).map(|key| (key, key)))
-        .expect(&rt, MEMORY);
-    let left = (done.fault, map.len(), map.is_full());
-    assert_same(&rt, left, (Some(Fault::TableFull), 100, true), "overfilled");
-}
-
-// The only leaf has three versions left, of which the first set takes two, one for the change and one for the
-// page made anew, and the second one.
-#[test]
-fn a_fault_of_extend_stands_in_its_replys_place(rt: HostRuntime) {
+    let fault = map.extend(pairs).expect(&rt, MEMORY).fault;
+    let left = (fault, map.len(), map.is_full());
+    assert_same(
+        &rt,
+        left,
+        (Some(Fault::TableFull), 100, true),
+        "beside its reply",
+    );
     let config = Config {
         first_version: u64::MAX - 3,
         ..Config::default()
     };
     let mut map = new_map(&rt, config);
-    let fault = map.extend((0..100).map(|key| (key, key))).err();
+    let fault = map.extend(pairs).err();
     let later = map.update(.., |_, value| value.wrapping_add(1)).err();
-    let left = (fault, later, map.len());
-    assert_same(
-        &rt,
-        left,
-        (Some(Fault::Worn), Some(Fault::Worn), 2),
-        "worn out",
-    );
+    let worn = Some(Fault::Worn);
+    assert_same(&rt, (fault, later, map.len()), (worn, worn, 2), "worn out");
 }
 
 /// How many keys are put.
@@ -141,7 +133,7 @@ fn a_map_has_the_pages_that_are_wanted(rt: HostRuntime) {
     let pages = map.pages();
     assert_same(
         &rt,
-        (32_258..33_000).contains(&pages),
+        32_258 <= pages && pages < 33_000,
         true,
         ("pages", pages),
     );
@@ -153,25 +145,17 @@ fn a_map_has_the_pages_that_are_wanted(rt: HostRuntime) {
     assert_same(&rt, (cleared, map.pages()), (9990, 8), "pages of ten pairs");
 }
 
-fn one_more(old: Option<u64>) -> u64 {
-    old.unwrap_or(0).wrapping_add(1)
-}
-
-/// Returns what an upsert replied, how many pairs weren't retained, the copy of the map, and how many pairs
-/// that has.
-fn shown(machine: Global) -> Result<String, Fail> {
+#[test]
+fn a_map_is_made_changed_copied_and_shown(rt: HostRuntime) -> Result<(), Fail> {
+    let machine = rt.alloc();
     let mut map = Map::from_pairs(machine, machine, usual_config(), [(3, 9), (1, 1)])?;
-    let done = map.upsert(3, one_more)?;
-    let _updated = map.update(.., |_, value| value.wrapping_mul(2))?;
+    let done = map.upsert(3, |old| old.unwrap_or(0).wrapping_add(1))?;
+    map.update(.., |_, value| value.wrapping_mul(2))?;
     let removed = map.retain(|key, _| key != 1).removed;
     let copy = map.try_clone()?;
     let count = copy.iter().size_hint();
-    Ok(format!(in machine; "{:?} {removed} {copy:?} {count:?}", done.reply)?)
-}
-
-#[test]
-fn a_map_is_made_changed_copied_and_shown(rt: HostRuntime) -> Result<(), Fail> {
-    let told = "Upsert { old: Some(9), new: 10 } 1 {3: 20} (1, Some(1))";
-    assert_same(&rt, shown(rt.alloc())?.as_str(), told, "map");
+    let told = format!(in machine; "{:?} {removed} {copy:?} {count:?}", done.reply)?;
+    let wanted = "Upsert { old: Some(9), new: 10 } 1 {3: 20} (1, Some(1))";
+    assert_same(&rt, told.as_str(), wanted, "map");
     Ok(())
 }

@@ -1,11 +1,9 @@
-//! Two workers of one tree, each in a thread of its own, and beside them a reader where the tree has
-//! one.
+//! Two workers of one tree, each in a thread of its own. On a tree with a reader worker 1 has the reader.
 
 ghost use Rattle.std.specs.Prelude.{◌≡◌};
 ghost use Rattle.bw_tree.specs.Trees.{OpensFor};
 
-use bw_audit::{Verdict, audit, is_ascending};
-use bw_keys::Config;
+use bw_keys::{Config, Key};
 use bw_snap::{Announcements, Naming, ReadTree, Reader};
 use bw_step::{Receipt, Step};
 use bw_table::Table;
@@ -17,73 +15,69 @@ use std::sync::Wait;
 use std::sync::ledger::Ledger;
 use std::thread::{Threads, join};
 
-/// A tree whose changes are published, if it has readers.
-pub(crate) trait Publishes {
-    fn publish_all<R: Abort>(&self, rt: &R);
+/// What a worker has beside its tree.
+pub(crate) trait Beside {
+    /// Publishes all, has the reader look for the key, if there is a reader, and adds that receipt.
+    fn look<R: Abort>(&mut self, rt: &R, key: Key, looks: &mut Vec<Receipt>);
+
+    /// Publishes all, and returns the pairs that the reader finds, if there is a reader.
+    fn pairs<R: Abort>(&mut self, rt: &R, machine: Global) -> Option<Vec<(Key, u64)>>;
 }
 
-impl<R: Wait + Drop, I: MadeBy, D: Ledger> Publishes for Tree<R, Global, I, D> {
-    fn publish_all<X: Abort>(&self, _rt: &X) {}
-}
+#[derive(Drop)]
+pub(crate) struct Nobody;
 
-impl<R: Wait + Copy, N: Naming, D: Ledger> Publishes for ReadTree<R, N, D> {
-    fn publish_all<X: Abort>(&self, rt: &X) {
-        drop(self.publish().expect(rt, "a publication"));
+impl Beside for Nobody {
+    fn look<R: Abort>(&mut self, _rt: &R, _key: Key, _looks: &mut Vec<Receipt>) {}
+
+    fn pairs<R: Abort>(&mut self, _rt: &R, _machine: Global) -> Option<Vec<(Key, u64)>> {
+        None
     }
 }
 
-/// A worker's share when it is done, and its result.
+/// The tree's reader.
 #[derive(Drop)]
-pub(crate) struct Done<I: Ledger, D: Ledger, T> {
-    pub(crate) share: Share<I, D>,
-    pub(crate) result: T,
+struct Reading<'t, R: Wait + Copy, N: Naming, D: Ledger> {
+    tree: &'t ReadTree<R, N, D>,
+    reader: Reader<N>,
+}
+
+impl<'t, R: Wait + Copy, N: Naming, D: Ledger> Beside for Reading<'t, R, N, D> {
+    fn look<X: Abort>(&mut self, rt: &X, key: Key, looks: &mut Vec<Receipt>) {
+        drop(self.tree.publish().expect(rt, "a publication"));
+        let look = self.reader.look(key).expect(rt, "a look");
+        let (at, found) = (look.at, look.found);
+        looks
+            .push(Receipt::Looked { at, key, found })
+            .expect(rt, "memory for a look");
+    }
+
+    fn pairs<X: Abort>(&mut self, rt: &X, machine: Global) -> Option<Vec<(Key, u64)>> {
+        self.reader
+            .learn(self.tree.publish().expect(rt, "a publication"));
+        let mut found = Vec::new(machine);
+        self.reader
+            .scan(0, usize::MAX, &mut found)
+            .expect(rt, "a scan");
+        Some(found)
+    }
 }
 
 /// What the threads do, each with its result.
 pub(crate) trait Crew<T: Drop> {
-    /// Does the part of a worker, 0 or 1.
-    fn write<R: Abort, S: Shared<Global, Step<Global>> + Publishes>(
+    /// Does the part of a worker, 0 or 1, and gives its share back.
+    fn work<R: Abort, S: Shared<Global, Step<Global>>, B: Beside>(
         &self,
         rt: &R,
         tree: &S,
         worker: u32,
         share: Share<S::Insertions, S::Removals>,
-    ) -> Done<S::Insertions, S::Removals, T>;
-
-    /// Reports whether the shares come back. Otherwise the table is taken without them.
-    fn keeps_shares(&self) -> bool {
-        true
-    }
-
-    /// Does the part of the reader, if there is one, and returns the receipts of its looks.
-    fn read<R: Abort, N: Naming>(&self, rt: &R, _reader: Reader<N>) -> Vec<Receipt> {
-        rt.panic("no reader is wanted")
-    }
-}
-
-/// What is left: the table, the workers' results, and the receipts of the reader's looks.
-#[derive(Drop)]
-pub(crate) struct Left<T> {
-    pub(crate) table: Table<Global>,
-    pub(crate) zero: T,
-    pub(crate) one: T,
-    pub(crate) seen: Vec<Receipt>,
-}
-
-/// Returns the audit's verdict on trails and the pairs of a table.
-pub(crate) fn verdict_on<R: Abort>(
-    rt: &R,
-    machine: Global,
-    table: &Table<Global>,
-    trails: &[Vec<Receipt>],
-) -> Verdict {
-    let pairs = table.pairs(machine).expect(rt, "memory for pairs");
-    assert!(rt; is_ascending(&pairs), "the keys of the pairs rise");
-    audit(machine, trails, &pairs).expect(rt, "memory for an audit")
+        beside: &mut B,
+    ) -> (Share<S::Insertions, S::Removals>, T);
 }
 
 /// Runs both workers of a tree without readers.
-fn write_both<
+fn work_both<
     I: MadeBy + Send + Sync,
     D: Ledger + Send + Sync,
     R: Threads + Wait + Abort + Sync + Send + Copy,
@@ -94,11 +88,11 @@ fn write_both<
     tree: &Tree<R, Global, I, D>,
     (zero, one): (Share<I, D>, Share<I, D>),
     crew: &C,
-) -> (Done<I, D, T>, Done<I, D, T>) {
+) -> ((Share<I, D>, T), (Share<I, D>, T)) {
     join(
         &rt,
-        move || crew.write(&rt, tree, 0, zero),
-        move || crew.write(&rt, tree, 1, one),
+        move || crew.work(&rt, tree, 0, zero, &mut Nobody),
+        move || crew.work(&rt, tree, 1, one, &mut Nobody),
     )
 }
 
@@ -108,7 +102,7 @@ fn work_over<
     R: Threads + Wait + Abort + Sync + Send + Copy,
     T: Drop + Send,
     C: Crew<T> + Sync,
->(rt: R, machine: Global, table: Table<Global>, blanks: Blanks, crew: &C) -> Left<T>
+>(rt: R, machine: Global, table: Table<Global>, blanks: Blanks, crew: &C) -> (Table<Global>, T, T)
     requires ledgers { OpensFor I.Ledger I.config D.Ledger table.config blanks }
 {
     let Ok((tree, mut shares, opening)) = Tree::<R, Global, I, D>::from_table(
@@ -118,34 +112,24 @@ fn work_over<
     };
     let one = shares.pop().expect(&rt, "a share for worker 1");
     let zero = shares.pop().expect(&rt, "a share for worker 0");
-    let (zero, one) = write_both(rt, &tree, (zero, one), crew);
+    let (zero, one) = work_both(rt, &tree, (zero, one), crew);
     shares.push(opening).expect(&rt, "memory for a share");
-    shares.push(zero.share).expect(&rt, "memory for a share");
-    shares.push(one.share).expect(&rt, "memory for a share");
-    let table = if crew.keeps_shares() {
-        tree.close(shares).expect(&rt, "all shares")
-    } else {
-        tree.into_table()
-    };
-    Left {
-        table,
-        zero: zero.result,
-        one: one.result,
-        seen: Vec::new(machine),
-    }
+    shares.push(zero.0).expect(&rt, "memory for a share");
+    shares.push(one.0).expect(&rt, "memory for a share");
+    (tree.close(shares).expect(&rt, "all shares"), zero.1, one.1)
 }
 
-/// Runs a crew on a tree over this table.
+/// Runs a crew on a tree over this table. Returns the table, and the results of both.
 pub(crate) fn work_on_tree<
     R: Threads + Wait + Abort + Sync + Send + Copy,
     T: Drop + Send,
     C: Crew<T> + Sync,
->(rt: R, machine: Global, table: Table<Global>, crew: &C) -> Left<T> {
+>(rt: R, machine: Global, table: Table<Global>, crew: &C) -> (Table<Global>, T, T) {
     work_over::<Brand, Brand, R, T, C>(rt, machine, table, Blanks::new(3), crew)
 }
 
 /// Runs both workers of a tree with a reader.
-fn write_both_beside<
+fn work_both_beside<
     N: Naming + Send + Sync,
     D: Ledger + Send + Sync,
     R: Threads + Wait + Abort + Sync + Send + Copy,
@@ -155,33 +139,13 @@ fn write_both_beside<
     rt: R,
     tree: &ReadTree<R, N, D>,
     (zero, one): (Share<N, D>, Share<N, D>),
-    crew: &C,
-) -> (Done<N, D, T>, Done<N, D, T>) {
-    join(
-        &rt,
-        move || crew.write(&rt, tree, 0, zero),
-        move || crew.write(&rt, tree, 1, one),
-    )
-}
-
-/// Runs all side by side.
-fn work_all<
-    N: Naming + Send + Sync,
-    D: Ledger + Send + Sync,
-    R: Threads + Wait + Abort + Sync + Send + Copy,
-    T: Drop + Send,
-    C: Crew<T> + Sync,
->(
-    rt: R,
-    tree: &ReadTree<R, N, D>,
-    shares: (Share<N, D>, Share<N, D>),
     reader: Reader<N>,
     crew: &C,
-) -> ((Done<N, D, T>, Done<N, D, T>), Vec<Receipt>) {
+) -> ((Share<N, D>, T), (Share<N, D>, T)) {
     join(
         &rt,
-        move || write_both_beside(rt, tree, shares, crew),
-        move || crew.read(&rt, reader),
+        move || crew.work(&rt, tree, 0, zero, &mut Nobody),
+        move || crew.work(&rt, tree, 1, one, &mut Reading { tree, reader }),
     )
 }
 
@@ -198,7 +162,7 @@ fn work_beside<
     blanks: Blanks,
     announcements: Announcements,
     crew: &C,
-) -> Left<T>
+) -> (Table<Global>, T, T)
     requires announcements { announcements.seen.book ≡ N.announcements }
     requires ledgers { OpensFor N.Ledger N.config D.Ledger config blanks }
 {
@@ -213,23 +177,18 @@ fn work_beside<
     let one = shares.pop().expect(&rt, "a share for worker 1");
     let zero = shares.pop().expect(&rt, "a share for worker 0");
     let reader = readers.pop().expect(&rt, "a reader");
-    let ((zero, one), seen) = work_all(rt, &tree, (zero, one), reader, crew);
-    shares.push(zero.share).expect(&rt, "memory for a share");
-    shares.push(one.share).expect(&rt, "memory for a share");
-    Left {
-        table: tree.close(shares).expect(&rt, "all shares"),
-        zero: zero.result,
-        one: one.result,
-        seen,
-    }
+    let (zero, one) = work_both_beside(rt, &tree, (zero, one), reader, crew);
+    shares.push(zero.0).expect(&rt, "memory for a share");
+    shares.push(one.0).expect(&rt, "memory for a share");
+    (tree.close(shares).expect(&rt, "all shares"), zero.1, one.1)
 }
 
-/// Runs a crew on a new tree with a reader.
+/// Runs a crew on a new tree with a reader. Returns the table, and the results of both.
 pub(crate) fn work_on_read_tree<
     R: Threads + Wait + Abort + Sync + Send + Copy,
     T: Drop + Send,
     C: Crew<T> + Sync,
->(rt: R, machine: Global, config: Config, crew: &C) -> Left<T> {
+>(rt: R, machine: Global, config: Config, crew: &C) -> (Table<Global>, T, T) {
     let (blanks, announcements) = (Blanks::new(2), Announcements::new());
     work_beside::<Brand, Brand, R, T, C>(rt, machine, config, blanks, announcements, crew)
 }

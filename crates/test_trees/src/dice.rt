@@ -2,11 +2,8 @@
 
 use bw_chain::{consolidate, halve};
 use bw_delta::{Base, Spare};
-use bw_keys::{Fence, Key, Pid, Version};
-use bw_step::{
-    Consolidate, Delete, Go, Grow, Insert, Mark, Merge, Modify, Split, Stage, Step, TermAdd,
-    TermDelete, View,
-};
+use bw_keys::{Fence, Key, Pid, Version, Wished};
+use bw_step::{Consolidate, Go, Grow, Mark, Merge, Split, Stage, Step, TermAdd, TermDelete, View};
 use bw_tree::Shared;
 use rand_core::Rng;
 use rand_pcg::Pcg32;
@@ -188,26 +185,14 @@ pub(crate) fn drawn_step<R: Abort, S: Shared<Global, Step<Global>>>(
     let is_inner = kind >= 15 && below(rng, 4) == 0;
     let (page, seen) = named(rng, holder(tree, key, u8::from(is_inner)));
     match kind {
-        0..=9 => Step::Insert(Insert {
-            page,
-            seen,
-            key,
-            value: rng.next_u64(),
-            spare: spare(rt, alloc),
-        }),
-        10..=12 => Step::Delete(Delete {
-            page,
-            seen,
-            key,
-            spare: spare(rt, alloc),
-        }),
-        13..=14 => Step::Modify(Modify {
-            page,
-            seen,
-            key,
-            value: rng.next_u64(),
-            spare: spare(rt, alloc),
-        }),
+        0..=14 => {
+            let wished = match kind {
+                0..=9 => Wished::Put(rng.next_u64()),
+                10..=12 => Wished::Delete,
+                _ => Wished::Set(rng.next_u64()),
+            };
+            Step::of_wish(page, seen, key, wished, true, spare(rt, alloc))
+        }
         15..=18 => Step::Consolidate(Consolidate {
             page,
             seen,

@@ -4,41 +4,30 @@
 //! is consolidated after each record, a hand at once consolidates split pages, which steps don't.
 
 use crate::assert_same::assert_same;
-use crate::crew::{Crew, Done, Left, Publishes, work_on_tree};
-use crate::stepwise::{Counter, Stepwise};
-use crate::told::{left_of, tell, tell_receipts};
-use crate::watched::{Watch, watch_new_tree};
-use bw_keys::{Config, Fence, Key};
-use bw_snap::{Naming, ReadTree, Reader};
-use bw_step::Step;
+use crate::calls::ByHand;
+use bw_keys::{Config, Fence};
 use bw_table::Table;
-use bw_tree::{Share, Shared};
-use bw_work::{Act, Alone, Calls, Ends, Hand, Open, Steps};
 use rand_core::{Rng, SeedableRng};
 use rand_pcg::Pcg32;
 use std::alloc::Global;
 use std::process::Abort;
 use std::sync::Wait;
-use std::sync::ledger::Ledger;
 use std::test::Fail;
 use std::thread::Threads;
 use test_kit::{LARGE, SMALL};
 
 const CALLS: u32 = 400;
 
-/// No tree has more leaves.
-const MOST_LEAVES: u32 = 256;
-
 /// The keys of the calls are below it.
 const KEYS: u64 = 48;
 
 /// The lengths of a chain at which a page is consolidated, each with a number of calls between two
 /// publications.
-static CHAINS: [(u32, u32); 4] = [(1, 1), (2, 7), (8, 100), (32, 7)];
+const CHAINS: [(u32, u32); 4] = [(1, 1), (2, 7), (8, 100), (32, 7)];
 
 /// Room for all keys, a table that gets full, an effort with which tending gives up, versions that are
 /// used up, and pages with so many entries that the longest chain is reached.
-static CONFIGS: [Config; 5] = [
+const CONFIGS: [Config; 5] = [
     ROOMY,
     Config { pages: 8, ..SMALL },
     Config { tries: 3, ..ROOMY },
@@ -57,275 +46,93 @@ const ROOMY: Config = Config {
     ..LARGE
 };
 
-/// Of 32 calls one removes a range of up to eight keys, 3 get, 6 set, 10 delete and 12 put.
-fn drawn_act(rng: &mut Pcg32) -> Act {
-    let key = rng.next_u64() % KEYS;
-    let value = u64::from(rng.next_u32());
-    match rng.next_u32() % 32 {
-        0 => Act::Clear {
-            low: key,
-            high: Fence::Key(key.wrapping_add(8)),
-        },
-        1..=3 => Act::Get { key },
-        4..=9 => Act::Set { key, value },
-        10..=19 => Act::Delete { key },
-        _ => Act::Put { key, value },
-    }
-}
-
-/// What the calls came to: the replies, the receipts, the effort and the counts of what ends calls, and the
-/// leaves, the book and the pairs.
-#[derive(Debug, PartialEq, Eq, Drop)]
-struct Outcome {
-    replies: String,
-    receipts: String,
-    effort: u64,
-    ends: Ends,
-    left: String,
-}
-
-/// What is done after some of the calls.
-trait Behind {
-    fn pass<R: Abort, S: Steps<Global, Step<Global>>>(&mut self, rt: &R, steps: &mut S);
-}
-
-#[derive(Drop)]
-struct Nothing;
-
-impl Behind for Nothing {
-    fn pass<R: Abort, S: Steps<Global, Step<Global>>>(&mut self, _rt: &R, _steps: &mut S) {}
-}
-
-/// Draws calls and makes them, each part with what is done behind it.
-#[derive(Clone, Copy, Drop)]
-struct Drawn {
-    machine: Global,
-    config: Config,
-    span: u32,
-    is_stepwise: bool,
-}
-
-impl Drawn {
-    fn outcome<R: Abort, S: Steps<Global, Step<Global>>, B: Behind>(
-        &self,
-        rt: &R,
-        steps: &mut S,
-        behind: &mut B,
-    ) -> Outcome {
-        let mut rng = Pcg32::seed_from_u64(u64::from(self.config.chain));
-        let mut replies = String::new(self.machine);
-        for call in 1..=CALLS {
-            tell(rt, self.machine, steps, drawn_act(&mut rng), &mut replies);
-            replies.push('\n').expect(rt, "memory for a line");
-            if call.checked_rem(self.span) == Some(0) {
-                behind.pass(rt, steps);
-            }
-        }
-        let mut receipts = String::new(self.machine);
-        tell_receipts(rt, steps.trail(), &mut receipts);
-        Outcome {
-            replies,
-            receipts,
-            effort: steps.effort(),
-            ends: steps.ends(),
-            left: String::new(self.machine),
-        }
-    }
-
-    /// Makes the calls by a hand on the tree.
-    fn by_hand<R: Abort, S: Shared<Global, Step<Global>>, B: Behind>(
-        &self,
-        rt: &R,
-        tree: &S,
-        share: Share<S::Insertions, S::Removals>,
-        behind: &mut B,
-    ) -> (Share<S::Insertions, S::Removals>, Outcome) {
-        let mut hand = Hand::new(self.machine, self.machine, tree, share, 0, &Open);
-        let outcome = self.outcome(rt, &mut hand, behind);
-        (hand.finish().0, outcome)
-    }
-
-    /// Makes the calls by a hand on the tree, or by its atomic steps alone.
-    fn in_way<R: Abort, S: Shared<Global, Step<Global>>, B: Behind>(
-        &self,
-        rt: &R,
-        tree: &S,
-        share: Share<S::Insertions, S::Removals>,
-        behind: &mut B,
-    ) -> (Share<S::Insertions, S::Removals>, Outcome) {
-        if self.is_stepwise {
-            let taken = &Counter::new();
-            self.by_hand(rt, &Stepwise { tree, taken }, share, behind)
-        } else {
-            self.by_hand(rt, tree, share, behind)
-        }
-    }
-
-    fn new_table<R: Abort>(&self, rt: &R) -> Table<Global> {
-        Table::new(self.machine, self.machine, self.config).expect(rt, "a table")
-    }
-
-    fn with_left<R: Abort>(&self, rt: &R, outcome: Outcome, table: &Table<Global>) -> Outcome {
-        Outcome {
-            left: left_of(rt, self.machine, table),
-            ..outcome
-        }
-    }
-
-    fn alone<R: Abort>(&self, rt: &R) -> Outcome {
-        let mut table = self.new_table(rt);
-        let mut alone = Alone::new(self.machine, self.machine, &mut table);
-        let outcome = self.outcome(rt, &mut alone, &mut Nothing);
-        drop(alone.finish());
-        self.with_left(rt, outcome, &table)
-    }
-
-    fn on_tree<R: Threads + Wait + Abort + Sync + Send + Copy>(&self, rt: R) -> Outcome {
-        let Left { table, zero, .. } = work_on_tree(rt, self.machine, self.new_table(&rt), self);
-        self.with_left(&rt, zero.expect(&rt, "worker 0 makes the calls"), &table)
-    }
-
-    fn on_read_tree<R: Wait + Abort + Copy>(&self, rt: R) -> Outcome {
-        let (outcome, table) = watch_new_tree(rt, self.machine, self.config, self);
-        self.with_left(&rt, outcome, &table)
-    }
-}
-
-impl Crew<Option<Outcome>> for Drawn {
-    fn write<R: Abort, S: Shared<Global, Step<Global>> + Publishes>(
-        &self,
-        rt: &R,
-        tree: &S,
-        worker: u32,
-        share: Share<S::Insertions, S::Removals>,
-    ) -> Done<S::Insertions, S::Removals, Option<Outcome>> {
-        if worker == 1 {
-            return Done {
-                share,
-                result: None,
-            };
-        }
-        let (share, outcome) = self.in_way(rt, tree, share, &mut Nothing);
-        Done {
-            share,
-            result: Some(outcome),
-        }
-    }
-}
-
-/// The tree is published, and its reader finds the pairs that the worker does.
-#[derive(Drop)]
-struct Published<'t, R: Wait + Copy, N: Naming, D: Ledger> {
-    machine: Global,
-    tree: &'t ReadTree<R, N, D>,
-    reader: &'t mut Reader<N>,
-}
-
-impl<'t, R: Wait + Copy, N: Naming, D: Ledger> Behind for Published<'t, R, N, D> {
-    fn pass<X: Abort, S: Steps<Global, Step<Global>>>(&mut self, rt: &X, steps: &mut S) {
-        self.reader
-            .learn(self.tree.publish().expect(rt, "a publication"));
-        let mut found = Vec::new(self.machine);
-        self.reader
-            .scan(0, usize::MAX, &mut found)
-            .expect(rt, "a scan");
-        let (mut rest, mut next) = (found.as_slice(), Some(0));
-        for _leaf in 0..MOST_LEAVES {
-            let Some(key) = next else {
-                break;
-            };
-            let slice = steps.page_from(self.machine, key).expect(rt, "a slice");
-            let (leaf, behind) = rest.split_at_checked(slice.pairs.len()).expect(rt, "pairs");
-            assert_same(rt, leaf, slice.pairs.as_slice(), key);
-            rest = behind;
-            next = slice.next;
-        }
-        assert_same(
-            rt,
-            (next, rest.len()),
-            (None, 0),
-            "what is left of the pairs",
-        );
-    }
-}
-
-impl Watch<Outcome> for Drawn {
-    fn watch<R: Wait + Abort + Copy, N: Naming, D: Ledger>(
-        &self,
-        rt: R,
-        tree: &ReadTree<R, N, D>,
-        share: Share<N, D>,
-        reader: &mut Reader<N>,
-    ) -> Outcome {
-        let mut behind = Published {
-            machine: self.machine,
-            tree,
-            reader,
+/// Returns calls, and questions for the effort and for what ended calls. Of 32 calls one removes a range of up to
+/// eight keys, 3 get, 6 set, 10 delete and 12 put.
+fn drawn_calls<R: Abort>(rt: &R, machine: Global, seed: u32) -> String {
+    let mut rng = Pcg32::seed_from_u64(u64::from(seed));
+    let mut calls = String::new(machine);
+    for _ in 0..CALLS {
+        let key = rng.next_u64() % KEYS;
+        let value = rng.next_u32();
+        let written = match rng.next_u32() % 32 {
+            0 => writeln!(calls, "0,clr,{key},{} > ", key.wrapping_add(8)),
+            1..=3 => writeln!(calls, "0,get,{key}, > "),
+            4..=9 => writeln!(calls, "0,set,{key},{value} > "),
+            10..=19 => writeln!(calls, "0,del,{key}, > "),
+            _ => writeln!(calls, "0,put,{key},{value} > "),
         };
-        self.in_way(&rt, tree, share, &mut behind).1
+        written.expect(rt, "memory for a call");
     }
+    calls
+        .push_str("effort > \nends > ")
+        .expect(rt, "memory for questions");
+    calls
+}
+
+/// Returns what was told, without receipts, effort and counts.
+fn replies_in<R: Abort>(rt: &R, machine: Global, told: &str) -> String {
+    let mut replies = String::new(machine);
+    for line in told.lines() {
+        if !line.starts_with('e') {
+            let (reply, _) = line.split_once(';').unwrap_or((line, ""));
+            writeln!(replies, "{reply}").expect(rt, "memory for a reply");
+        }
+    }
+    replies
+}
+
+fn new_table<R: Abort>(rt: &R, machine: Global, config: Config) -> Table<Global> {
+    Table::new(machine, machine, config).expect(rt, "a table")
 }
 
 /// Makes the calls in each way, and compares them.
-fn compare<R: Threads + Wait + Abort + Sync + Send + Copy>(rt: R, drawn: Drawn) {
-    let config = drawn.config;
-    let alone = drawn.alone(&rt);
-    let by_steps = Drawn {
-        is_stepwise: true,
-        ..drawn
+fn compare<R: Threads + Wait + Abort + Sync + Send + Copy>(
+    rt: R,
+    machine: Global,
+    config: Config,
+    span: u32,
+) {
+    let calls = drawn_calls(&rt, machine, config.chain);
+    let at_once = ByHand {
+        machine,
+        calls: &calls,
+        span,
+        is_stepwise: false,
     };
-    assert_same(&rt, &by_steps.on_tree(rt), &alone, ("by steps", config));
-    assert_same(
-        &rt,
-        &by_steps.on_read_tree(rt),
-        &alone,
-        ("beside a reader by steps", config),
-    );
-    let at_once = drawn.on_tree(rt);
-    assert_same(
-        &rt,
-        &drawn.on_read_tree(rt),
-        &at_once,
-        ("beside a reader", config),
-    );
+    let by_steps = ByHand {
+        is_stepwise: true,
+        ..at_once
+    };
+    let alone = at_once.alone(&rt, new_table(&rt, machine, config));
+    let once = at_once.on_tree(rt, new_table(&rt, machine, config));
+    let stepwise = by_steps.on_tree(rt, new_table(&rt, machine, config));
+    let each = [
+        (stepwise, &alone, "by steps"),
+        (
+            by_steps.on_read_tree(rt, config),
+            &alone,
+            "by steps beside a reader",
+        ),
+        (at_once.on_read_tree(rt, config), &once, "beside a reader"),
+    ];
+    for (found, wanted, way) in each {
+        assert_same(&rt, &found, wanted, (way, config));
+    }
     if config.chain > 1 {
-        assert_same(&rt, &at_once, &alone, ("at once", config));
-    } else if config == ROOMY_CUT {
-        assert_same(
-            &rt,
-            &at_once.replies,
-            &alone.replies,
-            "replies where pages are cut",
-        );
-        assert_same(
-            &rt,
-            &at_once.left,
-            &alone.left,
-            "leaves where pages are cut",
-        );
-        assert_same(&rt, at_once.effort > alone.effort, true, "pages are cut");
+        assert_same(&rt, &once, &alone, ("at once", config));
+    } else if config.fanout == 4 && config.tries == 1000 && config.first_version == 0 {
+        let one = replies_in(&rt, machine, &once);
+        let other = replies_in(&rt, machine, &alone);
+        let found = (one == other, once == alone);
+        assert_same(&rt, found, (true, false), "pages are cut");
     }
 }
 
-/// Where a page is consolidated after each record, with room for all.
-const ROOMY_CUT: Config = Config { chain: 1, ..ROOMY };
-
 #[test]
 fn what_is_done_at_once_is_what_the_steps_do(rt: HostRuntime) -> Result<(), Fail> {
-    let machine = rt.alloc();
     for (chain, span) in CHAINS {
-        for config in CONFIGS.iter() {
-            let config = Config { chain, ..*config };
-            let is_stepwise = false;
-            compare(
-                rt,
-                Drawn {
-                    machine,
-                    config,
-                    span,
-                    is_stepwise,
-                },
-            );
+        for config in CONFIGS {
+            compare(rt, rt.alloc(), Config { chain, ..config }, span);
         }
     }
     Ok(())

@@ -2,9 +2,10 @@
 //! there is no room.
 
 use crate::assert_same::assert_same;
+use bw_chain::{consolidate, same};
 use bw_delta::Spare;
-use bw_keys::{Config, Key, Pid, Version};
-use bw_step::{Insert, Refused, Step};
+use bw_keys::{Config, Key, Pid, Version, Wished};
+use bw_step::{Refused, Step};
 use bw_table::Table;
 use bw_work::{Alone, Calls, Fault, Put};
 use linked_list_allocator::LocalHeap;
@@ -57,28 +58,61 @@ fn drop_merged<R: Abort>(rt: &R, machine: Global, heap: &LocalHeap) {
     assert_same(rt, copy.depth() > 0, true, "records of the copy");
 }
 
-/// Drops a table whose leaf has a chain of the greatest depth, and refuses one more, before a copy.
-fn drop_deepest<R: Abort>(rt: &R, machine: Global, heap: &LocalHeap) {
+/// Returns the table whose leaf has a chain of the greatest depth, and refuses one more: keys 0 to 59 are inserted, and
+/// 0 to 3 deleted.
+fn deepest<'a, R: Abort>(rt: &R, machine: Global, heap: &'a LocalHeap) -> Table<&'a LocalHeap> {
     let mut table = table_in(rt, machine, heap, SMALL.pages);
-    for key in 0..=64 {
+    for number in 0..=64u64 {
+        let (key, wished) = if number < 60 {
+            (number, Wished::Put(number))
+        } else {
+            (number.saturating_sub(60), Wished::Delete)
+        };
         let spare = Spare::new(heap).expect(rt, "memory for a record");
-        let (page, seen, value) = (Pid(0), Version(key), key);
-        let step = Step::Insert(Insert {
-            page,
-            seen,
-            key,
-            value,
-            spare,
-        });
+        let step = Step::of_wish(Pid(0), Version(number), key, wished, false, spare);
         let refused = table.install(step).err();
-        let wanted = if key == 64 { Some(Refused::Deep) } else { None };
-        assert_same(rt, refused, wanted, key);
+        let wanted = if number == 64 {
+            Some(Refused::Deep)
+        } else {
+            None
+        };
+        assert_same(rt, refused, wanted, number);
     }
+    table
+}
+
+/// Takes all the memory that the heap still has.
+fn fill<'a, R: Abort>(rt: &R, machine: Global, heap: &'a LocalHeap) -> Vec<Vec<u8, &'a LocalHeap>> {
+    let mut filling = Vec::new(machine);
+    for _ in 0..heap.free() {
+        match Vec::with_capacity(heap, 16) {
+            Ok(bytes) => filling.push(bytes).expect(rt, "memory for a filling"),
+            Err(_) => return filling,
+        }
+    }
+    filling
+}
+
+/// Drops the deepest chain before a copy, whose consolidation takes its memory at once: 60 pairs at 16 bytes each. In a
+/// heap that is full the copy is compared with that page, and a second consolidation is refused.
+fn drop_deepest<R: Abort>(rt: &R, machine: Global, heap: &LocalHeap) {
+    let table = deepest(rt, machine, heap);
     let copy = table
         .copy_page(heap, Pid(0), Version(64))
         .expect(rt, "a copy");
     drop(table);
     assert_same(rt, copy.depth(), 64, "records of the copy");
+    let used = heap.used();
+    let page = consolidate(heap, &copy).expect(rt, "a page");
+    let taken = heap.used().saturating_sub(used);
+    assert_same(rt, (taken, page.len()), (60 * 16, 56), "the page");
+    let filling = fill(rt, machine, heap);
+    let used = heap.used();
+    let is_same = Spare::new(heap).is_err() && same(&page, &copy);
+    assert_same(rt, is_same, true, "comparison in a full heap");
+    let is_refused = consolidate(heap, &copy).is_err() && heap.used() == used;
+    assert_same(rt, is_refused, true, "consolidation in a full heap");
+    drop(filling);
 }
 
 #[test]
@@ -112,7 +146,7 @@ fn first_refused<R: Abort>(rt: &R, alone: &mut Alone<'_, &LocalHeap>) -> Key {
 }
 
 /// Fills the heap by puts. Each key that had room is found.
-fn fill<R: Abort>(rt: &R, machine: Global, heap: &LocalHeap) {
+fn fill_by_puts<R: Abort>(rt: &R, machine: Global, heap: &LocalHeap) {
     let mut table = table_in(rt, machine, heap, SMALL.pages);
     let mut alone = Alone::new(machine, heap, &mut table);
     let refused = first_refused(rt, &mut alone);
@@ -133,7 +167,7 @@ fn fill<R: Abort>(rt: &R, machine: Global, heap: &LocalHeap) {
 #[test]
 fn a_full_heap_refuses_and_keeps_what_was_inserted(rt: HostRuntime) -> Result<(), Fail> {
     let heap = LocalHeap::new(rt.alloc(), 4096)?;
-    fill(&rt, rt.alloc(), &heap);
+    fill_by_puts(&rt, rt.alloc(), &heap);
     assert_same(&rt, heap.used(), 0, "memory that is left");
     Ok(())
 }

@@ -1,10 +1,12 @@
-//! Tests of tables, of workers alone and by hand, and of readers: what no contract says of them.
+//! Tests of chains, of tables, of workers alone and by hand, and of readers: what no contract says of them.
 #![tactic(auto)]
 
 #[cfg(test)]
 mod assert_same;
 #[cfg(test)]
-mod beside;
+mod calls;
+#[cfg(test)]
+mod chains;
 #[cfg(test)]
 mod crew;
 #[cfg(test)]
@@ -18,14 +20,8 @@ mod held;
 #[cfg(test)]
 mod puts;
 #[cfg(test)]
-mod questions;
-#[cfg(test)]
 mod rows;
 #[cfg(test)]
 mod stepwise;
 #[cfg(test)]
 mod tables;
-#[cfg(test)]
-mod told;
-#[cfg(test)]
-mod watched;

@@ -1,13 +1,12 @@
 //! Steps that two threads propose to one tree: four puts, and ten thousand drawn steps.
 
 use crate::assert_same::assert_same;
-use crate::crew::{Crew, Done, Left, Publishes, work_on_tree};
+use crate::calls::table_after;
+use crate::crew::{Beside, Crew, work_on_tree};
 use crate::dice::drawn_step;
-use crate::tables::EMPTY;
-use crate::told::table_after;
 use bw_delta::Spare;
-use bw_keys::{Key, Pid, Version};
-use bw_step::{Book, Insert, Receipt, Step};
+use bw_keys::{Key, Pid, Version, Wished};
+use bw_step::{Action, Book, Receipt, Step};
 use bw_tree::{Share, Shared};
 use rand_core::SeedableRng;
 use rand_pcg::Pcg32;
@@ -15,6 +14,9 @@ use std::alloc::Global;
 use std::process::Abort;
 use std::test::Fail;
 use test_kit::partition_the_keys;
+
+/// A table without pairs.
+const NEW: &str = "table 4 4 64 100 0";
 
 /// Each worker puts two keys.
 #[derive(Drop)]
@@ -33,13 +35,9 @@ impl FourPuts {
         key: Key,
     ) -> bool {
         for _attempt in 0..5 {
-            let step = Step::Insert(Insert {
-                page: Pid(0),
-                seen: tree.peek(Pid(0)).map_or(Version(0), |view| view.version),
-                key,
-                value: key,
-                spare: Spare::new(self.machine).expect(rt, "memory for a record"),
-            });
+            let seen = tree.peek(Pid(0)).map_or(Version(0), |view| view.version);
+            let spare = Spare::new(self.machine).expect(rt, "memory for a record");
+            let step = Step::of_wish(Pid(0), seen, key, Wished::Put(key), false, spare);
             if tree.install(share, step).is_ok() {
                 return true;
             }
@@ -49,17 +47,23 @@ impl FourPuts {
 }
 
 impl Crew<bool> for FourPuts {
-    fn write<R: Abort, S: Shared<Global, Step<Global>> + Publishes>(
+    fn work<R: Abort, S: Shared<Global, Step<Global>>, B: Beside>(
         &self,
         rt: &R,
         tree: &S,
         worker: u32,
         share: Share<S::Insertions, S::Removals>,
-    ) -> Done<S::Insertions, S::Removals, bool> {
+        _beside: &mut B,
+    ) -> (Share<S::Insertions, S::Removals>, bool) {
         let (mut share, first) = (share, if worker == 0 { 1 } else { 3 });
-        let result = self.put(rt, tree, &mut share, first)
+        let are_put = self.put(rt, tree, &mut share, first)
             && self.put(rt, tree, &mut share, first + 1);
-        Done { share, result }
+        let (key, wished) = (first, Wished::Set(first));
+        let is_set = tree
+            .perform(self.machine, &mut share, Action::Record { key, wished })
+            .is_ok();
+        let is_found = tree.leaf_at_once(first).is_some() && tree.look_at_once(first).is_some();
+        (share, are_put && is_set && is_found)
     }
 }
 
@@ -67,13 +71,8 @@ impl Crew<bool> for FourPuts {
 fn two_threads_put(rt: HostRuntime) -> Result<(), Fail> {
     let machine = rt.alloc();
     for run in 0..100 {
-        let table = table_after(&rt, machine, &[EMPTY]);
-        let Left {
-            table,
-            zero,
-            one,
-            ..
-        } = work_on_tree(rt, machine, table, &FourPuts { machine });
+        let table = table_after(&rt, machine, NEW);
+        let (table, zero, one) = work_on_tree(rt, machine, table, &FourPuts { machine });
         assert_same(&rt, (zero, one), (true, true), ("run", run));
         let pairs = table.pairs(machine)?;
         let wanted = [(1, 1), (2, 2), (3, 3), (4, 4)];
@@ -89,112 +88,69 @@ const STEPS: u64 = 5000;
 /// for.
 const MOST_REFUSED: u64 = 3500;
 
-const NO_CHANGES: Book = Book {
-    inserted: 0,
-    removed: 0,
-    modified: 0,
-};
-
-/// The numbers of a worker's steps, by their answers.
-#[derive(Clone, Copy, Debug)]
-struct Tally {
-    book: Book,
-    shaped: u64,
-    refused: u64,
-}
-
-impl Tally {
-    fn count(&mut self, answer: Option<Receipt>) {
-        let Tally {
-            book,
-            shaped,
-            refused,
-        } = self;
-        match answer {
-            Some(Receipt::Inserted { .. }) => book.inserted = book.inserted.saturating_add(1),
-            Some(Receipt::Deleted { .. }) => book.removed = book.removed.saturating_add(1),
-            Some(Receipt::Modified { .. }) => book.modified = book.modified.saturating_add(1),
-            Some(_) => *shaped = shaped.saturating_add(1),
-            None => *refused = refused.saturating_add(1),
-        }
-    }
-
-    /// Returns whether changes of each sort were taken, and not too few.
-    fn is_full(&self) -> bool {
-        let Book {
-            inserted,
-            removed,
-            modified,
-        } = self.book;
-        let are_taken = inserted > 0 && removed > 0 && modified > 0 && self.shaped > 0;
-        are_taken && 0 < self.refused && self.refused < MOST_REFUSED
-    }
-}
-
-/// Each worker proposes drawn steps, some of them forged.
+/// Each worker proposes drawn steps, some of them forged. The result are the numbers of its steps, by their answers.
 #[derive(Drop)]
 struct Drawn {
     machine: Global,
 }
 
-impl Crew<Tally> for Drawn {
-    fn write<R: Abort, S: Shared<Global, Step<Global>> + Publishes>(
+/// Returns the place of an answer among the numbers: changes of each sort, those of the shape, and refusals.
+fn place_of(answer: Option<Receipt>) -> usize {
+    match answer {
+        Some(Receipt::Inserted { .. }) => 0,
+        Some(Receipt::Deleted { .. }) => 1,
+        Some(Receipt::Modified { .. }) => 2,
+        Some(_) => 3,
+        None => 4,
+    }
+}
+
+impl Crew<[u64; 5]> for Drawn {
+    fn work<R: Abort, S: Shared<Global, Step<Global>>, B: Beside>(
         &self,
         rt: &R,
         tree: &S,
         worker: u32,
         share: Share<S::Insertions, S::Removals>,
-    ) -> Done<S::Insertions, S::Removals, Tally> {
-        let mut rng = Pcg32::seed_from_u64(if worker == 0 { 7 } else { 8 });
-        let mut share = share;
-        let mut result = Tally {
-            book: NO_CHANGES,
-            shaped: 0,
-            refused: 0,
-        };
+        _beside: &mut B,
+    ) -> (Share<S::Insertions, S::Removals>, [u64; 5]) {
+        let mut rng = Pcg32::seed_from_u64(7 + u64::from(worker));
+        let (mut share, mut numbers) = (share, [0u64; 5]);
         for _ in 0..STEPS {
             let step = drawn_step(rt, self.machine, &mut rng, tree);
-            result.count(tree.install(&mut share, step).ok());
+            if let Some(number) = numbers.get_mut(place_of(tree.install(&mut share, step).ok())) {
+                *number = number.saturating_add(1);
+            }
         }
-        Done { share, result }
-    }
-}
-
-/// Returns what both counted.
-fn sum_of(zero: &Tally, one: &Tally) -> Book {
-    Book {
-        inserted: zero.book.inserted.saturating_add(one.book.inserted),
-        removed: zero.book.removed.saturating_add(one.book.removed),
-        modified: zero.book.modified.saturating_add(one.book.modified),
+        (share, numbers)
     }
 }
 
 #[test]
 fn drawn_steps_from_two_threads_are_counted(rt: HostRuntime) -> Result<(), Fail> {
     let machine = rt.alloc();
-    let table = table_after(&rt, machine, &[EMPTY]);
-    let Left {
-        table,
-        zero,
-        one,
-        ..
-    } = work_on_tree(rt, machine, table, &Drawn { machine });
-    assert_same(
-        &rt,
-        (zero.is_full(), one.is_full()),
-        (true, true),
-        (zero, one),
+    let table = table_after(&rt, machine, NEW);
+    let (table, zero, one) = work_on_tree(rt, machine, table, &Drawn { machine });
+    for numbers in [zero, one] {
+        let mut is_full = numbers[4] < MOST_REFUSED;
+        for number in numbers {
+            is_full = is_full && number > 0;
+        }
+        assert_same(&rt, is_full, true, numbers);
+    }
+    let (inserted, removed) = (
+        zero[0].saturating_add(one[0]),
+        zero[1].saturating_add(one[1]),
     );
+    let book = Book {
+        inserted,
+        removed,
+        modified: zero[2].saturating_add(one[2]),
+    };
     let survey = table.survey(machine)?;
-    let book = sum_of(&zero, &one);
     assert_same(&rt, survey.book, book, "the book");
     let pairs = table.pairs(machine)?.len() as u64;
-    assert_same(
-        &rt,
-        Some(pairs),
-        book.inserted.checked_sub(book.removed),
-        "pairs",
-    );
+    assert_same(&rt, pairs, inserted.saturating_sub(removed), "pairs");
     assert_same(&rt, partition_the_keys(&survey.leaves), true, "leaves");
     Ok(())
 }

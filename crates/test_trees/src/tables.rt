@@ -1,61 +1,32 @@
-//! Scripts of tables, and what a table that a script leaves is asked.
+//! What a table that a script leaves is asked, and a replay.
 
 ghost use Rattle.std.specs.Prelude.{◌≡◌};
 
 use crate::assert_same::assert_same;
-use crate::crew::verdict_on;
-use crate::told::{table_after, tell_receipts};
-use bw_audit::{Deed, Event, Verdict, replay};
+use crate::calls::{table_after, tell_receipts};
+use bw_audit::{Deed, Event, Verdict, audit, is_ascending, replay};
 use bw_delta::Spare;
 use bw_keys::{Fence, Key, Pid, Version};
-use bw_step::{Insert, Step};
+use bw_step::Step;
 use bw_table::{Summary, Wished};
 use bw_work::{Packed, Trail};
 use std::alloc::Global;
 use std::test::Fail;
 use test_kit::SMALL;
 
-/// No pairs.
-pub(crate) const EMPTY: &str = "table 4 4 64 100 0";
-
-/// Five puts split the first leaf at 3 into page 1, which no parent has yet.
-pub(crate) const SPLIT: &str = "table 4 4 64 100 0
-insert 0 0 1 1
-insert 0 1 2 2
-insert 0 2 3 3
-insert 0 3 4 4
-consolidate 0 4 leaf 0 top - 1:1 2:2 3:3 4:4
-insert 0 5 5 5
-consolidate 0 6 leaf 0 top - 1:1 2:2 3:3 4:4 5:5
-split 0 7 3 leaf 3 top - 3:3 4:4 5:5";
-
-/// Behind that, the steps that seven puts take in all: pages 0, 1 and 3 under the root, which is page 2.
-pub(crate) const THREE_LEAVES: &str = "grow 1 1 inner 0 top - 0:0 3:1
-insert 1 2 6 6
-insert 1 3 7 7
-consolidate 1 4 leaf 3 top - 3:3 4:4 5:5 6:6 7:7
-split 1 5 5 leaf 5 top - 5:5 6:6 7:7
-term_add 2 1 3 1";
-
-/// The first leaf has taken the second one in, and the term of that still stands.
-pub(crate) const MERGED: &str = "mark 1 6 2
-merge 0 8 1 7";
-
 #[test]
 fn no_leaf_is_at_rest_where_a_term_leads_to_a_page_that_was_taken_in(
     rt: HostRuntime,
 ) -> Result<(), Fail> {
-    let table = table_after(&rt, rt.alloc(), &[SPLIT, THREE_LEAVES, MERGED]);
+    let scripts = "split, three leaves, mark 1 6 2, merge 0 8 1 7";
+    let table = table_after(&rt, rt.alloc(), scripts);
     assert_same(&rt, table.leaf_at_rest(4), None, "the leaf of key 4");
     Ok(())
 }
 
 /// The second leaf is emptied, merged and freed.
-const EMPTIED: &str = "delete 1 6 3
-delete 1 7 4
-mark 1 8 2
-merge 0 8 1 9
-term_delete 2 2 1 10";
+const EMPTIED: &str =
+    "split, three leaves, delete 1 6 3, delete 1 7 4, mark 1 8 2, merge 0 8 1 9, term_delete 2 2 1 10";
 
 /// What is kept of the first leaf then.
 const KEPT: Summary = Summary {
@@ -69,7 +40,7 @@ const KEPT: Summary = Summary {
 
 #[test]
 fn summaries_are_kept_of_pages_alone(rt: HostRuntime) -> Result<(), Fail> {
-    let table = table_after(&rt, rt.alloc(), &[SPLIT, THREE_LEAVES, EMPTIED]);
+    let table = table_after(&rt, rt.alloc(), EMPTIED);
     assert_same(&rt, table.summary(Pid(0)).copied(), Some(KEPT), "page 0");
     assert_same(&rt, table.summary(Pid(1)).copied(), None, "page 1");
     Ok(())
@@ -77,8 +48,8 @@ fn summaries_are_kept_of_pages_alone(rt: HostRuntime) -> Result<(), Fail> {
 
 #[test]
 fn what_may_be_done_at_once_is_where_there_is_memory(rt: HostRuntime) -> Result<(), Fail> {
-    let rebuilt = "consolidate 2 2 inner 0 top - 0:0 3:1 5:3";
-    let mut table = table_after(&rt, rt.alloc(), &[SPLIT, THREE_LEAVES, rebuilt]);
+    let scripts = "split, three leaves, consolidate 2 2 inner 0 top - 0:0 3:1 5:3";
+    let mut table = table_after(&rt, rt.alloc(), scripts);
     let (parent, leaf, new) = (Pid(2), Pid(3), Pid(4));
     let is_put = table.change_leaf(leaf, 8, Wished::Put(8)).is_some();
     assert_same(&rt, is_put, true, "a put");
@@ -96,14 +67,7 @@ fn what_may_be_done_at_once_is_where_there_is_memory(rt: HostRuntime) -> Result<
 fn put(worker: u32, key: Key, value: u64, spare: Spare<Global>) -> Event
     ensures { result.worker ≡ worker }
 {
-    let (page, seen) = (Pid(0), Version(0));
-    let step = Step::Insert(Insert {
-        page,
-        seen,
-        key,
-        value,
-        spare,
-    });
+    let step = Step::of_wish(Pid(0), Version(0), key, Wished::Put(value), false, spare);
     Event {
         worker,
         act: Deed::Step(step),
@@ -138,7 +102,9 @@ fn a_replay_leaves_the_receipts_of_its_interleaving(rt: HostRuntime) -> Result<(
         wanted,
         "the trails, packed and unpacked",
     );
-    let verdict = verdict_on(&rt, alloc, &replayed.table, &replayed.trails);
+    let pairs = replayed.table.pairs(alloc)?;
+    assert!(rt; is_ascending(&pairs), "the keys of the pairs rise");
+    let verdict = audit(alloc, &replayed.trails, &pairs)?;
     assert_same(&rt, verdict, Verdict::Yes, "verdict");
     Ok(())
 }

@@ -1,4 +1,4 @@
-use Rattle.example_readers.proofs.main.Given as goal
+use Rattle.examples.proofs.readers.run.Given as goal
 
 abbrev pub ghosts-keep-N-Ledger : goal.ghosts-keep-N-Ledger
 ghosts-keep-N-Ledger g a = record { name = a.blanks.insertions.name; parts = a.blanks.insertions.parts }

@@ -21,7 +21,7 @@ fn change_and_read(rt: HostRuntime, map: &mut Map<Global>) -> Result<()> {
     Ok(())
 }
 
-fn main(rt: HostRuntime) -> Result<()> {
+pub fn main(rt: HostRuntime) -> Result<()> {
     let mut map = Map::new(rt.alloc(), rt.alloc(), usual_config())?;
     change_and_read(rt, &mut map)
 }

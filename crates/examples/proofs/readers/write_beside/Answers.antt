@@ -3,7 +3,7 @@ use Rattle.std.proofs.Crossing.{crosses}
 use Rattle.std.proofs.alloc.Global.TheSendSync as heap
 use Rattle.bw_tree.proofs.share.Share.TheSendSync as share
 use Rattle.bw_snap.proofs.Crossing.{ReadTree-sync, Reader-send}
-use Rattle.example_readers.proofs.write_beside.Goals as goal
+use Rattle.examples.proofs.readers.write_beside.Goals as goal
 
 pub join-requires-send-F : goal.join-requires-send-F
 join-requires-send-F g c κs within = search (ReadTree-sync, share.the_send, heap.the_field_send, Reader-send, sendable, crosses) depth 60 fits 10000

@@ -1,6 +1,5 @@
 //! A tree with a reader, which a program keeps while threads come and go. In each round a worker puts
 //! keys and publishes now and then, and the reader looks meanwhile, without the lock.
-#![tactic(auto)]
 
 ghost use Rattle.std.specs.Prelude.{◌≡◌};
 ghost use Rattle.bw_tree.specs.Trees.{OpensFor};
@@ -116,17 +115,17 @@ fn keep<N: Naming + Send + Sync, D: Ledger + Send + Sync, R: Threads + Wait + Sy
     Ok((found, tree.close(shares)?))
 }
 
-fn main(rt: HostRuntime) -> Result<()> {
-    let (found, table) = keep::<Brand, Brand, HostRuntime>(
-        rt,
-        rt.alloc(),
-        Config::default(),
-        Blanks::new(1),
-        Announcements::new(),
-    )?;
+/// Writes what the reader found after each round, and the last pair of all.
+pub fn run<R: Threads + Wait + Sync + Send + Copy>(
+    rt: R,
+    machine: Global,
+    told: &mut String,
+) -> Result<()> {
+    let (config, blanks, announcements) = (Config::default(), Blanks::new(1), Announcements::new());
+    let (found, table) = keep::<Brand, Brand, R>(rt, machine, config, blanks, announcements)?;
     for (pairs, rose) in found.iter() {
-        println!(rt; "{pairs} pairs, never fewer than before: {rose}")?;
+        writeln!(told, "{pairs} pairs, never fewer than before: {rose}")?;
     }
-    println!(rt; "{:?}", table.last())?;
+    writeln!(told, "{:?}", table.last())?;
     Ok(())
 }
