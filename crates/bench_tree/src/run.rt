@@ -23,26 +23,32 @@ pub(crate) trait Runtime: Clock + Threads + Wait + Sync + Send + Copy {}
 
 impl<R: Clock + Threads + Wait + Sync + Send + Copy> Runtime for R {}
 
-/// Does the task on a new structure.
+/// Does the task on a new structure. Each is compiled only for the receipts that it is timed with.
 pub(crate) fn run<R: Runtime>(rt: R, alloc: Global, structure: Structure, task: &Task) -> Worked {
     match structure {
-        Structure::Hand
-        | Structure::KeepingForest(_)
-        | Structure::Beside(_)
-        | Structure::Puts(_)
-        | Structure::Alone => {
-            run_with(&Race::<R, Vec<Receipt>>::new(rt, alloc, structure, task)?)
+        Structure::Map | Structure::GivingUp | Structure::Forest(_) => {
+            give_up(&Race::new(rt, alloc, structure, task)?)
         }
-        _ => run_with(&Race::<R, GivenUp>::new(rt, alloc, structure, task)?),
+        Structure::Reader | Structure::Pending => {
+            run_readers::<R, GivenUp>(&Race::new(rt, alloc, structure, task)?)
+        }
+        _ => keep(&Race::new(rt, alloc, structure, task)?),
     }
 }
 
-fn run_with<R: Runtime, L: Trail + Send + Sync>(race: &Race<R, L>) -> Worked {
+fn give_up<R: Runtime>(race: &Race<R, GivenUp>) -> Worked {
+    match race.structure {
+        Structure::Map => run_map(race),
+        Structure::Forest(trees) => run_forest(race, trees),
+        _ => run_hands(race),
+    }
+}
+
+fn keep<R: Runtime>(race: &Race<R, Vec<Receipt>>) -> Worked {
     match race.structure {
         Structure::Alone => run_alone(race),
-        Structure::Map => run_map(race),
-        Structure::Hand | Structure::GivingUp => run_hands(race),
-        Structure::Forest(trees) | Structure::KeepingForest(trees) => run_forest(race, trees),
+        Structure::Hand => run_hands(race),
+        Structure::KeepingForest(trees) => run_forest(race, trees),
         _ => run_readers(race),
     }
 }
@@ -71,7 +77,7 @@ fn run_hands<R: Runtime, L: Trail + Send + Sync>(race: &Race<R, L>) -> Worked {
     let table = filled_table(race)?;
     match share_table(race.rt, race.alloc, table, race.task.workers, race) {
         Ok(shared) => Part::of_all(shared.outputs),
-        Err(unshared) => Err(Stop::Share(unshared.fault)),
+        Err(unshared) => Err(Stop::from(unshared.fault)),
     }
 }
 
@@ -88,7 +94,7 @@ fn run_forest<R: Runtime, L: Trail + Send + Sync>(race: &Race<R, L>, trees: u32)
         _ => task.end(),
     };
     let Ok(bounds) = Bounds::even(alloc, trees, u64::from(end)) else {
-        return Err(Stop::Nobody);
+        return Err(Stop("no range was made"));
     };
     // for twice the keys that a tree has by the bounds, a quarter full
     let pages = (task.end() / trees.max(1) / 16).saturating_add(64);

@@ -43,6 +43,7 @@ fn run_trial<R: Threads + Wait + Sync + Send + Copy>(
         "forest_of_two" => forests::forest_of_two(rt, machine),
         "side_by_side" => runs::side_by_side(rt, machine),
         "stopped" => runs::stopped(rt, machine),
+        "fault_texts" => runs::fault_texts(machine),
         _ => Err(Stop::Broken("no such trial")),
     }
 }

@@ -180,3 +180,21 @@ pub(crate) fn stopped<R: Threads + Wait + Sync + Send + Copy>(
     }
     Ok(Ending::Whole)
 }
+
+/// Faults that no case of the command comes to, and their texts.
+static FAULTS: [(RunFault, &str); 5] = [
+    (RunFault::OtherRange, "a tree has another range"),
+    (RunFault::NoReader, "reader"),
+    (RunFault::Threads, "threads"),
+    (RunFault::Memory, "memory"),
+    (RunFault::Stopped(0, 4, Fault::Worn), "worker 0 row 4: worn"),
+];
+
+/// The faults of runs have their texts.
+pub(crate) fn fault_texts(machine: Global) -> Result<Ending, Stop> {
+    for (fault, text) in FAULTS.iter() {
+        let told = format!(in machine; "{fault}")?;
+        hold(told.as_str() == *text, "a fault has its text")?;
+    }
+    Ok(Ending::Whole)
+}

@@ -41,7 +41,7 @@ pub(crate) fn config_of(options: &str) -> Result<Config> {
 }
 
 /// The rows of a trace, in their order.
-#[derive(Clone, Copy)]
+#[derive(Drop)]
 struct Trace<'t> {
     alloc: Global,
     rows: &'t [Row],

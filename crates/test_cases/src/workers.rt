@@ -135,7 +135,7 @@ pub(crate) fn judge(
 }
 
 /// All acts, with copies of leaves in this memory.
-#[derive(Clone, Copy)]
+#[derive(Drop)]
 struct Acts {
     machine: Global,
 }
