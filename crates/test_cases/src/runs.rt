@@ -147,8 +147,11 @@ pub(crate) fn side_by_side<R: Threads + Wait + Sync + Send + Copy>(
             return Err(Stop::Broken("two workers run"));
         };
         hold(ran.table.book().inserted == 200, "each key is put")?;
-        let met = gate.meeting.as_ref().is_some_and(|it| it.came_about());
-        hold(met, "workers run side by side")?;
+        let have_met = match &gate.meeting {
+            Some(meeting) => meeting.came_about(),
+            None => false,
+        };
+        hold(have_met, "workers run side by side")?;
     }
     Ok(Ending::Whole)
 }
