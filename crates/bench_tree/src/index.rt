@@ -120,6 +120,17 @@ pub(crate) trait Index {
     fn scan_from(&mut self, low: Key, limit: usize, list: &mut Pairs) -> Answer;
 }
 
+/// Makes the call that changes this, and tells its reply.
+macro_rules! changed {
+    ($worker:expr, $change:expr) => {
+        Ok(match $change {
+            Change::Put(key, value) => Tally::of_put($worker.put(key, value)?.reply),
+            Change::Set(key, value) => Tally::of_set($worker.set(key, value)?.reply),
+            Change::Delete(key) => Tally::of_delete($worker.delete(key)?.reply),
+        })
+    };
+}
+
 /// A worker of a tree, alone or one of several.
 #[derive(Drop)]
 pub(crate) struct ByCalls<'w, W> {
@@ -133,11 +144,7 @@ impl<'w, W: Calls<Global>> Index for ByCalls<'w, W> {
 
     #[inline(always)]
     fn change(&mut self, change: Change) -> Answer {
-        Ok(match change {
-            Change::Put(key, value) => Tally::of_put(self.worker.put(key, value)?.reply),
-            Change::Set(key, value) => Tally::of_set(self.worker.set(key, value)?.reply),
-            Change::Delete(key) => Tally::of_delete(self.worker.delete(key)?.reply),
-        })
+        changed!(self.worker, change)
     }
 
     fn scan_from(&mut self, low: Key, limit: usize, list: &mut Pairs) -> Answer {
@@ -167,11 +174,7 @@ impl Index for Map<Global> {
 
     #[inline(always)]
     fn change(&mut self, change: Change) -> Answer {
-        Ok(match change {
-            Change::Put(key, value) => Tally::of_put(self.put(key, value)?.reply),
-            Change::Set(key, value) => Tally::of_set(self.set(key, value)?.reply),
-            Change::Delete(key) => Tally::of_delete(self.delete(key)?.reply),
-        })
+        changed!(self, change)
     }
 
     fn scan_from(&mut self, low: Key, limit: usize, list: &mut Pairs) -> Answer {
@@ -194,11 +197,7 @@ impl<'b, H: ForestHand> Index for ForestWorker<'b, H> {
 
     #[inline(always)]
     fn change(&mut self, change: Change) -> Answer {
-        Ok(match change {
-            Change::Put(key, value) => Tally::of_put(self.put(key, value)?.reply),
-            Change::Set(key, value) => Tally::of_set(self.set(key, value)?.reply),
-            Change::Delete(key) => Tally::of_delete(self.delete(key)?.reply),
-        })
+        changed!(self, change)
     }
 
     fn scan_from(&mut self, low: Key, limit: usize, list: &mut Pairs) -> Answer {

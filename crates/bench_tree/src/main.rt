@@ -13,38 +13,39 @@ use crate::task::{Task, WORKS, Work};
 use nifforan::{Fault, NewFault, NoMemory};
 use nifforan_forest::ShareForestFault;
 use nifforan_shared::{Closed, ScanFault, ShareFault};
-use std::alloc::{AllocError, Global};
+use std::alloc::{AllocError, AllocFailed, Global};
 use std::{env, io};
-use thiserror::Error;
 
 /// Why no time is reported.
-#[derive(Clone, Copy, Debug, Error)]
-pub(crate) enum Stop {
-    #[error("out of memory")]
-    Memory(#[from(alloc)] AllocError),
-    #[error("the system refused the clock or the arguments")]
-    System,
-    #[error("no tree was made")]
-    New(#[from] NewFault),
-    #[error("a call gave up")]
-    Call(#[from] Fault),
-    #[error("nothing was published")]
-    Publish(#[from] NoMemory),
-    #[error("nothing was read")]
-    Read(#[from] Closed),
-    #[error("nothing was scanned")]
-    Scan(#[from] ScanFault),
-    #[error("no tree was shared")]
-    Share(#[from] ShareFault),
-    #[error("no forest was shared")]
-    Forest(#[from] ShareForestFault),
-    #[error("no worker was asked")]
-    Nobody,
+#[derive(Clone, Copy, Debug)]
+pub(crate) struct Stop(&'static str);
+
+/// Has each fault end the program for a reason.
+macro_rules! stops {
+    ($($fault:ty: $reason:literal,)*) => {
+        $(impl From<$fault> for Stop {
+            fn from(_: $fault) -> Stop {
+                Stop($reason)
+            }
+        })*
+    };
 }
 
-impl From<io::Error> for Stop {
-    fn from(_: io::Error) -> Stop {
-        Stop::System
+stops! {
+    AllocError: "out of memory",
+    io::Error: "the system refused the clock or the arguments",
+    NewFault: "no tree was made",
+    Fault: "a call gave up",
+    NoMemory: "nothing was published",
+    Closed: "nothing was read",
+    ScanFault: "nothing was scanned",
+    ShareFault: "no tree was shared",
+    ShareForestFault: "no forest was shared",
+}
+
+impl<T: Drop> From<AllocFailed<T>> for Stop {
+    fn from(_: AllocFailed<T>) -> Stop {
+        Stop("out of memory")
     }
 }
 

@@ -8,7 +8,6 @@ use nifforan_shared::Key;
 use rand_core::Rng;
 use rand_pcg::Pcg32;
 use std::alloc::Global;
-use std::marker::PhantomData;
 use std::sync::atomic::{AtomicU32, Ordering};
 use std::sync::{Barrier, Wait};
 use std::time::{Clock, Duration, Instant};
@@ -36,7 +35,7 @@ impl Part {
     /// Returns the part of all, from the first beginning to the last end.
     pub(crate) fn of_all(parts: Vec<Worked>) -> Worked {
         let mut parts = parts.into_iter();
-        let mut all = parts.next().unwrap_or(Err(Stop::Nobody))?;
+        let mut all = parts.next().unwrap_or(Err(Stop("no worker was asked")))?;
         for part in parts {
             let part = part?;
             all = Part {
@@ -54,7 +53,7 @@ impl Part {
 
 /// A task whose workers wait for each other, and begin together. Its keys are drawn before.
 #[derive(Drop)]
-pub(crate) struct Race<R, L> {
+pub(crate) struct Race<R> {
     pub rt: R,
     pub alloc: Global,
     pub structure: Structure,
@@ -66,10 +65,9 @@ pub(crate) struct Race<R, L> {
     start: Barrier,
     /// How many readers have ended.
     pub ended: AtomicU32,
-    trail: PhantomData<L>,
 }
 
-impl<R: Clock + Wait + Copy, L> Race<R, L> {
+impl<R: Clock + Wait + Copy> Race<R> {
     pub(crate) fn new(rt: R, alloc: Global, held: Structure, task: &Task) -> Result<Self, Stop> {
         Ok(Race {
             rt,
@@ -80,7 +78,6 @@ impl<R: Clock + Wait + Copy, L> Race<R, L> {
             drawn: task.drawn_keys(alloc)?,
             start: Barrier::new(held.workers(task) as usize),
             ended: AtomicU32::new(0),
-            trail: PhantomData,
         })
     }
 

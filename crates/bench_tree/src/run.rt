@@ -13,6 +13,7 @@ use nifforan_shared::{
     share_with_readers,
 };
 use std::alloc::Global;
+use std::marker::PhantomData;
 use std::sync::Wait;
 use std::sync::atomic::Ordering;
 use std::thread::Threads;
@@ -25,76 +26,68 @@ impl<R: Clock + Threads + Wait + Sync + Send + Copy> Runtime for R {}
 
 /// Does the task on a new structure.
 pub(crate) fn run<R: Runtime>(rt: R, alloc: Global, structure: Structure, task: &Task) -> Worked {
+    let race = Race::new(rt, alloc, structure, task)?;
     match structure {
-        Structure::Hand
-        | Structure::KeepingForest(_)
-        | Structure::Beside(_)
-        | Structure::Puts(_)
-        | Structure::Alone => {
-            run_with(&Race::<R, Vec<Receipt>>::new(rt, alloc, structure, task)?)
-        }
-        _ => run_with(&Race::<R, GivenUp>::new(rt, alloc, structure, task)?),
-    }
-}
-
-fn run_with<R: Runtime, L: Trail + Send + Sync>(race: &Race<R, L>) -> Worked {
-    match race.structure {
-        Structure::Alone => run_alone(race),
-        Structure::Map => run_map(race),
-        Structure::Hand | Structure::GivingUp => run_hands(race),
-        Structure::Forest(trees) | Structure::KeepingForest(trees) => run_forest(race, trees),
-        _ => run_readers(race),
+        Structure::Alone => run_alone(&race),
+        Structure::Map => run_map(&race),
+        Structure::Hand => run_hands::<R, Vec<Receipt>>(&race),
+        Structure::GivingUp => run_hands::<R, GivenUp>(&race),
+        Structure::Forest(trees) => run_forest::<R, GivenUp>(&race, trees),
+        Structure::KeepingForest(trees) => run_forest::<R, Vec<Receipt>>(&race, trees),
+        Structure::Reader | Structure::Pending => run_readers::<R, GivenUp>(&race),
+        Structure::Beside(_) | Structure::Puts(_) => run_readers::<R, Vec<Receipt>>(&race),
     }
 }
 
 /// Returns a table that is filled by one worker without receipts.
-fn filled_table<R: Runtime, L>(race: &Race<R, L>) -> Result<Table<Global>, Stop> {
+fn filled_table<R: Runtime>(race: &Race<R>) -> Result<Table<Global>, Stop> {
     let mut table = Table::new(race.alloc, race.alloc, race.task.config)?;
     let mut alone = Sole::with_trail(GivenUp::new(), race.alloc, &mut table);
     race.fill(&mut ByCalls { worker: &mut alone }, 0, 1)?;
     Ok(table)
 }
 
-fn run_alone<R: Runtime, L: Trail>(race: &Race<R, L>) -> Worked {
+fn run_alone<R: Runtime>(race: &Race<R>) -> Worked {
     let mut table = filled_table(race)?;
-    let mut alone = Sole::with_trail(L::empty(race.alloc), race.alloc, &mut table);
+    let mut alone = Sole::with_trail(Vec::<Receipt>::empty(race.alloc), race.alloc, &mut table);
     race.run_calls(&mut alone, 0)
 }
 
-fn run_map<R: Runtime, L>(race: &Race<R, L>) -> Worked {
+fn run_map<R: Runtime>(race: &Race<R>) -> Worked {
     let mut map = Map::new(race.alloc, race.alloc, race.task.config)?;
     let filled = race.fill(&mut map, 0, 1);
     race.run(&mut map, 0, filled)
 }
 
-fn run_hands<R: Runtime, L: Trail + Send + Sync>(race: &Race<R, L>) -> Worked {
-    let table = filled_table(race)?;
-    match share_table(race.rt, race.alloc, table, race.task.workers, race) {
+fn run_hands<R: Runtime, L: Trail + Send + Sync>(race: &Race<R>) -> Worked {
+    let (table, crew) = (filled_table(race)?, Crew::<R, L>::of(race));
+    match share_table(race.rt, race.alloc, table, race.task.workers, &crew) {
         Ok(shared) => Part::of_all(shared.outputs),
-        Err(unshared) => Err(Stop::Share(unshared.fault)),
+        Err(unshared) => Err(Stop::from(unshared.fault)),
     }
 }
 
-fn run_readers<R: Runtime, L: Trail + Send + Sync>(race: &Race<R, L>) -> Worked {
-    let workers = race.structure.workers(&race.task);
-    let shared = share_with_readers(race.rt, race.alloc, race.task.config, workers, race)?;
+fn run_readers<R: Runtime, L: Trail + Send + Sync>(race: &Race<R>) -> Worked {
+    let (workers, crew) = (race.structure.workers(&race.task), Crew::<R, L>::of(race));
+    let shared = share_with_readers(race.rt, race.alloc, race.task.config, workers, &crew)?;
     Part::of_all(shared.outputs)
 }
 
-fn run_forest<R: Runtime, L: Trail + Send + Sync>(race: &Race<R, L>, trees: u32) -> Worked {
+fn run_forest<R: Runtime, L: Trail + Send + Sync>(race: &Race<R>, trees: u32) -> Worked {
     let (rt, alloc, task) = (race.rt, race.alloc, &race.task);
     let end = match task.work {
         Work::Load | Work::Rising => task.keys,
         _ => task.end(),
     };
     let Ok(bounds) = Bounds::even(alloc, trees, u64::from(end)) else {
-        return Err(Stop::Nobody);
+        return Err(Stop("no range was made"));
     };
     // for twice the keys that a tree has by the bounds, a quarter full
     let pages = (task.end() / trees.max(1) / 16).saturating_add(64);
     let mut config = task.config;
     config.pages = config.pages.min(pages);
-    let shared = share_forest(rt, alloc, bounds, config, task.workers, race)?;
+    let crew = Crew::<R, L>::of(race);
+    let shared = share_forest(rt, alloc, bounds, config, task.workers, &crew)?;
     let mut parts = Vec::with_capacity(alloc, shared.workers.len())?;
     for worker in shared.workers {
         parts.push(worker.output)?;
@@ -102,24 +95,40 @@ fn run_forest<R: Runtime, L: Trail + Send + Sync>(race: &Race<R, L>, trees: u32)
     Part::of_all(parts)
 }
 
-impl<R: Clock + Wait + Copy, L: Trail> Job for Race<R, L> {
+/// Those who do a task, by receipts in such a trail.
+#[derive(Drop)]
+struct Crew<'r, R, L> {
+    race: &'r Race<R>,
+    trail: PhantomData<L>,
+}
+
+impl<'r, R, L> Crew<'r, R, L> {
+    fn of(race: &'r Race<R>) -> Self {
+        Crew {
+            race,
+            trail: PhantomData,
+        }
+    }
+}
+
+impl<'r, R: Clock + Wait + Copy, L: Trail> Job for Crew<'r, R, L> {
     type Output = Worked;
 
     type Trail = L;
 
     fn work<W: Worker>(&self, worker: u32, hand: &mut W) -> Worked {
-        self.run_calls(hand, worker)
+        self.race.run_calls(hand, worker)
     }
 }
 
-impl<R: Clock + Wait + Copy, L: Trail> ForestJob for Race<R, L> {
+impl<'r, R: Clock + Wait + Copy, L: Trail> ForestJob for Crew<'r, R, L> {
     type Output = Worked;
 
     type Trail = L;
 
     fn work<H: ForestHand>(&self, worker: u32, forest: &mut ForestWorker<'_, H>) -> Worked {
-        let filled = self.fill(forest, worker, self.task.workers);
-        self.run(forest, worker, filled)
+        let filled = self.race.fill(forest, worker, self.race.task.workers);
+        self.race.run(forest, worker, filled)
     }
 }
 
@@ -172,7 +181,7 @@ impl<'h, 'x, R: Clock + Copy, W: Worker, X: Reads> Index for Published<'h, 'x, R
     }
 }
 
-impl<R: Clock + Wait + Copy, L> Race<R, L> {
+impl<R: Clock + Wait + Copy> Race<R> {
     /// Does one worker's part by its calls.
     fn run_calls<W: Calls<Global>>(&self, worker: &mut W, number: u32) -> Worked {
         self.run(&mut ByCalls { worker }, number, Ok(Tally::default()))
@@ -190,38 +199,39 @@ impl<R: Clock + Wait + Copy, L> Race<R, L> {
 }
 
 /// Readers, each of them a worker, and a writer behind them, if there is one.
-impl<R: Clock + Wait + Copy, L: Trail> ReadingJob for Race<R, L> {
+impl<'r, R: Clock + Wait + Copy, L: Trail> ReadingJob for Crew<'r, R, L> {
     type Output = Worked;
 
     type Trail = L;
 
     fn work<W: Worker, X: Reads>(&self, worker: u32, hand: &mut W, reader: &mut X) -> Worked {
+        let race = self.race;
         let mut index = Published {
-            rt: self.rt,
+            rt: race.rt,
             hand: ByCalls { worker: hand },
             reader,
             every: 0,
             changes: 0,
             longest: Duration::ZERO,
         };
-        let filled = match (worker, self.structure) {
-            (0, Structure::Pending) => self.fill(&mut index, 0, 1),
-            (0, _) => self.fill_by(&mut index),
+        let filled = match (worker, race.structure) {
+            (0, Structure::Pending) => race.fill(&mut index, 0, 1),
+            (0, _) => race.fill_by(&mut index),
             _ => Ok(Tally::default()),
         };
-        index.every = match self.structure {
+        index.every = match race.structure {
             Structure::Beside(every) | Structure::Puts(every) => every,
             _ => 0,
         };
-        if worker >= self.task.workers {
-            let mut part = self.begin(filled)?;
-            self.change_often(&mut index)?;
-            part.writing = part.began.elapsed(&self.rt)?;
+        if worker >= race.task.workers {
+            let mut part = race.begin(filled)?;
+            race.change_often(&mut index)?;
+            part.writing = part.began.elapsed(&race.rt)?;
             (part.changes, part.longest) = (index.changes, index.longest);
             return Ok(part);
         }
-        let part = self.run(&mut index, worker, filled);
-        self.ended.fetch_add(1, Ordering::SeqCst);
+        let part = race.run(&mut index, worker, filled);
+        race.ended.fetch_add(1, Ordering::SeqCst);
         part
     }
 }

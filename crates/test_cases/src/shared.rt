@@ -16,24 +16,36 @@
 ghost use Rattle.std.specs.Prelude.{◌≡◌};
 ghost use Rattle.bw_tree.specs.Trees.{OpensFor};
 
-use crate::texts::compare;
-use crate::ways::config_of;
+use crate::texts::{compare, read_part};
+use crate::traces::config_of;
 use anyhow::{Context, Result, bail};
 use bw_keys::Config;
 use bw_run::{Act, Reply, Row, do_act};
 use bw_snap::{Announcements, Naming, ReadTree, Reader, Stamp};
 use bw_step::Step;
 use bw_table::Table;
-use bw_trace::read_trace;
+use bw_texts::read_trace;
 use bw_tree::{Blanks, Share};
 use bw_work::{Hand, Open, Steps};
 use std::alloc::Global;
+use std::fmt::{Debug, Display};
 use std::marker::Brand;
+use std::rt::Files;
 use std::sync::Wait;
 use std::sync::ledger::Ledger;
 
 /// The most workers that a tree has.
 const MOST_WORKERS: u32 = 64;
+
+/// Writes an answer.
+fn say<T: Display>(played: &mut String, answer: &T) -> Result<()> {
+    Ok(writeln!(played, "> {answer}")?)
+}
+
+/// Writes an answer as it is shown.
+fn show<T: Debug>(played: &mut String, answer: &T) -> Result<()> {
+    Ok(writeln!(played, "> {answer:?}")?)
+}
 
 /// Makes the call, and writes its reply.
 fn answer<S: Steps<Global, Step<Global>>>(
@@ -42,11 +54,7 @@ fn answer<S: Steps<Global, Step<Global>>>(
     act: Act,
     played: &mut String,
 ) -> Result<()> {
-    match do_act(steps, alloc, act) {
-        Ok(reply) => writeln!(played, "> {reply}")?,
-        Err(fault) => writeln!(played, "> no reply: {fault}")?,
-    }
-    Ok(())
+    say(played, &do_act(steps, alloc, act)?)
 }
 
 /// Does a row by its worker, who has this share, and returns the share.
@@ -89,7 +97,7 @@ fn read<N: Naming>(
 ) -> Result<()> {
     match words {
         ["learn"] => reader.learn(stamps.pop().context("no stamp is left")?),
-        ["get", key] => writeln!(played, "> {}", Reply::Get(reader.get(key.parse()?)?))?,
+        ["get", key] => return say(played, &Reply::Get(reader.get(key.parse()?)?)),
         ["look", key] => {
             let look = reader.look(key.parse()?)?;
             writeln!(played, "> {} at {}", Reply::Get(look.found), look.at)?;
@@ -97,7 +105,7 @@ fn read<N: Naming>(
         ["scan", low, limit] => {
             let mut pairs = vec![in alloc; (7, 77)]?;
             reader.scan(low.parse()?, limit.parse()?, &mut pairs)?;
-            writeln!(played, "> {pairs:?}")?;
+            return show(played, &pairs);
         }
         _ => bail!("no reading"),
     }
@@ -186,10 +194,10 @@ fn tell<N: Naming>(
 ) -> Result<()> {
     let survey = table.survey(alloc)?;
     for leaf in survey.leaves.iter() {
-        writeln!(played, "> {leaf}")?;
+        say(played, leaf)?;
     }
-    writeln!(played, "> {:?}", survey.book)?;
-    writeln!(played, "> {:?}", table.pairs(alloc)?)?;
+    show(played, &survey.book)?;
+    show(played, &table.pairs(alloc)?)?;
     for reader in readers {
         tell_reader(alloc, reader, played)?;
     }
@@ -272,19 +280,13 @@ fn play<R: Wait + Copy>(rt: R, alloc: Global, script: &str) -> Result<String> {
     Ok(played)
 }
 
-/// Plays a script, and compares its answers with those in it.
-fn agree_on<R: Wait + Copy>(rt: R, alloc: Global, script: &str) -> Result<()> {
-    let played = play(rt, alloc, script)?;
-    compare(played.trim_end(), script.trim_end())
-}
-
-/// Plays the scripts of the text, and compares the answers to each with those in it.
-pub(crate) fn agree<R: Wait + Copy>(rt: R, alloc: Global, text: &str) -> Result<String> {
-    let mut lines = String::new(alloc);
+/// Plays the scripts of the file, and compares the answers to each with those in it.
+pub(crate) fn agree<R: Wait + Copy + Files + AllocGlobal>(rt: R, path: &str) -> Result<()> {
+    let alloc = rt.alloc();
+    let text = read_part(&rt, path, "")?;
     for script in text.split("\n\n") {
-        let title = script.lines().next().context("no title")?;
-        agree_on(rt, alloc, script).context(title)?;
-        writeln!(lines, "{title}: as foretold")?;
+        let played = play(rt, alloc, script)?;
+        compare(played.trim_end(), script.trim_end())?;
     }
-    Ok(lines)
+    Ok(())
 }

@@ -1,15 +1,8 @@
 //! Texts of files, compared with answers.
 
-ghost use Rattle.std.specs.Prelude.{◌≡◌, ◌↔◌, IsOk};
-
-use anyhow::{Error, Result, anyhow};
+use anyhow::{Result, ensure};
 use std::fs;
 use std::rt::Files;
-
-/// Reads the file with this name.
-pub(crate) fn read<R: Files + AllocGlobal>(rt: &R, name: &str) -> Result<String> {
-    Ok(fs::read_to_string(rt, name)?)
-}
 
 /// Reads the file with this name and ending.
 pub(crate) fn read_part<R: Files + AllocGlobal>(
@@ -17,32 +10,11 @@ pub(crate) fn read_part<R: Files + AllocGlobal>(
     name: &str,
     ending: &str,
 ) -> Result<String> {
-    read(rt, &format!(in rt.alloc(); "{name}.{ending}")?)
+    Ok(fs::read_to_string(rt, &format!(in rt.alloc(); "{name}{ending}")?)?)
 }
 
-/// Fails with the first line that differs. An empty text stands for one that isn't there.
-pub(crate) fn compare(answered: &str, foretold: &str) -> Result<()>
-    ensures { IsOk result ↔ (answered.now ≡ foretold.now) }
-{
-    if answered == foretold {
-        return Ok(());
-    }
-    Err(difference(answered, foretold))
-}
-
-/// Says which line of two texts is the first that differs.
-fn difference(answered: &str, foretold: &str) -> Error {
-    let mut number = 1usize;
-    let mut others = foretold.split('\n');
-    for line in answered.split('\n') {
-        let wanted = others.next().unwrap_or("");
-        if line != wanted {
-            return anyhow!("line {number} is '{line}', and not '{wanted}'");
-        }
-        number = number.saturating_add(1);
-    }
-    anyhow!(
-        "line {number} is '', and not '{}'",
-        others.next().unwrap_or("")
-    )
+/// Fails with the whole answer unless it was foretold.
+pub(crate) fn compare(answered: &str, foretold: &str) -> Result<()> {
+    ensure!(answered == foretold, "the answer is\n{answered}");
+    Ok(())
 }

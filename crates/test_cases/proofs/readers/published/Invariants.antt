@@ -1,4 +1,4 @@
-use Rattle.test_out_of_memory.proofs.readers.beside_readers.Given as goal
+use Rattle.test_cases.proofs.readers.published.Given as goal
 
 abbrev pub ghosts-published_over-N-Ledger : goal.ghosts-published_over-N-Ledger
 ghosts-published_over-N-Ledger g a = record { name = a.blanks.insertions.name; parts = a.blanks.insertions.parts }

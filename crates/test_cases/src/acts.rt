@@ -20,8 +20,8 @@ impl<S: Steps<Global, Step<Global>>> Acting for S {
 }
 
 /// The acts of each worker of a trial. The puts split a leaf twice, and the deletes merge one. The
-/// range that is removed twice may be left in part by the first removal.
-pub(crate) const ACTS: [Act; 18] = [
+/// range that is removed twice may be left in part by the first removal. The last puts split a leaf again.
+pub(crate) const ACTS: [Act; 23] = [
     Act::Put { key: 1, value: 1 },
     Act::Put { key: 2, value: 2 },
     Act::Put { key: 3, value: 3 },
@@ -45,6 +45,11 @@ pub(crate) const ACTS: [Act; 18] = [
         low: 2,
         high: Fence::Key(7),
     },
+    Act::Put { key: 10, value: 10 },
+    Act::Put { key: 11, value: 11 },
+    Act::Put { key: 12, value: 12 },
+    Act::Put { key: 13, value: 13 },
+    Act::Put { key: 14, value: 14 },
     Act::Get { key: 0 },
 ];
 

@@ -183,39 +183,34 @@ fn published_over<R: Wait + Copy, N: Naming, D: Ledger>(
     Ok(ending.and(scanned))
 }
 
-/// The trial of a worker on a tree that has a reader.
-pub(crate) fn beside_readers<R: Wait + Copy>(rt: R, machine: Global) -> Result<Ending, Stop> {
-    let groups: [&[Act]; 1] = [&ACTS];
+/// The trial of a worker that does the groups of acts on a tree with a reader, and publishes each.
+fn published<R: Wait + Copy>(
+    rt: R,
+    machine: Global,
+    config: Config,
+    groups: &[&[Act]],
+) -> Result<Ending, Stop> {
     published_over::<R, Brand, Brand>(
         rt,
         machine,
-        SMALL,
+        config,
         Blanks::new(1),
         Announcements::new(),
-        &groups,
+        groups,
     )
+}
+
+/// The trial of a worker on a tree that has a reader.
+pub(crate) fn beside_readers<R: Wait + Copy>(rt: R, machine: Global) -> Result<Ending, Stop> {
+    published(rt, machine, SMALL, &[&ACTS])
 }
 
 /// The trial of puts, publications and scans.
 pub(crate) fn publications<R: Wait + Copy>(rt: R, machine: Global) -> Result<Ending, Stop> {
-    published_over::<R, Brand, Brand>(
-        rt,
-        machine,
-        LONG_CHAINS,
-        Blanks::new(1),
-        Announcements::new(),
-        &GROUPS,
-    )
+    published(rt, machine, LONG_CHAINS, &GROUPS)
 }
 
 /// The same trial where each put is made at once, and noted by its key.
 pub(crate) fn changes_at_once<R: Wait + Copy>(rt: R, machine: Global) -> Result<Ending, Stop> {
-    published_over::<R, Brand, Brand>(
-        rt,
-        machine,
-        SHORT_CHAINS,
-        Blanks::new(1),
-        Announcements::new(),
-        &GROUPS,
-    )
+    published(rt, machine, SHORT_CHAINS, &GROUPS)
 }
