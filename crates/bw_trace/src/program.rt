@@ -7,12 +7,12 @@ ghost use Rattle.std.specs.Io.KnownBytes.{Appends};
 ghost use Rattle.bw_trace.specs.Statuses.{run_status, status_of, verdict_status};
 ghost use Rattle.bw_trace.specs.Verdicts.{IsVerdictOn, verdict_line};
 
-mod draft;
 mod fault;
 mod film_options;
 mod help;
 mod notes;
 mod options;
+mod parts;
 mod report;
 mod run_options;
 mod setting;

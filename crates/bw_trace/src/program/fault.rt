@@ -32,7 +32,7 @@ pub(crate) enum Fault {
     /// The words ask for help, or are none of the program's.
     #[error(transparent)]
     Usage(clap::Error),
-    #[error("bad {0}")]
+    #[error("bad {}", .0.name())]
     Bad(Field),
     #[error(transparent)]
     Text(TextFault),

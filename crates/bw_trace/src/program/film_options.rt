@@ -5,13 +5,14 @@ ghost use Rattle.clap.specs.Words.{found_of};
 ghost use Rattle.bw_trace.specs.declared.program.options.Field.TheVariants as fields;
 ghost use Rattle.bw_trace.specs.Options.{IsFilmedBy, IsFit, IsForward};
 
-use crate::program::draft::Draft;
 use crate::program::help::OF_FILM;
 use crate::program::options::{Field, if_given};
+use crate::program::parts::{Made, with_file, with_optional};
 use crate::program::setting::Setting;
+use crate::program::show_options::{KEY, shown_command};
 use bw_keys::Key;
-use clap::{ArgMatches, Command};
-use std::alloc::{AllocError, Global};
+use clap::ArgMatches;
+use std::alloc::Global;
 
 /// What is filmed, and which moments of it are drawn.
 #[derive(Clone, Copy)]
@@ -60,13 +61,11 @@ pub(crate) fn check_from(from: u64, moments: u64) -> Result<(), Field>
 }
 
 /// Returns the command `film` with its options and defaults.
-pub(crate) fn film_command<'a>(alloc: Global) -> Result<Command<'a>, AllocError> {
+pub(crate) fn film_command<'a>(alloc: Global) -> Made<'a> {
     let about = "Writes a page that shows the table after each step";
-    let mut draft = Draft::new(alloc, "film", about, OF_FILM);
-    draft.shown();
-    draft.optional("from", "The first moment, 0 if absent");
-    draft.optional("to", "The last moment, that of the last step if absent");
-    draft.key();
-    draft.file();
-    draft.made()
+    let made = shown_command(alloc, "film", about, OF_FILM);
+    let made = with_optional(alloc, made, "from", "The first moment, 0 if absent");
+    let help = "The last moment, that of the last step if absent";
+    let made = with_optional(alloc, made, "to", help);
+    with_file(alloc, with_optional(alloc, made, "key", KEY))
 }

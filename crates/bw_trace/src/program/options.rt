@@ -4,43 +4,54 @@ ghost use Rattle.std.specs.Prelude.{◌≤◌, IfOk};
 ghost use Rattle.clap.specs.Words.{found_of};
 ghost use Rattle.bw_trace.specs.Options.{IsNumberFor, IsOptionFor};
 
-use crate::program::draft::Draft;
 use crate::program::film_options::film_command;
 use crate::program::help::{OF_ALL, OF_CHECK, OF_MAKE, OF_STEPS, VERSION};
+use crate::program::parts::{Made, new_command, over, with_file, with_number};
 use crate::program::run_options::run_command;
 use crate::program::show_options::{draw_command, stats_command};
-use clap::{ArgMatches, Command};
-use std::alloc::{AllocError, Global};
-use thiserror::Error;
+use clap::ArgMatches;
+use std::alloc::Global;
+use std::fmt;
 
 /// The options that have a range, by their names.
-#[derive(Clone, Copy, Debug, Drop, Error)]
+#[derive(Clone, Copy, Drop)]
 pub(crate) enum Field {
-    #[error("fanout")]
     Fanout,
-    #[error("chain")]
     Chain,
-    #[error("pages")]
     Pages,
-    #[error("tries")]
     Tries,
-    #[error("workers")]
     Workers,
-    #[error("readers")]
     Readers,
-    #[error("trees")]
     Trees,
-    #[error("rows")]
     Rows,
-    #[error("span")]
     Span,
-    #[error("from")]
     From,
-    #[error("to")]
     To,
 }
 
+impl fmt::Debug for Field {
+    fn fmt<W: fmt::Write>(&self, f: &mut fmt::Formatter<W>) -> fmt::Result {
+        f.write_str(self.name())
+    }
+}
+
 impl Field {
+    pub(crate) fn name(self) -> &'static str {
+        match self {
+            Field::Fanout => "fanout",
+            Field::Chain => "chain",
+            Field::Pages => "pages",
+            Field::Tries => "tries",
+            Field::Workers => "workers",
+            Field::Readers => "readers",
+            Field::Trees => "trees",
+            Field::Rows => "rows",
+            Field::Span => "span",
+            Field::From => "from",
+            Field::To => "to",
+        }
+    }
+
     /// Returns the range that it has.
     pub(crate) fn range(self) -> &'static str {
         match self {
@@ -60,41 +71,40 @@ impl Field {
 }
 
 /// Returns the program's commands, with their options and defaults.
-pub(crate) fn commands<'a>(alloc: Global) -> Result<Command<'a>, AllocError> {
+pub(crate) fn commands<'a>(alloc: Global) -> Made<'a> {
     let about = "A Bw-tree in memory: traces, and histories of workers";
-    let mut draft = Draft::new(alloc, "bwtree", about, OF_ALL);
-    draft.command(run_command(alloc));
-    draft.command(draw_command(alloc));
-    draft.command(film_command(alloc));
-    draft.command(stats_command(alloc));
+    let made = new_command(alloc, "bwtree", about, OF_ALL);
+    let made = over(made, run_command(alloc));
+    let made = over(made, draw_command(alloc));
+    let made = over(made, film_command(alloc));
+    let made = over(made, stats_command(alloc));
     let about = "Answers each line of a script of steps";
-    draft.command(reader_command(alloc, "steps", about, OF_STEPS));
-    draft.command(make_command(alloc));
+    let made = over(made, reader_command(alloc, "steps", about, OF_STEPS));
+    let made = over(made, make_command(alloc));
     let about = "Says whether a history is legal";
-    draft.command(reader_command(alloc, "check", about, OF_CHECK));
-    let made = draft.made()?.version(VERSION).no_binary_name(true);
+    let made = over(made, reader_command(alloc, "check", about, OF_CHECK))?;
+    let made = made.version(VERSION).no_binary_name(true);
     made.subcommand_required(true).bin_name("bwtree")
 }
 
 /// Returns a command that only reads.
-fn reader_command<'a>(
-    alloc: Global,
-    name: &'a str,
-    about: &'a str,
-    help: &'a str,
-) -> Result<Command<'a>, AllocError> {
-    let mut draft = Draft::new(alloc, name, about, help);
-    draft.file();
-    draft.made()
+fn reader_command<'a>(alloc: Global, name: &'a str, about: &'a str, help: &'a str) -> Made<'a> {
+    with_file(alloc, new_command(alloc, name, about, help))
 }
 
-fn make_command<'a>(alloc: Global) -> Result<Command<'a>, AllocError> {
-    let mut draft = Draft::new(alloc, "make", "Prints a seeded trace", OF_MAKE);
-    draft.number("seed", "0", "The seed of the generator");
-    draft.number("rows", "100", "How many rows, at most 1000000");
-    draft.number("workers", "1", "How many workers take turns, 1 to 64");
-    draft.number("span", "1000", "Keys are below it, 1 to 4294967295");
-    draft.made()
+fn make_command<'a>(alloc: Global) -> Made<'a> {
+    let made = new_command(alloc, "make", "Prints a seeded trace", OF_MAKE);
+    let made = with_number(alloc, made, "seed", "0", "The seed of the generator");
+    let made = with_number(alloc, made, "rows", "100", "How many rows, at most 1000000");
+    let help = "How many workers take turns, 1 to 64";
+    let made = with_number(alloc, made, "workers", "1", help);
+    with_number(
+        alloc,
+        made,
+        "span",
+        "1000",
+        "Keys are below it, 1 to 4294967295",
+    )
 }
 
 /// Returns the value of an option that may be absent.
@@ -115,7 +125,7 @@ pub(crate) fn ranged(
     ensures inside { IfOk result (λ value. (low ≤ value) × (value ≤ high)) }
     ensures named { IfOk result (IsNumberFor (found_of matches.now) name.now) }
 {
-    match matches.get_one::<u64>(name) {
+    match if_given(matches, name) {
         Some(value) if low <= value && value <= high => Ok(value),
         _ => Err(field),
     }

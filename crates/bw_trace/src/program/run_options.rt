@@ -5,13 +5,13 @@ ghost use Rattle.std.specs.Option.{ForSome};
 ghost use Rattle.clap.specs.Words.{found_of};
 ghost use Rattle.bw_trace.specs.Options.{IsAskedFor, IsFit, IsOptionFor};
 
-use crate::program::draft::Draft;
 use crate::program::help::OF_RUN;
 use crate::program::options::{Field, if_given};
-use crate::program::setting::Setting;
+use crate::program::parts::{Made, new_command, number, with_apart, with_file, with_flag};
+use crate::program::setting::{Setting, with_setting};
 use bw_forest::MAX_TREES;
-use clap::{ArgMatches, Command};
-use std::alloc::{AllocError, Global};
+use clap::ArgMatches;
+use std::alloc::Global;
 
 /// How a trace is run, and what is printed of it.
 #[derive(Clone, Copy)]
@@ -59,15 +59,12 @@ fn trees_of(matches: &ArgMatches) -> Result<Option<u32>, Field>
 
 /// Returns the command `run` with its options and defaults. That for a forest conflicts with what is to
 /// be had of one tree alone.
-pub(crate) fn run_command<'a>(alloc: Global) -> Result<Command<'a>, AllocError> {
-    let mut draft = Draft::new(alloc, "run", "Runs a trace", OF_RUN);
-    draft.setting();
+pub(crate) fn run_command<'a>(alloc: Global) -> Made<'a> {
+    let made = with_setting(alloc, new_command(alloc, "run", "Runs a trace", OF_RUN));
     let help = "Runs it on this many trees by ranges of keys, 1 to 1024, and not on one";
-    draft.optional_apart("trees", help, &["readers", "history"]);
-    draft.flag("replies", "Prints the replies, too");
-    draft.flag("history", "Prints the history alone");
+    let made = with_apart(made, number(alloc, "trees", help), &["readers", "history"]);
+    let made = with_flag(alloc, made, "replies", "Prints the replies, too");
+    let made = with_flag(alloc, made, "history", "Prints the history alone");
     let help = "Says nothing of a run that ends well, not even on a terminal";
-    draft.flag("quiet", help);
-    draft.file();
-    draft.made()
+    with_file(alloc, with_flag(alloc, made, "quiet", help))
 }

@@ -4,11 +4,12 @@ ghost use Rattle.std.specs.Prelude.{IfOk};
 ghost use Rattle.clap.specs.Words.{found_of};
 ghost use Rattle.bw_trace.specs.Options.{IsFit, IsSettingFor};
 
-use crate::program::draft::Draft;
 use crate::program::options::{Field, ranged};
+use crate::program::parts::{Made, with_number};
 use bw_keys::{Config, MAX_WORKERS};
 use bw_snap::MAX_READERS;
 use clap::ArgMatches;
+use std::alloc::Global;
 
 /// How a trace is run.
 #[derive(Clone, Copy)]
@@ -48,15 +49,17 @@ impl Setting {
     }
 }
 
-impl<'a> Draft<'a> {
-    /// Adds the options of a setting.
-    pub(crate) fn setting(&mut self) {
-        self.number("fanout", "16", "Entries of a page at most, 4 to 64");
-        self.number("chain", "8", "Consolidate at this depth, 1 to 32");
-        self.number("pages", "4096", "Pages at most, 8 to 65536");
-        self.number("tries", "1000", "Effort of one call at most, 1 to 1000");
-        self.number("workers", "1", "Workers who do the rows, 1 to 64");
-        let help = "Workers who read without the lock, 0 to 16 and to --workers";
-        self.number("readers", "0", help);
-    }
+/// Adds the options of a setting.
+pub(crate) fn with_setting<'a>(alloc: Global, made: Made<'a>) -> Made<'a> {
+    let help = "Entries of a page at most, 4 to 64";
+    let made = with_number(alloc, made, "fanout", "16", help);
+    let help = "Consolidate at this depth, 1 to 32";
+    let made = with_number(alloc, made, "chain", "8", help);
+    let made = with_number(alloc, made, "pages", "4096", "Pages at most, 8 to 65536");
+    let help = "Effort of one call at most, 1 to 1000";
+    let made = with_number(alloc, made, "tries", "1000", help);
+    let help = "Workers who do the rows, 1 to 64";
+    let made = with_number(alloc, made, "workers", "1", help);
+    let help = "Workers who read without the lock, 0 to 16 and to --workers";
+    with_number(alloc, made, "readers", "0", help)
 }

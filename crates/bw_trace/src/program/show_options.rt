@@ -4,13 +4,17 @@ ghost use Rattle.std.specs.Prelude.{IfOk};
 ghost use Rattle.clap.specs.Words.{found_of};
 ghost use Rattle.bw_trace.specs.Options.{IsDrawnBy, IsFit, IsShownBy};
 
-use crate::program::draft::Draft;
 use crate::program::help::{OF_DRAW, OF_STATS};
 use crate::program::options::{Field, if_given};
-use crate::program::setting::Setting;
+use crate::program::parts::{Made, flag, new_command, with_apart, with_file, with_optional};
+use crate::program::setting::{Setting, with_setting};
 use bw_keys::Key;
-use clap::{ArgMatches, Command};
-use std::alloc::{AllocError, Global};
+use clap::ArgMatches;
+use std::alloc::Global;
+
+const AFTER: &str = "Does this many rows or lines, not all";
+
+pub(crate) const KEY: &str = "Draws the path to this key's leaf, and the leaves beside it";
 
 /// What makes the table that is shown.
 #[derive(Clone, Copy)]
@@ -58,40 +62,30 @@ impl DrawOptions {
 }
 
 /// Returns the command `draw` with its options and defaults.
-pub(crate) fn draw_command<'a>(alloc: Global) -> Result<Command<'a>, AllocError> {
+pub(crate) fn draw_command<'a>(alloc: Global) -> Made<'a> {
     let about = "Draws the table that a trace leaves, as SVG";
-    let mut draft = Draft::new(alloc, "draw", about, OF_DRAW);
-    draft.shown();
-    draft.after();
-    draft.key();
-    draft.file();
-    draft.made()
+    let made = shown_command(alloc, "draw", about, OF_DRAW);
+    let made = with_optional(alloc, made, "after", AFTER);
+    with_file(alloc, with_optional(alloc, made, "key", KEY))
 }
 
 /// Returns the command `stats` with its options and defaults.
-pub(crate) fn stats_command<'a>(alloc: Global) -> Result<Command<'a>, AllocError> {
+pub(crate) fn stats_command<'a>(alloc: Global) -> Made<'a> {
     let about = "Prints the numbers of the table that a trace leaves";
-    let mut draft = Draft::new(alloc, "stats", about, OF_STATS);
-    draft.shown();
-    draft.after();
-    draft.file();
-    draft.made()
+    let made = shown_command(alloc, "stats", about, OF_STATS);
+    with_file(alloc, with_optional(alloc, made, "after", AFTER))
 }
 
-impl<'a> Draft<'a> {
-    /// Adds the options of what shows a table. A script of steps has its own setting.
-    pub(crate) fn shown(&mut self) {
-        self.setting();
-        let others = &["fanout", "chain", "pages", "tries", "workers", "readers"];
-        self.flag_apart("steps", "Reads a script of steps, not a trace", others);
-    }
-
-    fn after(&mut self) {
-        self.optional("after", "Does this many rows or lines, not all");
-    }
-
-    pub(crate) fn key(&mut self) {
-        let help = "Draws the path to this key's leaf, and the leaves beside it";
-        self.optional("key", help);
-    }
+/// Returns a command that shows a table, with the first of its options. A script of steps has its
+/// own setting.
+pub(crate) fn shown_command<'a>(
+    alloc: Global,
+    name: &'a str,
+    about: &'a str,
+    help: &'a str,
+) -> Made<'a> {
+    let made = with_setting(alloc, new_command(alloc, name, about, help));
+    let steps = flag(alloc, "steps", "Reads a script of steps, not a trace");
+    let others = &["fanout", "chain", "pages", "tries", "workers", "readers"];
+    with_apart(made, steps, others)
 }
