@@ -1,6 +1,6 @@
 -- What a change in one action makes of the map.
 use Rattle.std.proofs.Common.{◌≡◌, ℕ, ◌<◌, true, List, [], ◌∷◌, if◌then◌else◌, Option, Some, None, Result, Ok, Err, refl, sym, ap, subst, ◌∙◌}
-use Rattle.std.specs.Prelude.{IfOk, IfSome, OnErr}
+use Rattle.std.specs.Prelude.{IfOk, IfErr, IfSome, OnErr}
 use Rattle.bw_keys.specs.Ranges.{key_count}
 use Rattle.bw_keys.specs.declared.page.Pid.{Pid}
 use Rattle.bw_keys.specs.declared.wished.Wished.{Wished}
@@ -10,8 +10,7 @@ use Rattle.bw_step.specs.Tellings.{telling_of, without_shapes}
 use Rattle.bw_step.specs.declared.action.Action.TheVariants as actions
 use Rattle.bw_step.specs.declared.action.Performed.{Performed}
 use Rattle.bw_step.specs.declared.action.Unperformed.{Unperformed}
-use Rattle.bw_step.specs.declared.action.Unperformed.TheVariants.{Denied}
-use Rattle.bw_step.specs.declared.fault.Denied.{Denied as WhyDenied}
+use Rattle.bw_step.specs.declared.action.Unperformed.TheVariants.{Denied, StepByStep}
 use Rattle.bw_step.specs.declared.fault.Denied.TheVariants as denials
 use Rattle.bw_step.specs.declared.receipt.Kind.TheVariants as kinds
 use Rattle.bw_step.specs.declared.receipt.Receipt.{Receipt}
@@ -26,7 +25,7 @@ use Rattle.bw_procedures.specs.Actions.{consolidates_behind, receipts_of}
 use Rattle.bw_procedures.specs.Writing.{IsReceiptFor}
 use Rattle.bw_procedures.specs.declared.fault.Fault.{Fault}
 use Rattle.bw_alone.proofs.InPlaces.{performed_keeps_config, performed_leads}
-use Rattle.nifforan.specs.AtOnce.{ChangesBy, IsMadeAtOnce, MayStay}
+use Rattle.nifforan.specs.AtOnce.{ChangesBy, IsMadeAtOnce, IsWhyUnchanged, MayStay}
 use Rattle.nifforan.specs.Maps.{MapValue, map_upto, pairs_of}
 use Rattle.nifforan.proofs.Changes.{put_result, set_result, delete_result}
 use Rattle.nifforan.proofs.Listing.{value_is}
@@ -99,26 +98,33 @@ module _ (key : ℕ) (wished : Wished) (old new : TableValue) where
   module _ (old_law : Lawful old) (new_law : Lawful new) (is_key : key < key_count) where
     changes : (w : Wished) (receipt : Receipt) → TellsMap (telling_of receipt) old.slots new.slots
         → ChangesBy key w receipt (pairs_of old.slots) (pairs_of new.slots)
-    changes (wishes.Put value) receipt told reply is =
+    changes (wishes.Put value) receipt told = λ reply is.
         put_result old new old_law new_law key value is_key (Ok (record { reply = reply; fault = None }))
         (put_changes key value reply receipt old.slots new.slots is told)
-    changes (wishes.Set value) receipt told reply is =
+    changes (wishes.Set value) receipt told = λ reply is.
         set_result old new old_law new_law key value is_key (Ok (record { reply = reply; fault = None }))
         (set_changes key value reply receipt old.slots new.slots is told)
-    changes wishes.Delete receipt told reply is =
+    changes wishes.Delete receipt told = λ reply is.
         delete_result old new old_law new_law key (Ok (record { reply = reply; fault = None }))
         (delete_changes key reply receipt old.slots new.slots is told)
 
-    pub changes_by : (made : Option Performed) → IfSome made (λ it. TellsMap (telling_of it.receipt) old.slots new.slots)
+    pub changes_by : {E : Type 0} (result : Result Performed E) → IfOk result (λ it. TellsMap (telling_of it.receipt) old.slots new.slots)
+        → IfOk result (λ it. ChangesBy key wished it.receipt (pairs_of old.slots) (pairs_of new.slots))
+    changes_by (Ok it) told = changes wished it.receipt told
+    changes_by (Err why) told = tt
+
+    pub found_changes : (made : Option Performed) → IfSome made (λ it. TellsMap (telling_of it.receipt) old.slots new.slots)
         → IfSome made (λ it. ChangesBy key wished it.receipt (pairs_of old.slots) (pairs_of new.slots))
-    changes_by (Some it) told = changes wished it.receipt told
-    changes_by None told = tt
+    found_changes (Some it) told = changes wished it.receipt told
+    found_changes None told = tt
 
 -- memory is short only for a new pair, whatever pairs the key's leaf has
-pub lacks_memory : (key : ℕ) (wished : Wished) (table : TableValue) (why : WhyDenied) → Lawful table
-    → IsWhyNot table (actions.Change key wished) (Denied why) → inserts wished (at key (pairs_of table.slots)) ≡ true
-lacks_memory key wished table (denials.Refused reason) law not = absurd not
-lacks_memory key wished table denials.NoMemory law (page, leaf, new) =
+pub why_unchanged : (key : ℕ) (wished : Wished) (most : ℕ) (table : TableValue) (result : Result Performed Unperformed) → Lawful table
+    → IfErr result (IsWhyNot table (actions.Change key wished)) → IfErr result (IsWhyUnchanged key wished (map_upto most table))
+why_unchanged key wished most table (Ok it) law not = tt
+why_unchanged key wished most table (Err StepByStep) law not = λ rests. rests not
+why_unchanged key wished most table (Err (Denied (denials.Refused reason))) law not = absurd not
+why_unchanged key wished most table (Err (Denied denials.NoMemory)) law (page, leaf, new) =
     let decides = λ (value : ℕ). leaf_decides table law page key value leaf.in_row leaf.is_leaf leaf.spans in
     let found = value_is table law key (had_at table page key) (λ value. ((decides value).1, (decides value).0)) in
     subst (λ (had : Option ℕ). inserts wished had ≡ true) found new

@@ -6,6 +6,8 @@ use Rattle.bw_chain.specs.InPlaces.{inserts}
 use Rattle.bw_delta.specs.Entries.{at}
 use Rattle.bw_step.specs.declared.action.Action.TheVariants as actions
 use Rattle.bw_step.specs.declared.action.Performed.{Performed}
+use Rattle.bw_step.specs.declared.action.Unperformed.{Unperformed}
+use Rattle.bw_step.specs.declared.action.Unperformed.TheVariants.{Denied, StepByStep}
 use Rattle.bw_step.specs.declared.receipt.Receipt.{Receipt}
 use Rattle.bw_step.specs.declared.receipt.Receipt.TheVariants.{Looked}
 use Rattle.bw_law.specs.Tables.{TableValue}
@@ -49,6 +51,11 @@ pub record IsMadeAtOnce (key : ℕ) (wished : Wished) (old : MapValue) (fault : 
   pub performed : IsPerformed old.table (actions.Change key wished) table it
   pub same : new.pairs ≡ pairs_of table.slots
   pub stays : MayStay table it → (fault ≡ None) × (new ≡ map_upto old.config.pages table)
+
+-- why a change isn't made in one action: its key isn't at rest, or memory for a new pair is short
+abbrev pub IsWhyUnchanged : ℕ → Wished → MapValue → Unperformed → Type 0
+IsWhyUnchanged key wished map StepByStep = IsAtRest map.table key → ⊥
+IsWhyUnchanged key wished map (Denied why) = inserts wished (at key map.pairs) ≡ true
 
 -- memory for a new pair is short, and the map is as it was
 pub record LacksMemory (key : ℕ) (wished : Wished) (old : MapValue) (fault : Fault)

@@ -1,7 +1,7 @@
 //! Changes of a key in one action of the table, however little effort a call may spend, and what
 //! its leaf needs after that.
 
-ghost use Rattle.std.specs.Prelude.{◌≡◌, ◌↔◌, ◌≤◌, [], None, Some, Ok, IsTrue, IfSome, IfNone, IfOk, IfErr, OnErr};
+ghost use Rattle.std.specs.Prelude.{◌≡◌, ◌↔◌, ◌≤◌, ℕ, [], None, Some, IsTrue, IfSome, IfNone, IfOk, IfErr, OnErr};
 ghost use Rattle.bw_keys.specs.declared.wished.Wished.TheVariants as wishes;
 ghost use Rattle.bw_step.specs.Tellings.{telling_of};
 ghost use Rattle.bw_step.specs.declared.action.Action.TheVariants as actions;
@@ -9,7 +9,7 @@ ghost use Rattle.bw_law.specs.Tables.{SameMap, TellsMap};
 ghost use Rattle.bw_table.specs.Actions.{IsPerformed, IsWhyNot};
 ghost use Rattle.bw_procedures.specs.Writing.{IsReceiptFor, IsReceiptOfPut};
 ghost use Rattle.bw_procedures.specs.declared.fault.Fault.TheVariants as faults;
-ghost use Rattle.nifforan.specs.AtOnce.{ChangesBy, IsAtRest, LacksMemory, MayStay};
+ghost use Rattle.nifforan.specs.AtOnce.{ChangesBy, IsWhyUnchanged, MayStay};
 ghost use Rattle.nifforan.specs.Growing.{HasAllPages};
 ghost use Rattle.nifforan.specs.Maps.{IsReady, map_upto};
 
@@ -22,28 +22,21 @@ use bw_table::{Action, Performed, Receipt, Table, Unperformed, Wished};
 use std::alloc::Allocator;
 
 impl<A: Allocator + Copy> Map<A> {
-    /// Carries out the wish for the key in one action. None, and nothing changed, where the key isn't
-    /// at rest.
+    /// Carries out the wish for the key in one action.
     #[inline(always)]
-    pub(crate) fn change(&mut self, key: Key, wished: Wished) -> Result<Option<Performed>, Fault>
-        ensures done { IfOk result (λ made. IfSome made
-            (IsPerformed self.old.table (actions.Change key wished) self.new.table)) }
-        ensures reported { IfOk result
-            (λ made. IfSome made (λ done. IsReceiptFor key wished done.receipt)) }
-        ensures change { IfOk result (λ made. IfSome made
-            (λ done. ChangesBy key wished done.receipt self.old.pairs self.new.pairs)) }
-        ensures undone { IfOk result (λ made. IfNone made (self.new ≡ self.old)) }
-        ensures unrest { result ≡ Ok None → IsAtRest self.old.table key → ⊥ }
-        ensures memory { IfErr result (λ fault. LacksMemory key wished self.old fault self.new) }
+    pub(crate) fn change(&mut self, key: Key, wished: Wished) -> Result<Performed, Unperformed>
+        ensures done { IfOk result
+            (IsPerformed self.old.table (actions.Change key wished) self.new.table) }
+        ensures reported { IfOk result (λ done. IsReceiptFor key wished done.receipt) }
+        ensures change { IfOk result
+            (λ done. ChangesBy key wished done.receipt self.old.pairs self.new.pairs) }
+        ensures why { IfErr result (IsWhyUnchanged key wished self.old) }
+        ensures unchanged { OnErr result (self.new ≡ self.old) }
         ensures map { self.new ≡ map_upto self.old.config.pages self.new.table }
         ensures pages { self.new.pages ≡ self.old.pages }
         ensures config { self.new.config ≡ self.old.config }
     {
-        match self.worker.change(key, wished) {
-            Ok(done) => Ok(Some(done)),
-            Err(Unperformed::StepByStep) => Ok(None),
-            Err(Unperformed::Denied(_)) => Err(Fault::NoMemory),
-        }
+        self.worker.change(key, wished)
     }
 
     /// Carries out the wish for the key, which was looked up, without a search. None, and nothing

@@ -8,7 +8,7 @@ ghost use Rattle.nifforan.specs.Maps.{IsReady};
 
 use crate::worker::Worker;
 use bw_keys::{Key, Pid};
-use bw_table::{Performed, Wished};
+use bw_table::{Performed, Receipt, Table, Wished};
 use std::alloc::Allocator;
 
 /// What a look for a key found.
@@ -66,7 +66,8 @@ impl<A: Allocator + Copy> Worker<A> {
         ensures reported { IfSome result (λ done. IsReceiptFor key wished done.receipt) }
         ensures map { IfSome result (λ done. TellsMap (telling_of done.receipt)
             self.old.owner.table.value.slots self.new.owner.table.value.slots) }
-        ensures ready { IsReady self.new.owner.table.value self.new.owner.account.seen.trail }
+        ensures ready { IfSome result (λ done.
+            IsReady self.new.owner.table.value self.new.owner.account.seen.trail) }
         ensures config { self.new.owner.table.value.config ≡ self.old.owner.table.value.config }
         ensures unchanged { IfNone result (self.new ≡ self.old) }
     {
@@ -74,16 +75,29 @@ impl<A: Allocator + Copy> Worker<A> {
         let table = &mut self.owner.table.value;
         let receipt = table.change_leaf(page, key, wished)?;
         table.law();
-        let (count, depth) = match table.peek(page) {
-            Some(leaf) => (leaf.count, leaf.depth),
-            None => (0, 0),
-        };
-        Some(Performed {
-            page,
-            key,
-            receipt,
-            count,
-            depth,
-        })
+        Some(performed(table, page, key, receipt))
+    }
+}
+
+/// What was done on a leaf, as it is now.
+#[inline(always)]
+fn performed<A: Allocator + Copy>(
+    table: &Table<A>,
+    page: Pid,
+    key: Key,
+    receipt: Receipt,
+) -> Performed
+    ensures { result.receipt ≡ receipt }
+{
+    let (count, depth) = match table.peek(page) {
+        Some(leaf) => (leaf.count, leaf.depth),
+        None => (0, 0),
+    };
+    Performed {
+        page,
+        key,
+        receipt,
+        count,
+        depth,
     }
 }

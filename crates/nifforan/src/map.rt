@@ -22,7 +22,7 @@ use crate::worker::Worker;
 use bw_delta::EntrySlice;
 use bw_keys::{Config, Fence, Key};
 use bw_procedures::{Cleared, Del, Done, Fault, Put, Set};
-use bw_table::{MAX_PAGES, NewFault, Table, Wished};
+use bw_table::{MAX_PAGES, NewFault, Table, Unperformed, Wished};
 use std::alloc::{Allocator, Global};
 use std::marker::Model;
 use std::ops::RangeBounds;
@@ -276,12 +276,13 @@ impl<A: Allocator + Copy> Map<A> {
         ensures pages { self.old.pages ≤ self.new.pages }
         ensures config { self.new.config ≡ self.old.config }
     {
-        match self.change(key, Wished::Put(value))? {
-            Some(done) => Ok(Done {
+        match self.change(key, Wished::Put(value)) {
+            Ok(done) => Ok(Done {
                 reply: put_of(done.receipt),
                 fault: self.tend_changed(done),
             }),
-            None => self.put_by_steps(key, value),
+            Err(Unperformed::StepByStep) => self.put_by_steps(key, value),
+            Err(Unperformed::Denied(_)) => Err(Fault::NoMemory),
         }
     }
 
@@ -296,12 +297,13 @@ impl<A: Allocator + Copy> Map<A> {
         ensures pages { self.old.pages ≤ self.new.pages }
         ensures config { self.new.config ≡ self.old.config }
     {
-        match self.change(key, Wished::Set(value))? {
-            Some(done) => Ok(Done {
+        match self.change(key, Wished::Set(value)) {
+            Ok(done) => Ok(Done {
                 reply: Set::of(done.receipt),
                 fault: self.tend_changed(done),
             }),
-            None => self.set_by_steps(key, value),
+            Err(Unperformed::StepByStep) => self.set_by_steps(key, value),
+            Err(Unperformed::Denied(_)) => Err(Fault::NoMemory),
         }
     }
 
@@ -316,12 +318,13 @@ impl<A: Allocator + Copy> Map<A> {
         ensures pages { self.old.pages ≤ self.new.pages }
         ensures config { self.new.config ≡ self.old.config }
     {
-        match self.change(key, Wished::Delete)? {
-            Some(done) => Ok(Done {
+        match self.change(key, Wished::Delete) {
+            Ok(done) => Ok(Done {
                 reply: Del::of(done.receipt),
                 fault: self.tend_changed(done),
             }),
-            None => self.delete_by_steps(key),
+            Err(Unperformed::StepByStep) => self.delete_by_steps(key),
+            Err(Unperformed::Denied(_)) => Err(Fault::NoMemory),
         }
     }
 
