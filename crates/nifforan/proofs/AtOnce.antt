@@ -26,7 +26,7 @@ use Rattle.bw_procedures.specs.Writing.{IsReceiptFor}
 use Rattle.bw_procedures.specs.declared.fault.Fault.{Fault}
 use Rattle.bw_alone.proofs.InPlaces.{performed_keeps_config, performed_leads}
 use Rattle.nifforan.specs.AtOnce.{ChangesBy, IsMadeAtOnce, IsWhyUnchanged, MayStay}
-use Rattle.nifforan.specs.Maps.{MapValue, map_upto, pairs_of}
+use Rattle.nifforan.specs.Maps.{IsReady, MapValue, map_upto, pairs_of}
 use Rattle.nifforan.proofs.Changes.{put_result, set_result, delete_result}
 use Rattle.nifforan.proofs.Listing.{value_is}
 use Rattle.nifforan.proofs.Replies.{all_lead, one_reported, put_changes, set_changes, delete_changes}
@@ -108,15 +108,17 @@ module _ (key : ℕ) (wished : Wished) (old new : TableValue) where
         delete_result old new old_law new_law key (Ok (record { reply = reply; fault = None }))
         (delete_changes key reply receipt old.slots new.slots is told)
 
-    pub changes_by : {E : Type 0} (result : Result Performed E) → IfOk result (λ it. TellsMap (telling_of it.receipt) old.slots new.slots)
+    pub changes_by : (result : Result Performed Unperformed) → IfOk result (λ it. TellsMap (telling_of it.receipt) old.slots new.slots)
         → IfOk result (λ it. ChangesBy key wished it.receipt (pairs_of old.slots) (pairs_of new.slots))
     changes_by (Ok it) told = changes wished it.receipt told
     changes_by (Err why) told = tt
 
-    pub found_changes : (made : Option Performed) → IfSome made (λ it. TellsMap (telling_of it.receipt) old.slots new.slots)
-        → IfSome made (λ it. ChangesBy key wished it.receipt (pairs_of old.slots) (pairs_of new.slots))
-    found_changes (Some it) told = changes wished it.receipt told
-    found_changes None told = tt
+-- the same of a leaf that was found
+pub found_changes : (key : ℕ) (wished : Wished) (old new : TableValue) (trail : List Receipt) → Lawful old → key < key_count
+    → (made : Option Performed) → IfSome made (λ it. IsReady new trail) → IfSome made (λ it. TellsMap (telling_of it.receipt) old.slots new.slots)
+    → IfSome made (λ it. ChangesBy key wished it.receipt (pairs_of old.slots) (pairs_of new.slots))
+found_changes key wished old new trail law is_key (Some it) ready told = changes key wished old new law ready.lawful is_key wished it.receipt told
+found_changes key wished old new trail law is_key None ready told = tt
 
 -- memory is short only for a new pair, whatever pairs the key's leaf has
 pub why_unchanged : (key : ℕ) (wished : Wished) (most : ℕ) (table : TableValue) (result : Result Performed Unperformed) → Lawful table

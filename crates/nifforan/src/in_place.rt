@@ -8,7 +8,7 @@ ghost use Rattle.nifforan.specs.Maps.{IsReady};
 
 use crate::worker::Worker;
 use bw_keys::{Key, Pid};
-use bw_table::{Performed, Receipt, Table, Wished};
+use bw_table::{Performed, Table, Wished};
 use std::alloc::Allocator;
 
 /// What a look for a key found.
@@ -75,29 +75,22 @@ impl<A: Allocator + Copy> Worker<A> {
         let table = &mut self.owner.table.value;
         let receipt = table.change_leaf(page, key, wished)?;
         table.law();
-        Some(performed(table, page, key, receipt))
+        let (count, depth) = size_of(table, page);
+        Some(Performed {
+            page,
+            key,
+            receipt,
+            count,
+            depth,
+        })
     }
 }
 
-/// What was done on a leaf, as it is now.
+/// How many entries the page has, and how many records.
 #[inline(always)]
-fn performed<A: Allocator + Copy>(
-    table: &Table<A>,
-    page: Pid,
-    key: Key,
-    receipt: Receipt,
-) -> Performed
-    ensures { result.receipt ≡ receipt }
-{
-    let (count, depth) = match table.peek(page) {
-        Some(leaf) => (leaf.count, leaf.depth),
+fn size_of<A: Allocator + Copy>(table: &Table<A>, page: Pid) -> (u64, u8) {
+    match table.peek(page) {
+        Some(view) => (view.count, view.depth),
         None => (0, 0),
-    };
-    Performed {
-        page,
-        key,
-        receipt,
-        count,
-        depth,
     }
 }
