@@ -14,12 +14,15 @@ use Rattle.bw_step.specs.declared.action.Unperformed.TheVariants.{Denied, StepBy
 use Rattle.bw_step.specs.declared.fault.Denied.TheVariants as denials
 use Rattle.bw_step.specs.declared.receipt.Kind.TheVariants as kinds
 use Rattle.bw_step.specs.declared.receipt.Receipt.{Receipt}
-use Rattle.bw_step.specs.declared.receipt.Receipt.TheVariants.{Shaped}
+use Rattle.bw_step.specs.declared.receipt.Receipt.TheVariants.{Looked, Shaped}
+use Rattle.bw_step.specs.Proposals.{Proposal, insert, modify, delete}
 use Rattle.bw_chain.specs.InPlaces.{inserts}
 use Rattle.bw_delta.specs.Entries.{at}
-use Rattle.bw_law.specs.Tables.{TableValue, Lawful, Booked, TellsMap}
+use Rattle.bw_law.specs.Effects.{receipt_of}
+use Rattle.bw_law.specs.Tables.{TableValue, Lawful, Booked, TellsMap, number_of, slot_at}
 use Rattle.bw_law.proofs.Facts.{leaf_decides}
 use Rattle.bw_table.specs.Actions.{IsPerformed, IsWhyNot, had_at}
+use Rattle.bw_table.specs.InPlaces.{IsDoneAtOnce, LooksOrTakes, TakesBoth, step_for}
 use Rattle.bw_table.proofs.Reports.{performed_reports}
 use Rattle.bw_procedures.specs.Actions.{consolidates_behind, receipts_of}
 use Rattle.bw_procedures.specs.Writing.{IsReceiptFor}
@@ -119,6 +122,24 @@ pub found_changes : (key : ℕ) (wished : Wished) (old new : TableValue) (trail 
     → IfSome made (λ it. ChangesBy key wished it.receipt (pairs_of old.slots) (pairs_of new.slots))
 found_changes key wished old new trail law is_key (Some it) ready told = changes key wished old new law ready.lawful is_key wished it.receipt told
 found_changes key wished old new trail law is_key None ready told = tt
+
+-- the receipt of a change on a leaf that was found
+module _ (key : ℕ) (old new : TableValue) (page : ℕ) (receipt : Receipt) where
+  taken_is_for : (wished : Wished) (step : Proposal) → IsReceiptFor key wished (receipt_of old step) → TakesBoth old step receipt page new
+      → IsReceiptFor key wished receipt
+  taken_is_for wished step is both = subst (IsReceiptFor key wished) (sym both.takes.2.reported) is
+
+  done_is_for : (seen number : ℕ) (wished : Wished) (had : Option ℕ)
+      → LooksOrTakes old page (Looked number key had) receipt new (step_for page seen key wished had) → IsReceiptFor key wished receipt
+  done_is_for seen number (wishes.Put value) None done = taken_is_for (wishes.Put value) (insert page seen key value) (refl, refl) done
+  done_is_for seen number (wishes.Put value) (Some had) done = subst (IsReceiptFor key (wishes.Put value)) (sym done.0) (refl, refl)
+  done_is_for seen number (wishes.Set value) None done = taken_is_for (wishes.Set value) (insert page seen key value) (refl, refl) done
+  done_is_for seen number (wishes.Set value) (Some had) done = taken_is_for (wishes.Set value) (modify page seen key value) (refl, refl) done
+  done_is_for seen number wishes.Delete None done = subst (IsReceiptFor key wishes.Delete) (sym done.0) (refl, refl)
+  done_is_for seen number wishes.Delete (Some had) done = taken_is_for wishes.Delete (delete page seen key) refl done
+
+  pub found_is_for : (wished : Wished) → IsDoneAtOnce old page key wished receipt new → IsReceiptFor key wished receipt
+  found_is_for wished done = done_is_for (slot_at old page).version (number_of old.book) wished (had_at old page key) done
 
 -- memory is short only for a new pair, whatever pairs the key's leaf has
 pub why_unchanged : (key : ℕ) (wished : Wished) (most : ℕ) (table : TableValue) (result : Result Performed Unperformed) → Lawful table
