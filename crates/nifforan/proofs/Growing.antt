@@ -27,7 +27,13 @@ same_map map = record { config = refl; pairs = refl; free = refl; pages = omega 
 
 -- one that may come to have just its pages
 pub map_as_it_is : (table : TableValue) → map_upto table.config.pages table ≡ map_of table
-map_as_it_is table i = record { config = table.config; pairs = (map_of table).pairs; pages = table.config.pages; free = free i }
+map_as_it_is table i = record {
+  config = table.config;
+  pairs = (map_of table).pairs;
+  pages = table.config.pages;
+  free = free i;
+  table = table;
+}
   where
     free : (table.config.pages - table.config.pages) + length table.free ≡ length table.free
     free = omega arith

@@ -1,9 +1,11 @@
+pub mod AtOnce
 pub mod Behind
 pub mod Changes
 pub mod Clearing
 pub mod Edges
 pub mod Fills
 pub mod Neighbours
+pub mod NewRest
 pub mod Listing
 pub mod Pops
 pub mod Reading

@@ -87,13 +87,13 @@ one_next x r (look at key found) xs a b c is tells none rest one = one_here x r 
 one_next x r shape xs a b c is tells none rest one = reported_after (telling_of r) a b c tells (rest one)
 
 -- where one receipt is not of the tree's shape, the map changed as it reports
-one_reported : (rs : List Receipt) (r : Receipt) (a b : TableValue) → Replays a rs b → without_shapes rs ≡ r ∷ [] → TellsMap (telling_of r) a.slots b.slots
+pub one_reported : (rs : List Receipt) (r : Receipt) (a b : TableValue) → Replays a rs b → without_shapes rs ≡ r ∷ [] → TellsMap (telling_of r) a.slots b.slots
 one_reported [] r a b leads one = absurd (not_one r [] (sym one))
 one_reported (x ∷ xs) r a b leads one =
     one_next x r (telling_of x) xs a.slots leads.0.slots b.slots refl leads.1.map (λ more. none_reported xs leads.0 b leads.2 more) (λ more. one_reported xs r leads.0 b leads.2 more) one
 
 -- a trail that was empty has all receipts that were added
-all_lead : (a b : TableValue) (s t : List Receipt) → s ≡ [] → Leads a s b t → Replays a t b
+pub all_lead : (a b : TableValue) (s t : List Receipt) → s ≡ [] → Leads a s b t → Replays a t b
 all_lead a b s t empty leads = subst (λ (l : List Receipt). Replays a l b) (sym (leads.1 ∙ ap (λ (l : List Receipt). l ++ leads.0) empty)) leads.2
 
 -- what is reported of the map is true still where only the tree's shape changed since
@@ -106,7 +106,7 @@ look_changes key k found there a b its_key its_value is same =
     subst (λ (q : ℕ). ChangesKey a b q there there) its_key
     (subst (λ (o : Option ℕ). ChangesKey a b k o o) its_value (record { had = is; has = value_after a b k found same is; others = λ other value differs. same other value }))
 
-put_changes : (key value : ℕ) (reply : Put) (r : Receipt) (a b : List SlotValue) → IsReceiptOfPut key value reply r → TellsMap (telling_of r) a b → ChangesKey a b key (before_put reply) (Some (value_after_put value reply))
+pub put_changes : (key value : ℕ) (reply : Put) (r : Receipt) (a b : List SlotValue) → IsReceiptOfPut key value reply r → TellsMap (telling_of r) a b → ChangesKey a b key (before_put reply) (Some (value_after_put value reply))
 put_changes key value Inserted (receipts.Inserted number k v) a b is tells =
     subst (λ (q : ℕ). ChangesKey a b q None (Some value)) is.0 (subst (λ (w : ℕ). ChangesKey a b k None (Some w)) is.1 tells)
 put_changes key value (Present there) (receipts.Looked at k found) a b is tells = look_changes key k found (Some there) a b is.0 is.1 tells.0 tells.1

@@ -1,3 +1,4 @@
+pub mod AtOnce
 pub mod Calls
 pub mod Clearing
 pub mod Filling

@@ -12,6 +12,7 @@ use Rattle.bw_step.specs.declared.receipt.Receipt.{Receipt}
 use Rattle.bw_law.specs.declared.pages.TheConstants.{MAX_PAGES}
 use Rattle.bw_law.specs.Slots.{SlotValue}
 use Rattle.bw_law.specs.Tables.{TableValue, Lawful, Booked, ChangesKey, leaf_pairs}
+use Rattle.bw_table.specs.Codes.{table_code}
 use Rattle.bw_procedures.specs.declared.fault.Fault.{Fault}
 use Rattle.bw_procedures.specs.declared.reply.Done.{Done}
 use Rattle.bw_procedures.specs.declared.reply.Del.{Del}
@@ -25,20 +26,28 @@ abbrev pub PairList : Type 0
 PairList = List (ℕ × ℕ)
 
 -- a map: its configuration, which has the most pages that it may have, its pairs in the
--- order of their keys, how many pages it has memory for, and how many pages more it has room for
+-- order of their keys, how many pages it has memory for, how many pages more it has room for, and
+-- its table
 pub record MapValue : Type 0 where
   pub config : Config
   pub pairs : PairList
   pub pages : ℕ
   pub free : ℕ
+  pub table : TableValue
 
 abbrev pub map_code : Coded MapValue
 map_code =
-    code_by (Config × (PairList × (ℕ × ℕ)))
+    code_by (Config × (PairList × (ℕ × (ℕ × TableValue))))
     (coded× config.the_row.coded
-    (coded× (coded_list (coded× coded_ℕ coded_ℕ)) (coded× coded_ℕ coded_ℕ)))
-    (λ m. (m.config, (m.pairs, (m.pages, m.free))))
-    (λ p. record { config = p.0; pairs = p.1.0; pages = p.1.1.0; free = p.1.1.1 })
+    (coded× (coded_list (coded× coded_ℕ coded_ℕ)) (coded× coded_ℕ (coded× coded_ℕ table_code))))
+    (λ m. (m.config, (m.pairs, (m.pages, (m.free, m.table)))))
+    (λ p. record {
+      config = p.0;
+      pairs = p.1.0;
+      pages = p.1.1.0;
+      free = p.1.1.1.0;
+      table = p.1.1.1.1;
+    })
     (λ _. refl)
 
 -- pairs put into a list, each at its place
@@ -59,6 +68,7 @@ map_of table =
       pairs = pairs_of table.slots;
       pages = table.config.pages;
       free = length table.free;
+      table = table;
     }
 
 -- the map that it is, where it may come to have that many pages
@@ -68,6 +78,7 @@ map_upto most table = record {
   pairs = pairs_of table.slots;
   pages = table.config.pages;
   free = (most - table.config.pages) + length table.free;
+  table = table;
 }
 
 -- the table is lawful and booked, and its worker has no receipts

@@ -11,6 +11,7 @@ use crate::in_place::Found;
 use crate::map::Map;
 use bw_keys::Key;
 use bw_procedures::{Del, Done, Fault, Set};
+use bw_table::Wished;
 use std::alloc::Allocator;
 
 /// What a compare-and-set replies.
@@ -87,6 +88,7 @@ impl<A: Allocator + Copy> Map<A> {
             fault: done.fault,
         })
     }
+
     /// Looks the key up, for a change of it.
     #[inline(always)]
     fn find(&self, key: Key) -> Found
@@ -110,9 +112,13 @@ impl<A: Allocator + Copy> Map<A> {
         ensures pages { self.old.pages ≤ self.new.pages }
         ensures config { self.new.config ≡ self.old.config }
     {
-        self.make_room();
-        let answer = self.set_found_in_room(found, key, value);
-        self.reported(answer)
+        match self.change_found(found, key, Wished::Set(value)) {
+            Some(done) => Ok(Done {
+                reply: Set::of(done.receipt),
+                fault: self.tend_changed(done),
+            }),
+            None => self.set(key, value),
+        }
     }
 
     /// Deletes the key, which was looked up.
@@ -125,8 +131,12 @@ impl<A: Allocator + Copy> Map<A> {
         ensures pages { self.old.pages ≤ self.new.pages }
         ensures config { self.new.config ≡ self.old.config }
     {
-        self.make_room();
-        let answer = self.delete_found_in_room(found, key);
-        self.reported(answer)
+        match self.change_found(found, key, Wished::Delete) {
+            Some(done) => Ok(Done {
+                reply: Del::of(done.receipt),
+                fault: self.tend_changed(done),
+            }),
+            None => self.delete(key),
+        }
     }
 }

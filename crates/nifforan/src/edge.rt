@@ -176,9 +176,11 @@ impl<A: Allocator + Copy> Worker<A> {
         match self.split_under(parent, leaf, full) {
             Some(new) => {
                 self.post(new);
-                self.tend(parent);
+                let _fault = self.tend(parent);
             }
-            None => self.tend(leaf),
+            None => {
+                let _fault = self.tend(leaf);
+            }
         }
     }
 
@@ -208,17 +210,6 @@ impl<A: Allocator + Copy> Worker<A> {
         self.owner.forget();
     }
 
-    /// Tends the page. A fault leaves that to a later call.
-    fn tend(&mut self, page: Pid)
-        requires { self.old.owner.account.seen.trail ≡ [] }
-        ensures same { SameMap self.old.owner.table.value.slots self.new.owner.table.value.slots }
-        ensures ready { IsReady self.new.owner.table.value self.new.owner.account.seen.trail }
-        ensures config { self.new.owner.table.value.config ≡ self.old.owner.table.value.config }
-    {
-        let _tended = self.owner.tend(page);
-        self.owner.forget();
-    }
-
     /// Tends the edge's leaf, if it has no room.
     pub(crate) fn tend_edge(&mut self, edge: Edge)
         requires { self.old.owner.account.seen.trail ≡ [] }
@@ -228,7 +219,7 @@ impl<A: Allocator + Copy> Worker<A> {
     {
         self.owner.table.value.law();
         if let Some(leaf) = edge.full_leaf() {
-            self.tend(leaf);
+            let _fault = self.tend(leaf);
         }
     }
 }

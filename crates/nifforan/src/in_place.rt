@@ -1,15 +1,14 @@
 //! A key that is looked up and then changed, in one search.
 
-ghost use Rattle.std.specs.Prelude.{◌≡◌, [], Some, None, IfSome, IfNone, OnErr};
+ghost use Rattle.std.specs.Prelude.{◌≡◌, [], Some, IfSome, IfNone};
 ghost use Rattle.bw_step.specs.Tellings.{telling_of};
-ghost use Rattle.bw_law.specs.Tables.{IsValueAt, SameMap, TellsMap};
+ghost use Rattle.bw_law.specs.Tables.{IsValueAt, TellsMap};
 ghost use Rattle.bw_procedures.specs.Writing.{IsReceiptFor};
-ghost use Rattle.nifforan.specs.Maps.{IsReady, Changes, before_set, before_delete};
+ghost use Rattle.nifforan.specs.Maps.{IsReady};
 
 use crate::worker::Worker;
 use bw_keys::{Key, Pid};
-use bw_procedures::{Calls, Del, Done, Fault, Set};
-use bw_table::{Receipt, Wished};
+use bw_table::{Performed, Table, Wished};
 use std::alloc::Allocator;
 
 /// What a look for a key found.
@@ -34,14 +33,6 @@ impl Found {
     }
 }
 
-/// A change that was made at once.
-#[derive(Clone, Copy)]
-struct Made {
-    receipt: Receipt,
-    /// What ended the care for the pages, if a fault did.
-    fault: Option<Fault>,
-}
-
 impl<A: Allocator + Copy> Worker<A> {
     /// Looks the key up.
     #[inline(always)]
@@ -63,65 +54,43 @@ impl<A: Allocator + Copy> Worker<A> {
         }
     }
 
-    /// Sets the key to the value, without a search where its leaf was found and takes the change at
-    /// once.
-    pub(crate) fn set_found(
+    /// Carries out the wish on the leaf, if it was found and takes the change at once.
+    #[inline(always)]
+    pub(crate) fn change_found(
         &mut self,
         found: Found,
         key: Key,
-        value: u64,
-    ) -> Result<Done<Set>, Fault>
+        wished: Wished,
+    ) -> Option<Performed>
         requires { self.old.owner.account.seen.trail ≡ [] }
-        ensures change { Changes key before_set (λ reply. Some value) result
-            self.old.owner.table.value self.new.owner.table.value }
-        ensures unchanged { OnErr result
-            (SameMap self.old.owner.table.value.slots self.new.owner.table.value.slots) }
-        ensures ready { IsReady self.new.owner.table.value self.new.owner.account.seen.trail }
-        ensures config { self.new.owner.table.value.config ≡ self.old.owner.table.value.config }
-    {
-        match self.change_found(found, key, Wished::Set(value)) {
-            Some(made) => Ok(Done {
-                reply: Set::of(made.receipt),
-                fault: made.fault,
-            }),
-            None => self.set(key, value),
-        }
-    }
-
-    /// Deletes the key, without a search where its leaf was found and takes the change at once.
-    pub(crate) fn delete_found(&mut self, found: Found, key: Key) -> Result<Done<Del>, Fault>
-        requires { self.old.owner.account.seen.trail ≡ [] }
-        ensures change { Changes key before_delete (λ reply. None) result
-            self.old.owner.table.value self.new.owner.table.value }
-        ensures unchanged { OnErr result
-            (SameMap self.old.owner.table.value.slots self.new.owner.table.value.slots) }
-        ensures ready { IsReady self.new.owner.table.value self.new.owner.account.seen.trail }
-        ensures config { self.new.owner.table.value.config ≡ self.old.owner.table.value.config }
-    {
-        match self.change_found(found, key, Wished::Delete) {
-            Some(made) => Ok(Done {
-                reply: Del::of(made.receipt),
-                fault: made.fault,
-            }),
-            None => self.delete(key),
-        }
-    }
-
-    /// Carries out the wish on the leaf, if it was found and takes the change at once, and tends it.
-    fn change_found(&mut self, found: Found, key: Key, wished: Wished) -> Option<Made>
-        requires { self.old.owner.account.seen.trail ≡ [] }
-        ensures reported { IfSome result (λ made. IsReceiptFor key wished made.receipt) }
-        ensures map { IfSome result (λ made. TellsMap (telling_of made.receipt)
+        ensures reported { IfSome result (λ done. IsReceiptFor key wished done.receipt) }
+        ensures map { IfSome result (λ done. TellsMap (telling_of done.receipt)
             self.old.owner.table.value.slots self.new.owner.table.value.slots) }
-        ensures ready { IfSome result (λ made.
+        ensures ready { IfSome result (λ done.
             IsReady self.new.owner.table.value self.new.owner.account.seen.trail) }
         ensures config { self.new.owner.table.value.config ≡ self.old.owner.table.value.config }
         ensures unchanged { IfNone result (self.new ≡ self.old) }
     {
-        let leaf = found.leaf?;
-        let receipt = self.owner.table.value.change_leaf(leaf, key, wished)?;
-        let fault = self.owner.tend(leaf).err();
-        self.owner.forget();
-        Some(Made { receipt, fault })
+        let page = found.leaf?;
+        let table = &mut self.owner.table.value;
+        let receipt = table.change_leaf(page, key, wished)?;
+        table.law();
+        let (count, depth) = size_of(table, page);
+        Some(Performed {
+            page,
+            key,
+            receipt,
+            count,
+            depth,
+        })
+    }
+}
+
+/// How many entries the page has, and how many records.
+#[inline(always)]
+fn size_of<A: Allocator + Copy>(table: &Table<A>, page: Pid) -> (u64, u8) {
+    match table.peek(page) {
+        Some(view) => (view.count, view.depth),
+        None => (0, 0),
     }
 }

@@ -1,6 +1,7 @@
 //! An ordered map from u64 keys to u64 values, and all that its caller needs.
 #![tactic(auto)]
 
+mod at_once;
 mod back;
 mod bounds;
 mod change;

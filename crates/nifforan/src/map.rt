@@ -1,15 +1,20 @@
-ghost use Rattle.std.specs.Prelude.{◌≡◌, ◌↔◌, ◌-◌, ◌≤◌, [], None, Some, length, map, true};
+ghost use Rattle.std.specs.Prelude.{◌≡◌, ◌↔◌, ℕ, ◌+◌, ◌-◌, ◌^◌, ◌<◌, ◌≤◌, [], None, Some};
+ghost use Rattle.std.specs.Prelude.{length, map, true};
 ghost use Rattle.std.specs.Prelude.{IsTrue, IsSome, IsOk, IfOk, IfErr, OnErr};
 ghost use Rattle.bw_keys.specs.Ranges.{end_of, key_count};
+ghost use Rattle.bw_keys.specs.declared.wished.Wished.TheVariants as wishes;
 ghost use Rattle.bw_delta.specs.Entries.{at, rises};
 ghost use Rattle.bw_delta.specs.Entries.{first_entry, last_entry, first_from, last_upto};
+ghost use Rattle.bw_law.specs.Tables.{new_table};
 ghost use Rattle.bw_procedures.specs.declared.fault.Fault.TheVariants as faults;
+ghost use Rattle.nifforan.specs.AtOnce.{IsAtRest, IsOneAction};
 ghost use Rattle.nifforan.specs.Calls.{Puts, Sets, Deletes, Clears};
 ghost use Rattle.nifforan.specs.Growing.{HasAllPages, fault_reported};
 ghost use Rattle.nifforan.specs.Maps.{map_of, map_upto, pairs_of, between, within};
 ghost use Rattle.nifforan.specs.Maps.{before_put, before_set, before_delete};
 ghost use Rattle.nifforan.specs.Settings.{first_bad_setting, first_pages, IsMapFault};
 
+use crate::at_once::put_of;
 use crate::bounds::{end_fence, first_key, start_fence};
 use crate::iter::Iter;
 use crate::pairs::Pairs;
@@ -17,7 +22,7 @@ use crate::worker::Worker;
 use bw_delta::EntrySlice;
 use bw_keys::{Config, Fence, Key};
 use bw_procedures::{Cleared, Del, Done, Fault, Put, Set};
-use bw_table::{MAX_PAGES, NewFault, Table};
+use bw_table::{MAX_PAGES, NewFault, Table, Unperformed, Wished};
 use std::alloc::{Allocator, Global};
 use std::marker::Model;
 use std::ops::RangeBounds;
@@ -30,6 +35,9 @@ use std::ops::RangeBounds;
 /// changes is used up, and `Contended` if the call used the effort that the configuration allows
 /// it. A fault in place of a reply leaves the pairs unchanged. One beside a reply, in
 /// `Done::fault`, only cuts short the care for the pages, which a later call resumes.
+///
+/// A put, a set and a delete take one action if a search for the key meets nothing unfinished,
+/// however little effort the configuration allows, and fail only if memory for a new pair is refused.
 #[derive(Drop)]
 pub struct Map<A: Allocator + Copy> {
     pub(crate) worker: Worker<A>,
@@ -58,6 +66,10 @@ impl<A: Allocator + Copy> Map<A> {
     pub fn new(machine: Global, alloc: A, config: Config) -> Result<Map<A>, NewFault>
         ensures config { IfOk result (λ map. map.config ≡ config) }
         ensures empty { IfOk result (λ map. map.pairs ≡ []) }
+        ensures table { IfOk result
+            (λ map. map.table ≡ new_table (record config { pages = 8 })) }
+        ensures rests { config.first_version + 2 < 2 ^ 64
+            → IfOk result (λ map. (key : ℕ) → IsAtRest map.table key) }
         ensures pages { IfOk result (λ map. map.pages ≡ 8) }
         ensures free { IfOk result (λ map. map.free ≡ config.pages - 1) }
         ensures fine { IsOk result → first_bad_setting config ≡ None }
@@ -257,42 +269,63 @@ impl<A: Allocator + Copy> Map<A> {
     pub fn put(&mut self, key: Key, value: u64) -> Result<Done<Put>, Fault>
         ensures puts { IfOk result (λ done.
             Puts key value (before_put done.reply) self.old.pairs self.new.pairs) }
+        ensures at_rest { IsAtRest self.old.table key
+            → IsOneAction key (wishes.Put value) self.old result self.new }
         ensures unchanged { OnErr result (self.new.pairs ≡ self.old.pairs) }
         ensures full { fault_reported result ≡ Some faults.TableFull → HasAllPages self.new }
         ensures pages { self.old.pages ≤ self.new.pages }
         ensures config { self.new.config ≡ self.old.config }
     {
-        self.make_room();
-        let answer = self.put_in_room(key, value);
-        self.reported(answer)
+        match self.change(key, Wished::Put(value)) {
+            Ok(done) => Ok(Done {
+                reply: put_of(done.receipt),
+                fault: self.tend_changed(done),
+            }),
+            Err(Unperformed::StepByStep) => self.put_by_steps(key, value),
+            Err(Unperformed::Denied(_)) => Err(Fault::NoMemory),
+        }
     }
 
     /// Sets the key to the value. The reply has the value before it, if there was one.
     pub fn set(&mut self, key: Key, value: u64) -> Result<Done<Set>, Fault>
         ensures sets { IfOk result (λ done.
             Sets key value (before_set done.reply) self.old.pairs self.new.pairs) }
+        ensures at_rest { IsAtRest self.old.table key
+            → IsOneAction key (wishes.Set value) self.old result self.new }
         ensures unchanged { OnErr result (self.new.pairs ≡ self.old.pairs) }
         ensures full { fault_reported result ≡ Some faults.TableFull → HasAllPages self.new }
         ensures pages { self.old.pages ≤ self.new.pages }
         ensures config { self.new.config ≡ self.old.config }
     {
-        self.make_room();
-        let answer = self.set_in_room(key, value);
-        self.reported(answer)
+        match self.change(key, Wished::Set(value)) {
+            Ok(done) => Ok(Done {
+                reply: Set::of(done.receipt),
+                fault: self.tend_changed(done),
+            }),
+            Err(Unperformed::StepByStep) => self.set_by_steps(key, value),
+            Err(Unperformed::Denied(_)) => Err(Fault::NoMemory),
+        }
     }
 
     /// Deletes the key, if it has a value. The reply has that value.
     pub fn delete(&mut self, key: Key) -> Result<Done<Del>, Fault>
         ensures deletes { IfOk result (λ done.
             Deletes key (before_delete done.reply) self.old.pairs self.new.pairs) }
+        ensures at_rest { IsAtRest self.old.table key
+            → IsOneAction key wishes.Delete self.old result self.new }
         ensures unchanged { OnErr result (self.new.pairs ≡ self.old.pairs) }
         ensures full { fault_reported result ≡ Some faults.TableFull → HasAllPages self.new }
         ensures pages { self.old.pages ≤ self.new.pages }
         ensures config { self.new.config ≡ self.old.config }
     {
-        self.make_room();
-        let answer = self.delete_in_room(key);
-        self.reported(answer)
+        match self.change(key, Wished::Delete) {
+            Ok(done) => Ok(Done {
+                reply: Del::of(done.receipt),
+                fault: self.tend_changed(done),
+            }),
+            Err(Unperformed::StepByStep) => self.delete_by_steps(key),
+            Err(Unperformed::Denied(_)) => Err(Fault::NoMemory),
+        }
     }
 
     /// Deletes the keys from the low on and below the high, and returns how many it deleted. If a

@@ -7,7 +7,6 @@ ghost use Rattle.nifforan.specs.Calls.{Puts, Sets, Deletes, Clears};
 ghost use Rattle.nifforan.specs.Growing.{HasGrown, HasAllPages, SameReply, fault_reported};
 ghost use Rattle.nifforan.specs.Maps.{before_put, before_set, before_delete};
 
-use crate::in_place::Found;
 use crate::map::Map;
 use bw_delta::NoMemory;
 use bw_keys::{Fence, Key};
@@ -57,8 +56,7 @@ impl<A: Allocator + Copy> Map<A> {
 
     /// Returns what a call answers that ended so. A split that found no page free tells `TableFull`
     /// only if the map has all pages that it may have: otherwise memory was refused for more.
-    #[inline(always)]
-    pub(crate) fn reported<T: Drop>(&self, answer: Result<Done<T>, Fault>) -> Result<Done<T>, Fault>
+    fn reported<T: Drop>(&self, answer: Result<Done<T>, Fault>) -> Result<Done<T>, Fault>
         ensures reply { SameReply answer result }
         ensures full { fault_reported result ≡ Some faults.TableFull → HasAllPages self.now }
     {
@@ -72,7 +70,6 @@ impl<A: Allocator + Copy> Map<A> {
     }
 
     /// Returns the fault that is reported for this one, if there is one.
-    #[inline(always)]
     pub(crate) fn cause(&self, fault: Option<Fault>) -> Option<Fault>
         ensures none { (fault ≡ None) ↔ (result ≡ None) }
         ensures full { result ≡ Some faults.TableFull → HasAllPages self.now }
@@ -83,7 +80,6 @@ impl<A: Allocator + Copy> Map<A> {
         }
     }
 
-    #[inline(always)]
     fn cause_of(&self, fault: Fault) -> Fault
         ensures { result ≡ faults.TableFull → HasAllPages self.now }
     {
@@ -94,9 +90,24 @@ impl<A: Allocator + Copy> Map<A> {
         fault
     }
 
+    /// Inserts the pair, unless the key has a value, step by step.
+    #[cold]
+    #[inline(never)]
+    pub(crate) fn put_by_steps(&mut self, key: Key, value: u64) -> Result<Done<Put>, Fault>
+        ensures puts { IfOk result (λ done.
+            Puts key value (before_put done.reply) self.old.pairs self.new.pairs) }
+        ensures unchanged { OnErr result (self.new.pairs ≡ self.old.pairs) }
+        ensures full { fault_reported result ≡ Some faults.TableFull → HasAllPages self.new }
+        ensures pages { self.old.pages ≤ self.new.pages }
+        ensures config { self.new.config ≡ self.old.config }
+    {
+        self.make_room();
+        let answer = self.put_in_room(key, value);
+        self.reported(answer)
+    }
+
     /// Inserts the pair, unless the key has a value, with the pages that are there.
-    #[inline(always)]
-    pub(crate) fn put_in_room(&mut self, key: Key, value: u64) -> Result<Done<Put>, Fault>
+    fn put_in_room(&mut self, key: Key, value: u64) -> Result<Done<Put>, Fault>
         ensures puts { IfOk result (λ done.
             Puts key value (before_put done.reply) self.old.pairs self.new.pairs) }
         ensures unchanged { OnErr result (self.new.pairs ≡ self.old.pairs) }
@@ -106,8 +117,23 @@ impl<A: Allocator + Copy> Map<A> {
         self.worker.put(key, value)
     }
 
+    /// Sets the key to the value, step by step.
+    #[cold]
+    #[inline(never)]
+    pub(crate) fn set_by_steps(&mut self, key: Key, value: u64) -> Result<Done<Set>, Fault>
+        ensures sets { IfOk result (λ done.
+            Sets key value (before_set done.reply) self.old.pairs self.new.pairs) }
+        ensures unchanged { OnErr result (self.new.pairs ≡ self.old.pairs) }
+        ensures full { fault_reported result ≡ Some faults.TableFull → HasAllPages self.new }
+        ensures pages { self.old.pages ≤ self.new.pages }
+        ensures config { self.new.config ≡ self.old.config }
+    {
+        self.make_room();
+        let answer = self.set_in_room(key, value);
+        self.reported(answer)
+    }
+
     /// Sets the key to the value, with the pages that are there.
-    #[inline(always)]
     pub(crate) fn set_in_room(&mut self, key: Key, value: u64) -> Result<Done<Set>, Fault>
         ensures sets { IfOk result (λ done.
             Sets key value (before_set done.reply) self.old.pairs self.new.pairs) }
@@ -118,27 +144,25 @@ impl<A: Allocator + Copy> Map<A> {
         self.worker.set(key, value)
     }
 
-    /// Sets the key, which was looked up, to the value, with the pages that are there.
-    #[inline(always)]
-    pub(crate) fn set_found_in_room(
-        &mut self,
-        found: Found,
-        key: Key,
-        value: u64,
-    ) -> Result<Done<Set>, Fault>
-        ensures sets { IfOk result (λ done.
-            Sets key value (before_set done.reply) self.old.pairs self.new.pairs) }
+    /// Deletes the key, step by step.
+    #[cold]
+    #[inline(never)]
+    pub(crate) fn delete_by_steps(&mut self, key: Key) -> Result<Done<Del>, Fault>
+        ensures deletes { IfOk result (λ done.
+            Deletes key (before_delete done.reply) self.old.pairs self.new.pairs) }
         ensures unchanged { OnErr result (self.new.pairs ≡ self.old.pairs) }
-        ensures pages { self.new.pages ≡ self.old.pages }
+        ensures full { fault_reported result ≡ Some faults.TableFull → HasAllPages self.new }
+        ensures pages { self.old.pages ≤ self.new.pages }
         ensures config { self.new.config ≡ self.old.config }
     {
-        self.worker.set_found(found, key, value)
+        self.make_room();
+        let answer = self.delete_in_room(key);
+        self.reported(answer)
     }
 
     /// Deletes the key, with the pages that are there: a leaf that grew long for want of them is
     /// split then.
-    #[inline(always)]
-    pub(crate) fn delete_in_room(&mut self, key: Key) -> Result<Done<Del>, Fault>
+    fn delete_in_room(&mut self, key: Key) -> Result<Done<Del>, Fault>
         ensures deletes { IfOk result (λ done.
             Deletes key (before_delete done.reply) self.old.pairs self.new.pairs) }
         ensures unchanged { OnErr result (self.new.pairs ≡ self.old.pairs) }
@@ -146,22 +170,6 @@ impl<A: Allocator + Copy> Map<A> {
         ensures config { self.new.config ≡ self.old.config }
     {
         self.worker.delete(key)
-    }
-
-    /// Deletes the key, which was looked up, with the pages that are there.
-    #[inline(always)]
-    pub(crate) fn delete_found_in_room(
-        &mut self,
-        found: Found,
-        key: Key,
-    ) -> Result<Done<Del>, Fault>
-        ensures deletes { IfOk result (λ done.
-            Deletes key (before_delete done.reply) self.old.pairs self.new.pairs) }
-        ensures unchanged { OnErr result (self.new.pairs ≡ self.old.pairs) }
-        ensures pages { self.new.pages ≡ self.old.pages }
-        ensures config { self.new.config ≡ self.old.config }
-    {
-        self.worker.delete_found(found, key)
     }
 
     /// Deletes the keys from the low on and below the high, with the pages that are there.

@@ -3,6 +3,7 @@ use Rattle.std.specs.Prelude.{◌≡◌, ℕ, ◌-◌, Bool, true, false, [], Op
 use Rattle.std.specs.Arc.{arc_value}
 use Rattle.bw_keys.specs.Ranges.{key_count}
 use Rattle.bw_keys.specs.declared.config.Config.{Config}
+use Rattle.bw_law.specs.Tables.{new_table}
 use Rattle.nifforan.specs.Maps.{MapValue, PairList, within}
 use Rattle.nifforan_handle.specs.declared.held.Held.{Held}
 use Rattle.nifforan_handle.specs.declared.held.Held.TheVariants.{Closed, Own, Frozen}
@@ -74,4 +75,10 @@ pairs_between low high held = within low (end_at high) (pairs_in held)
 
 -- a new map, which begins with memory for eight pages
 abbrev pub empty_map : Config → MapValue
-empty_map config = record { config = config; pairs = []; pages = 8; free = config.pages - 1 }
+empty_map config = record {
+  config = config;
+  pairs = [];
+  pages = 8;
+  free = config.pages - 1;
+  table = new_table (record config { pages = 8 });
+}
