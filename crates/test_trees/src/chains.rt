@@ -21,14 +21,14 @@ fn leaf_after<R: Abort>(rt: &R, machine: Global, script: &str, steps: u64) -> Ch
         .expect(rt, "a copy of the leaf")
 }
 
-/// Returns the first three pairs of a leaf's page, and the room that it has.
-fn pairs_of(page: &Base<Global>) -> ([Option<(Key, u64)>; 3], usize) {
+/// Returns the first three pairs of a leaf's page.
+fn pairs_of(page: &Base<Global>) -> [Option<(Key, u64)>; 3] {
     match &page.entries {
         Entries::Pairs(list) => {
             let pairs = list.as_slice();
-            ([pairs.get(0), pairs.get(1), pairs.get(2)], list.capacity())
+            [pairs.get(0), pairs.get(1), pairs.get(2)]
         }
-        Entries::Routes(_) => ([None; 3], 0),
+        Entries::Routes(_) => [None; 3],
     }
 }
 
@@ -44,14 +44,10 @@ fn the_newest_record_of_a_key_decides(rt: HostRuntime) -> Result<(), Fail> {
     assert_same(&rt, (count(&chain), depth(&chain)), (2, 3), "numbers");
     let page = consolidate(rt.alloc(), &chain)?;
     let (separator, upper) = halve(rt.alloc(), &page)?;
-    let (pairs, upper_pairs) = (pairs_of(&page).0, pairs_of(&upper).0);
+    let pairs = pairs_of(&page);
     assert_same(&rt, pairs, [Some((4, 40)), Some((5, 50)), None], "the page");
-    assert_same(
-        &rt,
-        upper_pairs,
-        [Some((5, 50)), None, None],
-        "its upper half",
-    );
+    let pairs = pairs_of(&upper);
+    assert_same(&rt, pairs, [Some((5, 50)), None, None], "its upper half");
     let is_upper = separator == 5 && upper.low == 5 && upper.high == Fence::Top;
     let is_small = matches!(halve(rt.alloc(), &upper), Err(HalveFault::TooSmall));
     assert_same(
@@ -69,13 +65,9 @@ fn a_modified_pair_counts_once(rt: HostRuntime) -> Result<(), Fail> {
         "table 4 4 64 100 0, insert 0 0 5 50, consolidate 0 1 leaf 0 top - 5:50, modify 0 2 5 51";
     let chain = leaf_after(&rt, rt.alloc(), script, 3);
     let page = consolidate(rt.alloc(), &chain)?;
-    let found = (count(&chain), pairs_of(&page).0);
-    assert_same(
-        &rt,
-        found,
-        (1, [Some((5, 51)), None, None]),
-        "count and page",
-    );
+    assert_same(&rt, count(&chain), 1, "count");
+    let pairs = pairs_of(&page);
+    assert_same(&rt, pairs, [Some((5, 51)), None, None], "the page");
     Ok(())
 }
 
@@ -96,7 +88,10 @@ fn a_part_has_the_room_that_was_asked_for(rt: HostRuntime) -> Result<(), Fail> {
     let chain = leaf_after(&rt, rt.alloc(), script, 6);
     for (number, asked, wanted) in PARTS {
         let has = match upper_part_of(&chain, number, asked) {
-            Some((_, page)) => Some(pairs_of(&page).1),
+            Some((_, page)) => match &page.entries {
+                Entries::Pairs(list) => Some(list.capacity()),
+                Entries::Routes(_) => None,
+            },
             None => None,
         };
         assert_same(&rt, has, wanted, ("room of the part", number));
