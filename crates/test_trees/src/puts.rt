@@ -2,7 +2,7 @@
 
 use crate::assert_same::assert_same;
 use crate::calls::table_after;
-use crate::crew::{Beside, Crew, work_on_tree};
+use crate::crew::{Beside, Crew, work_on_read_tree, work_on_tree};
 use crate::dice::drawn_step;
 use bw_delta::Spare;
 use bw_keys::{Key, Pid, Version, Wished};
@@ -70,14 +70,25 @@ impl Crew<bool> for FourPuts {
 #[test]
 fn two_threads_put(rt: HostRuntime) -> Result<(), Fail> {
     let machine = rt.alloc();
+    let crew = FourPuts { machine };
     for run in 0..100 {
         let table = table_after(&rt, machine, NEW);
-        let (table, zero, one) = work_on_tree(rt, machine, table, &FourPuts { machine });
-        assert_same(&rt, (zero, one), (true, true), ("run", run));
-        let pairs = table.pairs(machine)?;
-        let wanted = [(1, 1), (2, 2), (3, 3), (4, 4)];
-        assert_same(&rt, pairs.as_slice(), wanted.as_slice(), ("run", run));
+        let config = table.config();
+        four_are_put(&rt, work_on_tree(rt, machine, table, &crew), run)?;
+        four_are_put(&rt, work_on_read_tree(rt, machine, config, &crew), run)?;
     }
+    Ok(())
+}
+
+fn four_are_put(
+    rt: &HostRuntime,
+    (table, zero, one): (Table<Global>, bool, bool),
+    run: u64,
+) -> Result<(), Fail> {
+    assert_same(rt, (zero, one), (true, true), ("run", run));
+    let pairs = table.pairs(rt.alloc())?;
+    let wanted = [(1, 1), (2, 2), (3, 3), (4, 4)];
+    assert_same(rt, pairs.as_slice(), wanted.as_slice(), ("run", run));
     Ok(())
 }
 
