@@ -18,34 +18,45 @@ use std::{env, io};
 
 /// Why no time is reported.
 #[derive(Clone, Copy, Debug)]
-pub(crate) struct Stop(&'static str);
+pub(crate) enum Stop {
+    OutOfMemory,
+    NoClockOrWords,
+    NoTree,
+    CallGaveUp,
+    NothingPublished,
+    NothingRead,
+    NothingScanned,
+    NoTreeShared,
+    NoForestShared,
+    NobodyAsked,
+}
 
 /// Has each fault end the program for a reason.
 macro_rules! stops {
-    ($($fault:ty: $reason:literal,)*) => {
+    ($($fault:ty: $reason:ident,)*) => {
         $(impl From<$fault> for Stop {
             fn from(_: $fault) -> Stop {
-                Stop($reason)
+                Stop::$reason
             }
         })*
     };
 }
 
 stops! {
-    AllocError: "out of memory",
-    io::Error: "the system refused the clock or the arguments",
-    NewFault: "no tree was made",
-    Fault: "a call gave up",
-    NoMemory: "nothing was published",
-    Closed: "nothing was read",
-    ScanFault: "nothing was scanned",
-    ShareFault: "no tree was shared",
-    ShareForestFault: "no forest was shared",
+    AllocError: OutOfMemory,
+    io::Error: NoClockOrWords,
+    NewFault: NoTree,
+    Fault: CallGaveUp,
+    NoMemory: NothingPublished,
+    Closed: NothingRead,
+    ScanFault: NothingScanned,
+    ShareFault: NoTreeShared,
+    ShareForestFault: NoForestShared,
 }
 
 impl<T: Drop> From<AllocFailed<T>> for Stop {
     fn from(_: AllocFailed<T>) -> Stop {
-        Stop("out of memory")
+        Stop::OutOfMemory
     }
 }
 

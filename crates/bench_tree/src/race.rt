@@ -35,7 +35,7 @@ impl Part {
     /// Returns the part of all, from the first beginning to the last end.
     pub(crate) fn of_all(parts: Vec<Worked>) -> Worked {
         let mut parts = parts.into_iter();
-        let mut all = parts.next().unwrap_or(Err(Stop("no worker was asked")))?;
+        let mut all = parts.next().unwrap_or(Err(Stop::NobodyAsked))?;
         for part in parts {
             let part = part?;
             all = Part {

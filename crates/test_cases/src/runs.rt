@@ -184,20 +184,22 @@ pub(crate) fn stopped<R: Threads + Wait + Sync + Send + Copy>(
     Ok(Ending::Whole)
 }
 
-/// Faults that no case of the command comes to, and their texts.
-static FAULTS: [(RunFault, &str); 5] = [
-    (RunFault::OtherRange, "a tree has another range"),
-    (RunFault::NoReader, "reader"),
-    (RunFault::Threads, "threads"),
-    (RunFault::Memory, "memory"),
-    (RunFault::Stopped(0, 4, Fault::Worn), "worker 0 row 4: worn"),
+/// Faults that no case of the command comes to.
+const FAULTS: [RunFault; 5] = [
+    RunFault::OtherRange,
+    RunFault::NoReader,
+    RunFault::Threads,
+    RunFault::Memory,
+    RunFault::Stopped(0, 4, Fault::Worn),
 ];
 
 /// The faults of runs have their texts.
 pub(crate) fn fault_texts(machine: Global) -> Result<Ending, Stop> {
-    for (fault, text) in FAULTS.iter() {
-        let told = format!(in machine; "{fault}")?;
-        hold(told.as_str() == *text, "a fault has its text")?;
+    let mut told = String::new(machine);
+    for fault in FAULTS {
+        told.push_str(&format!(in machine; "{fault}; ")?)?;
     }
+    let texts = "a tree has another range; reader; threads; memory; worker 0 row 4: worn; ";
+    hold(told.as_str() == texts, "each fault has its text")?;
     Ok(Ending::Whole)
 }
