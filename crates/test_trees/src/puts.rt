@@ -7,6 +7,7 @@ use crate::dice::drawn_step;
 use bw_delta::Spare;
 use bw_keys::{Key, Pid, Version, Wished};
 use bw_step::{Action, Book, Receipt, Step};
+use bw_table::Table;
 use bw_tree::{Share, Shared};
 use rand_core::SeedableRng;
 use rand_pcg::Pcg32;
@@ -74,19 +75,26 @@ fn two_threads_put(rt: HostRuntime) -> Result<(), Fail> {
     for run in 0..100 {
         let table = table_after(&rt, machine, NEW);
         let config = table.config();
-        four_are_put(&rt, work_on_tree(rt, machine, table, &crew), run)?;
-        four_are_put(&rt, work_on_read_tree(rt, machine, config, &crew), run)?;
+        are_put(&rt, machine, work_on_tree(rt, machine, table, &crew), run)?;
+        are_put(
+            &rt,
+            machine,
+            work_on_read_tree(rt, machine, config, &crew),
+            run,
+        )?;
     }
     Ok(())
 }
 
-fn four_are_put(
-    rt: &HostRuntime,
+/// Both workers have put their pairs, and the table has all four.
+fn are_put<R: Abort>(
+    rt: &R,
+    machine: Global,
     (table, zero, one): (Table<Global>, bool, bool),
     run: u64,
 ) -> Result<(), Fail> {
     assert_same(rt, (zero, one), (true, true), ("run", run));
-    let pairs = table.pairs(rt.alloc())?;
+    let pairs = table.pairs(machine)?;
     let wanted = [(1, 1), (2, 2), (3, 3), (4, 4)];
     assert_same(rt, pairs.as_slice(), wanted.as_slice(), ("run", run));
     Ok(())
