@@ -1,5 +1,7 @@
 //! What the workers of a shared tree are answered, call by call, and a reader beside one of them.
 
+ghost use Rattle.std.specs.Prelude.{◌<◌};
+
 use crate::assert_same::assert_same;
 use nifforan_shared::{
     Calls, Config, Del, Fault, Fence, GivenUp, Job, Pages, Put, Queries, ReadingJob, Reads,
