@@ -13,50 +13,38 @@ use crate::task::{Task, WORKS, Work};
 use nifforan::{Fault, NewFault, NoMemory};
 use nifforan_forest::ShareForestFault;
 use nifforan_shared::{Closed, ScanFault, ShareFault};
-use std::alloc::{AllocError, AllocFailed, Global};
+use std::alloc::{AllocError, Global};
 use std::{env, io};
+use thiserror::Error;
 
 /// Why no time is reported.
-#[derive(Clone, Copy, Debug)]
+#[derive(Clone, Copy, Debug, Error)]
 pub(crate) enum Stop {
-    OutOfMemory,
-    NoClockOrWords,
-    NoTree,
-    CallGaveUp,
-    NothingPublished,
-    NothingRead,
-    NothingScanned,
-    NoTreeShared,
-    NoForestShared,
-    NobodyAsked,
+    #[error("out of memory")]
+    Memory(#[from(alloc)] AllocError),
+    #[error("the system refused the clock or the arguments")]
+    System,
+    #[error("no tree was made")]
+    New(#[from] NewFault),
+    #[error("a call gave up")]
+    Call(#[from] Fault),
+    #[error("nothing was published")]
+    Publish(#[from] NoMemory),
+    #[error("nothing was read")]
+    Read(#[from] Closed),
+    #[error("nothing was scanned")]
+    Scan(#[from] ScanFault),
+    #[error("no tree was shared")]
+    Share(#[from] ShareFault),
+    #[error("no forest was shared")]
+    Forest(#[from] ShareForestFault),
+    #[error("no worker was asked")]
+    Nobody,
 }
 
-/// Has each fault end the program for a reason.
-macro_rules! stops {
-    ($($fault:ty: $reason:ident,)*) => {
-        $(impl From<$fault> for Stop {
-            fn from(_: $fault) -> Stop {
-                Stop::$reason
-            }
-        })*
-    };
-}
-
-stops! {
-    AllocError: OutOfMemory,
-    io::Error: NoClockOrWords,
-    NewFault: NoTree,
-    Fault: CallGaveUp,
-    NoMemory: NothingPublished,
-    Closed: NothingRead,
-    ScanFault: NothingScanned,
-    ShareFault: NoTreeShared,
-    ShareForestFault: NoForestShared,
-}
-
-impl<T: Drop> From<AllocFailed<T>> for Stop {
-    fn from(_: AllocFailed<T>) -> Stop {
-        Stop::OutOfMemory
+impl From<io::Error> for Stop {
+    fn from(_: io::Error) -> Stop {
+        Stop::System
     }
 }
 

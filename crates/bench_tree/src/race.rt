@@ -35,7 +35,7 @@ impl Part {
     /// Returns the part of all, from the first beginning to the last end.
     pub(crate) fn of_all(parts: Vec<Worked>) -> Worked {
         let mut parts = parts.into_iter();
-        let mut all = parts.next().unwrap_or(Err(Stop::NobodyAsked))?;
+        let mut all = parts.next().unwrap_or(Err(Stop::Nobody))?;
         for part in parts {
             let part = part?;
             all = Part {

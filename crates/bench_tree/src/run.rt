@@ -80,7 +80,7 @@ fn run_forest<R: Runtime, L: Trail + Send + Sync>(race: &Race<R>, trees: u32) ->
         _ => task.end(),
     };
     let Ok(bounds) = Bounds::even(alloc, trees, u64::from(end)) else {
-        return Err(Stop::NoForestShared);
+        return Err(Stop::Nobody);
     };
     // for twice the keys that a tree has by the bounds, a quarter full
     let pages = (task.end() / trees.max(1) / 16).saturating_add(64);
