@@ -1,8 +1,8 @@
-use Rattle.std.proofs.Common.{rules, ◌≡◌, ◌+◌, ◌∷◌, [], List, length, map, ap, sym, ◌∙◌, arith, length-append, All}
+use Rattle.std.proofs.Common.{rules, ◌≡◌, ◌∷◌, [], length, map, ap, ◌∙◌, arith, length-append}
 use Rattle.std.proofs.lemmas.List.{map-append}
 use Rattle.std.proofs.lemmas.List.Elements.{All-head, All-take, All-tail}
 use Rattle.bw_law.specs.Tables.{TableValue}
-use Rattle.bw_tree.specs.Shares.{ShareValue, no_changes, shared_in}
+use Rattle.bw_tree.specs.Shares.{no_changes, shared_in}
 use Rattle.bw_forest.specs.Forests.{books_of, ranges_in, tables_of}
 use Rattle.bw_forest.proofs.Opening.{one_left}
 use Rattle.bw_forest.proofs.forest.replant.Goals as goal

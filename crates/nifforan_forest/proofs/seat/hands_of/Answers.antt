@@ -1,4 +1,4 @@
-use Rattle.std.proofs.Common.{rules, ◌≡◌, ◌∷◌, ◌+◌, [], length, ap, arith, length-append}
+use Rattle.std.proofs.Common.{rules, ◌≡◌, ◌∷◌, ◌+◌, [], length, ap, arith, length-append, ◌∙◌}
 use Rattle.std.proofs.lemmas.List.Elements.{All-push, All-take}
 use Rattle.bw_tree.specs.Shares.{no_changes}
 use Rattle.nifforan_forest.proofs.Placing.{placed_more}
@@ -18,5 +18,6 @@ loop-i-preserved g c =
       quiet = rw pushed (All-push (λ hand. hand.seen.trail ≡ []) c.loop-i.hands.items c.new.result inv.quiet c.new.ensures.trail);
       placed =
           placed_more (λ hand. hand.range) g.S.Shared.range c.loop-i.hands.items c.push_reserved.new.self.items c.new.result
-          c.args.trees.now c.loop-i.i _ pushed c.new.ensures.range c.loop-i-test.true inv.placed;
+          c.args.trees.now c.loop-i.i c.index-trees-i.result pushed (c.new.ensures.range ∙ ap g.S.Shared.range c.index-trees-i.is)
+          c.loop-i-test.true inv.placed;
     }
