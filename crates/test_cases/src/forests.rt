@@ -110,7 +110,12 @@ impl Trial {
     /// Fails unless memory was wanting, and that before each worker had begun.
     fn see_fault(&self, fault: ShareForestFault, workers: u32) -> Result<(), Stop> {
         hold(
-            fault == ShareForestFault::NoMemory || fault == ShareForestFault::NoThread,
+            matches!(
+                fault,
+                ShareForestFault::NoMemory
+                    | ShareForestFault::NoMemoryForWorkers
+                    | ShareForestFault::NoThread
+            ),
             "memory alone is wanting",
         )?;
         hold(
@@ -151,7 +156,7 @@ impl Trial {
             Err(unshared) => unshared,
         };
         self.see_fault(unshared.fault, 1)?;
-        let Some(forest) = unshared.forest else {
+        let Ok(forest) = unshared.forest else {
             return Err(Stop::Broken("a forest that isn't shared comes back"));
         };
         hold(
