@@ -5,3 +5,4 @@ pub mod Indexed
 pub mod Replays
 pub mod Events
 pub mod Explained
+pub mod Opened
