@@ -3,6 +3,7 @@ pub mod Changes
 pub mod Clearing
 pub mod Edges
 pub mod Fills
+pub mod Filled
 pub mod Neighbours
 pub mod Listing
 pub mod Pops

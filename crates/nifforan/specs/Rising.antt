@@ -5,8 +5,11 @@ use Rattle.bw_keys.specs.declared.config.Config.{Config}
 use Rattle.bw_keys.specs.Ranges.{key_count}
 use Rattle.bw_delta.specs.Entries.{rises}
 use Rattle.bw_law.specs.Tables.{TableValue}
+use Rattle.bw_procedures.specs.declared.fault.Fault.{Fault}
+use Rattle.bw_procedures.specs.declared.fault.Fault.TheVariants.{TableFull}
 use Rattle.bw_table.specs.Appends.{AppendsInTurn}
-use Rattle.nifforan.specs.Maps.{PairList}
+use Rattle.nifforan.specs.Filling.{AreAllTaken, AreFirstOf}
+use Rattle.nifforan.specs.Maps.{PairList, MapValue}
 use Rattle.nifforan.specs.Settings.{first_bad_setting, IsMapFault}
 use Rattle.nifforan.specs.declared.sorted.SortedFault.{SortedFault}
 use Rattle.nifforan.specs.declared.sorted.SortedFault.TheVariants as faults
@@ -74,6 +77,41 @@ abbrev pub IsUnsortedBehind : PairList → SortedFault → Type 0
 IsUnsortedBehind pairs (faults.New _) = ⊥
 IsUnsortedBehind pairs (faults.Unsorted number) = number ≡ length pairs
 IsUnsortedBehind pairs (faults.Put _) = Unit {0}
+
+-- the map has the first ones of all pairs, and where the fault is a full table, no room for a page
+abbrev pub IsCutShort : PairList → MapValue → Fault → Type 0
+IsCutShort all map fault = AreFirstOf map.pairs all × (fault ≡ TableFull → map.free ≡ 0)
+
+-- the same of the fault of the pair after these
+abbrev pub CutsBehind : PairList → MapValue → SortedFault → Type 0
+CutsBehind pairs map (faults.Put fault) = IsCutShort pairs map fault
+CutsBehind pairs map _ = Unit {0}
+
+-- the first of some items of the iterator fill what this says of them
+pub record FillsWith {U T : Type 0}
+    (becomes : U → T → Type 0) (steps : T → Option (ℕ × ℕ) → T → Type 0)
+    (pairs : U) (Full : PairList → Type 0) : Type 0 where
+  pub start : T
+  pub begins : becomes pairs start
+  pub items : PairList
+  pub rest : T
+  pub yields : Yields steps start items rest
+  pub filled : Full items
+
+-- a fault that the table is full comes where the first items have taken each page of the map
+abbrev pub CutsAll : {U T : Type 0} → (U → T → Type 0) → (T → Option (ℕ × ℕ) → T → Type 0)
+    → U → MapValue → SortedFault → Type 0
+CutsAll becomes steps pairs map (faults.Put TableFull) =
+    FillsWith becomes steps pairs (λ items. AreFirstOf map.pairs items × (map.free ≡ 0))
+CutsAll becomes steps pairs map _ = Unit {0}
+
+-- the same, once the map is gone
+abbrev pub IsFullOfRising : {U T : Type 0} → (U → T → Type 0)
+    → (T → Option (ℕ × ℕ) → T → Type 0) → Config → U → SortedFault → Type 0
+IsFullOfRising becomes steps config pairs (faults.Put TableFull) =
+    FillsWith becomes steps pairs (λ items.
+    (first : PairList) × AreFirstOf first items × AreAllTaken config first)
+IsFullOfRising becomes steps config pairs _ = Unit {0}
 
 -- the pairs were put on some page in turn
 pub record IsAppended (old : TableValue) (pairs : PairList) (new : TableValue) : Type 0 where

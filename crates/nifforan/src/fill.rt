@@ -4,7 +4,7 @@ ghost use Rattle.std.specs.Prelude.{◌≡◌, ◌≤◌, None, Some, IfOk, IfEr
 ghost use Rattle.std.specs.Iterator.{IsFinite, IsFiniteIterable};
 ghost use Rattle.bw_procedures.specs.declared.fault.Fault.TheVariants as faults;
 ghost use Rattle.nifforan.specs.Calls.{SetsAll, SetsEach};
-ghost use Rattle.nifforan.specs.Filling.{IsFillFault, IsMadeOf};
+ghost use Rattle.nifforan.specs.Filling.{AreAllTaken, IsFillFault, IsFullCopy, IsFullOf, IsMadeOf};
 ghost use Rattle.nifforan.specs.Growing.{HasAllPages, fault_reported};
 ghost use Rattle.nifforan.specs.Settings.{first_bad_setting};
 
@@ -84,6 +84,8 @@ impl<A: Allocator + Copy> Map<A> {
         ensures config { IfOk result (λ map. map.config ≡ config) }
         ensures fine { OnOk result (first_bad_setting config ≡ None) }
         ensures fault { IfErr result (IsFillFault config) }
+        ensures full { IfErr result
+            (IsFullOf U.into_iter_gives U.IntoIter.next_gives config pairs) }
     {
         let mut map = match Map::new(machine, alloc, config) {
             Ok(map) => map,
@@ -91,7 +93,11 @@ impl<A: Allocator + Copy> Map<A> {
         };
         match map.extend(pairs) {
             Ok(_) => Ok(map),
-            Err(fault) => Err(FillFault::Set(fault)),
+            Err(fault) => {
+                let fault = map.cause_in_place(fault);
+                map.full_law();
+                Err(FillFault::Set(fault))
+            }
         }
     }
 
@@ -101,9 +107,30 @@ impl<A: Allocator + Copy> Map<A> {
         ensures pairs { IfOk result (λ map. map.pairs ≡ self.now.pairs) }
         ensures config { IfOk result (λ map. map.config ≡ self.now.config) }
         ensures fault { IfErr result (IsFillFault self.now.config) }
+        ensures full { IfErr result (IsFullCopy self.now) }
     {
         self.law();
         let alloc = self.worker.owner.alloc();
         Map::from_pairs(self.worker.machine, alloc, self.config(), self)
+    }
+
+    /// Returns the fault that is reported in a reply's place where this one was met there: `TableFull`
+    /// only if the map has room for no further page. Otherwise memory was refused for more.
+    #[cold]
+    pub(crate) fn cause_in_place(&self, fault: Fault) -> Fault
+        ensures { result ≡ faults.TableFull → self.now.free ≡ 0 }
+    {
+        if fault == Fault::TableFull && !self.is_full() {
+            return Fault::NoMemory;
+        }
+        fault
+    }
+
+    /// Does nothing. The contract states that each page of a full map is taken.
+    pub(crate) fn full_law(&self)
+        ensures { self.now.free ≡ 0 → AreAllTaken self.now.config self.now.pairs }
+    {
+        // Reading the worker yields the law of its table.
+        let _worker = &self.worker;
     }
 }

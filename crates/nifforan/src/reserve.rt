@@ -1,8 +1,9 @@
 //! Pages taken ahead, for pairs that are to come, and given back.
 
-ghost use Rattle.std.specs.Prelude.{◌≡◌, ◌+◌, ◌-◌, ◌*◌, ◌^◌, ◌<◌, ◌≤◌, ℕ, List, [], None, length, sum};
+ghost use Rattle.std.specs.Prelude.{◌≡◌, ◌≢◌, ◌+◌, ◌-◌, ◌*◌, ◌^◌, ◌<◌, ◌≤◌, ℕ, List, [], None, Err, length, sum};
 ghost use Rattle.std.specs.Prelude.{IsOk, IfOk, IfErr, OnOk, OnErr};
 ghost use Rattle.bw_keys.specs.Rooms.{half, AreLevels};
+ghost use Rattle.bw_procedures.specs.declared.fault.Fault.TheVariants as faults;
 ghost use Rattle.nifforan.specs.Growing.{HasGrown, HasPagesFor};
 ghost use Rattle.nifforan.specs.Settings.{first_bad_setting, IsMapFault};
 
@@ -50,14 +51,20 @@ impl<A: Allocator + Copy> Map<A> {
 
     /// Makes the map anew, by puts of rising keys, so that it has no more pages than its pairs want,
     /// and none that it took ahead. That takes some 0.3 µs a pair, and meanwhile memory for both. If
-    /// a fault ends it, the map stays as it was.
+    /// a fault ends it, the map stays as it was. So it does if the new one would take all pages that
+    /// the map may have.
     pub fn shrink_to_fit(&mut self) -> Result<(), Fault>
         ensures pairs { self.new.pairs ≡ self.old.pairs }
         ensures config { self.new.config ≡ self.old.config }
         ensures pages { self.new.pages ≤ self.old.pages }
         ensures unchanged { OnErr result (self.new ≡ self.old) }
+        ensures full { result ≢ Err faults.TableFull }
     {
-        let fitted = self.anew()?;
+        let fitted = match self.anew() {
+            Ok(fitted) => fitted,
+            Err(Fault::TableFull) => return Ok(()),
+            Err(fault) => return Err(fault),
+        };
         if fitted.pages() <= self.pages() {
             *self = fitted;
         }

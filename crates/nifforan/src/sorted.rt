@@ -1,13 +1,15 @@
 //! A map of pairs whose keys rise, which fills its leaves from left to right.
 
-ghost use Rattle.std.specs.Prelude.{◌≡◌, ◌<◌, ◌++◌, ◌∷◌, [], length, None, IfOk, IfErr, OnOk, true, false};
+ghost use Rattle.std.specs.Prelude.{◌≡◌, ◌<◌, ◌++◌, ◌∷◌, [], length, None, Err, IfOk, IfErr, OnOk, OnErr, true, false};
 ghost use Rattle.std.specs.Prelude.{IfSome, IfNone};
 ghost use Rattle.std.specs.Iterator.{IsFiniteIterable};
 ghost use Rattle.bw_keys.specs.Ranges.{key_count};
 ghost use Rattle.bw_delta.specs.Entries.{put};
 ghost use Rattle.bw_delta.specs.Slices.{list_of};
 ghost use Rattle.bw_chain.specs.Ascends.{IsAscending};
-ghost use Rattle.nifforan.specs.Rising.{AppendsAll, HasAllOf, IsSortedFault, IsUnsortedBehind};
+ghost use Rattle.bw_procedures.specs.declared.fault.Fault.TheVariants as faults;
+ghost use Rattle.nifforan.specs.Rising.{AppendsAll, CutsAll, CutsBehind, HasAllOf, IsCutShort, IsFullOfRising};
+ghost use Rattle.nifforan.specs.Rising.{IsSortedFault, IsUnsortedBehind};
 ghost use Rattle.nifforan.specs.Rising.{is_above};
 ghost use Rattle.nifforan.specs.Settings.{first_bad_setting};
 
@@ -52,13 +54,20 @@ impl<A: Allocator + Copy> Map<A> {
         ensures fine { OnOk result (first_bad_setting config ≡ None) }
         ensures fault { IfErr result
             (IsSortedFault U.into_iter_gives U.IntoIter.next_gives config pairs) }
+        ensures full { IfErr result
+            (IsFullOfRising U.into_iter_gives U.IntoIter.next_gives config pairs) }
     {
         let mut map = match Map::new(machine, alloc, config) {
             Ok(map) => map,
             Err(fault) => return Err(SortedFault::New(fault)),
         };
-        map.append_all(pairs)?;
-        Ok(map)
+        match map.append_all(pairs) {
+            Ok(()) => Ok(map),
+            Err(fault) => {
+                map.full_law();
+                Err(fault)
+            }
+        }
     }
 
     /// Puts the pairs into a map without any.
@@ -71,6 +80,8 @@ impl<A: Allocator + Copy> Map<A> {
             U.IntoIter.remaining pairs }
         ensures appends { AppendsAll U.into_iter_gives U.IntoIter.next_gives pairs result
             self.new.pairs }
+        ensures cut { IfErr result
+            (CutsAll U.into_iter_gives U.IntoIter.next_gives pairs self.new) }
         ensures config { self.new.config ≡ self.old.config }
     {
         let mut edge = Edge::none();
@@ -100,6 +111,7 @@ impl<A: Allocator + Copy> Map<A> {
     fn unsorted(&mut self, edge: &mut Edge, run: EntrySlice<'_, u64>) -> SortedFault
         requires { IsAscending (self.old.pairs ++ list_of run) }
         ensures fault { IsUnsortedBehind (self.old.pairs ++ list_of run.entry) result }
+        ensures cut { CutsBehind (self.old.pairs ++ list_of run.entry) self.new result }
         ensures config { self.new.config ≡ self.old.config }
     {
         match self.append_each(edge, run) {
@@ -114,6 +126,7 @@ impl<A: Allocator + Copy> Map<A> {
         requires { IsAscending (self.old.pairs ++ run.old) }
         ensures kept { OnOk result
             (self.new.pairs ++ run.new ≡ self.old.pairs ++ (run.old ++ (key, value) ∷ [])) }
+        ensures cut { IfErr result (IsCutShort (self.old.pairs ++ run.old) self.new) }
         ensures config { self.new.config ≡ self.old.config }
     {
         if run.is_full() {
@@ -131,6 +144,8 @@ impl<A: Allocator + Copy> Map<A> {
     fn append_each(&mut self, edge: &mut Edge, run: EntrySlice<'_, u64>) -> Result<(), Fault>
         requires { IsAscending (self.old.pairs ++ list_of run) }
         ensures puts { OnOk result (self.new.pairs ≡ self.old.pairs ++ list_of run.entry) }
+        ensures cut { IfErr result
+            (IsCutShort (self.old.pairs ++ list_of run.entry) self.new) }
         ensures config { self.new.config ≡ self.old.config }
     {
         let mut left = run;
@@ -174,6 +189,8 @@ impl<A: Allocator + Copy> Map<A> {
     #[inline(never)]
     fn append_behind(&mut self, edge: &mut Edge, key: Key, value: u64) -> Result<(), Fault>
         ensures sets { OnOk result (self.new.pairs ≡ put key value self.old.pairs) }
+        ensures unchanged { OnErr result (self.new.pairs ≡ self.old.pairs) }
+        ensures full { result ≡ Err faults.TableFull → self.new.free ≡ 0 }
         ensures config { self.new.config ≡ self.old.config }
     {
         self.make_room();
@@ -181,7 +198,9 @@ impl<A: Allocator + Copy> Map<A> {
         if self.set_at_edge(edge, key, value) {
             return Ok(());
         }
-        self.set_in_room(key, value)?;
+        if let Err(fault) = self.set_in_room(key, value) {
+            return Err(self.cause_in_place(fault));
+        }
         *edge = self.worker.edge_at(key);
         Ok(())
     }

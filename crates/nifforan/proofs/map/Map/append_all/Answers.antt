@@ -1,8 +1,9 @@
 use Rattle.std.proofs.Common.{◌≡◌, rules, ℕ, false, true, [], ◌∷◌, ◌++◌, ap, sym, subst, ◌∙◌, append_assoc}
 use Rattle.std.specs.Iterator.{Drains}
 use Rattle.nifforan.specs.Maps.{PairList}
-use Rattle.nifforan.specs.Rising.{IsUnsortedBehind, is_above}
+use Rattle.nifforan.specs.Rising.{CutsBehind, IsUnsortedBehind, is_above}
 use Rattle.nifforan.proofs.Appending.{none_behind, rise_with, last_with, unsorted_fault, has_all}
+use Rattle.nifforan.proofs.Filled.{cuts_behind}
 use Rattle.nifforan.proofs.map.Map.append_all.Goals as goal
 
 pub returns-then-not-is_above-clause-appends : goal.returns-then-not-is_above-clause-appends
@@ -17,6 +18,14 @@ returns-then-not-is_above-clause-appends g c =
     c.into_iter-left.ensures.into_iter_gives c.loop-key.yielded_by c.in-Some.ensures.steps c.loop-key.invariant.4
     (none_behind c.loop-key.last c.in-Some.key c.in-Some.value items c.loop-key.invariant.3 above)
     (subst Behind c.loop-key.invariant.2 fault)
+
+pub returns-then-not-is_above-clause-cut : goal.returns-then-not-is_above-clause-cut
+returns-then-not-is_above-clause-cut g c =
+    let Cuts : PairList → Type 0 = λ ps. CutsBehind ps c.unsorted.new.self c.unsorted.result in
+    let cut : Cuts (c.loop-key.self.pairs ++ c.loop-key.run) = rw c.as_slice.ensures at c.unsorted.ensures.cut in
+    cuts_behind g.U.IntoIterator.into_iter_gives g.U.IntoIter.Iterator.next_gives c.args.pairs c.unsorted.new.self c.unsorted.result
+    c.into_iter-left.result c.loop-key.left c.loop-key.yielded c.into_iter-left.ensures.into_iter_gives c.loop-key.yielded_by
+    (subst Cuts c.loop-key.invariant.2 cut)
 
 pub loop-key-preserved : goal.loop-key-preserved
 loop-key-preserved g c =
