@@ -97,7 +97,8 @@ if_err P Q (Err e) then fact = then e fact
 
 -- the trees that weren't closed come back
 module _ (bounds : List ℕ) (made : Config) (trees : List PlotValue) (count : length trees ≡ length bounds)
-    (each : All IsTree (tables_of trees)) (within : All HasPairsWithin trees) (config : All (λ (t : TableValue). t.config ≡ made) (tables_of trees)) where
+    (each : All IsTree (tables_of trees)) (within : All HasPairsWithin trees)
+    (config : All (λ (t : TableValue). t.config ≡ made) (tables_of trees)) where
   pub comes_apart : (given : List ℕ) (back : List PlotValue) → given ≡ bounds → back ≡ trees → ComesApart bounds made given back
   comes_apart given back same is = record {
     same = same;

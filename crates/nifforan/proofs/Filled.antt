@@ -70,8 +70,8 @@ cuts_all becomes steps pairs map TooTall start rest items begins yields cut = tt
 cuts_all becomes steps pairs map Worn start rest items begins yields cut = tt
 
 pub cuts_behind : {U T : Type 0} (becomes : U → T → Type 0) (steps : T → Option (ℕ × ℕ) → T → Type 0) (pairs : U) (map : MapValue)
-    (fault : SortedFault) (start rest : T) (items : PairList) → becomes pairs start → Yields steps start items rest → CutsBehind items map fault
-    → CutsAll becomes steps pairs map fault
+    (fault : SortedFault) (start rest : T) (items : PairList) → becomes pairs start → Yields steps start items rest
+    → CutsBehind items map fault → CutsAll becomes steps pairs map fault
 cuts_behind becomes steps pairs map (sorts.Put fault) start rest items begins yields cut =
     cuts_all becomes steps pairs map fault start rest items begins yields cut
 cuts_behind becomes steps pairs map (sorts.New fault) start rest items begins yields cut = tt
