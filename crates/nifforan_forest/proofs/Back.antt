@@ -35,6 +35,11 @@ pub one_more_each : (opening given workers trees : ℕ) → opening ≡ trees �
 one_more_each opening given workers trees same more =
     subst (λ (n : ℕ). opening + given * trees ≡ n * trees) more (omega (arith, same))
 
+-- the room that was taken is enough for all shares
+pub room_for_all : (opening given workers trees room more : ℕ) → opening + given * trees ≡ workers * trees → workers * trees ≤ room
+    → room ≤ more → opening + given * trees ≤ more
+room_for_all opening given workers trees room more whole fits grows = omega (arith, whole, fits, grows)
+
 -- a closed forest that comes back once its trees were under their locks
 pub back_late : (given : ForestValue) (bounds : List ℕ) (made : Config) (unshared : UnsharedForest) → given.bounds ≡ bounds
     → made ≡ config_of given.tables → IsLate unshared.fault → ComesBack bounds made unshared → IsForestBack given unshared
