@@ -38,7 +38,7 @@ impl Found {
 #[derive(Clone, Copy)]
 struct Made {
     receipt: Receipt,
-    /// What ended the care for the pages, if a fault did.
+    /// The fault that cut page maintenance short, if there was one.
     fault: Option<Fault>,
 }
 
@@ -63,8 +63,8 @@ impl<A: Allocator + Copy> Worker<A> {
         }
     }
 
-    /// Sets the key to the value, without a search where its leaf was found and takes the change at
-    /// once.
+    /// Sets the key to the value. If the key's leaf was found and takes the change at once, this
+    /// needs no search.
     pub(crate) fn set_found(
         &mut self,
         found: Found,
@@ -88,7 +88,7 @@ impl<A: Allocator + Copy> Worker<A> {
         }
     }
 
-    /// Deletes the key, without a search where its leaf was found and takes the change at once.
+    /// Deletes the key. If its leaf was found and takes the change at once, this needs no search.
     pub(crate) fn delete_found(&mut self, found: Found, key: Key) -> Result<Done<Del>, Fault>
         requires { self.old.owner.account.seen.trail ≡ [] }
         ensures change { Changes key before_delete (λ reply. None) result

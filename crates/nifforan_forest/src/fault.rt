@@ -17,12 +17,12 @@ pub enum ShareForestFault {
     BadWorkers,
     #[error("out of memory")]
     NoMemory,
-    /// A worker's thread couldn't be started. Those that were started did their jobs, and what they
-    /// did is given up.
+    /// A worker's thread couldn't be started. The threads that did start did their jobs, and what
+    /// they did is lost.
     #[error("threads")]
     NoThread,
-    /// A tree has another range than it was made for. It never comes: no worker can change a range,
-    /// but what lies under a lock isn't known outside it.
+    /// A tree has another range than it was made for. This never happens, since no worker can
+    /// change a range; but what lies under a lock isn't known outside it.
     #[error("a tree has another range")]
     OtherRange,
 }

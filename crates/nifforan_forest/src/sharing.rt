@@ -29,12 +29,13 @@ use std::sync::Wait;
 use std::sync::ledger::Ledger;
 use std::thread::Threads;
 
-/// Shares a new forest, with a tree for each range, among `workers` workers, 1 to `MAX_WORKERS`, each
-/// of which does the job in a thread of its own, and returns the trees once all have ended. All lies in
-/// the machine's memory. Each tree is made by the configuration, so it has as many pages as that says.
+/// Shares a new forest, with a tree for each range, among `workers` workers, 1 to `MAX_WORKERS`,
+/// each of which does the job in a thread of its own, and returns the trees once all have ended.
+/// Everything lies in the machine's memory. The configuration is for each tree, so each has as many
+/// pages as it says.
 ///
-/// A job that ends early costs nothing: what it returns stands in
-/// [`workers`](ForestOutcome::workers), and the trees have all that was done by then.
+/// A job may end early: [`workers`](ForestOutcome::workers) has what it returns, and the trees have
+/// everything done by then.
 ///
 /// The job says what becomes of the receipts of each worker's accepted steps and looks
 /// ([`Trail`](ForestJob::Trail)).
@@ -60,11 +61,11 @@ pub fn share_forest<
     share_new::<Brand, Brand, O, L, J, R>(rt, machine, bounds, config, blanks, job)
 }
 
-/// Shares a forest that was closed, as [`share_forest`] does a new one: its trees go on with the pairs
-/// that they have. Tables that came from elsewhere are one by [`ClosedForest::of`].
+/// Shares a forest that was closed, as [`share_forest`] does a new one: its trees go on with the
+/// pairs that they have. [`ClosedForest::of`] makes one of tables from elsewhere.
 ///
-/// Where it fails, the forest comes back: as it was, or where a thread couldn't be started, with what
-/// was done by those that were.
+/// If it fails, the forest comes back: as it was, or, if a thread couldn't be started, with what
+/// the others did.
 pub fn share_closed_forest<
     O: Drop + Send,
     L: Trail + Send,
@@ -94,7 +95,7 @@ pub fn share_closed_forest<
     share_again::<Brand, Brand, O, L, J, R>(rt, machine, forest, workers, blanks, job)
 }
 
-/// Returns the first fault that is there before any thread starts, want of memory apart.
+/// Returns the first fault that can be found before any thread starts, apart from a lack of memory.
 fn check(config: Config, workers: u32) -> Result<(), ShareForestFault>
     ensures fine { OnOk result (MayBeMade config workers) }
     ensures fault { IfErr result (IsShareForestFault config workers) }
@@ -145,7 +146,7 @@ fn share_new<
     }
 }
 
-/// Shares a closed forest with these blank ledgers, which are those of one worker more.
+/// Shares a closed forest with these blank ledgers, which have parts for one more than the workers.
 fn share_again<
     I: Divides + Send + Sync,
     D: Ledger + Send + Sync,
@@ -241,8 +242,8 @@ fn share_open<
     }
 }
 
-/// Takes room behind the opening shares for those of all workers at all trees, so that nothing that was
-/// done is given up for want of it.
+/// Makes room after the opening shares for those of all workers at all trees, so that nothing done
+/// is lost for want of it.
 fn with_room<I: MadeBy, D: Ledger>(
     opening: Vec<Share<I, D>>,
     workers: usize,
@@ -260,7 +261,7 @@ fn with_room<I: MadeBy, D: Ledger>(
     Ok(opening)
 }
 
-/// Puts the workers' shares behind the opening ones.
+/// Puts the workers' shares after the opening ones.
 fn joined<I: MadeBy, D: Ledger>(
     opening: Vec<Share<I, D>>,
     shares: Vec<Share<I, D>>,

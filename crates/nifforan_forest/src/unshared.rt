@@ -6,6 +6,6 @@ use std::alloc::Global;
 #[derive(Drop)]
 pub struct UnsharedForest {
     pub fault: ShareForestFault,
-    /// The forest. None where a tree has another range than it was made for, which never comes.
+    /// The forest, or None if a tree has another range than it was made for, which never happens.
     pub forest: Option<ClosedForest<Global>>,
 }

@@ -26,7 +26,7 @@ pub(crate) struct FilmOptions {
 }
 
 impl FilmOptions {
-    /// Reads the options. Fails with the first that is out of its range, or where the last moment is
+    /// Reads the options. Fails with the first that is out of its range, or if the last moment is
     /// before the first.
     pub(crate) fn of(matches: &ArgMatches) -> Result<FilmOptions, Field>
         ensures asked { IfOk result (IsFilmedBy (found_of matches.now)) }
@@ -48,7 +48,7 @@ impl FilmOptions {
     }
 }
 
-/// Fails where there is no moment of this number, with so many in all.
+/// Fails if there is no moment with this number, of so many in all.
 pub(crate) fn check_from(from: u64, moments: u64) -> Result<(), Field>
     ensures there { OnOk result (from < moments) }
     ensures past { IfErr result (λ field. (field ≡ fields.From) × (moments ≤ from)) }

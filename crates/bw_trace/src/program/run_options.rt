@@ -21,7 +21,7 @@ pub(crate) struct RunOptions {
     pub trees: Option<u32>,
     /// Whether the replies are printed, before the leaves.
     pub replies: bool,
-    /// Whether the history is printed, in place of all else, the replies too.
+    /// Whether the history is printed instead of everything else, the replies included.
     pub history: bool,
     /// Whether nothing is noted of a run that ends well, though somebody watches.
     pub quiet: bool,
@@ -57,8 +57,8 @@ fn trees_of(matches: &ArgMatches) -> Result<Option<u32>, Field>
     }
 }
 
-/// Returns the command `run` with its options and defaults. That for a forest conflicts with what is to
-/// be had of one tree alone.
+/// Returns the command `run` with its options and defaults. The one for a forest conflicts with
+/// those that need a single tree.
 pub(crate) fn run_command<'a>(alloc: Global) -> Result<Command<'a>, AllocError> {
     let mut draft = Draft::new(alloc, "run", "Runs a trace", OF_RUN);
     draft.setting();
