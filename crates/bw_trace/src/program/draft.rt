@@ -57,7 +57,7 @@ impl<'a> Draft<'a> {
 
     /// Adds the file that is read in place of standard input.
     pub(crate) fn file(&mut self) {
-        let file = Arg::new(self.alloc, "FILE").help("Reads this file, and not standard input");
+        let file = Arg::new(self.alloc, "FILE").help("The file to read [default: standard input]");
         self.add(file);
     }
 

@@ -64,8 +64,8 @@ pub(crate) fn film_command<'a>(alloc: Global) -> Result<Command<'a>, AllocError>
     let about = "Writes a page that shows the table after each step";
     let mut draft = Draft::new(alloc, "film", about, OF_FILM);
     draft.shown();
-    draft.optional("from", "The first moment, 0 if absent");
-    draft.optional("to", "The last moment, that of the last step if absent");
+    draft.optional("from", "The first moment [default: 0]");
+    draft.optional("to", "The last moment [default: that of the last step]");
     draft.key();
     draft.file();
     draft.made()

@@ -62,11 +62,11 @@ fn trees_of(matches: &ArgMatches) -> Result<Option<u32>, Field>
 pub(crate) fn run_command<'a>(alloc: Global) -> Result<Command<'a>, AllocError> {
     let mut draft = Draft::new(alloc, "run", "Runs a trace", OF_RUN);
     draft.setting();
-    let help = "Runs it on this many trees by ranges of keys, 1 to 1024, and not on one";
+    let help = "Runs it on this many trees by ranges of keys, 1 to 1024";
     draft.optional_apart("trees", help, &["readers", "history"]);
-    draft.flag("replies", "Prints the replies, too");
-    draft.flag("history", "Prints the history alone");
-    let help = "Says nothing of a run that ends well, not even on a terminal";
+    draft.flag("replies", "Also prints the replies");
+    draft.flag("history", "Prints only the history");
+    let help = "Shows neither progress nor a note of faults on a terminal";
     draft.flag("quiet", help);
     draft.file();
     draft.made()

@@ -51,12 +51,12 @@ impl Setting {
 impl<'a> Draft<'a> {
     /// Adds the options of a setting.
     pub(crate) fn setting(&mut self) {
-        self.number("fanout", "16", "Entries of a page at most, 4 to 64");
+        self.number("fanout", "16", "The most entries of a page, 4 to 64");
         self.number("chain", "8", "Consolidate at this depth, 1 to 32");
-        self.number("pages", "4096", "Pages at most, 8 to 65536");
-        self.number("tries", "1000", "Effort of one call at most, 1 to 1000");
+        self.number("pages", "4096", "The most pages, 8 to 65536");
+        self.number("tries", "1000", "The most effort of one call, 1 to 1000");
         self.number("workers", "1", "Workers who do the rows, 1 to 64");
-        let help = "Workers who read without the lock, 0 to 16 and to --workers";
+        let help = "Workers who read without the lock, 0 to 16, at most --workers";
         self.number("readers", "0", help);
     }
 }

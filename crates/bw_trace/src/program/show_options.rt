@@ -83,11 +83,15 @@ impl<'a> Draft<'a> {
     pub(crate) fn shown(&mut self) {
         self.setting();
         let others = &["fanout", "chain", "pages", "tries", "workers", "readers"];
-        self.flag_apart("steps", "Reads a script of steps, not a trace", others);
+        self.flag_apart(
+            "steps",
+            "Reads a script of steps instead of a trace",
+            others,
+        );
     }
 
     fn after(&mut self) {
-        self.optional("after", "Does this many rows or lines, not all");
+        self.optional("after", "Does only this many rows or lines");
     }
 
     pub(crate) fn key(&mut self) {
