@@ -1,10 +1,16 @@
 -- Workers by their numbers, and what their trails tell.
 use Rattle.std.specs.Prelude.{◌≡◌, ◌+◌, ℕ, List, [], ◌∷◌, fold, map, slice_get, Option, Ok, Some, None, MatchOption}
+use Rattle.bw_keys.specs.declared.range.Range.{Range}
 use Rattle.bw_step.specs.declared.receipt.Receipt.{Receipt}
 use Rattle.bw_step.specs.declared.view.Look.{Look}
 use Rattle.bw_tree.specs.Shares.{ShareValue, counted, no_changes, sum_of}
 use Rattle.bw_procedures.specs.declared.steps.Keep.TheVariants.{Always}
 use Rattle.bw_procedures.specs.Seen.{Seen, Looked}
+
+-- a worker of a tree: what its account is, and the range of the keys that the tree is for
+pub record MemberValue : Type 0 where
+  pub seen : Seen
+  pub range : Range
 
 -- what is promised of a worker's number, of what that worker brings back, and of its trail at the
 -- end

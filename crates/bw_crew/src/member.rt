@@ -17,7 +17,7 @@ use std::alloc::Global;
 use std::marker::Model;
 
 /// A hand on a tree that others share. All that it makes lies in the machine's memory. Contracts
-/// see it as what a worker's account is.
+/// see it as what a worker's account is, and the range of the keys that the tree is for.
 #[derive(Drop)]
 pub struct Member<'t, S: Shared<Global, Step<Global>>, G: Gate, L: Trail> {
     hand: Hand<'t, Global, S, G, L>,
@@ -25,13 +25,16 @@ pub struct Member<'t, S: Shared<Global, Step<Global>>, G: Gate, L: Trail> {
 
 impl<'t, S: Shared<Global, Step<Global>>, G: Gate, L: Trail> Model for Member<'t, S, G, L> {
     ghost use Rattle.std.specs.Prelude.{[]};
-    ghost use Rattle.bw_procedures.specs.Seen.{Seen};
     ghost use Rattle.bw_tree.specs.Shares.{no_changes};
     ghost use Rattle.bw_work.specs.Hands.{Sums};
+    ghost use Rattle.bw_crew.specs.Workers.{MemberValue};
 
-    ghost Value = { Seen };
+    ghost Value = { MemberValue };
 
-    ghost view = { λ m. m.hand.account.seen };
+    ghost view = { λ m. record {
+      seen = m.hand.account.seen;
+      range = S.range m.hand.tree.now;
+    } };
 
     ghost invariant = { λ m. Sums [] no_changes m.hand.account.seen.trail m.hand.share };
 }
@@ -46,7 +49,8 @@ impl<'t, S: Shared<Global, Step<Global>>, G: Gate, L: Trail> Member<'t, S, G, L>
         gate: &'t G,
     ) -> Member<'t, S, G, L>
         requires { share ≡ no_changes }
-        ensures { result.trail ≡ [] }
+        ensures trail { result.seen.trail ≡ [] }
+        ensures range { result.range ≡ S.range tree.now }
     {
         Member {
             hand: Hand::with_trail(L::empty(machine), machine, tree, share, worker, gate),
@@ -55,7 +59,7 @@ impl<'t, S: Shared<Global, Step<Global>>, G: Gate, L: Trail> Member<'t, S, G, L>
 
     /// Returns the share and the trail.
     pub fn finish(self) -> (Share<S::Insertions, S::Removals>, L)
-        ensures trail { L.added result.1 ≡ self.entry.trail }
+        ensures trail { L.added result.1 ≡ self.entry.seen.trail }
         ensures share { result.0 ≡ share_by (L.added result.1) }
     {
         let Member { hand, .. } = self;
@@ -65,21 +69,24 @@ impl<'t, S: Shared<Global, Step<Global>>, G: Gate, L: Trail> Member<'t, S, G, L>
 
 impl<'t, S: Shared<Global, Step<Global>>, G: Gate, L: Trail> Steps<Global, Step<Global>>
     for Member<'t, S, G, L> {
-    ghost seen = { λ m. m };
+    ghost use Rattle.std.specs.Prelude.{◌≡◌, refl};
+    ghost use Rattle.std.proofs.Common.{◌∙◌};
+
+    ghost seen = { λ m. m.seen };
 
     ghost kept = { L.kept };
 
-    // what its share is raised by is the member's own law
-    ghost follows = { λ a b. Unit {0} };
+    // it stays on a tree for the same keys; what its share is raised by is the member's own law
+    ghost follows = { λ a b. a.range ≡ b.range };
 
     ghost shows = { λ m low end pairs. Unit {0} };
 
     // others may take steps at any time
     ghost calm = { λ m fact. ⊥ };
 
-    ghost stays = { λ m. tt };
+    ghost stays = { λ m. refl };
 
-    ghost joins = { λ a b c p q. tt };
+    ghost joins = { λ a b c p q. p ∙ q };
 
     ghost narrows = { λ m low key end pairs le shown. tt };
 

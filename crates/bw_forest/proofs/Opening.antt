@@ -1,18 +1,24 @@
 -- The trees of a closed forest, put under their locks again, and the opening shares that count their books.
-use Rattle.std.proofs.Common.{◌≡◌, ℕ, ◌+◌, List, [], ◌∷◌, ◌++◌, All, ap, subst, ◌∙◌, append_assoc}
+use Rattle.std.proofs.Common.{◌≡◌, ℕ, ◌+◌, List, [], ◌∷◌, ◌++◌, All, Some, slice_get, take, map, ap, sym, subst, ◌∙◌, append_assoc}
+use Rattle.std.proofs.lemmas.List.{map-append, take_more}
+use Rattle.std.proofs.lemmas.Option.{get_or_from_slice_get, slice_get_within}
 use Rattle.std.proofs.lemmas.List.Elements.{All-head, All-tail}
-use Rattle.bw_tree.specs.Shares.{ShareValue, shared_in}
-use Rattle.bw_forest.specs.Forests.{books_of, tables_of}
-use Rattle.bw_forest.specs.Plots.{PlotValue}
+use Rattle.bw_keys.specs.declared.range.Range.{Range}
 
--- one book less to count
-pub books_left : (opening more all : List ShareValue) (tree : PlotValue) (rest : List PlotValue) (share : ShareValue)
-    → more ≡ opening ++ share ∷ [] → share ≡ shared_in tree.table.book
-    → opening ++ books_of (tables_of (tree ∷ rest)) ≡ all → more ++ books_of (tables_of rest) ≡ all
-books_left opening more all tree rest share grown counted so_far =
-    ap (λ (list : List ShareValue). list ++ books_of (tables_of rest)) grown
-    ∙ (append_assoc opening (share ∷ []) (books_of (tables_of rest))
-    ∙ (ap (λ (s : ShareValue). opening ++ s ∷ books_of (tables_of rest)) counted ∙ so_far))
+-- one item of the rest stands among those before it
+pub one_left : {X : Type 0} → (done more all : List X) (x y : X) (rest : List X) → more ≡ done ++ x ∷ [] → x ≡ y → done ++ y ∷ rest ≡ all
+    → more ++ rest ≡ all
+one_left done more all x y rest grown same so_far =
+    ap (λ (list : List _). list ++ rest) grown ∙ (append_assoc done (x ∷ []) rest ∙ (ap (λ it. done ++ it ∷ rest) same ∙ so_far))
+
+-- one tree more has the next range
+pub range_taken : {T : Type 0} → (range : T → Range) (trees more : List T) (tree : T) (ranges : List Range) (i : ℕ)
+    → more ≡ trees ++ tree ∷ [] → slice_get ranges i ≡ Some (range tree) → map range trees ≡ take i ranges
+    → map range more ≡ take (i + 1) ranges
+range_taken range trees more tree ranges i grown next so_far =
+    let here = get_or_from_slice_get ranges i (range tree) (range tree) next in
+    rw grown (map-append range trees (tree ∷ []) ∙ ((λ j. so_far j ++ sym here j ∷ [])
+    ∙ sym (take_more ranges i (range tree) (slice_get_within ranges i (range tree) next))))
 
 last_of : {X : Type 0} → (P : X → Type 0) (xs : List X) (x : X) → All P (xs ++ x ∷ []) → P x
 last_of P [] x all = All-head P x [] all

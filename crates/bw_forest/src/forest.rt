@@ -33,6 +33,7 @@ pub struct Forest<R: Wait + Drop, A: Allocator + Copy, I: MadeBy, D: Ledger> {
     // taken at the start, so that no closing fails for want of memory
     room: Felled<A, I, D>,
     ghost each: { length trees.items ≡ length bounds },
+    ghost placed: { map (λ tree. tree.range) trees.items ≡ ranges_of bounds },
     ghost counted: { totals.trees ≡ length trees.items },
     ghost empty: { (length room.trees.items ≡ 0) × (length room.stocks.items ≡ 0) },
     ghost enough: { (length trees.items ≤ vec_capacity room.trees)
@@ -242,6 +243,8 @@ fn plant<R: Wait + Drop + Copy, A: Allocator + Copy, I: MadeBy, D: Ledger>(
     requires stocks { length stocks.items ≡ length bounds.now }
     requires none { All (λ stock. stock ≡ no_changes) stocks.items }
     ensures count { IfOk result (λ trees. length trees.items ≡ length bounds.now) }
+    ensures placed { IfOk result
+        (λ trees. map (λ tree. tree.range) trees.items ≡ ranges_of bounds.now) }
 {
     let mut stocks = stocks;
     let mut trees = Vec::with_capacity(machine, stocks.len())?;
@@ -277,6 +280,7 @@ fn replant<R: Wait + Drop + Copy, A: Allocator + Copy, I: MadeBy, D: Ledger>(
     requires enough { (length closed.items ≤ vec_capacity room.trees)
         × (length closed.items ≤ vec_capacity room.opening) }
     ensures count { length result.trees.items ≡ length closed.items }
+    ensures ranges { map (λ tree. tree.range) result.trees.items ≡ ranges_in closed.items }
     ensures at_each { length result.opening.items ≡ length closed.items }
     ensures opening { result.opening.items ≡ books_of (tables_of closed.items) }
 {
@@ -314,6 +318,7 @@ impl<R: Wait + Drop, A: Allocator + Copy, I: MadeBy, D: Ledger> Forest<R, A, I, 
     #[inline(always)]
     pub fn trees(&self) -> &[ForestTree<R, A, I, D>]
         ensures each { length result.now ≡ length self.now.bounds }
+        ensures placed { map (λ tree. tree.range) result.now ≡ ranges_of self.now.bounds }
     {
         self.trees.as_slice()
     }

@@ -27,6 +27,8 @@ use std::sync::{Mutex, Wait};
 pub struct ForestTree<R: Wait + Drop, A: Allocator + Copy, I: MadeBy, D: Ledger> {
     rt: R,
     config: Config,
+    // outside the lock, where the forest says which range each of its trees is for
+    range: Range,
     // padded, so that the lock of one tree and the book of the next aren't on one cache line
     plot: CachePadded<Mutex<Plot<A, I, D>>>,
 }
@@ -45,10 +47,12 @@ impl<R: Wait + Drop, A: Allocator + Copy, I: MadeBy, D: Ledger> ForestTree<R, A,
         requires stock { stock ≡ shared_in table.book }
         requires within { LiesIn range table.slots }
         ensures config { result.config ≡ config }
+        ensures range { result.range ≡ range }
     {
         ForestTree {
             rt,
             config,
+            range,
             plot: CachePadded::new(Mutex::new(Plot::new(table, stock, range))),
         }
     }
@@ -73,6 +77,8 @@ impl<R: Wait + Drop, A: Allocator + Copy, I: MadeBy, D: Ledger> Shared<A, Step<A
     type Removals = D;
 
     ghost made_by = { λ tree. tree.config };
+
+    ghost range = { λ tree. tree.range };
 
     #[inline(always)]
     fn config(&self) -> Config {

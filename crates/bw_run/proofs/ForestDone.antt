@@ -36,14 +36,14 @@ by_number_to fact other first (x ∷ xs) to all = (
       (λ worker it less. to worker it (omega (arith, less))) all.1,
 )
 
-module _ {X : Type 0} (output : X → Result Answers NoMemory) (trails : X → List (List Receipt)) (rows : List Row) where
+module _ {X : Type 0} (bounds : List ℕ) (output : X → Result Answers NoMemory) (trails : X → List (List Receipt)) (rows : List Row) where
   abbrev pub AsPromised : ℕ → X → Type 0
-  AsPromised worker it = IfOk (output it) (AreForestAnswersTo (acts_of worker rows) (trails it))
+  AsPromised worker it = IfOk (output it) (AreForestAnswersTo bounds (acts_of worker rows) (trails it))
 
   answers_of : (worker : ℕ) (it : X) (answers : Answers) → output it ≡ Ok answers → AsPromised worker it
-      → AreForestAnswersTo (acts_of worker rows) (trails it) answers
+      → AreForestAnswersTo bounds (acts_of worker rows) (trails it) answers
   answers_of worker it answers is promised = subst (λ (o : Result Answers NoMemory). IfOk o
-      (AreForestAnswersTo (acts_of worker rows) (trails it))) is promised
+      (AreForestAnswersTo bounds (acts_of worker rows) (trails it))) is promised
 
   head_same : (it : X) (workers : List X) (a : Answers) (answers : List Answers) → map output (it ∷ workers) ≡ map Ok (a ∷ answers)
       → output it ≡ Ok a
@@ -67,7 +67,7 @@ module _ {X : Type 0} (output : X → Result Answers NoMemory) (trails : X → L
   abbrev pub IsDoneAt : ℕ → List Row → List (List Reply) → List (List (List Receipt)) → ℕ → Type 0
   IsDoneAt first rs columns all place =
       (length (get_or columns place []) ≡ length (acts_of (first + place) rs))
-      × ToldBy (acts_of (first + place) rs) (get_or columns place []) (get_or all place [])
+      × ToldBy bounds (acts_of (first + place) rs) (get_or columns place []) (get_or all place [])
 
   done_at : (first : ℕ) (workers : List X) (answers : List Answers) → map output workers ≡ map Ok answers
       → ByNumber AsPromised first workers
@@ -80,14 +80,14 @@ module _ {X : Type 0} (output : X → Result Answers NoMemory) (trails : X → L
       let stopped = All-head (λ each. each.stop ≡ None) a answers none in
       let here : first ≡ first + 0 = omega arith in
       subst (λ worker. (length a.replies.items ≡ length (acts_of worker rows))
-      × ToldBy (acts_of worker rows) a.replies.items (trails it)) here (are.all stopped, are.told stopped)
+      × ToldBy bounds (acts_of worker rows) a.replies.items (trails it)) here (are.all stopped, are.told stopped)
   done_at first (it ∷ workers) (a ∷ answers) same all none (suc place) inside =
       let next = done_at (first + 1) workers answers (tail_same it workers a answers same) all.1
       (All-tail (λ each. each.stop ≡ None) a answers none) place (omega (arith, inside)) in
       let here : first + 1 + place ≡ first + suc place = omega arith in
       let column = get_or (columns_of answers) place [] in
       subst (λ worker. (length column ≡ length (acts_of worker rows))
-      × ToldBy (acts_of worker rows) column (get_or (map trails workers) place [])) here next
+      × ToldBy bounds (acts_of worker rows) column (get_or (map trails workers) place [])) here next
 
   -- where no worker stopped, each row has a reply
   pub full : (workers : List X) (answers : List Answers) → map output workers ≡ map Ok answers → ByNumber AsPromised 0 workers
@@ -101,18 +101,19 @@ module _ {X : Type 0} (output : X → Result Answers NoMemory) (trails : X → L
   -- and the trails tell what goes with it
   pub told : (workers : List X) (answers : List Answers) → map output workers ≡ map Ok answers → ByNumber AsPromised 0 workers
       → All (λ each. each.stop ≡ None) answers → (worker : ℕ) → worker < length answers
-      → ToldBy (acts_of worker rows) (get_or (columns_of answers) worker []) (get_or (map trails workers) worker [])
+      → ToldBy bounds (acts_of worker rows) (get_or (columns_of answers) worker []) (get_or (map trails workers) worker [])
   told workers answers same all none worker inside =
       let here : 0 + worker ≡ worker = omega arith in
-      subst (λ w. ToldBy (acts_of w rows) (get_or (columns_of answers) worker []) (get_or (map trails workers) worker [])) here
+      subst (λ w. ToldBy bounds (acts_of w rows) (get_or (columns_of answers) worker []) (get_or (map trails workers) worker [])) here
       (done_at 0 workers answers same all none worker inside).1
 
   -- what is promised of a worker's own part of the plan is promised of its rows
   pub as_planned : (plan : List (List Act)) (workers : List X) → ArePlanned plan rows → length workers ≡ length plan
-      → ByNumber (λ worker it. IfOk (output it) (AreForestAnswersTo (slice_index_or plan worker []) (trails it))) 0 workers
+      → ByNumber (λ worker it. IfOk (output it) (AreForestAnswersTo bounds (slice_index_or plan worker []) (trails it))) 0 workers
       → ByNumber AsPromised 0 workers
   as_planned plan workers planned many all =
-      by_number_to (λ worker it. IfOk (output it) (AreForestAnswersTo (slice_index_or plan worker []) (trails it))) AsPromised 0 workers
-      (λ worker it less promised. subst (λ (acts : List Act). IfOk (output it) (AreForestAnswersTo acts (trails it)))
+      by_number_to (λ worker it. IfOk (output it) (AreForestAnswersTo bounds (slice_index_or plan worker []) (trails it))) AsPromised 0
+      workers
+      (λ worker it less promised. subst (λ (acts : List Act). IfOk (output it) (AreForestAnswersTo bounds acts (trails it)))
       (planned worker (omega (arith, less, many))) promised)
       all

@@ -149,13 +149,13 @@ module _ {O : Type 0} (n : ℕ) (workers : List (Returned O (Vec Receipt Global)
 
     -- what a worker's trails tell, they tell as they are sorted
     pub told_sorted : Have n rows_of → AreSorted → (worker : ℕ) → worker < length workers
-        → (acts : List Act) (replies column : List Reply) → replies ≡ column
-        → ToldBy acts column (get_or rows_of worker []) → ToldBy acts replies
+        → (bounds : List ℕ) (acts : List Act) (replies column : List Reply) → replies ≡ column
+        → ToldBy bounds acts column (get_or rows_of worker []) → ToldBy bounds acts replies
         (map (λ its. slice_index_or its worker []) (map (λ its. lists_of its.items) sorted))
-    told_sorted have same worker inside acts replies column own tells =
+    told_sorted have same worker inside bounds acts replies column own tells =
         let many : length rows_of ≡ length workers = length-map workers (λ it. lists_of it.trails.items) in
         let row = ap (λ (lists : List (List (List Receipt))). map (λ its. get_or its worker []) lists) same
         ∙ row_of [] n rows_of worker have (omega (arith, many, inside)) in
-        subst (λ (rs : List Reply). ToldBy acts rs (map (λ its. slice_index_or its worker [])
+        subst (λ (rs : List Reply). ToldBy bounds acts rs (map (λ its. slice_index_or its worker [])
         (map (λ its. lists_of its.items) sorted))) (sym own)
-        (subst (λ (ts : List (List Receipt)). ToldBy acts column ts) (sym row) tells)
+        (subst (λ (ts : List (List Receipt)). ToldBy bounds acts column ts) (sym row) tells)

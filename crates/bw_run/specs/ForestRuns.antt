@@ -59,9 +59,10 @@ EachIsLegal tables trails =
 abbrev pub trails_by : ℕ → FinishedForest → List (List Receipt)
 trails_by worker finished = map (λ its. slice_index_or its worker []) (trails_at finished)
 
--- each worker's trails tell, row by row, what goes with its rows and the replies to them
+-- each worker's trails tell, row by row, what goes with its rows and the replies to them, each at
+-- the tree whose range holds its key
 abbrev pub TellsByTrees : ℕ → List Row → FinishedForest → Type 0
 TellsByTrees workers rows finished =
     (worker : ℕ) → worker < workers
-    → ToldBy (acts_of worker rows) (replies_to worker rows finished.replies.items)
-    (trails_by worker finished)
+    → ToldBy finished.forest.bounds (acts_of worker rows)
+    (replies_to worker rows finished.replies.items) (trails_by worker finished)

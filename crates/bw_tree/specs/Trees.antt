@@ -4,6 +4,8 @@ use Rattle.std.specs.declared.sync.ledger.Ledger.{Ghosts as Ledger}
 use Rattle.bw_keys.specs.declared.config.Config.{Config}
 use Rattle.bw_keys.specs.Limits.{first_bad_field, is_out_of}
 use Rattle.bw_keys.specs.declared.range.Fence.{Fence}
+use Rattle.bw_keys.specs.declared.range.Fence.TheVariants.{Top}
+use Rattle.bw_keys.specs.declared.range.Range.{Range}
 use Rattle.bw_keys.specs.Ranges.{end_of, key_count}
 use Rattle.bw_chain.specs.Leaves.{AppendsLeaf}
 use Rattle.bw_step.specs.Proposals.{Proposal}
@@ -17,6 +19,10 @@ use Rattle.bw_tree.specs.Shares.{ShareValue, shared_in, sum_of, Opens}
 use Rattle.bw_tree.specs.declared.fault.NewFault.{NewFault}
 use Rattle.bw_tree.specs.declared.fault.NewFault.TheVariants.{BadConfig, BadWorkers, NoMemory}
 use Rattle.bw_tree.specs.declared.share.Blanks.{Blanks}
+
+-- the range that no key lies out of
+abbrev pub all_keys : Range
+all_keys = record { low = 0; high = Top }
 
 -- the leaf row's pairs are as many as the insertions less the removals
 abbrev pub CountsPairs : TableValue → ShareValue → Type 0

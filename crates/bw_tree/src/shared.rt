@@ -19,9 +19,10 @@ pub trait Shared<A: Allocator + Copy, P: Proposes> {
     ghost use Rattle.std.specs.Prelude.{◌≡◌, ◌≤◌, ◌<◌, IfOk, IfSome};
     ghost use Rattle.bw_keys.specs.Ranges.{end_of};
     ghost use Rattle.bw_keys.specs.declared.config.Config.{Config};
+    ghost use Rattle.bw_keys.specs.declared.range.Range.{Range};
     ghost use Rattle.bw_delta.specs.Sound.{IsSound};
     ghost use Rattle.bw_tree.specs.Shares.{CountsIn, CountsPerformed};
-    ghost use Rattle.bw_tree.specs.Trees.{ReadsTree};
+    ghost use Rattle.bw_tree.specs.Trees.{ReadsTree, all_keys};
     ghost use Rattle.bw_step.specs.Actions.{Reports};
     ghost use Rattle.bw_step.specs.Steps.{IsNext, IsReceiptOf};
 
@@ -33,6 +34,9 @@ pub trait Shared<A: Allocator + Copy, P: Proposes> {
 
     // the configuration that the tree was made by
     ghost made_by: { Self → Config };
+
+    // the range of the keys that the tree is for: all of them, but in a forest
+    ghost range: { Self → Range } = { λ tree. all_keys };
 
     /// Returns the configuration that the tree was made by.
     fn config(&self) -> Config

@@ -62,6 +62,7 @@ impl<'t, A: Allocator + Copy, S: Shared<A, Step<A>>, G: Gate> Hand<'t, A, S, G> 
     ) -> Hand<'t, A, S, G>
         ensures share { result.share ≡ share }
         ensures worker { result.worker ≡ worker }
+        ensures tree { result.tree.now ≡ tree.now }
         ensures config { result.account.seen.config ≡ S.made_by tree.now }
         ensures trail { result.account.seen.trail ≡ [] }
         ensures effort { result.account.seen.effort ≡ 0 }
@@ -84,6 +85,7 @@ impl<'t, A: Allocator + Copy, S: Shared<A, Step<A>>, G: Gate, T: Trail> Hand<'t,
     ) -> Hand<'t, A, S, G, T>
         ensures share { result.share ≡ share }
         ensures worker { result.worker ≡ worker }
+        ensures tree { result.tree.now ≡ tree.now }
         ensures config { result.account.seen.config ≡ S.made_by tree.now }
         ensures trail { result.account.seen.trail ≡ T.added trail }
         ensures effort { result.account.seen.effort ≡ 0 }
@@ -146,25 +148,30 @@ impl<'t, A: Allocator + Copy, S: Shared<A, Step<A>>, G: Gate, T: Trail> Hand<'t,
 
 impl<'t, A: Allocator + Copy, S: Shared<A, Step<A>>, G: Gate, T: Trail> Steps<A, Step<A>>
     for Hand<'t, A, S, G, T> {
+    ghost use Rattle.std.specs.Prelude.{◌≡◌, refl};
+    ghost use Rattle.std.proofs.Common.{◌∙◌};
     ghost use Rattle.bw_work.specs.Hands.{Sums, sums_stay, sums_join};
 
     ghost seen = { λ h. h.account.seen };
 
     ghost kept = { T.kept };
 
-    // the share is raised by the receipts that were added
-    ghost follows = { λ a b. Sums a.account.seen.trail a.share b.account.seen.trail b.share };
+    // the share is raised by the receipts that were added, and the tree is the same
+    ghost follows = { λ a b. Sums a.account.seen.trail a.share b.account.seen.trail b.share
+        × (a.tree.now ≡ b.tree.now) };
 
     ghost shows = { λ h low end pairs. Unit {0} };
 
     // others may take steps at any time
     ghost calm = { λ h fact. ⊥ };
 
-    ghost stays = { λ h. sums_stay h.account.seen.trail h.share };
+    ghost stays = { λ h. (sums_stay h.account.seen.trail h.share, refl) };
 
-    ghost joins = { λ a b c p q.
-        sums_join a.account.seen.trail b.account.seen.trail c.account.seen.trail
-        a.share b.share c.share p q };
+    ghost joins = { λ a b c p q. (
+      sums_join a.account.seen.trail b.account.seen.trail c.account.seen.trail
+          a.share b.share c.share p.0 q.0,
+      p.1 ∙ q.1,
+    ) };
 
     ghost narrows = { λ h low key end pairs le shown. tt };
 
@@ -264,7 +271,7 @@ impl<'t, A: Allocator + Copy, S: Shared<A, Step<A>>, G: Gate, T: Trail> Steps<A,
     #[inline(always)]
     fn install(&mut self, step: Step<A>) -> Result<Receipt, Denied>
         ensures follows { Sums self.old.account.seen.trail self.old.share
-            self.new.account.seen.trail self.new.share }
+            self.new.account.seen.trail self.new.share × (self.old.tree.now ≡ self.new.tree.now) }
         ensures seen { Installed (proposal_of step) result
             self.old.account.seen self.new.account.seen }
     {

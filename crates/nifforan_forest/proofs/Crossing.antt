@@ -24,8 +24,11 @@ module _ (R I D : RattleType) (made : made_by.Ghosts I.Denot) (counts : ledger.G
     (
       search sendable depth 60,
       (
-        search (Table-send, stock.the_send, sendable, crosses) depth 80 fits 10000,
-        tt,
+        search sendable depth 60,
+        (
+          search (Table-send, stock.the_send, sendable, crosses) depth 80 fits 10000,
+          tt,
+        ),
       ),
     ),
   )

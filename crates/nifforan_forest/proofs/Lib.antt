@@ -1,4 +1,5 @@
 pub mod Places
+pub mod Placing
 pub mod Reading
 pub mod Leaves
 pub mod Reaching

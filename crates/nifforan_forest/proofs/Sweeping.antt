@@ -1,13 +1,15 @@
 -- What was cleared, tree by tree.
-use Rattle.std.proofs.Common.{◌≡◌, ◌≢◌, ◌⊎◌, inl, inr, ℕ, zero, suc, ◌+◌, ◌≤◌, ◌==◌, Bool, true, false, List, [], ◌∷◌, ◌++◌, Some, None, refl, ap, sym, subst, ◌∙◌, append_assoc, append-nil, arith}
+use Rattle.std.proofs.Common.{◌≡◌, ◌≢◌, ◌⊎◌, inl, inr, ℕ, zero, suc, ◌+◌, ◌≤◌, ◌==◌, max, min, Bool, true, false, List, [], ◌∷◌, ◌++◌, Some, None, refl, ap, sym, subst, ◌∙◌, append_assoc, append-nil, arith}
 use Rattle.std.specs.Prelude.{slice_get, slice_set}
 use Rattle.std.proofs.lemmas.Bool.Decides.{nat_tests}
 use Rattle.std.proofs.lemmas.Option.{slice_get_within}
 use Rattle.bw_delta.specs.Entries.{at}
+use Rattle.bw_keys.specs.declared.range.Range.{Range}
+use Rattle.bw_keys.specs.Ranges.{end_of}
 use Rattle.bw_step.specs.Tellings.{Reported, reported_in}
 use Rattle.bw_forest.specs.Bounds.{IsTreeOf}
 use Rattle.bw_procedures.specs.Clearing.{AddsRemovals, AreRemovals, HasRemovalOf, IsSwept, removals_in}
-use Rattle.bw_procedures.specs.Seen.{Seen}
+use Rattle.bw_procedures.specs.Seen.{Seen, Grows}
 use Rattle.bw_procedures.proofs.Removals.{grow_then, removals_lower, spent_grows}
 use Rattle.nifforan_forest.specs.Clears.{Removes, SweepsKey, Together}
 use Rattle.nifforan_forest.proofs.Places.{set_there, set_elsewhere, some_is}
@@ -77,8 +79,8 @@ gone_more : (key : ℕ) (pairs : List (ℕ × ℕ)) (xs ys : List Reported) → 
 gone_more key pairs xs ys (inl none) = inl none
 gone_more key pairs xs ys (inr has) = inr (has_more key xs ys has)
 
-module _ {H : Type 0} (seen : H → Seen) (follows : H → H → Type 0) where
-  pub removes_none : ((h : H) → follows h h) → (low end : ℕ) (h : H) → Removes seen follows low end 0 h h
+module _ {H : Type 0} (seen : H → Seen) (follows : H → H → Type 0) (range : H → Range) where
+  pub removes_none : ((h : H) → follows h h) → (low end : ℕ) (h : H) → Removes seen follows range low end 0 h h
   removes_none stays low end h =
       record {
         followed = stays h;
@@ -91,27 +93,48 @@ module _ {H : Type 0} (seen : H → Seen) (follows : H → H → Type 0) where
         };
       }
 
-  pub removes_wider : (low high end n : ℕ) (a b : H) → high ≤ end → Removes seen follows low high n a b → Removes seen follows low end n a b
+  pub removes_wider : (low high end n : ℕ) (a b : H) → high ≤ end → Removes seen follows range low high n a b
+      → Removes seen follows range low end n a b
   removes_wider low high end n a b le did =
+      let top = end_of (range a).high in
       record {
         followed = did.followed;
         grows = did.grows;
         receipts = record {
           added = did.receipts.added;
           trail = did.receipts.trail;
-          removals = higher low
-              high end did.receipts.added le did.receipts.removals;
+          removals = higher (max low (range a).low) (min high top) (min end top) did.receipts.added (omega (arith, le))
+              did.receipts.removals;
           count = did.receipts.count;
         };
       }
 
+  -- what a hand removed of its tree's range
+  pub removes_of : (low upto n : ℕ) (a b : H) → follows a b → Grows (seen a) (seen b) → AddsRemovals low upto n (seen a) (seen b)
+      → (range a).low ≤ low → upto ≤ end_of (range a).high → Removes seen follows range low upto n a b
+  removes_of low upto n a b followed grows receipts from within =
+      let at_low : low ≡ max low (range a).low = omega (arith, from) in
+      let at_end : upto ≡ min upto (end_of (range a).high) = omega (arith, within) in
+      record {
+        followed = followed;
+        grows = grows;
+        receipts = subst (λ (l : ℕ). AddsRemovals l (min upto (end_of (range a).high)) n (seen a) (seen b)) at_low
+            (subst (λ (u : ℕ). AddsRemovals low u n (seen a) (seen b)) at_end receipts);
+      }
+
   -- a hand removed keys of one part of the range after those of another
-  pub removes_then : ((a b c : H) → follows a b → follows b c → follows a c) → (low middle at high n m : ℕ) (a b c : H) → low ≤ at
-      → middle ≤ at → middle ≤ high → Removes seen follows low middle n a b → Removes seen follows at high m b c
-      → Removes seen follows low high (n + m) a c
-  removes_then joins low middle at high n m a b c le before within first then =
+  pub removes_then : ((a b c : H) → follows a b → follows b c → follows a c) → ((a b : H) → follows a b → range a ≡ range b)
+      → (low middle at high n m : ℕ) (a b c : H) → low ≤ at
+      → middle ≤ at → middle ≤ high → Removes seen follows range low middle n a b → Removes seen follows range at high m b c
+      → Removes seen follows range low high (n + m) a c
+  removes_then joins stays_there low middle at high n m a b c le before within first then =
       let one = first.receipts in
       let more = then.receipts in
+      let bottom = (range a).low in
+      let top = end_of (range a).high in
+      let later : AreRemovals (max at bottom) (min high top) more.added =
+      subst (λ (r : Range). AreRemovals (max at r.low) (min high (end_of r.high)) more.added) (sym (stays_there a b first.followed))
+      more.removals in
       record {
         followed = joins a b c first.followed then.followed;
         grows = grow_then (seen a) (seen b) (seen c) first.grows then.grows;
@@ -120,7 +143,8 @@ module _ {H : Type 0} (seen : H → Seen) (follows : H → H → Type 0) where
           trail =
               since_then (reported_in (seen a).trail) (reported_in (seen b).trail) (reported_in (seen c).trail) one.added more.added
               one.trail more.trail;
-          removals = removals_then low middle at high one.added more.added le before within one.removals more.removals;
+          removals = removals_then (max low bottom) (min middle top) (max at bottom) (min high top) one.added more.added (omega (arith, le))
+              (omega (arith, before)) (omega (arith, within)) one.removals later;
           count = omega (arith, removals_in_both one.added more.added, one.count, more.count);
         };
       }

@@ -25,8 +25,9 @@ pub ends_past : (bounds : List ℕ) (key tree : ℕ) (range : Range) → slice_g
     → (range.low ≤ key) × (key < end_of range.high)
 ends_past bounds key tree range is holds = let same : holds.0 ≡ range = some_is holds.0 range (sym holds.1 ∙ is) in rw (← same) holds.2
 
-module _ {H : Type 0} (bounds : List ℕ) (seen : H → Seen) (follows : H → H → Type 0) (shows : H → ℕ → ℕ → List (ℕ × ℕ) → Type 0)
-    (joins : (a b c : H) → follows a b → follows b c → follows a c) (olds news : List H) (tree : ℕ) (range : Range) (hand now : H) where
+module _ {H : Type 0} (bounds : List ℕ) (seen : H → Seen) (follows : H → H → Type 0) (range_of : H → Range)
+    (shows : H → ℕ → ℕ → List (ℕ × ℕ) → Type 0) (joins : (a b c : H) → follows a b → follows b c → follows a c)
+    (stays_there : (a b : H) → follows a b → range_of a ≡ range_of b) (olds news : List H) (tree : ℕ) (range : Range) (hand now : H) where
   pub tree_read : (low at reached : ℕ) (added more : List (ℕ × ℕ)) → low ≤ at → at ≤ reached → reached ≤ end_of range.high → range.low ≤ at
       → slice_get (ranges_of bounds) tree ≡ Some range → slice_get news tree ≡ Some hand → follows hand now
       → EachSpends seen follows olds news
@@ -44,36 +45,36 @@ module _ {H : Type 0} (bounds : List ℕ) (seen : H → Seen) (follows : H → H
       (range, there_is, (omega (arith, from_range, above), omega (arith, under, within))) was) part)
 
   pub tree_cleared : (low high at end upto count own : ℕ) → low ≤ at → at ≤ end → upto ≡ min end high → slice_get news tree ≡ Some hand
-      → Removes seen follows at upto own hand now → Together (Removes seen follows low (min at high)) olds news count
-      → Together (Removes seen follows low (min end high)) olds (slice_set news tree now) (count + own)
+      → Removes seen follows range_of at upto own hand now → Together (Removes seen follows range_of low (min at high)) olds news count
+      → Together (Removes seen follows range_of low (min end high)) olds (slice_set news tree now) (count + own)
   tree_cleared low high at end upto count own le rise is_upto is more all =
-      let more_so : Removes seen follows at (min end high) own hand now = rw is_upto at more in
-      together_more (Removes seen follows low (min at high)) (Removes seen follows low (min end high))
-      (λ n a b did. removes_wider seen follows low (min at high) (min end high) n a b (omega (arith, rise)) did) olds news tree count
-      own hand now is
-      (λ n a did. removes_then seen follows joins low (min at high) at (min end high) n own a hand now le (omega arith)
+      let more_so : Removes seen follows range_of at (min end high) own hand now = rw is_upto at more in
+      together_more (Removes seen follows range_of low (min at high)) (Removes seen follows range_of low (min end high))
+      (λ n a b did. removes_wider seen follows range_of low (min at high) (min end high) n a b (omega (arith, rise)) did) olds news tree
+      count own hand now is
+      (λ n a did. removes_then seen follows range_of joins stays_there low (min at high) at (min end high) n own a hand now le (omega arith)
       (omega (arith, rise)) did more_so) all
 
   pub tree_cleared_high : (low high at end upto count own : ℕ) → low ≤ at → at ≤ end → upto ≡ min end high → slice_get news tree ≡ Some hand
-      → Removes seen follows at upto own hand now → Together (Removes seen follows low (min at high)) olds news count
-      → Together (Removes seen follows low high) olds (slice_set news tree now) (count + own)
+      → Removes seen follows range_of at upto own hand now → Together (Removes seen follows range_of low (min at high)) olds news count
+      → Together (Removes seen follows range_of low high) olds (slice_set news tree now) (count + own)
   tree_cleared_high low high at end upto count own le rise is_upto is more all =
-      together_wider (Removes seen follows low (min end high)) (Removes seen follows low high)
-      (λ n a b did. removes_wider seen follows low (min end high) high n a b (omega arith) did) olds (slice_set news tree now)
+      together_wider (Removes seen follows range_of low (min end high)) (Removes seen follows range_of low high)
+      (λ n a b did. removes_wider seen follows range_of low (min end high) high n a b (omega arith) did) olds (slice_set news tree now)
       (count + own)
       (tree_cleared low high at end upto count own le rise is_upto is more all)
 
   pub tree_swept : (low high at end upto own count : ℕ) → low ≤ at → upto ≡ min end high → end ≡ end_of range.high → range.low ≤ at
-      → slice_get (ranges_of bounds) tree ≡ Some range → slice_get news tree ≡ Some hand → Removes seen follows at upto own hand now
-      → Together (Removes seen follows low (min at high)) olds news count
+      → slice_get (ranges_of bounds) tree ≡ Some range → slice_get news tree ≡ Some hand
+      → Removes seen follows range_of at upto own hand now → Together (Removes seen follows range_of low (min at high)) olds news count
       → ((key : ℕ) → low ≤ key → key < at → key < high → SweepsKey bounds seen follows shows key olds news)
       → ((key : ℕ) → at ≤ key → key < upto → IsSwept seen follows shows key hand now)
       → (key : ℕ) → low ≤ key → key < end → key < high → SweepsKey bounds seen follows shows key olds (slice_set news tree now)
   tree_swept low high at end upto own count le is_upto is_end from_range there_is is more all so_far part key above below less =
-      either_way (below_or_past key at) (λ under. swept_on bounds seen follows shows joins olds news tree hand now at upto own key is
+      either_way (below_or_past key at) (λ under. swept_on bounds seen follows shows joins olds news tree hand now _ _ _ key is
       more.followed more.receipts (so_far key above under less))
       (λ past.
-      let first = did_at (Removes seen follows low (min at high)) olds news tree count hand is all in
+      let first = did_at (Removes seen follows range_of low (min at high)) olds news tree count hand is all in
       swept_here bounds seen follows shows joins olds news tree hand now first.1 key first.2 first.3.followed is
       (range, there_is, (omega (arith, from_range, past), omega (arith, below, is_end)))
       (part key past (omega (arith, below, less, is_upto))))

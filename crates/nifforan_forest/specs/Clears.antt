@@ -1,5 +1,7 @@
 -- What a clear does to the hands that a worker of a forest has on the trees.
-use Rattle.std.specs.Prelude.{◌≡◌, ℕ, ◌+◌, List, [], ◌∷◌, Some, slice_get}
+use Rattle.std.specs.Prelude.{◌≡◌, ℕ, ◌+◌, max, min, List, [], ◌∷◌, Some, slice_get}
+use Rattle.bw_keys.specs.declared.range.Range.{Range}
+use Rattle.bw_keys.specs.Ranges.{end_of}
 use Rattle.bw_forest.specs.Bounds.{IsTreeOf}
 use Rattle.bw_procedures.specs.Clearing.{AddsRemovals, IsSwept}
 use Rattle.bw_procedures.specs.Seen.{Seen, Grows}
@@ -11,12 +13,14 @@ Together does (old ∷ olds) (new ∷ news) count =
     (own others : ℕ) × does own old new × Together does olds news others × (count ≡ own + others)
 Together does olds news count = ⊥
 
--- a hand added the receipts of deletions in the range, so many of which had a key to delete
-pub record Removes {H : Type 0} (seen : H → Seen) (follows : H → H → Type 0) (low end removed : ℕ)
-    (old new : H) : Type 0 where
+-- a hand added the receipts of deletions of keys from the low on and below the end that lie in its
+-- tree's range, so many of which had a key to delete
+pub record Removes {H : Type 0} (seen : H → Seen) (follows : H → H → Type 0) (range : H → Range)
+    (low end removed : ℕ) (old new : H) : Type 0 where
   pub followed : follows old new
   pub grows : Grows (seen old) (seen new)
-  pub receipts : AddsRemovals low end removed (seen old) (seen new)
+  pub receipts : AddsRemovals (max low (range old).low) (min end (end_of (range old).high)) removed
+      (seen old) (seen new)
 
 -- at a moment of the call, the tree whose range holds the key had none, or the key was deleted
 -- there since

@@ -25,7 +25,7 @@ pub record IsForestShared {O L : Type 0} (added : L → List Receipt) (promise :
       outcome.forest
   pub returned : length outcome.workers.items ≡ workers
   pub trails : All (λ it. length it.trails.items ≡ length bounds) outcome.workers.items
-  pub promised : AllReturn added promise outcome.workers.items
+  pub promised : AllReturn added promise bounds outcome.workers.items
 
 -- What a closed forest comes to that workers shared: one of the same ranges, made by the same
 -- configuration, whose books have what the given trees' had and what all trails tell. So its pairs
@@ -41,7 +41,7 @@ pub record IsClosedForestShared {O L : Type 0} (added : L → List Receipt) (pro
       pairs_of outcome.forest.tables + changes.removed ≡ pairs_of given.tables + changes.inserted
   pub returned : length outcome.workers.items ≡ workers
   pub trails : All (λ it. length it.trails.items ≡ length given.bounds) outcome.workers.items
-  pub promised : AllReturn added promise outcome.workers.items
+  pub promised : AllReturn added promise given.bounds outcome.workers.items
 
 -- a forest that wasn't shared comes back with these ranges and this configuration, unless one of
 -- its trees has another range

@@ -28,7 +28,7 @@ impl<'b, H: ForestHand> ForestWorker<'b, H> {
     /// Without a fault, each key of the range was missing in a copy of its leaf, or was deleted since.
     pub fn clear(&mut self, machine: Global, low: Key, high: Fence) -> Cleared
         ensures removes { (count : ℕ)
-            × Together (Removes H.seen H.follows low (end_of high))
+            × Together (Removes H.seen H.follows H.range low (end_of high))
             self.old.hands.items self.new.hands.items count
             × (result.removed ≡ min count most) }
         ensures swept { result.fault ≡ None → (key : ℕ) → low ≤ key → key < end_of high

@@ -3,7 +3,8 @@
 ghost use Rattle.std.specs.Prelude.{◌≡◌, ◌*◌, ◌<◌, ◌≤◌, [], All, IfOk, length, map, vec_capacity};
 ghost use Rattle.bw_tree.specs.Shares.{no_changes};
 ghost use Rattle.bw_crew.specs.Workers.{ByNumber, share_by};
-ghost use Rattle.nifforan_forest.specs.Workers.{AllReturn, trails_of};
+ghost use Rattle.bw_forest.specs.Bounds.{ranges_of};
+ghost use Rattle.nifforan_forest.specs.Workers.{AllReturn, ArePlaced, trails_of};
 
 use crate::divides::Divides;
 use crate::hand::ForestHand;
@@ -43,10 +44,11 @@ impl<
     type Output = Result<Brought<I, D, O, L>, NoMemory>;
 
     ghost given = { λ part worker seat. (part.bounds.now ≡ I.bounds)
-        × (length part.trees.now ≡ length I.bounds) };
+        × (length part.trees.now ≡ length I.bounds)
+        × (map S.range part.trees.now ≡ ranges_of I.bounds) };
 
     ghost promised = { λ part worker result. IfOk result (λ brought. J.promised part.job.now
-        worker brought.returned.output (map L.added brought.returned.trails.items)) };
+        I.bounds worker brought.returned.output (map L.added brought.returned.trails.items)) };
 
     fn run(&self, worker: u32, seat: Seat<I, D, L>) -> Result<Brought<I, D, O, L>, NoMemory> {
         let Seat { shares, room } = seat;
@@ -66,9 +68,10 @@ fn work_with<H: ForestHand, O: Drop, L: Trail, J: ForestJob<Output = O, Trail = 
     requires few { worker < 64 }
     requires divided { bounds.now ≡ H.bounds }
     requires each { length hands.items ≡ length bounds.now }
+    requires placed { ArePlaced H.range H.bounds hands.items }
     requires new { All (λ hand. (H.seen hand).trail ≡ []) hands.items }
     ensures each { length result.1.items ≡ length H.bounds }
-    ensures promised { J.promised job.now worker result.0
+    ensures promised { J.promised job.now H.bounds worker result.0
         (map (λ hand. (H.seen hand).trail) result.1.items) }
 {
     let mut forest = ForestWorker { bounds, hands };
@@ -109,12 +112,13 @@ pub(crate) fn work_all<
 ) -> Result<Gathered<I, D, O, L>, CrewFault>
     requires divided { bounds.now ≡ I.bounds }
     requires trees { length trees.now ≡ length I.bounds }
+    requires placed { map S.range trees.now ≡ ranges_of I.bounds }
     requires few { length shares.items ≤ 64 }
     requires each { All (λ its. length its.items ≡ length I.bounds) shares.items }
     requires new { All (λ its. All (λ share. share ≡ no_changes) its.items) shares.items }
     ensures count { IfOk result (λ all. length all.workers.items ≡ length shares.items) }
     ensures promised { IfOk result (λ all.
-        AllReturn L.added (J.promised job.now) all.workers.items) }
+        AllReturn L.added (J.promised job.now) I.bounds all.workers.items) }
 {
     let room = room_for(machine, shares.len(), trees.len())?;
     let seats = seats_of(machine, shares)?;
@@ -181,12 +185,13 @@ fn gather<I: Divides, D: Ledger, O: Drop, L: Trail, J: ForestJob<Output = O, Tra
     requires no_workers { room.workers.items ≡ [] }
     requires shares_fit { length all.items * length I.bounds ≤ vec_capacity room.shares }
     requires workers_fit { length all.items ≤ vec_capacity room.workers }
-    requires promised { ByNumber (λ worker result. IfOk result (λ brought. J.promised job.now
-        worker brought.returned.output (map L.added brought.returned.trails.items))) 0 all.items }
+    requires promised { ByNumber (λ worker result. IfOk result (λ brought.
+        J.promised job.now I.bounds worker brought.returned.output
+        (map L.added brought.returned.trails.items))) 0 all.items }
     ensures count { IfOk result (λ gathered.
         length gathered.workers.items ≡ length all.items) }
     ensures promised { IfOk result (λ gathered.
-        AllReturn L.added (J.promised job.now) gathered.workers.items) }
+        AllReturn L.added (J.promised job.now) I.bounds gathered.workers.items) }
 {
     let Room {
         mut shares,

@@ -28,11 +28,15 @@ impl<'t, I: Divides, S: Ordered<Global, Step<Global>, Insertions = I>, G: Gate, 
     for Member<'t, S, G, L> {
     ghost bounds = { I.bounds };
 
+    ghost range = { λ m. m.range };
+
     ghost comes_next = { λ m key pair. Unit {0} };
 
     ghost comes_before = { λ m key pair. Unit {0} };
 
     ghost has_pairs = { λ m count. Unit {0} };
+
+    ghost stays_there = { λ a b followed. followed };
 
     fn next_in_tree(&self, key: Key) -> Option<(Key, u64)> {
         self.next_at(key)

@@ -7,10 +7,14 @@ use std::alloc::Global;
 /// A worker's hand on one tree of a forest. It makes the calls of [`Calls`], and asks about the
 /// tree's map, each question in one hold of the tree's lock.
 pub trait ForestHand: Calls<Global> {
-    ghost use Rattle.std.specs.Prelude.{◌≤◌, ℕ, List, Option, IfSome};
+    ghost use Rattle.std.specs.Prelude.{◌≡◌, ◌≤◌, ℕ, List, Option, IfSome};
+    ghost use Rattle.bw_keys.specs.declared.range.Range.{Range};
 
     // where the ranges of the forest's trees begin
     ghost bounds: { List ℕ };
+
+    // the range of the tree that the hand is on
+    ghost range: { Self → Range };
 
     // at a moment of the question this was the tree's first pair from the key on
     ghost comes_next: { Self → ℕ → Option (ℕ × ℕ) → Type 0 };
@@ -34,4 +38,7 @@ pub trait ForestHand: Calls<Global> {
     /// Returns how many pairs the tree has.
     fn len_of_tree(&self) -> u64
         ensures { has_pairs self.now result };
+
+    // law: a hand stays on its tree
+    ghost stays_there: { (a b : Self) → Self.follows a b → range a ≡ range b };
 }

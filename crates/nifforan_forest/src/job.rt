@@ -16,15 +16,15 @@ pub trait ForestJob {
     /// keeps none; `Vec<Receipt>` keeps each, of some 40 bytes, to the end, for an auditor.
     type Trail: Trail;
 
-    // what the job promises of a worker's number, of what that worker brings back, and of its trails,
-    // by the trees
-    ghost promised: { Self → PromisedOf Self.Output } = { λ job worker output trails. Unit {0} };
+    // what the job promises of the trees' bounds, of a worker's number, of what that worker brings
+    // back, and of its trails, by the trees
+    ghost promised: { Self → PromisedOf Self.Output } = { λ job bounds worker it trails. Unit {0} };
 
     /// Does the part of the worker with this number, from 0 on, with a hand on each tree. It may end
     /// early, as by a `?`: the hands stay with the forest, so nothing is lost.
     fn work<H: ForestHand>(&self, worker: u32, forest: &mut ForestWorker<'_, H>) -> Self::Output
         requires few { worker < 64 }
         requires new { All (λ hand. (H.seen hand).trail ≡ []) forest.old.hands.items }
-        ensures promised { promised self.now worker result
+        ensures promised { promised self.now H.bounds worker result
             (map (λ hand. (H.seen hand).trail) forest.new.hands.items) };
 }

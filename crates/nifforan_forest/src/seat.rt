@@ -77,7 +77,9 @@ pub(crate) fn hands_of<
     requires shares { length shares.items ≡ length trees.now }
     requires new { All (λ share. share ≡ no_changes) shares.items }
     ensures each { IfOk result (λ hands. length hands.items ≡ length trees.now) }
-    ensures new { IfOk result (λ hands. All (λ hand. hand.trail ≡ []) hands.items) }
+    ensures placed { IfOk result
+        (λ hands. map (λ hand. hand.range) hands.items ≡ map S.range trees.now) }
+    ensures new { IfOk result (λ hands. All (λ hand. hand.seen.trail ≡ []) hands.items) }
 {
     let mut shares = shares;
     let mut hands = Vec::with_capacity(machine, trees.len())?;
@@ -102,7 +104,7 @@ pub(crate) fn bring_back<
     requires each { length hands.items ≡ length I.bounds }
     ensures output { result.returned.output ≡ output }
     ensures trails { map L.added result.returned.trails.items
-        ≡ map (λ hand. hand.trail) hands.entry.items }
+        ≡ map (λ hand. hand.seen.trail) hands.entry.items }
 {
     let Room {
         mut shares,

@@ -219,7 +219,7 @@ fn share_open<
     ensures trails { IfOk result (λ shared.
         All (λ it. length it.trails.items ≡ length I.bounds) shared.workers.items) }
     ensures promised { IfOk result (λ shared.
-        AllReturn L.added (J.promised job.now) shared.workers.items) }
+        AllReturn L.added (J.promised job.now) I.bounds shared.workers.items) }
     ensures late { IfErr result (λ it. IsLate it.fault) }
     ensures back { IfErr result (ComesBack I.bounds I.config) }
 {

@@ -5,6 +5,7 @@ ghost use Rattle.bw_procedures.specs.Facts.{quiet};
 ghost use Rattle.bw_procedures.specs.Writes.{Puts, Sets, Deletes};
 ghost use Rattle.bw_work.specs.Calls.{Gets};
 ghost use Rattle.nifforan_forest.specs.Calls.{IsOfOne};
+ghost use Rattle.nifforan_forest.specs.Workers.{ArePlaced};
 
 use crate::hand::ForestHand;
 use bw_forest::Bounds;
@@ -24,6 +25,7 @@ pub struct ForestWorker<'b, H: ForestHand> {
     pub(crate) hands: Vec<H>,
     ghost each: { length hands.items ≡ length bounds.now },
     ghost divided: { bounds.now ≡ H.bounds },
+    ghost placed: { ArePlaced H.range H.bounds hands.items },
 }
 
 impl<'b, H: ForestHand> ForestWorker<'b, H> {
@@ -31,7 +33,7 @@ impl<'b, H: ForestHand> ForestWorker<'b, H> {
     /// [`put`](bw_procedures::Calls::put) does.
     #[inline(always)]
     pub fn put(&mut self, key: Key, value: u64) -> Result<Done<Put>, Fault>
-        ensures write { IsOfOne H.bounds key H.follows
+        ensures write { IsOfOne H.bounds H.range key H.follows
             (λ old new. Puts key value result (H.seen old) (H.seen new))
             self.old.hands.items self.new.hands.items }
     {
@@ -43,7 +45,7 @@ impl<'b, H: ForestHand> ForestWorker<'b, H> {
     /// [`set`](bw_procedures::Calls::set) does.
     #[inline(always)]
     pub fn set(&mut self, key: Key, value: u64) -> Result<Done<Set>, Fault>
-        ensures write { IsOfOne H.bounds key H.follows
+        ensures write { IsOfOne H.bounds H.range key H.follows
             (λ old new. Sets key value result (H.seen old) (H.seen new))
             self.old.hands.items self.new.hands.items }
     {
@@ -55,7 +57,7 @@ impl<'b, H: ForestHand> ForestWorker<'b, H> {
     /// [`delete`](bw_procedures::Calls::delete) does.
     #[inline(always)]
     pub fn delete(&mut self, key: Key) -> Result<Done<Del>, Fault>
-        ensures write { IsOfOne H.bounds key H.follows
+        ensures write { IsOfOne H.bounds H.range key H.follows
             (λ old new. Deletes key result (H.seen old) (H.seen new))
             self.old.hands.items self.new.hands.items }
     {
@@ -66,7 +68,7 @@ impl<'b, H: ForestHand> ForestWorker<'b, H> {
     /// Returns the key's value, if it has one, as [`get`](bw_procedures::Calls::get) does.
     #[inline(always)]
     pub fn get(&mut self, key: Key) -> Result<Option<u64>, Fault>
-        ensures gets { IsOfOne H.bounds key H.follows
+        ensures gets { IsOfOne H.bounds H.range key H.follows
             (λ old new. Gets key (H.calm old quiet) result (H.seen old) (H.seen new))
             self.old.hands.items self.new.hands.items }
     {

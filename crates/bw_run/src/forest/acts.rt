@@ -2,7 +2,7 @@
 
 ghost use Rattle.std.specs.Prelude.{◌≡◌, ◌≤◌, ◌<◌, [], IfOk, IfErr, OnOk, OnErr, length, map};
 ghost use Rattle.std.specs.Prelude.{false, vec_capacity};
-ghost use Rattle.bw_run.specs.ForestAnswers.{TellsAct, TellInTurn};
+ghost use Rattle.bw_run.specs.ForestAnswers.{SweepsAct, TellsAct, TellInTurn};
 ghost use Rattle.bw_run.specs.Stops.{MayStop};
 
 use crate::answers::Stop;
@@ -22,7 +22,7 @@ pub(crate) fn do_acts<H: ForestHand>(
 ) -> Result<(), Stop>
     requires empty { replies.old.items ≡ [] }
     requires room { length acts.now ≤ vec_capacity replies.old }
-    ensures told { OnOk result (TellInTurn acts.now replies.new.items
+    ensures told { OnOk result (TellInTurn H.bounds acts.now replies.new.items
         (map (λ hand. (H.seen hand).trail) forest.old.hands.items)
         (map (λ hand. (H.seen hand).trail) forest.new.hands.items)) }
     ensures all { OnOk result (length replies.new.items ≡ length acts.now) }
@@ -44,9 +44,11 @@ fn do_act<H: ForestHand>(
     forest: &mut ForestWorker<'_, H>,
     act: Act,
 ) -> Result<Reply, Fault>
-    ensures told { IfOk result (λ reply. TellsAct act reply
+    ensures told { IfOk result (λ reply. TellsAct H.bounds act reply
         (map (λ hand. (H.seen hand).trail) forest.old.hands.items)
         (map (λ hand. (H.seen hand).trail) forest.new.hands.items)) }
+    ensures swept { IfOk result (λ reply. SweepsAct H.bounds H.seen H.follows H.shows act reply
+        forest.old.hands.items forest.new.hands.items) }
 {
     match act {
         Act::Put { key, value } => Ok(Reply::Put(forest.put(key, value)?)),

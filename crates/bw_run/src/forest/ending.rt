@@ -48,7 +48,8 @@ pub(crate) fn finish_forest(
     requires trails { All (λ it. length it.trails.items ≡ length outcome.forest.bounds)
         outcome.workers.items }
     requires promised { ByNumber (λ worker it. IfOk it.output
-        (AreForestAnswersTo (acts_of worker rows.now) (lists_of it.trails.items)))
+        (AreForestAnswersTo outcome.forest.bounds (acts_of worker rows.now)
+        (lists_of it.trails.items)))
         0 outcome.workers.items }
     ensures forest { IfOk result (λ finished. finished.forest ≡ outcome.forest) }
     ensures shares { IfOk result (λ finished. sum_of (shares_at finished) ≡ sum_of (map share_by

@@ -29,7 +29,7 @@ impl<'r> ForestJob for ForestRows<'r> {
     // the audit asks for all of them
     type Trail = Vec<Receipt>;
 
-    ghost promised = { λ job worker output trails. IfOk output (AreForestAnswersTo
+    ghost promised = { λ job bounds worker output trails. IfOk output (AreForestAnswersTo bounds
         (slice_index_or (map (λ acts. acts.items) job.plan.now) worker []) trails) };
 
     fn work<H: ForestHand>(

@@ -1,9 +1,10 @@
-use Rattle.std.proofs.Common.{rules, ◌≡◌, ◌+◌, ◌∷◌, [], List, length, ap, sym, ◌∙◌, arith, length-append, All}
+use Rattle.std.proofs.Common.{rules, ◌≡◌, ◌∷◌, [], length, map, ap, ◌∙◌, arith, length-append}
+use Rattle.std.proofs.lemmas.List.{map-append}
 use Rattle.std.proofs.lemmas.List.Elements.{All-head, All-take, All-tail}
 use Rattle.bw_law.specs.Tables.{TableValue}
-use Rattle.bw_tree.specs.Shares.{ShareValue, no_changes, shared_in}
-use Rattle.bw_forest.specs.Forests.{tables_of}
-use Rattle.bw_forest.proofs.Opening.{books_left}
+use Rattle.bw_tree.specs.Shares.{no_changes, shared_in}
+use Rattle.bw_forest.specs.Forests.{books_of, ranges_in, tables_of}
+use Rattle.bw_forest.proofs.Opening.{one_left}
 use Rattle.bw_forest.proofs.forest.replant.Goals as goal
 
 pub new-requires-clause-table : goal.new-requires-clause-table
@@ -40,6 +41,12 @@ loop-tree-preserved g c =
       shares = shares_left;
       none_changed = rw c.pop-in-loop-tree.ensures.rest (All-take (λ share. share ≡ no_changes) _ _ inv.none_changed);
       alike = All-tail (λ (table : TableValue). table.config ≡ c.args.config) tree.table (tables_of rest) (rw split at inv.alike);
-      books = books_left c.loop-tree.opening.items _ _ tree rest c.begin.new.share opening book (rw split at inv.books);
+      ranges =
+          one_left (map (λ tree. tree.range) c.loop-tree.trees.items) _ _ c.new.result.range tree.range (ranges_in rest)
+          (rw trees (map-append (λ tree. tree.range) c.loop-tree.trees.items (c.new.result ∷ [])))
+          (c.new.ensures.range ∙ c.range-range.ensures.same) (rw split at inv.ranges);
+      books =
+          one_left c.loop-tree.opening.items _ _ c.begin.new.share (shared_in tree.table.book) (books_of (tables_of rest)) opening book
+          (rw split at inv.books);
       room = (rw c.push_reserved-in-loop-tree.ensures.capacity inv.room.0, rw c.push_reserved.ensures.capacity inv.room.1);
     }

@@ -1,7 +1,7 @@
-use Rattle.std.proofs.Common.{◌≡◌, ◌+◌, ◌++◌, ◌≤◌, length, All}
+use Rattle.std.proofs.Common.{◌≡◌, ◌+◌, ◌++◌, ◌≤◌, length, map, All}
 use Rattle.std.specs.Prelude.{vec_capacity}
 use Rattle.bw_tree.specs.Shares.{no_changes}
-use Rattle.bw_forest.specs.Forests.{books_of, tables_of}
+use Rattle.bw_forest.specs.Forests.{books_of, ranges_in, tables_of}
 use Rattle.bw_forest.proofs.forest.replant.Given as goal
 
 abbrev pub invariant-loop-tree : goal.invariant-loop-tree
@@ -13,6 +13,7 @@ invariant-loop-tree g l = record {
   shares : length l.shares.items ≡ length l.tree-iterator.rest.items;
   none_changed : All (λ share. share ≡ no_changes) l.shares.items;
   alike : All (λ table. table.config ≡ l.config) (tables_of l.tree-iterator.rest.items);
+  ranges : map (λ tree. tree.range) l.trees.items ++ ranges_in l.tree-iterator.rest.items ≡ ranges_in l.fn.closed.items;
   books : l.opening.items ++ books_of (tables_of l.tree-iterator.rest.items) ≡ books_of (tables_of l.fn.closed.items);
   room : (length l.fn.closed.items ≤ vec_capacity l.trees) × (length l.fn.closed.items ≤ vec_capacity l.opening);
 }

@@ -8,13 +8,13 @@ use Rattle.bw_tree.specs.Shares.{sum_of}
 use Rattle.bw_texts.specs.declared.trace.row.Row.{Row}
 use Rattle.bw_forest.specs.Bounds.{AreOfSample}
 use Rattle.bw_forest.specs.Forests.{ForestValue, IsClosedForest}
-use Rattle.bw_crew.specs.Workers.{share_by}
+use Rattle.bw_crew.specs.Workers.{ByNumber, share_by}
 use Rattle.nifforan_forest.specs.Workers.{trails_of}
 use Rattle.bw_run.specs.declared.forest.ending.FinishedForest.{FinishedForest}
 use Rattle.bw_run.specs.ForestFaults.{EndsForest, IsForestRunFault}
 use Rattle.bw_run.specs.ForestRuns.{EachIsLegal, TellsByTrees, in_a_row, shares_at, trails_at}
 use Rattle.bw_run.specs.Rows.{ArePlanned, keys_of}
-use Rattle.bw_run.proofs.ForestDone.{as_planned}
+use Rattle.bw_run.proofs.ForestDone.{AsPromised, as_planned}
 use Rattle.bw_run.proofs.ForestEnds.{closed_same, forest_ends, trails_in_rows}
 use Rattle.bw_run.proofs.forest.run_forest.Goals as goal
 
@@ -51,8 +51,10 @@ finish_forest-requires-clause-promised g c =
     let planned = subst (λ (p : List _). ArePlanned (map (λ acts. acts.items) p) rows) (sym same) c.in_ok-plan.ensures.planned in
     let many : length workers ≡ length (map (λ acts. acts.items) plan) =
     shared.returned ∙ (sym c.in_ok-plan.ensures.count ∙ (ap length (sym same) ∙ sym (length-map plan (λ acts. acts.items)))) in
-    as_planned (λ it. it.output) (λ it. lists_of it.trails.items) rows
-    (map (λ acts. acts.items) plan) workers planned many shared.promised
+    subst (λ (bounds : List ℕ). ByNumber (AsPromised bounds (λ it. it.output) (λ it. lists_of it.trails.items) rows) 0 workers)
+    (sym shared.ranges)
+    (as_planned _ (λ it. it.output) (λ it. lists_of it.trails.items) rows (map (λ acts. acts.items) plan) workers planned many
+    shared.promised)
 
 pub returns-clause-bounds : goal.returns-clause-bounds
 returns-clause-bounds g c =

@@ -56,10 +56,11 @@ loop-result-preserved g c =
       trailed = rw pushed (All-push (λ it. length it.trails.items ≡ trees) c.loop-result.workers.items brought.returned inv.trailed trails);
       counted = grown ∙ (counted_then g.L.Trail.added c.loop-result.shares.items brought.shares.items c.loop-result.workers.items
           brought.returned inv.counted brought.counted ∙ ap (λ workers. map share_by (trails_of g.L.Trail.added workers)) (sym pushed));
-      promised = by_number_more (λ worker it. g.J.ForestJob.promised c.args.job.now worker it.output (map g.L.Trail.added it.trails.items))
+      promised = by_number_more (λ worker it. g.J.ForestJob.promised c.args.job.now g.I.Divides.bounds worker it.output
+          (map g.L.Trail.added it.trails.items))
           c.loop-result.workers.items _ brought.returned (length c.loop-result.workers.items) pushed inv.promised
           (rw c.in_ok-brought.was at left.0) (omega arith);
-      rest = subst (λ (k : ℕ). ByNumber (λ worker result. IfOk result (λ it. g.J.ForestJob.promised c.args.job.now worker
+      rest = subst (λ (k : ℕ). ByNumber (λ worker result. IfOk result (λ it. g.J.ForestJob.promised c.args.job.now g.I.Divides.bounds worker
           it.returned.output (map g.L.Trail.added it.returned.trails.items))) k rest) (sym longer) left.1;
     }
 

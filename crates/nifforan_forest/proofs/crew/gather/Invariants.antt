@@ -12,9 +12,9 @@ invariant-loop-result g l = record {
   each : length l.shares.items ≡ length l.workers.items * length g.I.Divides.bounds;
   trailed : All (λ it. length it.trails.items ≡ length g.I.Divides.bounds) l.workers.items;
   counted : l.shares.items ≡ map share_by (trails_of g.L.Trail.added l.workers.items);
-  promised : AllReturn g.L.Trail.added (g.J.ForestJob.promised l.job) l.workers.items;
+  promised : AllReturn g.L.Trail.added (g.J.ForestJob.promised l.job) g.I.Divides.bounds l.workers.items;
   rest : ByNumber (λ worker result.
-      IfOk result (λ brought. g.J.ForestJob.promised l.job worker brought.returned.output
+      IfOk result (λ brought. g.J.ForestJob.promised l.job g.I.Divides.bounds worker brought.returned.output
       (map g.L.Trail.added brought.returned.trails.items)))
       (length l.workers.items) l.result-iterator.rest.items;
 }

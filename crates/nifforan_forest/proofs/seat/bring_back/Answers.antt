@@ -23,8 +23,8 @@ loop-hand-preserved g c =
       room_for_shares = rw c.push_reserved.ensures.capacity inv.room_for_shares;
       room_for_trails = rw c.push_reserved-in-loop-hand.ensures.capacity inv.room_for_trails;
       trails =
-          trails_more g.L.Trail.added (λ hand. hand.trail) c.loop-hand.trails.items _ trail hand rest _ trails c.finish-share.ensures.trail
-          so_far;
+          trails_more g.L.Trail.added (λ hand. hand.seen.trail) c.loop-hand.trails.items _ trail hand rest _ trails
+          c.finish-share.ensures.trail so_far;
       counted =
           counted_more g.L.Trail.added c.loop-hand.shares.items _ c.loop-hand.trails.items _ c.finish-share.result.0 trail shares trails
           inv.counted c.finish-share.ensures.share;

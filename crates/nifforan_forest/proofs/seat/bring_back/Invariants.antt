@@ -9,7 +9,7 @@ invariant-loop-hand g l = record {
   longer : length l.trails.items ≡ length l.shares.items;
   room_for_shares : length l.fn.hands.items ≤ vec_capacity l.shares;
   room_for_trails : length l.fn.hands.items ≤ vec_capacity l.trails;
-  trails : map g.L.Trail.added l.trails.items ++ map (λ hand. hand.trail) l.hand-iterator.rest.items ≡ map (λ hand. hand.trail)
+  trails : map g.L.Trail.added l.trails.items ++ map (λ hand. hand.seen.trail) l.hand-iterator.rest.items ≡ map (λ hand. hand.seen.trail)
       l.fn.hands.items;
   counted : l.shares.items ≡ map (λ trail. share_by (g.L.Trail.added trail)) l.trails.items;
 }

@@ -1,6 +1,7 @@
-use Rattle.std.proofs.Common.{rules, ◌≡◌, ◌∷◌, ◌+◌, [], length, ap, arith, length-append}
+use Rattle.std.proofs.Common.{rules, ◌≡◌, ◌∷◌, ◌+◌, [], length, ap, arith, length-append, ◌∙◌}
 use Rattle.std.proofs.lemmas.List.Elements.{All-push, All-take}
 use Rattle.bw_tree.specs.Shares.{no_changes}
+use Rattle.nifforan_forest.proofs.Placing.{placed_more}
 use Rattle.nifforan_forest.proofs.seat.hands_of.Goals as goal
 
 pub loop-i-preserved : goal.loop-i-preserved
@@ -14,5 +15,9 @@ loop-i-preserved g c =
       new = rw c.pop.ensures.rest (All-take (λ share. share ≡ no_changes) _ c.loop-i.shares.items inv.new);
       count = omega (arith, more, inv.count);
       room = rw c.push_reserved.ensures.capacity inv.room;
-      quiet = rw pushed (All-push (λ hand. hand.trail ≡ []) c.loop-i.hands.items c.new.result inv.quiet c.new.ensures);
+      quiet = rw pushed (All-push (λ hand. hand.seen.trail ≡ []) c.loop-i.hands.items c.new.result inv.quiet c.new.ensures.trail);
+      placed =
+          placed_more (λ hand. hand.range) g.S.Shared.range c.loop-i.hands.items c.push_reserved.new.self.items c.new.result
+          c.args.trees.now c.loop-i.i c.index-trees-i.result pushed (c.new.ensures.range ∙ ap g.S.Shared.range c.index-trees-i.is)
+          c.loop-i-test.true inv.placed;
     }

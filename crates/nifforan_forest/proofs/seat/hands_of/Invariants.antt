@@ -1,4 +1,4 @@
-use Rattle.std.proofs.Common.{◌≡◌, ◌+◌, ◌≤◌, [], length}
+use Rattle.std.proofs.Common.{◌≡◌, ◌+◌, ◌≤◌, [], length, map, take}
 use Rattle.std.specs.Prelude.{All, vec_capacity}
 use Rattle.bw_tree.specs.Shares.{no_changes}
 use Rattle.nifforan_forest.proofs.seat.hands_of.Given as goal
@@ -9,5 +9,6 @@ invariant-loop-i g l = record {
   new : All (λ share. share ≡ no_changes) l.shares.items;
   count : length l.hands.items ≡ l.i;
   room : length l.trees ≤ vec_capacity l.hands;
-  quiet : All (λ hand. hand.trail ≡ []) l.hands.items;
+  quiet : All (λ hand. hand.seen.trail ≡ []) l.hands.items;
+  placed : map (λ hand. hand.range) l.hands.items ≡ map g.S.Shared.range (take l.i l.trees);
 }

@@ -35,5 +35,5 @@ returns-in-Ok-share_open-clause-shared g c =
       pairs = pairs_again (pairs_of outcome.forest.tables) (pairs_of given.tables) (books_of given.tables) told there closed.pairs;
       returned = omega (arith, shared.returned, made.workers, c.requires.workers);
       trails = rw c.requires.divided shared.trails;
-      promised = shared.promised;
+      promised = rw c.requires.divided shared.promised;
     }

@@ -19,5 +19,5 @@ returns-in-Ok-share_open-clause-shared g c =
           (subst (λ opening. IsClosedForest g.I.MadeBy.config (opening ++ told) outcome.forest) c.new.ensures.items shared.closed);
       returned = shared.returned ∙ c.in-Ok.ensures.workers;
       trails = rw c.requires.divided shared.trails;
-      promised = shared.promised;
+      promised = rw c.requires.divided shared.promised;
     }

@@ -11,8 +11,8 @@ loop-act-preserved g c =
     let at : length c.loop-act.replies.items ≡ c.loop-act.act-index = omega (arith, c.loop-act.replies.ok, inv.count) in
     record {
       told = rw c.push_reserved.ensures.items
-          (tell_more c.args.acts.now c.loop-act.replies.items _ _ _ c.in_ok-reply.reply c.loop-act.act-index d at c.loop-act-test.true
-          inv.told c.in_ok-reply.ensures.told);
+          (tell_more g.H.ForestHand.bounds c.args.acts.now c.loop-act.replies.items _ _ _ c.in_ok-reply.reply c.loop-act.act-index d at
+          c.loop-act-test.true inv.told c.in_ok-reply.ensures.told);
       count = omega (arith, c.push_reserved.ensures.len, inv.count);
       room = omega (arith, c.push_reserved.ensures.capacity, inv.room);
     }

@@ -5,7 +5,7 @@ use Rattle.bw_run.proofs.forest.acts.do_acts.Given as goal
 
 abbrev pub invariant-loop-act : goal.invariant-loop-act
 invariant-loop-act g l = record {
-  told : TellInTurn l.acts l.replies.items (map (λ hand. (g.H.Steps.seen hand).trail) l.fn.forest.hands.items)
+  told : TellInTurn g.H.ForestHand.bounds l.acts l.replies.items (map (λ hand. (g.H.Steps.seen hand).trail) l.fn.forest.hands.items)
       (map (λ hand. (g.H.Steps.seen hand).trail) l.forest.hands.items);
   count : vec_len l.replies ≡ l.act-index;
   room : length l.acts ≤ vec_capacity l.replies;

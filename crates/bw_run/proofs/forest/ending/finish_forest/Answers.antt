@@ -21,8 +21,8 @@ use Rattle.bw_run.proofs.forest.ending.finish_forest.Goals as goal
 pub check_stops-requires : goal.check_stops-requires
 check_stops-requires c =
     let answers = c.in_ok-answers.field-0.answers.items in
-    let stops = stops_promised (λ it. it.output) (λ it. lists_of it.trails.items) c.args.rows.now 0 c.args.outcome.workers.items
-    answers c.in_ok-answers.ensures.answers c.requires.promised in
+    let stops = stops_promised c.args.outcome.forest.bounds (λ it. it.output) (λ it. lists_of it.trails.items) c.args.rows.now 0
+    c.args.outcome.workers.items answers c.in_ok-answers.ensures.answers c.requires.promised in
     subst (λ (all : List Answers). ByNumber (λ worker. StopsIn false (acts_of worker c.args.rows.now)) 0 all)
     (sym c.deref.ensures.value) stops
 
@@ -64,8 +64,8 @@ merge-requires-clause-full c =
     let answers = c.in_ok-answers.field-0.answers.items in
     let none = subst (λ (all : List Answers). All (λ each. each.stop ≡ None) all) c.deref.ensures.value
     c.in_ok-check_stops.ensures.all in
-    full (λ it. it.output) (λ it. lists_of it.trails.items) c.args.rows.now c.args.outcome.workers.items answers
-    c.in_ok-answers.ensures.answers c.requires.promised none
+    full c.args.outcome.forest.bounds (λ it. it.output) (λ it. lists_of it.trails.items) c.args.rows.now c.args.outcome.workers.items
+    answers c.in_ok-answers.ensures.answers c.requires.promised none
 
 pub returns-clause-shares : goal.returns-clause-shares
 returns-clause-shares c =
@@ -108,8 +108,8 @@ returns-clause-reported c = λ worker inside.
     let in_columns : worker < length (columns_of answers) = subst (λ (n : ℕ). worker < n) (sym columns) within in
     let none = subst (λ (all : List Answers). All (λ each. each.stop ≡ None) all) c.deref.ensures.value
     c.in_ok-check_stops.ensures.all in
-    let tells = told (λ it. it.output) (λ it. lists_of it.trails.items) c.args.rows.now workers answers c.in_ok-answers.ensures.answers
-    c.requires.promised none worker within in
+    let tells = told c.args.outcome.forest.bounds (λ it. it.output) (λ it. lists_of it.trails.items) c.args.rows.now workers answers
+    c.in_ok-answers.ensures.answers c.requires.promised none worker within in
     let own = c.in_ok-replies.ensures.own worker in_columns in
     told_sorted c.trees.result workers c.in_ok-answers.field-0.trails.items have c.in_ok-answers.ensures.trails worker inside
-    (acts_of worker c.args.rows.now) _ _ own tells
+    c.args.outcome.forest.bounds (acts_of worker c.args.rows.now) _ _ own tells

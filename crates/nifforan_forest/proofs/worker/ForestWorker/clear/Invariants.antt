@@ -7,8 +7,9 @@ use Rattle.nifforan_forest.proofs.worker.ForestWorker.clear.Given as goal
 abbrev pub invariant-trees : goal.invariant-trees
 invariant-trees g l = record {
   from_low : l.low ≤ l.at;
-  removes : (count : ℕ) × Together (Removes g.H.Steps.seen g.H.Steps.follows l.low (min l.at (end_of l.high))) l.fn.self.hands.items
-      l.self.hands.items count × (l.removed ≡ min count most);
+  removes : (count : ℕ)
+      × Together (Removes g.H.Steps.seen g.H.Steps.follows g.H.ForestHand.range l.low (min l.at (end_of l.high)))
+      l.fn.self.hands.items l.self.hands.items count × (l.removed ≡ min count most);
   swept : (key : ℕ) → l.low ≤ key → key < l.at → key < end_of l.high
       → SweepsKey g.H.ForestHand.bounds g.H.Steps.seen g.H.Steps.follows g.H.Steps.shows key l.fn.self.hands.items l.self.hands.items;
 }

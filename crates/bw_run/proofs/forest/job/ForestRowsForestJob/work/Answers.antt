@@ -30,21 +30,22 @@ empty : {T : Type 0} → (xs : List T) → xs ≡ [] → length xs ≡ 0
 empty xs is = ap length is
 
 -- all acts have a reply, or the worker stopped
-answered : (acts : List Act) (replies : Vec Reply Global) (old new : List (List Receipt)) (result : Result (Unit {0}) Stop)
-    (stop : Option Stop)
-    → stop ≡ result_err result → OnOk result (TellInTurn acts replies.items old new) → OnOk result (length replies.items ≡ length acts)
-    → OnErr result (length replies.items < length acts) → IfErr result (MayStop false) → All (λ trail. trail ≡ []) old
-    → AreForestAnswersTo acts new (record { replies = replies; stop = stop })
-answered acts replies old new (Ok done) stop is told all stopped may none =
-    subst (λ (s : Option Stop). AreForestAnswersTo acts new (record { replies = replies; stop = s })) (sym is)
+answered : (bounds : List ℕ) (acts : List Act) (replies : Vec Reply Global) (old new : List (List Receipt))
+    (result : Result (Unit {0}) Stop) (stop : Option Stop)
+    → stop ≡ result_err result → OnOk result (TellInTurn bounds acts replies.items old new)
+    → OnOk result (length replies.items ≡ length acts) → OnErr result (length replies.items < length acts)
+    → IfErr result (MayStop false) → All (λ trail. trail ≡ []) old
+    → AreForestAnswersTo bounds acts new (record { replies = replies; stop = stop })
+answered bounds acts replies old new (Ok done) stop is told all stopped may none =
+    subst (λ (s : Option Stop). AreForestAnswersTo bounds acts new (record { replies = replies; stop = s })) (sym is)
     (record {
       told = λ ended. record { start = old; from_nothing = none; in_turn = told };
       all = λ ended. all;
       stops =
           λ why stops. absurd (cc stops);
     })
-answered acts replies old new (Err why) stop is told all stopped may none =
-    subst (λ (s : Option Stop). AreForestAnswersTo acts new (record { replies = replies; stop = s })) (sym is)
+answered bounds acts replies old new (Err why) stop is told all stopped may none =
+    subst (λ (s : Option Stop). AreForestAnswersTo bounds acts new (record { replies = replies; stop = s })) (sym is)
     (record {
       told = λ ended. absurd (cc ended);
       all = λ ended. absurd (cc ended);
@@ -56,14 +57,15 @@ returns-in_default g c =
     let trails = map (λ hand. (g.H.Steps.seen hand).trail) c.args.forest.now.hands.items in
     let none : All (λ (trail : List Receipt). trail ≡ []) trails = all_map (λ (trail : List Receipt). trail ≡ [])
     (λ hand. (g.H.Steps.seen hand).trail) c.args.forest.now.hands.items c.requires.new in
-    let start : AreForestAnswersTo [] trails (record { replies = c.new.result; stop = None }) =
+    let start : AreForestAnswersTo g.H.ForestHand.bounds [] trails (record { replies = c.new.result; stop = None }) =
     record {
       told = λ ended. record { start = trails; from_nothing = none; in_turn = refl };
       all = λ ended. empty c.new.result.items c.new.ensures.items;
       stops = λ why stops. absurd (cc stops);
     } in
     record {
-      promised = subst (λ (acts : List Act). AreForestAnswersTo acts trails (record { replies = c.new.result; stop = None }))
+      promised = subst (λ (acts : List Act). AreForestAnswersTo g.H.ForestHand.bounds acts trails
+          (record { replies = c.new.result; stop = None }))
           (sym (past (λ acts. acts.items) c.args.self.now.plan.now c.args.worker _ c.get.result c.in_default.is
           c.get.ensures.lookup.3)) start;
     }
@@ -77,9 +79,9 @@ returns g c =
     let acts = got (λ x. x.now) (λ acts. acts.items) c.args.self.now.plan.now c.args.worker _ c.get.result c.in-Some.acts c.in-Some.is
     c.get.ensures.lookup.1 c.get.ensures.lookup.3 in
     record {
-      promised = subst (λ (own : List Act). AreForestAnswersTo own new
+      promised = subst (λ (own : List Act). AreForestAnswersTo g.H.ForestHand.bounds own new
           (record { replies = c.do_acts.new.replies; stop = c.err-stop.result }))
           (c.deref.ensures.value ∙ sym acts)
-          (answered c.deref.result.now c.do_acts.new.replies old new c.do_acts.result c.err-stop.result c.err-stop.ensures.value
-          c.do_acts.ensures.told c.do_acts.ensures.all c.do_acts.ensures.stopped c.do_acts.ensures.stop none);
+          (answered g.H.ForestHand.bounds c.deref.result.now c.do_acts.new.replies old new c.do_acts.result c.err-stop.result
+          c.err-stop.ensures.value c.do_acts.ensures.told c.do_acts.ensures.all c.do_acts.ensures.stopped c.do_acts.ensures.stop none);
     }
