@@ -1,14 +1,15 @@
 -- The trees of a forest, taken out of their locks one after the other, and counted together.
 use Rattle.std.proofs.Common.{◌≡◌, ℕ, zero, suc, ◌+◌, ◌<◌, List, [], ◌∷◌, ◌++◌, length, map, Option, Some, slice_get, slice_index_or, take, All, refl, sym, ap, subst, ◌∙◌, arith}
-use Rattle.std.specs.Prelude.{sum_by, unwrap_or}
+use Rattle.std.specs.Prelude.{sum_by, unwrap_or, Result, Ok, Err, IfOk, IfErr}
 use Rattle.std.proofs.lemmas.List.{map-append}
 use Rattle.std.proofs.lemmas.List.Sums.{sum_by-cons, sum_by_more}
 use Rattle.std.proofs.lemmas.List.Elements.{All-append, All-head, All-tail, All-replicate}
+use Rattle.bw_keys.specs.declared.config.Config.{Config}
 use Rattle.bw_law.specs.Tables.{TableValue, pair_count}
 use Rattle.bw_tree.specs.Shares.{ShareValue, shared_in, sum_of}
 use Rattle.bw_tree.specs.Trees.{IsTree}
 use Rattle.bw_forest.specs.Bounds.{ranges_of}
-use Rattle.bw_forest.specs.Forests.{books_of, pairs_of, ranges_in, tables_of}
+use Rattle.bw_forest.specs.Forests.{ComesApart, HasPairsWithin, books_of, pairs_of, ranges_in, tables_of}
 use Rattle.bw_forest.specs.Plots.{PlotValue}
 
 pub all_more : {X : Type 0} → (P : X → Type 0) (xs more : List X) (x : X) → more ≡ xs ++ x ∷ [] → All P xs → P x → All P more
@@ -84,6 +85,28 @@ pub table_at : (trees : List PlotValue) (i : ℕ) (tree : PlotValue) (table : Ta
 table_at [] i tree table less is same = absurd (omega (arith, less))
 table_at (t ∷ ts) zero tree table less is same = same ∙ ap (λ (p : PlotValue). p.table) is
 table_at (t ∷ ts) (suc n) tree table less is same = table_at ts n tree table (omega (arith, less)) is same
+
+pub if_ok : {T E : Type 0} (P Q R : T → Type 0) (result : Result T E) → ((t : T) → P t → Q t → R t) → IfOk result P → IfOk result Q
+    → IfOk result R
+if_ok P Q R (Ok t) then one other = then t one other
+if_ok P Q R (Err e) then one other = tt
+
+pub if_err : {T E : Type 0} (P Q : E → Type 0) (result : Result T E) → ((e : E) → P e → Q e) → IfErr result P → IfErr result Q
+if_err P Q (Ok t) then fact = tt
+if_err P Q (Err e) then fact = then e fact
+
+-- the trees that weren't closed come back
+module _ (bounds : List ℕ) (made : Config) (trees : List PlotValue) (count : length trees ≡ length bounds)
+    (each : All IsTree (tables_of trees)) (within : All HasPairsWithin trees)
+    (config : All (λ (t : TableValue). t.config ≡ made) (tables_of trees)) where
+  pub comes_apart : (given : List ℕ) (back : List PlotValue) → given ≡ bounds → back ≡ trees → ComesApart bounds made given back
+  comes_apart given back same is = record {
+    same = same;
+    count = ap length is ∙ count;
+    each = subst (λ (ts : List PlotValue). All IsTree (tables_of ts)) (sym is) each;
+    within = subst (All HasPairsWithin) (sym is) within;
+    config = subst (λ (ts : List PlotValue). All (λ (t : TableValue). t.config ≡ made) (tables_of ts)) (sym is) config;
+  }
 
 pub length_map : {X Y : Type 0} → (f : X → Y) (xs : List X) → length (map f xs) ≡ length xs
 length_map f [] = refl

@@ -1,5 +1,5 @@
 -- The one map of a forest's trees.
-use Rattle.std.specs.Prelude.{◌≡◌, ◌↔◌, ℕ, ◌+◌, true, List, [], ◌∷◌, ◌++◌, ◌⊎◌, All, Option, Some, map, sum_by, refl}
+use Rattle.std.specs.Prelude.{◌≡◌, ◌↔◌, ℕ, ◌+◌, true, List, [], ◌∷◌, ◌++◌, ◌⊎◌, All, Option, Some, length, map, sum_by, refl}
 use Rattle.std.specs.Coded.{Coded, code_by, coded×, coded_ℕ, coded_list}
 use Rattle.bw_keys.specs.declared.config.Config.{Config}
 use Rattle.bw_keys.specs.Limits.{usual_config}
@@ -47,6 +47,16 @@ pub record IsForest (bounds : List ℕ) (trees : List PlotValue) : Type 0 where
   pub each : All IsTree (tables_of trees)
   pub within : All HasPairsWithin trees
   pub alike : AreAlike (tables_of trees)
+
+-- what comes back of a forest that isn't closed: the same bounds, and as many trees, all made by
+-- the configuration, each of which has its pairs in its range
+pub record ComesApart (bounds : List ℕ) (made : Config) (given : List ℕ) (trees : List PlotValue)
+    : Type 0 where
+  pub same : given ≡ bounds
+  pub count : length trees ≡ length bounds
+  pub each : All IsTree (tables_of trees)
+  pub within : All HasPairsWithin trees
+  pub config : All (λ table. table.config ≡ made) (tables_of trees)
 
 -- where the ranges begin, and the tables of their trees
 pub record ForestValue : Type 0 where

@@ -39,8 +39,9 @@ pub enum ForestFault {
     /// Fewer shares than all were gathered, so nothing is known of their sum.
     #[error("a share is missing")]
     MissingShare,
-    /// A tree has another range than the one that it was made for. This never comes; but what lies
-    /// under a lock is not known outside it, so it is looked at.
+    /// A tree has another range than the one that it was made for. No function of this crate puts
+    /// another one there, so a forest that was made and opened by it never meets this. But of what lies
+    /// under a lock only what the type says is known outside, so closing looks at each range.
     #[error("a tree has another range")]
     OtherRange,
 }

@@ -1,21 +1,23 @@
 //! The trees of a forest, by ranges of keys, and one exact count over all of them.
 
-ghost use Rattle.std.specs.Prelude.{◌≡◌, ◌≢◌, ◌+◌, ◌-◌, ◌*◌, ◌≤◌, ◌↔◌, Err, None, [], All, length, map};
-ghost use Rattle.std.specs.Prelude.{IsOk, IfOk, IfErr, OnOk, IfSome, IsTrue, vec_capacity};
+ghost use Rattle.std.specs.Prelude.{◌≡◌, ◌≢◌, ◌+◌, ◌-◌, ◌*◌, ◌≤◌, ◌↔◌, None, [], All, length, map};
+ghost use Rattle.std.specs.Prelude.{IsOk, IfOk, IfErr, OnOk, IsTrue, vec_capacity};
 ghost use Rattle.bw_keys.specs.Limits.{first_bad_field};
 ghost use Rattle.bw_tree.specs.Shares.{no_changes, shared_in, sum_of};
 ghost use Rattle.bw_tree.specs.Stocks.{OpensForest};
 ghost use Rattle.bw_tree.specs.Trees.{IsTree, IsNewFault, MayBeMade};
 ghost use Rattle.bw_forest.specs.Bounds.{AreBounds, ranges_of};
-ghost use Rattle.bw_forest.specs.Forests.{IsClosedForest, HasPairsWithin, ranges_in, tables_of};
-ghost use Rattle.bw_forest.specs.Forests.{AreAlike, books_of, config_of, pairs_of};
+ghost use Rattle.bw_forest.specs.Forests.{HasForestMap, HasPairsWithin, IsClosedForest};
+ghost use Rattle.bw_forest.specs.Forests.{ranges_in, tables_of};
+ghost use Rattle.bw_forest.specs.Forests.{AreAlike, ComesApart, books_of, config_of, pairs_of};
+ghost use Rattle.bw_forest.specs.declared.fault.ForestFault.TheVariants.{MissingShare, OtherRange};
 
 use crate::bounds::Bounds;
 use crate::closed::ClosedForest;
 use crate::closed_tree::ClosedTree;
 use crate::fault::ForestFault;
 use crate::forest_tree::ForestTree;
-use crate::given_back::Unopened;
+use crate::given_back::{NotClosed, Unopened};
 use bw_delta::NoMemory;
 use bw_keys::{Config, Fence, MAX_WORKERS, Range};
 use bw_table::Table;
@@ -324,11 +326,18 @@ impl<R: Wait + Drop, A: Allocator + Copy, I: MadeBy, D: Ledger> Forest<R, A, I, 
     }
 
     /// Returns the trees' tables with their ranges, and asks for no share. So nothing ties their books
-    /// to the shares. It takes no memory. None where a tree has another range than it was made for,
-    /// which never comes.
-    pub fn into_closed(self) -> Option<ClosedForest<A>>
-        ensures bounds { IfSome result (λ closed. closed.bounds ≡ self.bounds) }
-        ensures config { IfSome result (λ closed. config_of closed.tables ≡ I.config) }
+    /// to the shares. It takes no memory.
+    ///
+    /// # Errors
+    ///
+    /// Fails only with [`ForestFault::OtherRange`], where a tree has another range than the one that it
+    /// was made for, and gives the ranges and the trees back.
+    pub fn into_closed(self) -> Result<ClosedForest<A>, NotClosed<A>>
+        ensures bounds { IfOk result (λ closed. closed.bounds ≡ self.bounds) }
+        ensures config { IfOk result (λ closed. config_of closed.tables ≡ I.config) }
+        ensures fault { IfErr result (λ it. it.fault ≡ OtherRange) }
+        ensures back { IfErr result (λ it.
+            ComesApart self.bounds I.config it.bounds it.trees.items) }
     {
         let Forest {
             bounds,
@@ -337,20 +346,25 @@ impl<R: Wait + Drop, A: Allocator + Copy, I: MadeBy, D: Ledger> Forest<R, A, I, 
             ..
         } = self;
         let Felled { trees, .. } = fell(trees, room);
-        if !have_ranges(trees.as_slice(), &bounds) {
-            return None;
-        }
-        Some(ClosedForest::new(bounds, trees))
+        closed(bounds, trees)
     }
 
     /// Returns the trees' tables with their ranges. Their books together are the sum of the shares, of
-    /// all workers at all trees. It takes no memory. Fails where a share is missing, and drops the
-    /// tables.
-    pub fn close(self, shares: Vec<Share<I, D>>) -> Result<ClosedForest<A>, ForestFault>
+    /// all workers at all trees. It takes no memory.
+    ///
+    /// # Errors
+    ///
+    /// Fails with [`ForestFault::MissingShare`] where a share is missing, or as
+    /// [`into_closed`](Forest::into_closed) does, and gives the ranges and the trees back.
+    pub fn close(self, shares: Vec<Share<I, D>>) -> Result<ClosedForest<A>, NotClosed<A>>
         ensures bounds { IfOk result (λ closed. closed.bounds ≡ self.bounds) }
         ensures closed { IfOk result (IsClosedForest I.config shares.items) }
-        ensures missing { (result ≡ Err ForestFault.MissingShare)
-            ↔ (length shares.items ≢ self.totals.workers * length self.bounds) }
+        ensures whole { IsOk result
+            → length shares.items ≡ self.totals.workers * length self.bounds }
+        ensures missing { IfErr result (λ it. (it.fault ≡ MissingShare)
+            ↔ (length shares.items ≢ self.totals.workers * length self.bounds)) }
+        ensures back { IfErr result (λ it.
+            ComesApart self.bounds I.config it.bounds it.trees.items) }
     {
         let Forest {
             bounds,
@@ -360,13 +374,40 @@ impl<R: Wait + Drop, A: Allocator + Copy, I: MadeBy, D: Ledger> Forest<R, A, I, 
         } = self;
         let Felled { trees, stocks } = fell(trees, room);
         if totals.close(stocks, shares).is_err() {
-            return Err(ForestFault::MissingShare);
+            return Err(NotClosed {
+                fault: ForestFault::MissingShare,
+                bounds,
+                trees,
+            });
         }
-        if !have_ranges(trees.as_slice(), &bounds) {
-            return Err(ForestFault::OtherRange);
-        }
-        Ok(ClosedForest::new(bounds, trees))
+        closed(bounds, trees)
     }
+}
+
+/// Returns the closed forest of these trees, or them again where one has another range.
+fn closed<A: Allocator + Copy>(
+    bounds: Bounds,
+    trees: Vec<ClosedTree<A>>,
+) -> Result<ClosedForest<A>, NotClosed<A>>
+    requires count { length trees.items ≡ length bounds }
+    requires trees { All IsTree (tables_of trees.items) }
+    requires within { All HasPairsWithin trees.items }
+    requires alike { AreAlike (tables_of trees.items) }
+    ensures bounds { IfOk result (λ closed. closed.bounds ≡ bounds) }
+    ensures tables { IfOk result (λ closed. closed.tables ≡ tables_of trees.items) }
+    ensures map { IfOk result (λ closed. HasForestMap closed.tables) }
+    ensures some { AreBounds bounds }
+    ensures fault { IfErr result (λ it. it.fault ≡ OtherRange) }
+    ensures back { IfErr result (λ it. (it.bounds ≡ bounds) × (it.trees.items ≡ trees.items)) }
+{
+    if !have_ranges(trees.as_slice(), &bounds) {
+        return Err(NotClosed {
+            fault: ForestFault::OtherRange,
+            bounds,
+            trees,
+        });
+    }
+    Ok(ClosedForest::new(bounds, trees))
 }
 
 /// Takes each tree out of its lock.

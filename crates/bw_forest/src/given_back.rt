@@ -2,7 +2,8 @@
 
 use crate::bounds::Bounds;
 use crate::closed::ClosedForest;
-use crate::fault::BadTables;
+use crate::closed_tree::ClosedTree;
+use crate::fault::{BadTables, ForestFault};
 use bw_table::Table;
 use bw_tree::NewFault;
 use std::alloc::Allocator;
@@ -20,4 +21,12 @@ pub struct Unclosed<A: Allocator + Copy> {
 pub struct Unopened<A: Allocator + Copy> {
     pub fault: NewFault,
     pub forest: ClosedForest<A>,
+}
+
+/// A forest that isn't closed, and why: its ranges, and the trees, which are out of their locks.
+#[derive(Drop)]
+pub struct NotClosed<A: Allocator + Copy> {
+    pub fault: ForestFault,
+    pub bounds: Bounds,
+    pub trees: Vec<ClosedTree<A>>,
 }

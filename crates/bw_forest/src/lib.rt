@@ -18,6 +18,6 @@ pub use closed_tree::ClosedTree;
 pub use fault::{BadBounds, BadTables, ForestFault};
 pub use forest::Forest;
 pub use forest_tree::ForestTree;
-pub use given_back::{Unclosed, Unopened};
+pub use given_back::{NotClosed, Unclosed, Unopened};
 pub use limits::MAX_TREES;
 pub use plot::Plot;

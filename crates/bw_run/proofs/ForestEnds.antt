@@ -69,6 +69,7 @@ pub share_ends : (config : Config) (workers trees : ℕ) (rows : List Row) (faul
 share_ends config workers trees rows (share.BadConfig bad) made is = is
 share_ends config workers trees rows share.BadWorkers made is = is
 share_ends config workers trees rows share.NoMemory made is = made
+share_ends config workers trees rows share.NoMemoryForWorkers made is = made
 share_ends config workers trees rows share.NoThread made is = made
 share_ends config workers trees rows share.OtherRange made is = made
 

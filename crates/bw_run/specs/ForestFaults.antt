@@ -48,5 +48,6 @@ abbrev pub run_fault_of_share : ShareForestFault → RunFault
 run_fault_of_share (share.BadConfig bad) = BadConfig bad
 run_fault_of_share share.BadWorkers = Workers
 run_fault_of_share share.NoMemory = Memory
+run_fault_of_share share.NoMemoryForWorkers = Memory
 run_fault_of_share share.NoThread = Threads
 run_fault_of_share share.OtherRange = OtherRange

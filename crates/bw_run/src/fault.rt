@@ -77,7 +77,7 @@ impl From<ShareForestFault> for RunFault {
         match fault {
             ShareForestFault::BadConfig(bad) => RunFault::Config(bad),
             ShareForestFault::BadWorkers => RunFault::Workers,
-            ShareForestFault::NoMemory => RunFault::Memory,
+            ShareForestFault::NoMemory | ShareForestFault::NoMemoryForWorkers => RunFault::Memory,
             ShareForestFault::NoThread => RunFault::Threads,
             ShareForestFault::OtherRange => RunFault::OtherRange,
         }

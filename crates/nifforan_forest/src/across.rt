@@ -1,6 +1,6 @@
 //! The calls of a worker of a forest that go over several trees.
 
-ghost use Rattle.std.specs.Prelude.{◌≡◌, ◌-◌, ◌<◌, ◌≤◌, ℕ, None, IfSome, IfErr, min};
+ghost use Rattle.std.specs.Prelude.{◌≡◌, ◌↔◌, ◌-◌, ◌<◌, ◌≤◌, ℕ, None, IsTrue, IfSome, IfErr, min};
 ghost use Rattle.bw_forest.specs.Bounds.{IsTreeOf};
 ghost use Rattle.bw_keys.specs.Ranges.{end_of, key_count};
 ghost use Rattle.bw_tree.specs.Stocks.{most};
@@ -165,7 +165,10 @@ impl<'b, H: ForestHand> ForestWorker<'b, H> {
     }
 
     /// Returns whether no tree has pairs, as [`len`](ForestWorker::len) finds it.
-    pub fn is_empty(&self) -> bool {
+    pub fn is_empty(&self) -> bool
+        ensures { (all : ℕ) × HaveTogether H.has_pairs self.now.hands.items all
+            × (IsTrue result ↔ all ≡ 0) }
+    {
         self.len() == 0
     }
 }

@@ -6,7 +6,10 @@ use bw_crew::CrewFault;
 use bw_keys::BadConfig;
 use thiserror::Error;
 
-/// Why a forest wasn't shared. The first two are found before any thread starts, in this order.
+/// Why a forest wasn't shared. The first three are found before the trees are put under their locks,
+/// so before any worker starts, in this order. With the others the workers that started did their jobs:
+/// [`share_closed_forest`](crate::share_closed_forest) gives what they did back,
+/// [`share_forest`](crate::share_forest) doesn't.
 #[derive(Clone, Copy, Debug, PartialEq, Eq, Error)]
 pub enum ShareForestFault {
     /// A field of the configuration is out of its range.
@@ -15,14 +18,18 @@ pub enum ShareForestFault {
     /// There are no workers, or too many.
     #[error("bad workers")]
     BadWorkers,
+    /// Memory for the trees and the shares was short.
     #[error("out of memory")]
     NoMemory,
-    /// A worker's thread couldn't be started. Those that were started did their jobs, and what they
-    /// did is given up.
+    /// Memory for the workers was short.
+    #[error("out of memory")]
+    NoMemoryForWorkers,
+    /// A worker's thread couldn't be started.
     #[error("threads")]
     NoThread,
-    /// A tree has another range than it was made for. It never comes: no worker can change a range,
-    /// but what lies under a lock isn't known outside it.
+    /// A tree has another range than it was made for: see
+    /// [`ForestFault::OtherRange`](bw_forest::ForestFault::OtherRange). No worker can change a range, so
+    /// a forest that was made and shared here never meets this.
     #[error("a tree has another range")]
     OtherRange,
 }
@@ -34,7 +41,7 @@ impl From<CrewFault> for ShareForestFault {
 
     fn from(fault: CrewFault) -> ShareForestFault {
         match fault {
-            CrewFault::NoMemory => ShareForestFault::NoMemory,
+            CrewFault::NoMemory => ShareForestFault::NoMemoryForWorkers,
             CrewFault::NoThread => ShareForestFault::NoThread,
         }
     }

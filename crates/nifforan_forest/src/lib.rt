@@ -18,7 +18,10 @@ mod unshared;
 mod worker;
 
 pub use bw_delta::NoMemory;
-pub use bw_forest::{BadBounds, BadTables, Bounds, ClosedForest, ClosedTree, MAX_TREES, Unclosed};
+pub use bw_forest::{
+    BadBounds, BadTables, Bounds, ClosedForest, ClosedTree, ForestFault, MAX_TREES, NotClosed,
+    Unclosed,
+};
 pub use bw_keys::{BadConfig, Config, Fence, Field, Key, MAX_WORKERS, Range};
 pub use bw_procedures::{Cleared, Del, Done, Fault, GivenUp, Put, Set, Trail};
 pub use bw_step::Receipt;

@@ -1,6 +1,6 @@
 //! Forests that are shared for the length of one call.
 
-ghost use Rattle.std.specs.Prelude.{◌≡◌, ◌+◌, ◌*◌, ◌≤◌, ◌++◌, All, IsOk, IfOk, IfErr, OnOk};
+ghost use Rattle.std.specs.Prelude.{◌≡◌, ◌+◌, ◌*◌, ◌≤◌, ◌++◌, [], All, IsOk, IfOk, IfErr, OnOk};
 ghost use Rattle.std.specs.Prelude.{length, map, vec_capacity};
 ghost use Rattle.bw_crew.specs.Workers.{share_by};
 ghost use Rattle.bw_forest.specs.Forests.{IsClosedForest, config_of};
@@ -19,7 +19,7 @@ use crate::outcome::ForestOutcome;
 use crate::unshared::UnsharedForest;
 use bw_crew::CrewFault;
 use bw_delta::NoMemory;
-use bw_forest::{Bounds, ClosedForest, Forest, ForestFault};
+use bw_forest::{Bounds, ClosedForest, Forest};
 use bw_keys::{Config, MAX_WORKERS};
 use bw_procedures::Trail;
 use bw_tree::{ForestBlanks, MadeBy, NewFault, Share};
@@ -63,8 +63,8 @@ pub fn share_forest<
 /// Shares a forest that was closed, as [`share_forest`] does a new one: its trees go on with the pairs
 /// that they have. Tables that came from elsewhere are one by [`ClosedForest::of`].
 ///
-/// Where it fails, the forest comes back: as it was, or where a thread couldn't be started, with what
-/// was done by those that were.
+/// Where it fails, the forest comes back: with the first three faults as it was, else with what was
+/// done by the workers that started.
 pub fn share_closed_forest<
     O: Drop + Send,
     L: Trail + Send,
@@ -87,7 +87,7 @@ pub fn share_closed_forest<
     if let Err(fault) = check(forest.config(), workers) {
         return Err(UnsharedForest {
             fault,
-            forest: Some(forest),
+            forest: Ok(forest),
         });
     }
     let blanks = ForestBlanks::new(forest.bounds().trees(), workers + 1);
@@ -139,7 +139,11 @@ fn share_new<
         Err(NewFault::BadWorkers) => return Err(ShareForestFault::BadWorkers),
         Err(NewFault::NoMemory) => return Err(ShareForestFault::NoMemory),
     };
-    match share_open(rt, machine, forest, shares, Vec::new(machine), job) {
+    let room = match room_for_shares(machine, shares.len(), forest.trees().len()) {
+        Ok(room) => room,
+        Err(NoMemory) => return Err(ShareForestFault::NoMemory),
+    };
+    match share_open(rt, machine, forest, shares, room, job) {
         Ok(outcome) => Ok(outcome),
         Err(unshared) => Err(unshared.fault),
     }
@@ -172,17 +176,27 @@ fn share_again<
         IsShareForestFault (config_of forest.tables) workers it.fault) }
     ensures back { IfErr result (IsForestBack forest) }
 {
+    let trees = forest.bounds().trees() as usize;
+    let room = match room_for_shares(machine, blanks.workers as usize, trees) {
+        Ok(room) => room,
+        Err(NoMemory) => {
+            return Err(UnsharedForest {
+                fault: ShareForestFault::NoMemory,
+                forest: Ok(forest),
+            });
+        }
+    };
     let made = Forest::<R, Global, I, D>::from_closed(rt, machine, forest, blanks);
     let (forest, shares, opening) = match made {
         Ok(made) => made,
         Err(unopened) => {
             return Err(UnsharedForest {
                 fault: ShareForestFault::NoMemory,
-                forest: Some(unopened.forest),
+                forest: Ok(unopened.forest),
             });
         }
     };
-    match share_open(rt, machine, forest, shares, opening, job) {
+    match share_open(rt, machine, forest, shares, joined(room, opening), job) {
         Ok(outcome) => Ok(outcome),
         Err(unshared) => Err(unshared),
     }
@@ -210,6 +224,8 @@ fn share_open<
     requires new { All (λ its. All (λ share. share ≡ no_changes) its.items) shares.items }
     requires whole { length opening.items + length shares.items * length I.bounds
         ≡ forest.totals.workers * length I.bounds }
+    requires room { length opening.items + length shares.items * length I.bounds
+        ≤ vec_capacity opening }
     ensures ranges { IfOk result (λ shared. shared.forest.bounds ≡ I.bounds) }
     ensures closed { IfOk result (λ shared. IsClosedForest I.config
         (opening.items ++ map share_by (trails_of L.added shared.workers.items))
@@ -223,9 +239,6 @@ fn share_open<
     ensures late { IfErr result (λ it. IsLate it.fault) }
     ensures back { IfErr result (ComesBack I.bounds I.config) }
 {
-    let Ok(opening) = with_room(opening, shares.len(), forest.trees().len()) else {
-        return Err(give_back(forest, CrewFault::NoMemory));
-    };
     let gathered = work_all(&rt, machine, forest.bounds(), forest.trees(), shares, job);
     let Gathered { shares, workers } = match gathered {
         Ok(gathered) => gathered,
@@ -233,40 +246,37 @@ fn share_open<
     };
     match forest.close(joined(opening, shares)) {
         Ok(forest) => Ok(ForestOutcome { forest, workers }),
-        Err(ForestFault::MissingShare) => unreachable!(),
-        Err(ForestFault::OtherRange) => Err(UnsharedForest {
+        Err(apart) => Err(UnsharedForest {
             fault: ShareForestFault::OtherRange,
-            forest: None,
+            forest: Err(apart),
         }),
     }
 }
 
-/// Takes room behind the opening shares for those of all workers at all trees, so that nothing that was
-/// done is given up for want of it.
-fn with_room<I: MadeBy, D: Ledger>(
-    opening: Vec<Share<I, D>>,
+/// Takes room for the shares of so many workers at so many trees, before any of them starts, so that
+/// nothing that was done is given up for want of it.
+fn room_for_shares<I: MadeBy, D: Ledger>(
+    machine: Global,
     workers: usize,
     trees: usize,
 ) -> Result<Vec<Share<I, D>>, NoMemory>
-    ensures same { IfOk result (λ shares. shares.items ≡ opening.items) }
-    ensures room { IfOk result (λ shares.
-        length opening.items + workers * trees ≤ vec_capacity shares) }
+    ensures none { IfOk result (λ room. room.items ≡ []) }
+    ensures room { IfOk result (λ room. workers * trees ≤ vec_capacity room) }
 {
-    let Some(more) = workers.checked_mul(trees) else {
+    let Some(all) = workers.checked_mul(trees) else {
         return Err(NoMemory);
     };
-    let mut opening = opening;
-    opening.reserve(more)?;
-    Ok(opening)
+    Ok(Vec::with_capacity(machine, all)?)
 }
 
-/// Puts the workers' shares behind the opening ones.
+/// Puts shares behind the others, in the room that these have.
 fn joined<I: MadeBy, D: Ledger>(
     opening: Vec<Share<I, D>>,
     shares: Vec<Share<I, D>>,
 ) -> Vec<Share<I, D>>
     requires room { length opening.items + length shares.items ≤ vec_capacity opening }
-    ensures { result.items ≡ opening.items ++ shares.items }
+    ensures both { result.items ≡ opening.items ++ shares.items }
+    ensures room { vec_capacity opening ≤ vec_capacity result }
 {
     let (mut all, mut shares) = (opening, shares);
     let Ok(()) = all.append(&mut shares) else {
@@ -284,13 +294,13 @@ fn give_back<R: Wait + Drop, I: MadeBy, D: Ledger>(
     ensures back { ComesBack forest.bounds I.config result }
 {
     match forest.into_closed() {
-        Some(forest) => UnsharedForest {
+        Ok(forest) => UnsharedForest {
             fault: ShareForestFault::from(fault),
-            forest: Some(forest),
+            forest: Ok(forest),
         },
-        None => UnsharedForest {
+        Err(apart) => UnsharedForest {
             fault: ShareForestFault::OtherRange,
-            forest: None,
+            forest: Err(apart),
         },
     }
 }

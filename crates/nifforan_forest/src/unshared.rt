@@ -1,11 +1,11 @@
 use crate::fault::ShareForestFault;
-use bw_forest::ClosedForest;
+use bw_forest::{ClosedForest, NotClosed};
 use std::alloc::Global;
 
 /// A closed forest that wasn't shared, and why.
 #[derive(Drop)]
 pub struct UnsharedForest {
     pub fault: ShareForestFault,
-    /// The forest. None where a tree has another range than it was made for, which never comes.
-    pub forest: Option<ClosedForest<Global>>,
+    /// The forest; or, with [`ShareForestFault::OtherRange`] alone, its ranges and trees.
+    pub forest: Result<ClosedForest<Global>, NotClosed<Global>>,
 }

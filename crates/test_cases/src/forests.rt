@@ -3,7 +3,8 @@
 use crate::acts::{ACTS, Acting, act_all};
 use crate::ending::{Ending, Stop, hold};
 use crate::plain::Plain;
-use crate::workers::audited;
+use crate::workers::{audited, no_opening};
+use bw_audit::Opening;
 use bw_keys::Key;
 use bw_step::Receipt;
 use bw_work::{Act, Fault, Reply};
@@ -110,7 +111,12 @@ impl Trial {
     /// Fails unless memory was wanting, and that before each worker had begun.
     fn see_fault(&self, fault: ShareForestFault, workers: u32) -> Result<(), Stop> {
         hold(
-            fault == ShareForestFault::NoMemory || fault == ShareForestFault::NoThread,
+            matches!(
+                fault,
+                ShareForestFault::NoMemory
+                    | ShareForestFault::NoMemoryForWorkers
+                    | ShareForestFault::NoThread
+            ),
             "memory alone is wanting",
         )?;
         hold(
@@ -151,7 +157,7 @@ impl Trial {
             Err(unshared) => unshared,
         };
         self.see_fault(unshared.fault, 1)?;
-        let Some(forest) = unshared.forest else {
+        let Ok(forest) = unshared.forest else {
             return Err(Stop::Broken("a forest that isn't shared comes back"));
         };
         hold(
@@ -219,9 +225,10 @@ fn last_trails(
     Ok(trails)
 }
 
-/// Fails unless the trees have the pairs of the first worker's map, and the audit explains the trails at each tree.
-/// Returns how that worker ended.
-fn judge(machine: Global, outcome: Outcome) -> Result<Ending, Stop> {
+/// Fails unless the trees, which were opened so, have the pairs of the first worker's map, and the audit explains the
+/// trails at each tree. Returns how that worker ended.
+fn judge(machine: Global, openings: Vec<Opening>, outcome: Outcome) -> Result<Ending, Stop> {
+    let mut openings = openings;
     let ForestOutcome {
         forest,
         mut workers,
@@ -229,7 +236,11 @@ fn judge(machine: Global, outcome: Outcome) -> Result<Ending, Stop> {
     let ending = see_pairs(machine, &forest, &workers)?;
     for tree in forest.trees().iter().rev() {
         let trails = last_trails(machine, &mut workers)?;
-        audited(machine, tree.table(), &trails)?;
+        let opening = match openings.pop() {
+            Some(opening) => opening,
+            None => no_opening(machine),
+        };
+        audited(machine, &opening, tree.table(), &trails)?;
     }
     Ok(ending)
 }
@@ -239,19 +250,20 @@ pub(crate) fn forest_of_two<R: Threads + Wait + Sync + Send + Copy>(
     rt: R,
     machine: Global,
 ) -> Result<Ending, Stop> {
-    judge(machine, Trial::new(machine, Plain::EMPTY).share(rt, 2)?)
+    judge(
+        machine,
+        Vec::new(machine),
+        Trial::new(machine, Plain::EMPTY).share(rt, 2)?,
+    )
 }
 
-/// Returns the trails at each tree with those that follow them.
-fn joined(
-    trails: Vec<Vec<Receipt>>,
-    following: Vec<Vec<Receipt>>,
-) -> Result<Vec<Vec<Receipt>>, Stop> {
-    let mut trails = trails;
-    for (trail, mut rest) in trails.iter_mut().zip(following) {
-        trail.append(&mut rest)?;
+/// Returns what each tree has.
+fn openings_of(machine: Global, forest: &ClosedForest<Global>) -> Result<Vec<Opening>, Stop> {
+    let mut openings = Vec::new(machine);
+    for tree in forest.trees() {
+        openings.push(Opening::of(machine, tree.table())?)?;
     }
-    Ok(trails)
+    Ok(openings)
 }
 
 /// The trial of a worker on a forest that is taken apart, put together and shared once more.
@@ -265,14 +277,8 @@ pub(crate) fn forest<R: Threads + Wait + Sync + Send + Copy>(
     };
     let (plain, ended) = first.output?;
     let (forest, reclosed) = reclose(machine, shared.forest)?;
-    let (mut again, reshared) = Trial::new(machine, plain).share_closed(rt, forest)?;
-    let Some(second) = again.workers.pop() else {
-        return Err(Stop::Broken("a forest has its worker"));
-    };
-    again.workers.push(Returned {
-        output: second.output,
-        trails: joined(first.trails, second.trails)?,
-    })?;
-    let ended = ended.and(judge(machine, again)?);
+    let openings = openings_of(machine, &forest)?;
+    let (again, reshared) = Trial::new(machine, plain).share_closed(rt, forest)?;
+    let ended = ended.and(judge(machine, openings, again)?);
     Ok(ended.and(reclosed).and(reshared))
 }

@@ -6,7 +6,7 @@ ghost use Rattle.bw_tree.specs.Trees.{OpensFor};
 use crate::acts::{ACTS, act_all};
 use crate::ending::{Deviation, Ending, Stop, hold};
 use crate::plain::Plain;
-use bw_audit::{Verdict, audit, is_ascending};
+use bw_audit::{Opening, Verdict, audit_from, is_ascending};
 use bw_keys::{Config, Key};
 use bw_step::{Receipt, Step, Survey};
 use bw_table::Table;
@@ -99,10 +99,19 @@ pub(crate) fn work_by_hand<R: Wait + Copy, T: Task>(
     work_by_hand_over::<R, Brand, Brand, T>(rt, machine, config, Blanks::new(1), task)
 }
 
-/// Returns the table's pairs. Fails unless its book counts them, its leaves partition the keys, and
-/// the audit explains the trails.
+/// Returns what a new table has.
+pub(crate) fn no_opening(machine: Global) -> Opening {
+    Opening {
+        number: 0,
+        pairs: Vec::new(machine),
+    }
+}
+
+/// Returns the pairs of a table that was opened so. Fails unless its book counts them, its leaves
+/// partition the keys, and the audit explains the trails since then.
 pub(crate) fn audited(
     machine: Global,
+    opening: &Opening,
     table: &Table<Global>,
     trails: &[Vec<Receipt>],
 ) -> Result<Vec<(Key, u64)>, Stop> {
@@ -117,7 +126,7 @@ pub(crate) fn audited(
     if !is_ascending(&pairs) {
         return Err(Stop::Broken("the pairs' keys rise"));
     }
-    let verdict = audit(machine, trails, &pairs)?;
+    let verdict = audit_from(machine, opening, trails, &pairs)?;
     hold(verdict == Verdict::Yes, "the audit says yes")?;
     Ok(pairs)
 }
@@ -130,7 +139,7 @@ pub(crate) fn judge(
     trail: Vec<Receipt>,
     plain: &Plain,
 ) -> Result<(), Stop> {
-    let pairs = audited(machine, table, &[trail])?;
+    let pairs = audited(machine, &no_opening(machine), table, &[trail])?;
     hold(plain.has(&pairs), "the pairs are the script's")
 }
 

@@ -16,7 +16,8 @@ returns-in-Ok-share_open-clause-shared g c =
     record {
       ranges = shared.ranges ∙ sym c.requires.divided;
       closed = subst (λ made. IsClosedForest made told outcome.forest) c.requires.ledgers.made
-          (subst (λ opening. IsClosedForest g.I.MadeBy.config (opening ++ told) outcome.forest) c.new.ensures.items shared.closed);
+          (subst (λ opening. IsClosedForest g.I.MadeBy.config (opening ++ told) outcome.forest) c.in-Ok-room_for_shares.ensures.none
+          shared.closed);
       returned = shared.returned ∙ c.in-Ok.ensures.workers;
       trails = rw c.requires.divided shared.trails;
       promised = rw c.requires.divided shared.promised;
