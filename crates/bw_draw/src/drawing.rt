@@ -54,12 +54,13 @@ const NEAR: usize = 3;
 
 /// A drawing, whose text is an SVG image for light and dark grounds.
 ///
-/// Of a picture with at most 40 pages, each page is drawn, and of a larger one ten leaves in a row
-/// and the pages above them, with the first page whose split or merge is half done, if any. A page
-/// has its id, its range, its number of entries, its stage while it is half done, the newest
-/// records of its chain, and below them the base pages with their first entries and the last one. A
-/// number of more than nine digits is without its middle. The mapping table has the version of each
-/// page. For scripts, `data-page`, `data-slot`, `data-link` and `data-part` say what a part is of.
+/// If the picture has at most 40 pages, each is drawn. Of a larger one, ten leaves in a row and the
+/// pages above them are drawn, among them the first page whose split or merge is half done, if any.
+/// A page shows its id, its range, its number of entries, its stage while it is half done, and the
+/// newest records of its chain, and below them the base pages with their first entries and the last
+/// one. A number of more than nine digits is shown without its middle. The mapping table has the
+/// version of each page. For scripts, `data-page`, `data-slot`, `data-link` and `data-part` say
+/// what a part is of.
 #[derive(Drop)]
 pub struct Drawing {
     /// Its last line has no line feed.
@@ -75,7 +76,7 @@ impl Drawing {
         Drawing::within(alloc, picture, Window::Around(first_undone(picture), SOME))
     }
 
-    /// Draws of a picture the path to the key's leaf: this leaf with those beside it, and the pages
+    /// Draws the path to the key's leaf in a picture: this leaf with those beside it, and the pages
     /// above them.
     pub fn near(alloc: Global, picture: &Picture, key: Key) -> Result<Drawing, NoMemory> {
         Drawing::within(alloc, picture, Window::Around(key, NEAR))

@@ -5,8 +5,8 @@ use bw_keys::Key;
 use std::alloc::Global;
 use std::mem::replace;
 
-/// Writes texts and makes lists, and remembers whether memory was refused. Who writes with it has no
-/// fault to hand on.
+/// Writes texts and makes lists, and remembers whether memory was refused. Its callers have no
+/// fault to pass on.
 #[derive(Drop)]
 pub(crate) struct Pen {
     pub(crate) alloc: Global,
@@ -62,13 +62,13 @@ impl Pen {
         self.has_failed |= self.text.push_str(text).is_err();
     }
 
-    /// Writes a text, and a number behind it.
+    /// Writes a text, and a number after it.
     pub(crate) fn number(&mut self, text: &str, number: u64) {
         self.write(text);
         self.has_failed |= self.text.write(number).is_err();
     }
 
-    /// Writes a text, and a number behind it.
+    /// Writes a text, and a number after it.
     pub(crate) fn put(&mut self, text: &str, number: usize) {
         self.number(text, number as u64);
     }

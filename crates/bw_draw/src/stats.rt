@@ -83,8 +83,8 @@ impl Stats {
         })
     }
 
-    /// Returns a line for each number, or for several that belong together. The last line has no line
-    /// feed.
+    /// Returns a line for each number, or for several numbers that belong together. The last line
+    /// has no line feed.
     pub fn text(&self, alloc: Global) -> Result<String, NoMemory> {
         let mut pen = Pen::new(alloc);
         self.write_levels(&mut pen);

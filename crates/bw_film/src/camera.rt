@@ -32,7 +32,7 @@ impl<'t> Shows for Alone<'t, Global> {
 pub(crate) struct Filmed<S: Drop> {
     pub(crate) steps: S,
     pub(crate) film: Film,
-    /// Whether memory was wanting for a moment.
+    /// Whether memory was short for a moment.
     pub(crate) has_failed: bool,
 }
 

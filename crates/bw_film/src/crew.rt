@@ -31,11 +31,11 @@ pub struct Standing {
     pub done: Option<AnsweredRow>,
     /// The row that it does now.
     pub doing: Option<NumberedRow>,
-    /// The first of its rows that wasn't begun.
+    /// The first of its rows that it hasn't begun.
     pub next: Option<NumberedRow>,
 }
 
-/// Returns what so many workers do before the first row.
+/// Returns what this many workers do before the first row.
 #[tactic(auto, using(crate::proofs::Crews::crew_more, crate::proofs::Crews::crew_none))]
 pub(crate) fn crew_of(alloc: Global, rows: &[Row], workers: u32) -> Result<Vec<Standing>, NoMemory>
     ensures many { IfOk result (λ crew. length crew.items ≡ workers) }

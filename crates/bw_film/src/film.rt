@@ -26,13 +26,13 @@ pub struct Film {
     pub frames: Vec<Frame>,
     /// The row or the line of the input that is done.
     pub row: String,
-    /// What each worker does, in the order of their numbers. It is empty where that isn't shown.
+    /// What each worker does, in the order of their numbers. It is empty if that isn't shown.
     pub crew: Vec<Standing>,
     pub ghost drawn: { AreDrawn choice moments frames.items },
 }
 
 impl Film {
-    /// Returns a film without a moment, of workers who do this, or of none that are shown.
+    /// Returns a film without a moment, of workers who do this, or of no workers if none are shown.
     pub(crate) fn new(alloc: Global, choice: Choice, crew: Vec<Standing>) -> Film
         ensures choice { result.choice ≡ choice }
         ensures moments { result.moments ≡ 0 }
@@ -48,7 +48,7 @@ impl Film {
         }
     }
 
-    /// Adds the moment at which the table is so, and draws it if it is chosen.
+    /// Adds the moment at which the table is like this, and draws it if it is chosen.
     #[tactic(auto, using(crate::proofs::Drawn::draws_one, crate::proofs::Drawn::draws_none))]
     pub(crate) fn add(
         &mut self,
@@ -64,7 +64,7 @@ impl Film {
             self.old.frames.items self.new.frames.items }
     {
         let moment = self.moments;
-        // Where no number is left, there is none for a moment after this one.
+        // If no number is left, a moment after this one gets none.
         let Some(next) = moment.checked_add(1) else {
             return Ok(());
         };

@@ -9,11 +9,11 @@ pub struct Frame {
     pub told: String,
     /// What of the map is proved to be changed by it.
     pub proved: &'static str,
-    /// The row or the line of the input that wanted it.
+    /// The row or the line of the input that asked for it.
     pub row: String,
     /// What a comment of the script says of it.
     pub note: String,
-    /// What each worker does, in the order of their numbers. It is empty where that isn't shown.
+    /// What each worker does, in the order of their numbers. It is empty if that isn't shown.
     pub crew: Vec<Standing>,
     /// The table as an SVG image.
     pub drawing: String,

@@ -57,7 +57,7 @@ fn above_film(
     Ok(above)
 }
 
-/// Returns what stands above the film, the film, and the script.
+/// Returns what is above the film, the film, and the script.
 fn page_with(
     alloc: Global,
     above: Vec<u8>,
@@ -86,8 +86,8 @@ fn span_of(alloc: Global, film: &Film) -> Result<String, AllocError>
     }
 }
 
-/// Returns that the moments from the first to the last are shown, of so many up to the one that was
-/// wanted.
+/// Returns that the moments from the first to the last are shown, of so many up to the one asked
+/// for.
 fn span_between(
     alloc: Global,
     first: u64,

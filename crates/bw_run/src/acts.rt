@@ -42,7 +42,7 @@ pub(crate) fn do_acts<W: Notes, L: Looks>(
     Ok(())
 }
 
-/// Does a row: a look by the reader, if there is one, and all else by the hand.
+/// Does a row: a look by the reader, if there is one, and everything else by the hand.
 fn do_row<W: Notes, L: Looks>(hand: &mut W, reader: &mut Option<L>, act: Act) -> Result<Reply, Stop>
     ensures reported { IfOk result (λ reply.
         AddsReported act reply (W.seen hand.old).trail (W.seen hand.new).trail) }

@@ -32,8 +32,7 @@ impl From<NoMemory> for Stop {
     }
 }
 
-/// A reply to each of a worker's acts, or, where it stopped, to those before the one that it gave
-/// up.
+/// A reply to each of a worker's acts, or, if it stopped, to those before the one that it gave up.
 #[derive(Drop)]
 pub(crate) struct Answers {
     pub replies: Vec<Reply>,

@@ -1,4 +1,4 @@
-//! What any run asks for before a worker starts.
+//! What any run checks before a worker starts.
 
 ghost use Rattle.std.specs.Prelude.{IfErr, OnOk};
 ghost use Rattle.bw_tree.specs.Trees.{MayBeMade};

@@ -29,8 +29,8 @@ pub struct Finished {
     pub trails: Vec<Vec<Receipt>>,
 }
 
-/// Ends a run of which this table, and each worker's answers and trail, are left: audits its
-/// history, and brings the replies into the order of the rows. Fails where the history isn't legal.
+/// Ends a run that left this table, and each worker's answers and trail: audits its history, and
+/// brings the replies into the order of the rows. Fails if the history isn't legal.
 pub(crate) fn finish(
     machine: Global,
     rows: &[Row],

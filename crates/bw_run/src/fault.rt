@@ -34,15 +34,15 @@ pub enum RunFault {
     Threads,
     #[error("memory")]
     Memory,
-    /// A worker, by its number, gave up at a row of the trace, counted from 1. Of several that gave
-    /// up it is the one with the least number.
+    /// A worker, by its number, gave up at a row of the trace, counted from 1. If several gave up,
+    /// it is the one with the least number.
     #[error("worker {0} row {1}: {2}")]
     Stopped(usize, usize, Fault),
     /// The receipts have no order that explains them: see [`Verdict::No`](bw_audit::Verdict::No).
     #[error("audit no {0} {1}")]
     Audit(usize, usize),
-    /// A tree of a forest has another range than it was made for. It never comes: no worker can change
-    /// a range, but what lies under a lock isn't known outside it.
+    /// A tree of a forest has another range than it was made for. This never happens, since no
+    /// worker can change a range; but what lies under a lock isn't known outside it.
     #[error("a tree has another range")]
     OtherRange,
 }

@@ -33,14 +33,14 @@ use std::alloc::Global;
 use std::sync::Wait;
 use std::thread::Threads;
 
-/// Runs a trace on a new forest of `trees` trees, 1 to `MAX_TREES`, or of fewer: the ranges of their
-/// keys begin at quantiles of the keys that the rows name, and where quantiles are equal there is one
-/// range for them. Each tree is made by the configuration. `workers` workers, 1 to `MAX_WORKERS`, each
-/// in a thread of its own, do their rows in the order of the trace, side by side, and count them
-/// meanwhile. Then each tree's history, which is the trails of all workers there, is audited with the
-/// pairs that its table has.
+/// Runs a trace on a new forest of `trees` trees, 1 to `MAX_TREES`, or of fewer. Their ranges begin
+/// at quantiles of the keys that the rows name, and equal quantiles begin one range. The
+/// configuration is for each tree. `workers` workers, 1 to `MAX_WORKERS`, each in a thread of its
+/// own, do their rows in the order of the trace, side by side, and count them meanwhile. Then each
+/// tree's history, which is the trails of all workers there, is audited with the pairs that its
+/// table has.
 ///
-/// Where a worker gives up a row, it does no more, and the others do all of theirs.
+/// If a worker gives up a row, it does no more, and the others do all of theirs.
 pub fn run_forest<R: Threads + Wait + Sync + Send + Copy>(
     rt: R,
     machine: Global,
@@ -78,7 +78,7 @@ pub fn run_forest<R: Threads + Wait + Sync + Send + Copy>(
     finish_forest(machine, rows, outcome)
 }
 
-/// Returns the first fault that is there before any worker starts, want of memory apart.
+/// Returns the first fault that can be found before any worker starts, apart from a lack of memory.
 #[tactic(auto, using(crate::proofs::ForestEnds::crew_in_forest_run))]
 fn check(config: Config, workers: u32, trees: u32) -> Result<(), RunFault>
     ensures fine { OnOk result (MayRunForest config workers trees) }

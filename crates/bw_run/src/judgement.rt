@@ -13,7 +13,7 @@ use bw_step::Receipt;
 use bw_table::Table;
 use std::alloc::Global;
 
-/// Audits the trails with the table's pairs. Fails where they aren't a legal history.
+/// Audits the trails with the table's pairs. Fails if they aren't a legal history.
 #[tactic(auto, using(crate::proofs::Verdicts::same_pairs))]
 pub(crate) fn judge(
     machine: Global,

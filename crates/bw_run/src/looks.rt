@@ -29,7 +29,7 @@ pub(crate) trait Looks: Sized {
     ghost use Rattle.bw_step.specs.declared.view.Look.{Look};
     ghost use Rattle.bw_run.specs.Stops.{MayStop};
 
-    /// What a publication hands out, and nothing else does.
+    /// What a publication returns, and nothing else does.
     type Stamp;
 
     // the look is what the reader found at the key

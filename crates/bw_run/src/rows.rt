@@ -58,8 +58,8 @@ impl<'r, L: Looks + Drop> Task<Kit<L>> for Rows<'r> {
 }
 
 /// Does the rows on the tree by a worker for each share, and gathers what they bring back. The
-/// first readers are the first workers'. Where some of the workers stopped, the fault is that of
-/// the least number.
+/// first readers are the first workers'. If some of the workers stopped, the fault is that of the
+/// one with the least number.
 pub(crate) fn do_rows<
     I: Ledger + Send + Sync,
     D: Ledger + Send + Sync,

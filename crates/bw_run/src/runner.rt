@@ -35,7 +35,7 @@ use std::thread::Threads;
 /// has a reader: at a row that gets a key it publishes what was changed, lets its reader learn of
 /// that, and replies what the reader finds, without the lock. With no readers nothing is published.
 ///
-/// Where a worker gives up a row, it does no more, and the others do all of theirs.
+/// If a worker gives up a row, it does no more, and the others do all of theirs.
 pub fn run<R: Threads + Wait + Sync + Send + Copy, G: Gate + Sync>(
     rt: R,
     machine: Global,
@@ -96,7 +96,7 @@ pub fn run_counted<R: Threads + Wait + Sync + Send + Copy, G: Gate + Sync>(
     )
 }
 
-/// Returns the first fault that is there before any worker starts, want of memory apart.
+/// Returns the first fault that can be found before any worker starts, apart from a lack of memory.
 #[tactic(auto, using(crate::proofs::Runs::crew_in_run))]
 fn check(config: Config, workers: u32, readers: u32) -> Result<(), RunFault>
     ensures fine { OnOk result (MayRun config workers readers) }
@@ -109,7 +109,7 @@ fn check(config: Config, workers: u32, readers: u32) -> Result<(), RunFault>
     Ok(())
 }
 
-/// Runs the rows on a tree of which all reads take the lock, with these blank ledgers.
+/// Runs the rows on a tree whose lock all reads take, with these blank ledgers.
 fn run_locked<
     I: MadeBy + Send + Sync,
     D: Ledger + Send + Sync,

@@ -12,7 +12,7 @@ use crate::fault::RunFault;
 use crate::looks::Looks;
 use bw_texts::Row;
 
-/// Fails where a worker stopped. Of several the fault is that of the least number.
+/// Fails if a worker stopped. If several did, the fault is that of the least number.
 pub(crate) fn check_stops<L: Looks>(rows: &[Row], answers: &[Answers]) -> Result<(), RunFault>
     requires { ByNumber (λ worker. StopsIn L.may_close (acts_of worker rows.now)) 0 answers.now }
     ensures all { OnOk result (All (λ each. each.stop ≡ None) answers.now) }
@@ -24,7 +24,7 @@ pub(crate) fn check_stops<L: Looks>(rows: &[Row], answers: &[Answers]) -> Result
     Ok(())
 }
 
-/// Fails where the worker stopped.
+/// Fails if the worker stopped.
 fn check_stop<L: Looks>(rows: &[Row], worker: usize, answers: &Answers) -> Result<(), RunFault>
     requires { StopsIn L.may_close (acts_of worker rows.now) answers.now }
     ensures none { OnOk result (answers.now.stop ≡ None) }
@@ -37,8 +37,8 @@ fn check_stop<L: Looks>(rows: &[Row], worker: usize, answers: &Answers) -> Resul
     }
 }
 
-/// Returns the fault of a run in which the worker stopped at that of its rows which `before` others
-/// come before.
+/// Returns the fault of a run in which the worker stopped at the row of its own that comes after
+/// `before` others.
 fn fault_of(rows: &[Row], worker: usize, before: usize, stop: Stop) -> RunFault
     requires { before < length (acts_of worker rows.now) }
     ensures { (may_close : Bool) (workers : ℕ) → MayStop may_close stop → worker < workers
@@ -50,8 +50,8 @@ fn fault_of(rows: &[Row], worker: usize, before: usize, stop: Stop) -> RunFault
     }
 }
 
-/// Returns the number, counted from 1, of that of the worker's rows which `before` others come
-/// before.
+/// Returns the number, counted from 1, of the worker's row that comes after `before` others of its
+/// own.
 fn row_number(rows: &[Row], worker: usize, before: usize) -> usize
     requires { before < length (acts_of worker rows.now) }
     ensures own { IsRowOf rows.now worker result }

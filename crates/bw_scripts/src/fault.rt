@@ -8,11 +8,11 @@ use std::io;
 use std::io::ErrorKind;
 use thiserror::Error;
 
-/// Why a script isn't played to its end, or has none.
+/// Why a script isn't played to its end, or has no table.
 #[derive(Clone, Copy, Debug, PartialEq, Eq, Error)]
 pub enum ScriptFault {
-    /// The first line that can't be read, counted from 1. A step or a question before there is a
-    /// table can't be.
+    /// The first line that can't be read, counted from 1. Before there is a table, a step or a
+    /// question can't be read either.
     #[error("line {0}: the line can't be read")]
     Line(u64),
     /// No line has made a table.

@@ -42,7 +42,7 @@ pub(crate) enum Question {
 #[derive(Clone, Copy)]
 pub(crate) enum Unread {
     Words,
-    /// The entries of a step's base page make no page.
+    /// The entries of a step's base page don't make a page.
     BadEntries,
     NoMemory,
 }
@@ -107,7 +107,7 @@ fn visit(words: &[&str]) -> Result<Question, Unread> {
     Ok(Question::Visit(place, number(key)?, level(goal)?))
 }
 
-/// Reads a question, or returns None if the words are none.
+/// Reads a question, or returns None if the words aren't one.
 fn asked(words: &[&str]) -> Result<Option<Question>, Unread> {
     Ok(Some(match words {
         ["peek", pid] => Question::Peek(page(pid)?),

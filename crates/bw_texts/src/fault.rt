@@ -1,4 +1,4 @@
-//! Why a text isn't read or written.
+//! Why a text can't be read or written.
 
 ghost use Rattle.std.specs.Prelude.{◌≡◌};
 ghost use Rattle.bw_texts.specs.declared.fault.OutFault.TheVariants as out_fault;
@@ -10,7 +10,7 @@ use std::alloc::AllocFailed;
 use std::io;
 use thiserror::Error;
 
-/// Why a trace or a history isn't read.
+/// Why a trace or a history can't be read.
 #[derive(Clone, Copy, Debug, PartialEq, Eq, Hash, Error)]
 pub enum TextFault {
     /// The first row that can't be read, counted from 1, and the first part of it that can't.
@@ -19,7 +19,7 @@ pub enum TextFault {
     /// The reader failed.
     #[error("read")]
     Read,
-    /// There are more rows than may be.
+    /// There are more rows than allowed.
     #[error("rows")]
     Rows,
     #[error("memory")]
@@ -34,7 +34,7 @@ impl<T: Drop> From<AllocFailed<T>> for TextFault {
     }
 }
 
-/// Why a trace or a history isn't written. Part of it may have been.
+/// Why a trace or a history couldn't be written. Part of it may have been.
 #[derive(Clone, Copy, Debug, PartialEq, Eq, Hash, Error)]
 pub enum OutFault {
     /// The writer failed.

@@ -1,5 +1,5 @@
-//! Traces of what workers are to do, and histories of what they were answered, read and written
-//! row by row.
+//! Traces of what workers do, and histories of what they were answered, read and written row by
+//! row.
 #![tactic(auto)]
 
 mod fault;

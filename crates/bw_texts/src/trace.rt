@@ -1,4 +1,4 @@
-//! Traces: what workers are to do, row by row.
+//! Traces: what workers do, row by row.
 
 mod act;
 mod made;

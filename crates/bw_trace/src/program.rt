@@ -50,7 +50,7 @@ static USUAL: [&str; 1] = ["run"];
 
 /// Carries out the words, which leave out the program's own name, and returns the exit status. No
 /// words stand for `run` alone. Writes results and help to `output`, and fault lines and the usage
-/// text to `faults`, where nothing is written of what ends with 0. Where the words name a file, that is
+/// text to `faults`, where nothing is written if the status is 0. If the words name a file, it is
 /// read in place of `input`.
 ///
 /// | Status | Case |
@@ -77,10 +77,10 @@ pub fn command<T: Threads + Wait + Files + Sync + Send + Copy, R: Read + Drop, W
     end(output, faults, obeyed)
 }
 
-/// Carries out the words as [`command`] does, for somebody who watches the faults, as on a terminal:
-/// counts the rows of a run meanwhile, notes of what ends well how many rows have a fault beside their
-/// reply, and which lines of a script were refused, and says which range an option has that is out of
-/// it.
+/// Carries out the words as [`command`] does, for somebody who watches the faults, as on a
+/// terminal. It counts the rows of a run meanwhile. If all ends well, it notes how many rows have a
+/// fault beside their reply, and which lines of a script were refused. If an option is out of its
+/// range, it says which range that is.
 pub fn command_watched<
     T: Threads + Wait + Files + Sync + Send + Copy,
     R: Read + Drop,
@@ -114,7 +114,7 @@ fn bad_field(obeyed: &Result<u8, Fault>) -> Option<Field> {
     }
 }
 
-/// Tells the fault of what ended with one, or prints the help. Returns the exit status.
+/// Prints the fault, or the help. Returns the exit status.
 fn end<W: Write, E: Write>(output: &mut W, faults: &mut E, obeyed: Result<u8, Fault>) -> u8
     requires { IfOk obeyed (λ status. status ≤ 4) }
     ensures few { result ≤ 4 }
@@ -143,7 +143,7 @@ fn obey<T: Threads + Wait + Files + Sync + Send + Copy, R: Read + Drop, W: Write
     follow(rt, alloc, &matches, input, output, notes, progress)
 }
 
-/// Carries out what the words were found to say.
+/// Carries out the parsed words.
 fn follow<T: Threads + Wait + Files + Sync + Send + Copy, R: Read + Drop, W: Write, N: Write>(
     rt: T,
     alloc: Global,

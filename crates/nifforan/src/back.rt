@@ -10,16 +10,16 @@ use bw_keys::Key;
 use bw_table::{LeafRef, Table};
 use std::alloc::Allocator;
 
-/// The leaf in which the keys that are left end.
+/// The leaf that holds the last of the keys still to come.
 #[derive(Drop)]
 pub(crate) struct Back<'m, A: Allocator + Copy> {
     pub(crate) leaf: LeafRef<'m, A>,
-    /// The leaf's last pairs, as they lie side by side in it, or some of them.
+    /// Some of the leaf's last pairs, which lie side by side in it.
     pub(crate) lent: EntrySlice<'m, u64>,
 }
 
-/// Returns the table's pair with the greatest key at or below the key, if there is one. The leaf
-/// that has it is held then, and searched for if none is held yet.
+/// Returns the table's pair with the greatest key at or below the key, if there is one. If no leaf
+/// is held yet, it searches for one. The leaf of the pair is then held.
 #[inline(always)]
 pub(crate) fn previous_from<'m, A: Allocator + Copy>(
     table: &'m Table<A>,
@@ -41,8 +41,8 @@ pub(crate) fn previous_from<'m, A: Allocator + Copy>(
     pair
 }
 
-/// Returns the same from the leaf that is held: the last pair of those lent, or the one that is
-/// searched for if none is left.
+/// Does the same from the held leaf: returns the last pair of those lent, or searches for one if
+/// none is left.
 #[inline(always)]
 fn previous_in<'m, A: Allocator + Copy>(
     table: &'m Table<A>,

@@ -1,4 +1,4 @@
-//! Changes of a key by what it has.
+//! Changes of a key that depend on its value.
 
 ghost use Rattle.std.specs.Prelude.{◌≡◌, ◌≤◌, Some, IfOk, OnErr};
 ghost use Rattle.bw_delta.specs.Entries.{at};
@@ -17,9 +17,9 @@ use std::alloc::Allocator;
 /// What a compare-and-set replies.
 #[derive(Clone, Copy, Debug, PartialEq, Eq, Hash)]
 pub enum CompareAndSet {
-    /// The key had what was expected, and has the new value now, or none.
+    /// The key had the expected value, and now has the new one. Either may be none.
     Set,
-    /// The key had this value, or none, and keeps it.
+    /// The key had this value instead, or none, and keeps it.
     Differs(Option<u64>),
 }
 
@@ -33,8 +33,8 @@ pub struct Upsert {
 }
 
 impl<A: Allocator + Copy> Map<A> {
-    /// Sets the key to the new value if it has the expected one, where `None` is no value. The reply
-    /// has what was found in its place.
+    /// Sets the key to the new value if it has the expected one; `None` stands for no value.
+    /// Otherwise the reply has what was found.
     pub fn compare_and_set(
         &mut self,
         key: Key,
@@ -65,7 +65,8 @@ impl<A: Allocator + Copy> Map<A> {
         })
     }
 
-    /// Sets the key to what the function makes of its value, or of none. The reply has both.
+    /// Sets the key to the value that the function makes of its value, or of none. The reply has
+    /// the old value and the new one.
     pub fn upsert<F: FnOnce(Option<u64>) -> u64>(
         &mut self,
         key: Key,

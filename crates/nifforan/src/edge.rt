@@ -58,7 +58,7 @@ impl Edge {
         Some(receipt)
     }
 
-    /// How many of so many pairs there is room for.
+    /// How many of this many pairs there is room for.
     pub(crate) fn count_upto(&self, many: usize) -> usize
         ensures { result ≤ many }
     {
@@ -68,7 +68,7 @@ impl Edge {
         }
     }
 
-    /// Puts the pairs behind all of the leaf, if they belong to it and there is room.
+    /// Puts the pairs after all others of the leaf, if they belong to it and there is room.
     fn append<A: Allocator + Copy>(
         &mut self,
         table: &mut Table<A>,
@@ -130,7 +130,7 @@ impl<A: Allocator + Copy> Worker<A> {
         Some(Set::of(receipt?))
     }
 
-    /// Puts the pairs behind all others, if they belong to the edge's leaf and there is room.
+    /// Puts the pairs after all others, if they belong to the edge's leaf and there is room.
     pub(crate) fn append_at_edge(&mut self, edge: &mut Edge, run: EntrySlice<'_, u64>) -> bool
         requires empty { self.old.owner.account.seen.trail ≡ [] }
         requires behind { IsAscending
@@ -147,8 +147,8 @@ impl<A: Allocator + Copy> Worker<A> {
         done
     }
 
-    /// Splits the edge's leaf, if it has no room, before its last pair, and goes on to the leaf of
-    /// the key.
+    /// If the edge's leaf has no room, splits it before its last pair, and goes on to the key's
+    /// leaf.
     pub(crate) fn move_edge(&mut self, edge: &mut Edge, key: Key)
         requires { self.old.owner.account.seen.trail ≡ [] }
         ensures same { SameMap self.old.owner.table.value.slots self.new.owner.table.value.slots }
@@ -162,7 +162,8 @@ impl<A: Allocator + Copy> Worker<A> {
         }
     }
 
-    /// Splits a leaf that is too big by one pair before that pair, which is left alone in a new one.
+    /// Splits a leaf that has one pair too many before its last pair, which then stands alone in a
+    /// new leaf.
     fn split_edge(&mut self, leaf: Pid, key: Key)
         requires { self.old.owner.account.seen.trail ≡ [] }
         ensures same { SameMap self.old.owner.table.value.slots self.new.owner.table.value.slots }
@@ -170,7 +171,7 @@ impl<A: Allocator + Copy> Worker<A> {
         ensures config { self.new.owner.table.value.config ≡ self.old.owner.table.value.config }
     {
         let table = &self.owner.table.value;
-        // The root, which has no page over it, doesn't name the new one: `post` sees to that.
+        // The root has no parent that could name the new page: `post` sees to that.
         let parent = page_above_leaf(table, key).unwrap_or(leaf);
         let full = table.config().fanout as usize;
         match self.split_under(parent, leaf, full) {
@@ -184,7 +185,7 @@ impl<A: Allocator + Copy> Worker<A> {
         }
     }
 
-    /// Splits the page before its entry with the number, and names the new one in the parent where
+    /// Splits the page before the entry with this number, and names the new page in the parent, if
     /// that takes it.
     fn split_under(&mut self, parent: Pid, page: Pid, number: usize) -> Option<Pid>
         requires { self.old.owner.account.seen.trail ≡ [] }
@@ -199,7 +200,7 @@ impl<A: Allocator + Copy> Worker<A> {
         Some(new)
     }
 
-    /// Sees to it that the page has a parent that names it. A fault leaves that to a later call.
+    /// Ensures that a parent names the page. A fault leaves that to a later call.
     fn post(&mut self, page: Pid)
         requires { self.old.owner.account.seen.trail ≡ [] }
         ensures same { SameMap self.old.owner.table.value.slots self.new.owner.table.value.slots }
@@ -224,7 +225,7 @@ impl<A: Allocator + Copy> Worker<A> {
     }
 }
 
-/// The page over the leaf whose range holds the key, if there is one.
+/// The parent of the leaf whose range holds the key, if there is one.
 fn page_above_leaf<A: Allocator + Copy>(table: &Table<A>, key: Key) -> Option<Pid> {
     let mut place = table.root();
     if place.level == 0 {

@@ -1,4 +1,4 @@
-//! The first pair and the last one, taken out.
+//! Removal of the first pair and of the last one.
 
 ghost use Rattle.std.specs.Prelude.{◌≡◌, ◌≤◌, Some, IfOk, OnErr};
 ghost use Rattle.bw_procedures.specs.declared.fault.Fault.TheVariants as faults;

@@ -15,21 +15,21 @@ use bw_table::NewFault;
 use std::alloc::{Allocator, Global};
 use thiserror::Error;
 
-/// Why there is no map of pairs.
+/// Why no map was made of the pairs.
 #[derive(Clone, Copy, Debug, PartialEq, Eq, Error)]
 pub enum FillFault {
-    /// There was no map to fill.
+    /// The empty map couldn't be made.
     #[error("{0}")]
     New(NewFault),
-    /// A pair wasn't set.
+    /// A pair couldn't be set.
     #[error("{0}")]
     Set(Fault),
 }
 
 impl<A: Allocator + Copy> Map<A> {
-    /// Sets the key of each pair to its value, one after the other: of pairs with the same key the
-    /// last one stays. If a fault stands in the reply's place, those before are set. One beside it is
-    /// the first that cut the care for the pages short.
+    /// Sets the key of each pair to its value, one after the other, so of pairs with the same key
+    /// the last one stays. If the call fails, the pairs before the fault are set. A fault beside
+    /// the reply is the first that cut page maintenance short.
     pub fn extend<U: IntoIterator<Item = (Key, u64)>>(
         &mut self,
         pairs: U,
@@ -44,7 +44,8 @@ impl<A: Allocator + Copy> Map<A> {
     {
         let left = pairs.into_iter();
         let hint = left.size_hint().0 as u64;
-        // Keys of a map that has some may be among them. Without this memory pages come by and by.
+        // Some of the keys may be in the map already. Without this memory, pages are added as they
+        // are needed.
         let new = if self.is_empty() { hint } else { hint / 2 };
         let _ahead = self.reserve(new);
         self.set_each(left)
@@ -70,7 +71,8 @@ impl<A: Allocator + Copy> Map<A> {
         Ok(Done { reply: (), fault })
     }
 
-    /// Creates a map with the pairs, of which the last one with a key stays: see `new` and `extend`.
+    /// Creates a map with the pairs; of pairs with the same key the last one stays. See `new` and
+    /// `extend`.
     pub fn from_pairs<U: IntoIterator<Item = (Key, u64)> + Drop>(
         machine: Global,
         alloc: A,

@@ -1,4 +1,4 @@
-//! An ordered map from u64 keys to u64 values, and all that its caller needs.
+//! An ordered map from u64 keys to u64 values, and everything that its callers need.
 #![tactic(auto)]
 
 mod at_once;

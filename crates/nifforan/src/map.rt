@@ -29,19 +29,19 @@ use std::ops::RangeBounds;
 
 /// An ordered map from u64 keys to u64 values, for one thread.
 ///
-/// A call that changes it may end with a fault: `NoMemory`, also if a new page was needed and memory
-/// for more pages was refused, `TableFull` if the map has all pages that it may have and none was
-/// free, `TooTall` if the tree has its greatest height, `Worn` if a page's version or the number of
-/// changes is used up, and `Contended` if the call used the effort that the configuration allows
-/// it. A fault in place of a reply leaves the pairs unchanged. One beside a reply, in
-/// `Done::fault`, only cuts short the care for the pages, which a later call resumes.
+/// A call that changes it may end with a fault: `NoMemory` if an allocation was refused, be it for
+/// more pages; `TableFull` if the map has all its pages and none was free; `TooTall` if the tree
+/// has its greatest height; `Worn` if a page's version or the number of changes is used up; and
+/// `Contended` if the call spent the effort that the configuration allows. A fault in place of a
+/// reply leaves the pairs unchanged. A fault beside a reply, in `Done::fault`, has only cut page
+/// maintenance short, which a later call resumes.
 ///
 /// A put, a set and a delete take one action if a search for the key meets nothing unfinished,
 /// however little effort the configuration allows, and fail only if memory for a new pair is refused.
 #[derive(Drop)]
 pub struct Map<A: Allocator + Copy> {
     pub(crate) worker: Worker<A>,
-    /// How many pages the table may come to have.
+    /// The most pages that the table may have.
     pub(crate) most: u32,
 }
 
@@ -59,10 +59,10 @@ impl<A: Allocator + Copy> Model for Map<A> {
 }
 
 impl<A: Allocator + Copy> Map<A> {
-    /// Creates a map without pairs. The pairs will lie in `alloc`, all else in the machine's
-    /// memory. It begins with a few pages, and doubles them as it grows, up to `config.pages`, which
-    /// may be [`MAX_PAGES`]. Fails if a field of the configuration is out of its range, or memory is
-    /// short.
+    /// Creates an empty map. Its pairs will lie in `alloc`, everything else in the machine's
+    /// memory. It begins with a few pages, and doubles them as it grows, up to `config.pages`, at
+    /// most [`MAX_PAGES`]. Fails if a field of the configuration is out of its range, or if memory
+    /// is short.
     pub fn new(machine: Global, alloc: A, config: Config) -> Result<Map<A>, NewFault>
         ensures config { IfOk result (λ map. map.config ≡ config) }
         ensures empty { IfOk result (λ map. map.pairs ≡ []) }
@@ -86,8 +86,8 @@ impl<A: Allocator + Copy> Map<A> {
         })
     }
 
-    /// Creates the map that the table has, which keeps to that table's pages. New pairs will lie in
-    /// `alloc`, all else in the machine's memory.
+    /// Creates a map from the table, which never has more pages than the table. New pairs will lie
+    /// in `alloc`, everything else in the machine's memory.
     pub fn from_table(machine: Global, alloc: A, table: Table<A>) -> Map<A>
         ensures { result ≡ map_of table }
     {
@@ -98,7 +98,7 @@ impl<A: Allocator + Copy> Map<A> {
         }
     }
 
-    /// Returns the table, with its pairs and with the pages that it has come to have.
+    /// Returns the table, with its pairs and all its pages.
     pub fn into_table(self) -> Table<A>
         ensures { map_upto self.config.pages result ≡ self }
     {
@@ -106,14 +106,14 @@ impl<A: Allocator + Copy> Map<A> {
         worker.into_table()
     }
 
-    /// Lends the table, for what reads one without changing it.
+    /// Lends the table, for reading.
     pub fn table(&self) -> &Table<A>
         ensures { map_upto self.now.config.pages result.now ≡ self.now }
     {
         &self.worker.owner.table.value
     }
 
-    /// Returns the configuration that the map was made by.
+    /// Returns the configuration that the map was made with.
     pub fn config(&self) -> Config
         ensures { result ≡ self.now.config }
     {
@@ -149,15 +149,15 @@ impl<A: Allocator + Copy> Map<A> {
         self.len() == 0
     }
 
-    /// Returns how many pages the map has memory for, in constant time. It takes more as it grows, up
-    /// to `Config::pages`, or ahead, by `reserve`.
+    /// Returns the number of pages that the map has memory for, in constant time. It takes memory
+    /// for more as it grows, up to `Config::pages`, or ahead of that, by `reserve`.
     pub fn pages(&self) -> usize
         ensures { result ≡ self.now.pages }
     {
         self.worker.owner.table.value.config().pages as usize
     }
 
-    /// Returns how many pages more the map has room for, in constant time.
+    /// Returns how many more pages the map has room for, in constant time.
     pub fn free_pages(&self) -> usize
         ensures { result ≡ self.now.free }
     {
@@ -165,8 +165,8 @@ impl<A: Allocator + Copy> Map<A> {
         (self.most - table.config().pages) as usize + table.free_pages()
     }
 
-    /// Returns whether the map has room for no further page, in constant time. Then no page is split,
-    /// and a call that would split one reports [`Fault::TableFull`].
+    /// Returns whether the map has no room for another page, in constant time. If so, no page is
+    /// split, and a call that would split one reports [`Fault::TableFull`].
     pub fn is_full(&self) -> bool
         ensures { IsTrue result ↔ (self.now.free ≡ 0) }
     {
@@ -181,8 +181,8 @@ impl<A: Allocator + Copy> Map<A> {
         self.worker.owner.table.value.get(key)
     }
 
-    /// Returns the values of the keys, each in the place of its key: what as many gets return. Takes
-    /// no memory.
+    /// Returns the values of the keys, each at its key's place, as a get for each would. Takes no
+    /// memory.
     #[inline]
     pub fn get_many<const N: usize>(&self, keys: [Key; N]) -> [Option<u64>; N]
         ensures { result ≡ map (λ key. at key self.now.pairs) keys.entry }
@@ -227,7 +227,7 @@ impl<A: Allocator + Copy> Map<A> {
     }
 
     /// Returns the pairs with keys in the range, in the order of their keys, from either end. They
-    /// are read from the map one by one. A range that runs backwards has none. Takes no memory.
+    /// are read from the map one by one. A range that runs backwards has no pairs. Takes no memory.
     pub fn range<R: RangeBounds<Key>>(&self, range: R) -> Pairs<'_, A>
         ensures { R.has_bounds range → result ≡ between (R.start_bound range) (R.end_bound range)
             self.now.pairs }
@@ -265,7 +265,7 @@ impl<A: Allocator + Copy> Map<A> {
         }
     }
 
-    /// Inserts the pair, unless the key has a value: then it keeps that, and the reply has it.
+    /// Inserts the pair, unless the key has a value, which it then keeps and the reply has.
     pub fn put(&mut self, key: Key, value: u64) -> Result<Done<Put>, Fault>
         ensures puts { IfOk result (λ done.
             Puts key value (before_put done.reply) self.old.pairs self.new.pairs) }
@@ -286,7 +286,7 @@ impl<A: Allocator + Copy> Map<A> {
         }
     }
 
-    /// Sets the key to the value. The reply has the value before it, if there was one.
+    /// Sets the key to the value. The reply has the old value, if there was one.
     pub fn set(&mut self, key: Key, value: u64) -> Result<Done<Set>, Fault>
         ensures sets { IfOk result (λ done.
             Sets key value (before_set done.reply) self.old.pairs self.new.pairs) }
@@ -329,7 +329,7 @@ impl<A: Allocator + Copy> Map<A> {
     }
 
     /// Deletes the keys from the low on and below the high, and returns how many it deleted. If a
-    /// fault ends it before, it has deleted some of them, and no others.
+    /// fault ends the call early, some of these keys are deleted, and no others.
     pub fn clear(&mut self, low: Key, high: Fence) -> Cleared
         ensures clears { Clears low (end_of high) result.removed (result.fault ≡ None)
             self.old.pairs self.new.pairs }
@@ -346,8 +346,8 @@ impl<A: Allocator + Copy> Map<A> {
     }
 }
 
-/// How many pages the table of a new map has that may have so many. A number that is out of a map's
-/// range stays out of a table's.
+/// Returns the initial page count of a map capped at this many pages. A number outside a map's
+/// range stays outside a table's.
 fn first_pages(most: u32) -> u32
     ensures { result ≡ first_pages most }
 {

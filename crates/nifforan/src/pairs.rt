@@ -17,21 +17,21 @@ use std::marker::Model;
 
 /// The pairs of a map whose keys lie in a range, in the order of their keys, from either end.
 ///
-/// Takes no memory: it holds a leaf of the map, and walks along the leaf's own list. At the leaf's
-/// end it goes on in the leaf on the right. It searches only for each key that a record of the leaf
-/// names. At the back it holds another leaf, which it searches for when the first pair is taken
-/// there, and whenever no pair of it is left.
+/// Takes no memory. It holds a leaf of the map, walks along that leaf's own list, and goes on to
+/// the leaf on the right. It searches only for the keys that a record of the leaf names. At the
+/// back it holds another leaf, which it searches for when the first pair is taken from there, and
+/// whenever no pair of that leaf is left.
 #[derive(Drop)]
 pub struct Pairs<'m, A: Allocator + Copy> {
     pub(crate) table: &'m Table<A>,
     pub(crate) leaf: LeafRef<'m, A>,
-    /// The leaf's next pairs, as they lie side by side in it, or some of them.
+    /// Some of the leaf's next pairs, which lie side by side in it.
     pub(crate) lent: EntrySlice<'m, u64>,
-    /// Where the keys that are left begin.
+    /// Where the keys still to come begin.
     pub(crate) next: Fence,
     /// Where they end.
     pub(crate) high: Fence,
-    /// The leaf in which they end, once a pair was taken from the back.
+    /// The leaf in which they end, once a pair has been taken from the back.
     pub(crate) back: Option<Back<'m, A>>,
 }
 
@@ -55,8 +55,8 @@ impl<'m, A: Allocator + Copy> Model for Pairs<'m, A> {
 }
 
 impl<'m, A: Allocator + Copy> Pairs<'m, A> {
-    /// Takes pairs from the front that lie side by side in the leaf that is held, at most so many.
-    /// They may be none while some are left: then [`Pairs::next`] finds the next one.
+    /// Takes pairs from the front that lie side by side in the held leaf, at most so many. There
+    /// may be none though some are left; [`Pairs::next`] then finds the next one.
     #[inline(always)]
     pub fn take_run(&mut self, most: usize) -> EntrySlice<'m, u64>
         ensures taken { self.old ≡ list_of result ++ self.new }
@@ -78,8 +78,8 @@ impl<'m, A: Allocator + Copy> Pairs<'m, A> {
     }
 }
 
-/// Returns how many of the pairs are taken at once: at most so many. Where not all of them lie below
-/// the fence, it halves their number until the last one does.
+/// Returns how many of the pairs are taken at once, at most so many. If not all of them lie below
+/// the fence, it halves the number until the last one does.
 #[inline(always)]
 fn count_under(high: Fence, lent: EntrySlice<'_, u64>, most: usize) -> usize
     ensures inside { result ≤ length (list_of lent.entry) }

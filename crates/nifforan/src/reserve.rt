@@ -1,4 +1,4 @@
-//! Pages taken ahead, for pairs that are to come, and given back.
+//! Pages taken ahead, for pairs to come, and given back.
 
 ghost use Rattle.std.specs.Prelude.{◌≡◌, ◌≢◌, ◌+◌, ◌-◌, ◌*◌, ◌^◌, ◌<◌, ◌≤◌, ℕ, List, [], None, Err, length, sum};
 ghost use Rattle.std.specs.Prelude.{IsOk, IfOk, IfErr, OnOk, OnErr};
@@ -15,7 +15,7 @@ use bw_table::NewFault;
 use std::alloc::{Allocator, Global};
 
 impl<A: Allocator + Copy> Map<A> {
-    /// Creates a map without pairs, with pages enough for that many: see `new` and `reserve`.
+    /// Creates an empty map with enough pages for that many pairs: see `new` and `reserve`.
     pub fn with_capacity(
         machine: Global,
         alloc: A,
@@ -36,9 +36,9 @@ impl<A: Allocator + Copy> Map<A> {
         }
     }
 
-    /// Takes memory ahead for pages enough for that many pairs more, in whatever order they are put,
-    /// at the usual fanout, or for as many pages as the map may have. It takes some six bytes a pair,
-    /// or at least doubles what there was. If memory is refused, the map stays as it was.
+    /// Takes memory ahead for the pages that so many more pairs may need, in any order and at the
+    /// usual fanout, or for as many pages as the map may have. That is about six bytes a pair, or
+    /// at least as much again as there was. If memory is refused, the map stays as it was.
     pub fn reserve(&mut self, additional: u64) -> Result<(), NoMemory>
         ensures kept { HasGrown self.old self.new }
         ensures room { OnOk result (HasPagesFor (length self.old.pairs + additional) self.new) }
@@ -49,10 +49,9 @@ impl<A: Allocator + Copy> Map<A> {
         self.grow_to(pages)
     }
 
-    /// Makes the map anew, by puts of rising keys, so that it has no more pages than its pairs want,
-    /// and none that it took ahead. That takes some 0.3 µs a pair, and meanwhile memory for both. If
-    /// a fault ends it, the map stays as it was. So it does if the new one would take all pages that
-    /// the map may have.
+    /// Rebuilds the map by puts of rising keys, so that it has no more pages than its pairs need,
+    /// and none taken ahead. That takes about 0.3 µs a pair, and memory for both maps meanwhile. If
+    /// a fault ends it, or the new map would take all pages it may have, the map stays as it was.
     pub fn shrink_to_fit(&mut self) -> Result<(), Fault>
         ensures pairs { self.new.pairs ≡ self.old.pairs }
         ensures config { self.new.config ≡ self.old.config }
@@ -97,11 +96,11 @@ impl<A: Allocator + Copy> Map<A> {
     }
 }
 
-/// The least that a split leaves to either page, where pages may have 64 entries.
+/// The fewest entries that a split leaves in either page, if pages may have 64.
 const HALF: u64 = 32;
 
-/// Returns how many pages a map wants for that many pairs: as many as insertions alone, in any order,
-/// may fill, and those that each put finds free.
+/// Returns how many pages a map needs for that many pairs: as many as insertions alone may fill in
+/// any order, and those that each put must find free.
 fn pages_for(pairs: u64) -> u64
     ensures room { (leaves : ℕ) (above : List ℕ) → half * (leaves - 1) ≤ pairs
         → AreLevels leaves above → leaves + sum above ≤ result }
@@ -111,8 +110,8 @@ fn pages_for(pairs: u64) -> u64
     leaves + pages_above(leaves)
 }
 
-/// Returns how many pages there may be on all levels above one that has so many, and one page for
-/// each level, and for a new root, that stays free.
+/// Returns how many pages there may be on all levels above one with so many pages, plus one free
+/// page for each level and one for a new root.
 fn pages_above(pages: u64) -> u64
     requires { pages < 2 ^ 60 }
     ensures all { (below : ℕ) (above : List ℕ) → below ≤ pages → AreLevels below above

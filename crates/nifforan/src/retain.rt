@@ -1,4 +1,4 @@
-//! The pairs of which a function says so, kept.
+//! Keeps the pairs that a function chooses.
 
 ghost use Rattle.std.specs.Prelude.{◌≡◌, ◌≤◌, None, Some, length};
 ghost use Rattle.bw_procedures.specs.declared.fault.Fault.TheVariants as faults;
@@ -13,10 +13,10 @@ use bw_procedures::{Cleared, Fault};
 use std::alloc::Allocator;
 
 impl<A: Allocator + Copy> Map<A> {
-    /// Keeps the pairs of which the function returns true, removes the others, and returns how many
-    /// it removed. The function is called once with each pair, in the order of the keys. A fault in
-    /// place of a removal ends the call: that pair and those after it stay. One beside a removal
-    /// doesn't, and the first of these is returned.
+    /// Keeps the pairs for which the function returns true, removes the others, and returns how
+    /// many it removed. It calls the function once for each pair, in the order of the keys. A fault
+    /// in place of a removal ends the call, and that pair and those after it stay. A fault beside a
+    /// removal doesn't end the call; the first of these is returned.
     pub fn retain<F: FnMut(Key, u64) -> bool>(&mut self, keep: F) -> Cleared
         requires { F.IsAlwaysCallable keep }
         ensures retains { Retains (λ f pair stays g. F.step f pair.0 pair.1 stays g) keep
@@ -33,8 +33,8 @@ impl<A: Allocator + Copy> Map<A> {
         }
     }
 
-    /// Removes the pairs of which the function returns false, and returns the fault that ended this,
-    /// or else the first that stood beside a removal.
+    /// Removes the pairs for which the function returns false, and returns the fault that ended
+    /// this, or else the first that stood beside a removal.
     fn retain_each<F: FnMut(Key, u64) -> bool>(&mut self, mut keep: F) -> Option<Fault>
         requires { F.IsAlwaysCallable keep }
         ensures leaves { Leaves (λ f pair stays g. F.step f pair.0 pair.1 stays g) keep
@@ -59,7 +59,7 @@ impl<A: Allocator + Copy> Map<A> {
     }
 }
 
-/// Returns the key of the first pair of which the function returns false.
+/// Returns the key of the first pair for which the function returns false.
 fn first_refused<A: Allocator + Copy, F: FnMut(Key, u64) -> bool>(
     mut pairs: Pairs<'_, A>,
     keep: &mut F,

@@ -1,4 +1,4 @@
-//! Pages for a map whose table has too few, and the changes in it once they are there.
+//! Pages for a map whose table has too few, and the changes that then use them.
 
 ghost use Rattle.std.specs.Prelude.{◌≡◌, ◌↔◌, ◌≤◌, min, Some, None, IfOk, OnOk, OnErr};
 ghost use Rattle.bw_keys.specs.Ranges.{end_of};
@@ -14,9 +14,8 @@ use bw_procedures::{Cleared, Del, Done, Fault, Put, Set};
 use std::alloc::Allocator;
 
 impl<A: Allocator + Copy> Map<A> {
-    /// Sees to it that a change finds pages for a split on each level and for a new root, if the
-    /// map may have more and there is memory for them. Without it the map has to do with those that
-    /// are there.
+    /// Ensures that a change finds pages for a split on each level and for a new root, if the map
+    /// may have more and memory is available. Otherwise the map makes do with the pages it has.
     #[inline(always)]
     pub(crate) fn make_room(&mut self)
         ensures { HasGrown self.old self.new }
@@ -37,9 +36,9 @@ impl<A: Allocator + Copy> Map<A> {
         let _grown = self.grow_to(pages.saturating_add(1));
     }
 
-    /// Sees to it that the table has that many pages, or the most that the map may have. It at least
-    /// doubles them then, so that growth by small steps costs no more. If memory is refused, all
-    /// stays as it was.
+    /// Ensures that the table has that many pages, or the most that the map may have. If it adds
+    /// pages, it at least doubles them, so that growth in small steps costs no more. If memory is
+    /// refused, the map stays as it was.
     pub(crate) fn grow_to(&mut self, pages: u32) -> Result<(), NoMemory>
         ensures kept { HasGrown self.old self.new }
         ensures pages { OnOk result (min pages self.old.config.pages ≤ self.new.pages) }
@@ -54,8 +53,8 @@ impl<A: Allocator + Copy> Map<A> {
         self.worker.owner.table.value.add_pages(more)
     }
 
-    /// Returns what a call answers that ended so. A split that found no page free tells `TableFull`
-    /// only if the map has all pages that it may have: otherwise memory was refused for more.
+    /// Returns the answer of a call that ended like this. A split that found no free page reports
+    /// `TableFull` only if the map has all its pages; otherwise memory for more was refused.
     fn reported<T: Drop>(&self, answer: Result<Done<T>, Fault>) -> Result<Done<T>, Fault>
         ensures reply { SameReply answer result }
         ensures full { fault_reported result ≡ Some faults.TableFull → HasAllPages self.now }

@@ -1,4 +1,4 @@
-//! Pairs that are kept back until some of them can be put at once.
+//! Pairs that are kept back until several can be put at once.
 #![tactic(auto, using(bw_delta::proofs::Zips::zips))]
 
 ghost use Rattle.std.specs.Prelude.{◌≡◌, ◌++◌, ◌∷◌, [], IfOk, OnOk};
@@ -45,7 +45,7 @@ impl Run {
         })
     }
 
-    /// Whether no more pairs are to be kept back.
+    /// Whether it keeps back as many pairs as it may.
     #[inline(always)]
     pub(crate) fn is_full(&self) -> bool {
         self.keys.len() >= MOST

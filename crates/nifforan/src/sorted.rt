@@ -23,23 +23,23 @@ use bw_table::NewFault;
 use std::alloc::{Allocator, Global};
 use thiserror::Error;
 
-/// Why there is no map of pairs whose keys were to rise.
+/// Why no map was made of pairs with rising keys.
 #[derive(Clone, Copy, Debug, PartialEq, Eq, Error)]
 pub enum SortedFault {
-    /// There was no map to fill.
+    /// The empty map couldn't be made.
     #[error("{0}")]
     New(NewFault),
     /// The key of the pair with this number, counted from 0, isn't above that of the pair before.
     #[error("pair {0} isn't above the one before")]
     Unsorted(u64),
-    /// A pair wasn't put.
+    /// A pair couldn't be put.
     #[error("{0}")]
     Put(Fault),
 }
 
 impl<A: Allocator + Copy> Map<A> {
-    /// Creates a map with the pairs, whose keys have to rise: see `new`. Its leaves are filled one
-    /// after the other, so it takes a fraction of the time that as many puts take, and few pages.
+    /// Creates a map with the pairs, whose keys must rise: see `new`. It fills one leaf after the
+    /// other, so it takes a fraction of the time of as many puts, and few pages.
     pub fn from_sorted<U: IntoIterator<Item = (Key, u64)> + Drop>(
         machine: Global,
         alloc: A,
@@ -70,7 +70,7 @@ impl<A: Allocator + Copy> Map<A> {
         }
     }
 
-    /// Puts the pairs into a map without any.
+    /// Puts the pairs into an empty map.
     fn append_all<U: IntoIterator<Item = (Key, u64)>>(
         &mut self,
         pairs: U,
@@ -120,7 +120,7 @@ impl<A: Allocator + Copy> Map<A> {
         }
     }
 
-    /// Keeps the pair back, once those that were are put where they are many.
+    /// Keeps the pair back. If many pairs were kept back before it, puts those first.
     #[inline(always)]
     fn keep(&mut self, edge: &mut Edge, run: &mut Run, key: Key, value: u64) -> Result<(), Fault>
         requires { IsAscending (self.old.pairs ++ run.old) }
@@ -139,7 +139,7 @@ impl<A: Allocator + Copy> Map<A> {
         }
     }
 
-    /// Puts the pairs behind all others.
+    /// Puts the pairs after all others.
     #[inline(never)]
     fn append_each(&mut self, edge: &mut Edge, run: EntrySlice<'_, u64>) -> Result<(), Fault>
         requires { IsAscending (self.old.pairs ++ list_of run) }
@@ -161,8 +161,8 @@ impl<A: Allocator + Copy> Map<A> {
         Ok(())
     }
 
-    /// Puts as many of the pairs as the edge's leaf has room for behind all others, and returns the
-    /// rest. Returns `None`, and changes nothing, where that are none.
+    /// Puts as many of the pairs as the edge's leaf has room for after all others, and returns the
+    /// rest. Returns `None`, and changes nothing, if there are none.
     fn append_front<'r>(
         &mut self,
         edge: &mut Edge,
@@ -185,7 +185,7 @@ impl<A: Allocator + Copy> Map<A> {
         Some(back)
     }
 
-    /// Sets the key to the value, where the edge's leaf has no room, or isn't known.
+    /// Sets the key to the value when the edge's leaf has no room or isn't known.
     #[inline(never)]
     fn append_behind(&mut self, edge: &mut Edge, key: Key, value: u64) -> Result<(), Fault>
         ensures sets { OnOk result (self.new.pairs ≡ put key value self.old.pairs) }
@@ -205,7 +205,7 @@ impl<A: Allocator + Copy> Map<A> {
         Ok(())
     }
 
-    /// Puts the pairs behind all others, if they belong to the edge's leaf and there is room.
+    /// Puts the pairs after all others, if they belong to the edge's leaf and there is room.
     fn append_at_edge(&mut self, edge: &mut Edge, run: EntrySlice<'_, u64>) -> bool
         requires { IsAscending (self.old.pairs ++ list_of run) }
         ensures puts { result ≡ true → self.new.pairs ≡ self.old.pairs ++ list_of run.entry }

@@ -1,4 +1,4 @@
-//! The pairs of a range, given the values that a function makes of them.
+//! Sets the pairs of a range to the values that a function makes of them.
 
 ghost use Rattle.std.specs.Prelude.{◌≡◌, ◌≤◌, Some, IsOk};
 ghost use Rattle.std.specs.Range.Bound.{start_index, end_index};
@@ -27,11 +27,11 @@ struct Altered {
 }
 
 impl<A: Allocator + Copy> Map<A> {
-    /// Gives each pair whose key lies in the range the value that the function makes of it. The
-    /// function is called once with each pair, in the order of the keys. A pair that has that value
-    /// already isn't set, so it costs no more than to read it. A fault in place of a set ends the
-    /// call: that pair and those after it stay. One beside a set doesn't, and the first of these
-    /// stands beside the reply.
+    /// Sets each pair of the range to the value that the function makes of it. It calls the
+    /// function once for each pair, in the order of the keys. A pair that already has that value
+    /// isn't set, so it costs no more than reading it. A fault in place of a set ends the call, and
+    /// that pair and those after it stay as they are. A fault beside a set doesn't end the call;
+    /// the first of these stands beside the reply.
     pub fn update<R: RangeBounds<Key>, F: FnMut(Key, u64) -> u64>(
         &mut self,
         range: R,
@@ -51,7 +51,8 @@ impl<A: Allocator + Copy> Map<A> {
         self.update_each(low, high, new)
     }
 
-    /// Gives each pair from the low on and below the high the value that the function makes of it.
+    /// Sets each pair from the low on and below the high to the value that the function makes of
+    /// it.
     fn update_each<F: FnMut(Key, u64) -> u64>(
         &mut self,
         low: Fence,
@@ -78,7 +79,7 @@ impl<A: Allocator + Copy> Map<A> {
     }
 }
 
-/// Returns the first pair of which the function makes another value than it has.
+/// Returns the first pair for which the function makes a different value.
 fn first_altered<A: Allocator + Copy, F: FnMut(Key, u64) -> u64>(
     mut pairs: Pairs<'_, A>,
     new: &mut F,

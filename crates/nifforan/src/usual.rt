@@ -5,9 +5,9 @@ ghost use Rattle.bw_law.specs.declared.pages.TheConstants.{MAX_PAGES as most};
 use bw_keys::Config;
 use bw_table::MAX_PAGES;
 
-/// Returns the usual configuration of a map: pages of 64 entries, consolidated after each change, and
-/// the most of them that there may be, which cost nothing, since a map takes its pages as it grows.
-/// They have room for 520 million pairs in any order of insertion.
+/// Returns the usual configuration of a map: pages of 64 entries, consolidated after each change,
+/// and as many pages as there may be. They cost nothing, since a map takes its pages as it grows,
+/// and they have room for 520 million pairs, inserted in any order.
 pub fn usual_config() -> Config
     ensures { result ≡ usual_with most }
 {

@@ -22,8 +22,7 @@ pub(crate) struct Worker<A: Allocator + Copy> {
 }
 
 impl<A: Allocator + Copy> Worker<A> {
-    /// Creates a worker without receipts, which gives up those of its steps. What it makes will lie
-    /// in `alloc`.
+    /// Creates a worker that keeps no receipts of its steps. What it makes will lie in `alloc`.
     pub(crate) fn new(machine: Global, alloc: A, table: Table<A>) -> Worker<A>
         ensures table { result.owner.table.value ≡ table }
         ensures ready { IsReady result.owner.table.value result.owner.account.seen.trail }

@@ -19,11 +19,12 @@ use bw_procedures::{Cleared, Fault};
 use std::alloc::Global;
 
 impl<'b, H: ForestHand> ForestWorker<'b, H> {
-    /// Deletes the keys from the low on and below the high, as [`clear`](bw_procedures::Calls::clear)
-    /// does, tree by tree in the order of their ranges, and returns how many it deleted, or 2^64 - 1
-    /// where it deleted more. Copies of leaves lie in the machine's memory. The first fault ends the
-    /// call; what was deleted by then stays so. It comes where one tree's `clear` would end with it,
-    /// so each tree's part has the effort of a call.
+    /// Deletes the keys from the low on and below the high, as
+    /// [`clear`](bw_procedures::Calls::clear) does, tree by tree in the order of their ranges, and
+    /// returns how many it deleted, or 2^64 - 1 if it deleted more. Copies of leaves lie in the
+    /// machine's memory. The first fault ends the call, and what was deleted by then stays deleted.
+    /// The fault comes when one tree's `clear` would end with it, so each tree's part has the
+    /// effort of a call.
     ///
     /// Without a fault, each key of the range was missing in a copy of its leaf, or was deleted since.
     pub fn clear(&mut self, machine: Global, low: Key, high: Fence) -> Cleared
@@ -66,13 +67,13 @@ impl<'b, H: ForestHand> ForestWorker<'b, H> {
     }
 
     /// Appends the pairs from the low on to the list, in the order of their keys, until it has
-    /// appended `limit` pairs or there are no more. Goes on in the next tree where one has no more.
-    /// What a leaf has was there at one moment; what all of them have together need never have been
-    /// the map. Adds no receipts.
+    /// appended `limit` pairs or there are no more. When a tree has no more, goes on in the next
+    /// one. Each leaf's pairs were there at one moment; all together need never have been the map.
+    /// Adds no receipts.
     ///
     /// # Errors
     ///
-    /// [`Fault::Contended`] where the effort of a read is spent before a leaf is copied, and
+    /// [`Fault::Contended`] if the effort of a read is spent before a leaf is copied, or
     /// [`Fault::NoMemory`], each in one tree. The pairs up to there are on the list.
     pub fn scan(&mut self, low: Key, limit: usize, list: &mut Vec<(Key, u64)>) -> Result<(), Fault>
         ensures scans { Scans (λ key found. WasThereInItsTree H.bounds H.follows H.shows key found
@@ -98,7 +99,7 @@ impl<'b, H: ForestHand> ForestWorker<'b, H> {
     }
 
     /// Returns the pair with the least key at or above the key, if there is one. Each tree that is
-    /// asked answers in one hold of its lock; the next one is asked where a tree has none.
+    /// asked answers in one hold of its lock; if a tree has none, the next one is asked.
     pub fn next_at(&self, key: Key) -> Option<(Key, u64)>
         ensures at_or_past { IfSome result (λ pair. key ≤ pair.0) }
         ensures next { (first : ℕ) × IsTreeOf H.bounds key first
@@ -114,8 +115,8 @@ impl<'b, H: ForestHand> ForestWorker<'b, H> {
         None
     }
 
-    /// Returns the pair with the greatest key at or below the key, if there is one. Each tree that is
-    /// asked answers in one hold of its lock; the one before it is asked where a tree has none.
+    /// Returns the pair with the greatest key at or below the key, if there is one. Each tree that
+    /// is asked answers in one hold of its lock; if a tree has none, the one before it is asked.
     pub fn previous_at(&self, key: Key) -> Option<(Key, u64)>
         ensures at_or_before { IfSome result (λ pair. pair.0 ≤ key) }
         ensures previous { (last : ℕ) × IsTreeOf H.bounds key last

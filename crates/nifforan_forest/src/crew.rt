@@ -92,8 +92,8 @@ pub(crate) struct Gathered<I: Divides, D: Ledger, O, L: Trail> {
 
 /// Does the job with each list of shares, one at each tree, side by side, each in a thread of its own.
 ///
-/// Fails where memory is wanting before the first thread starts or for a worker's hands, and where a
-/// thread can't be started: the other workers that were started do their part to the end.
+/// Fails if memory is short before the first thread starts or for a worker's hands, or if a thread
+/// can't be started; the other workers that did start do their part to the end.
 pub(crate) fn work_all<
     I: Divides + Send + Sync,
     D: Ledger + Send + Sync,
@@ -174,8 +174,8 @@ fn room_for<I: Divides, D: Ledger, O: Drop, L: Trail>(
     })
 }
 
-/// Sorts what the workers bring back into the room. Fails where one had no memory for its hands; asks
-/// for none itself, so that what was done isn't given up for want of it.
+/// Sorts what the workers bring back into the room. Fails if one had no memory for its hands. Needs
+/// none itself, so that nothing done is lost for want of it.
 fn gather<I: Divides, D: Ledger, O: Drop, L: Trail, J: ForestJob<Output = O, Trail = L>>(
     room: Room<I, D, O, L>,
     job: &J,

@@ -28,8 +28,8 @@ pub enum ShareForestFault {
     #[error("threads")]
     NoThread,
     /// A tree has another range than it was made for: see
-    /// [`ForestFault::OtherRange`](bw_forest::ForestFault::OtherRange). No worker can change a range, so
-    /// a forest that was made and shared here never meets this.
+    /// [`ForestFault::OtherRange`](bw_forest::ForestFault::OtherRange). No worker can change a range,
+    /// so a forest made and shared here never meets this.
     #[error("a tree has another range")]
     OtherRange,
 }

@@ -16,7 +16,7 @@ pub(crate) fn lower(one: Fence, other: Fence) -> Fence
     }
 }
 
-/// Does nothing: that a fence lies past no more than all keys, a proof learns by the fence's cases.
+/// Does nothing. From the fence's cases a proof learns that it lies past no more than all keys.
 #[inline(always)]
 pub(crate) fn end_among_keys(high: Fence)
     ensures { end_of high ≤ key_count }

@@ -1,4 +1,4 @@
-//! What the workers of a forest are to do.
+//! What the workers of a forest do.
 
 use crate::hand::ForestHand;
 use crate::worker::ForestWorker;
@@ -9,11 +9,11 @@ pub trait ForestJob {
     ghost use Rattle.std.specs.Prelude.{◌≡◌, ◌<◌, [], All, map};
     ghost use Rattle.nifforan_forest.specs.Workers.{PromisedOf};
 
-    /// What a worker brings back.
+    /// What a worker returns.
     type Output: Drop;
 
     /// What becomes of the receipts of a worker's steps, at each tree. [`GivenUp`](crate::GivenUp)
-    /// keeps none; `Vec<Receipt>` keeps each, of some 40 bytes, to the end, for an auditor.
+    /// keeps none; `Vec<Receipt>` keeps all of them, about 40 bytes each, for an auditor.
     type Trail: Trail;
 
     // what the job promises of the trees' bounds, of a worker's number, of what that worker brings

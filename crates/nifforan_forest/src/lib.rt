@@ -1,5 +1,5 @@
-//! A forest shared by worker threads, in one call: one ordered map over many trees, each with a range
-//! of the keys and a lock of its own, so that workers seldom meet.
+//! Shares a forest among worker threads in one call: one ordered map over many trees, each with a
+//! range of the keys and a lock of its own, so that workers seldom meet.
 #![tactic(auto)]
 
 mod across;

@@ -10,6 +10,6 @@ use std::alloc::Global;
 pub struct ForestOutcome<O, L = GivenUp> {
     /// The trees, in the order of their ranges.
     pub forest: ClosedForest<Global>,
-    /// What each worker brought back, by the workers' numbers.
+    /// What each worker returned, by the workers' numbers.
     pub workers: Vec<Returned<O, L>>,
 }

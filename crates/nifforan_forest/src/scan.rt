@@ -48,7 +48,7 @@ pub(crate) fn scan_tree<H: ForestHand>(
 }
 
 /// Appends the pairs of the key's leaf that lie from the key on and below the high to the list, the
-/// first `limit` of them, and returns where the leaf ends. They go straight into the list where the
+/// first `limit` of them, and returns where the leaf ends. They go straight into the list if the
 /// hand reads a leaf in one step; otherwise by a copy of the leaf.
 fn scan_leaf<H: ForestHand>(
     hand: &mut H,
@@ -73,7 +73,7 @@ fn scan_leaf<H: ForestHand>(
     Ok(end_before(slice.next))
 }
 
-/// Returns the end of the leaf behind which the next one begins here, or that of the last leaf.
+/// Returns the end of the leaf after which the next one begins here, or that of the last leaf.
 fn end_before(next: Option<Key>) -> Fence
     ensures { end_of result ≡ end_of_slice next }
 {

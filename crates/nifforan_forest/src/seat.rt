@@ -92,7 +92,7 @@ pub(crate) fn hands_of<
     Ok(hands)
 }
 
-/// Takes the hands apart. Asks for no memory, so that what was done isn't given up for want of it.
+/// Takes the hands apart. Needs no memory, so that nothing done is lost for want of it.
 pub(crate) fn bring_back<
     't,
     I: Divides,

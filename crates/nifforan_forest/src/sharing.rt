@@ -29,12 +29,13 @@ use std::sync::Wait;
 use std::sync::ledger::Ledger;
 use std::thread::Threads;
 
-/// Shares a new forest, with a tree for each range, among `workers` workers, 1 to `MAX_WORKERS`, each
-/// of which does the job in a thread of its own, and returns the trees once all have ended. All lies in
-/// the machine's memory. Each tree is made by the configuration, so it has as many pages as that says.
+/// Shares a new forest, with a tree for each range, among `workers` workers, 1 to `MAX_WORKERS`,
+/// each of which does the job in a thread of its own, and returns the trees once all have ended.
+/// Everything lies in the machine's memory. The configuration is for each tree, so each has as many
+/// pages as it says.
 ///
-/// A job that ends early costs nothing: what it returns stands in
-/// [`workers`](ForestOutcome::workers), and the trees have all that was done by then.
+/// A job may end early: [`workers`](ForestOutcome::workers) has what it returns, and the trees have
+/// everything done by then.
 ///
 /// The job says what becomes of the receipts of each worker's accepted steps and looks
 /// ([`Trail`](ForestJob::Trail)).
@@ -60,11 +61,11 @@ pub fn share_forest<
     share_new::<Brand, Brand, O, L, J, R>(rt, machine, bounds, config, blanks, job)
 }
 
-/// Shares a forest that was closed, as [`share_forest`] does a new one: its trees go on with the pairs
-/// that they have. Tables that came from elsewhere are one by [`ClosedForest::of`].
+/// Shares a forest that was closed, as [`share_forest`] does a new one: its trees go on with the
+/// pairs that they have. [`ClosedForest::of`] makes one of tables from elsewhere.
 ///
-/// Where it fails, the forest comes back: with the first three faults as it was, else with what was
-/// done by the workers that started.
+/// If it fails, the forest comes back: as it was after one of the first three faults, and otherwise
+/// with what the workers that started did.
 pub fn share_closed_forest<
     O: Drop + Send,
     L: Trail + Send,
@@ -94,7 +95,7 @@ pub fn share_closed_forest<
     share_again::<Brand, Brand, O, L, J, R>(rt, machine, forest, workers, blanks, job)
 }
 
-/// Returns the first fault that is there before any thread starts, want of memory apart.
+/// Returns the first fault that can be found before any thread starts, apart from a lack of memory.
 fn check(config: Config, workers: u32) -> Result<(), ShareForestFault>
     ensures fine { OnOk result (MayBeMade config workers) }
     ensures fault { IfErr result (IsShareForestFault config workers) }
@@ -149,7 +150,7 @@ fn share_new<
     }
 }
 
-/// Shares a closed forest with these blank ledgers, which are those of one worker more.
+/// Shares a closed forest with these blank ledgers, which have parts for one more than the workers.
 fn share_again<
     I: Divides + Send + Sync,
     D: Ledger + Send + Sync,
@@ -253,8 +254,8 @@ fn share_open<
     }
 }
 
-/// Takes room for the shares of so many workers at so many trees, before any of them starts, so that
-/// nothing that was done is given up for want of it.
+/// Makes room for the shares of all workers at all trees before any of them starts, so that nothing
+/// done is lost for want of it.
 fn room_for_shares<I: MadeBy, D: Ledger>(
     machine: Global,
     workers: usize,
@@ -269,7 +270,7 @@ fn room_for_shares<I: MadeBy, D: Ledger>(
     Ok(Vec::with_capacity(machine, all)?)
 }
 
-/// Puts shares behind the others, in the room that these have.
+/// Puts the workers' shares after the others.
 fn joined<I: MadeBy, D: Ledger>(
     opening: Vec<Share<I, D>>,
     shares: Vec<Share<I, D>>,

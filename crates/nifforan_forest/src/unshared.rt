@@ -6,6 +6,6 @@ use std::alloc::Global;
 #[derive(Drop)]
 pub struct UnsharedForest {
     pub fault: ShareForestFault,
-    /// The forest; or, with [`ShareForestFault::OtherRange`] alone, its ranges and trees.
+    /// The forest, or, only with [`ShareForestFault::OtherRange`], its ranges and trees.
     pub forest: Result<ClosedForest<Global>, NotClosed<Global>>,
 }

@@ -14,11 +14,11 @@ use bw_procedures::{Del, Done, Fault, Put, Set};
 
 /// A worker of a forest: it has a hand on each of the trees, in the order of their ranges.
 ///
-/// A call of one key is a call of the one tree whose range holds the key, in the words of one tree's
-/// [`Calls`](bw_procedures::Calls), and leaves the hands on all other trees as they were. Steps of
-/// other workers may come between any two steps of a call.
+/// A call on one key is a call on the one tree whose range holds the key, as
+/// [`Calls`](bw_procedures::Calls) describes it, and leaves the hands on all other trees as they
+/// were. Steps of other workers may come between any two steps of a call.
 ///
-/// A fault in the place of a reply says that the map is as the call found it, and the worker may go on.
+/// After a fault in place of a reply, the map is as the call found it, and the worker may go on.
 #[derive(Drop)]
 pub struct ForestWorker<'b, H: ForestHand> {
     pub(crate) bounds: &'b Bounds,

@@ -67,7 +67,7 @@ impl Before for Del {
 pub struct Reply {
     /// `OK` with a reply, or else why there is none: then the pairs are unchanged.
     pub status: u32,
-    /// With a reply, `OK`, or what cut the care for the pages short, which a later call resumes.
+    /// With a reply, `OK`, or what cut page maintenance short, which a later call resumes.
     pub care: u16,
     /// Whether the key had a value before the call.
     pub found: bool,
@@ -149,7 +149,7 @@ impl Reply {
     }
 }
 
-/// The number of pairs of a map, and of the pages that it has still room for.
+/// The number of pairs of a map, and of the pages that it still has room for.
 #[repr(C)]
 #[derive(Clone, Copy)]
 pub struct Count {

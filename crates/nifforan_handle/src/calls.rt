@@ -24,9 +24,9 @@ use nifforan::{Map, NewFault};
 use std::alloc::Global;
 
 impl Handle {
-    /// Opens a map without pairs at a closed handle. With any status but `OK` the handle stays as
-    /// it is: `OPEN` if it has a map, else `BAD_SIZE` if the settings have another size than here,
-    /// else that of the first setting out of its range, else `NO_MEMORY`.
+    /// Opens an empty map at a closed handle. With any status but `OK` the handle stays as it is:
+    /// `OPEN` if it has a map, else `BAD_SIZE` if the settings have another size than here, else
+    /// that of the first setting out of its range, else `NO_MEMORY`.
     pub fn create(&mut self, alloc: Global, settings: &Settings) -> u32
         ensures { Creates settings.now result self.old.held self.new.held }
     {
@@ -72,7 +72,7 @@ impl Handle {
         }
     }
 
-    /// Inserts the pair, unless the key has a value: then it keeps that, and the reply has it.
+    /// Inserts the pair, unless the key has a value, which it then keeps and the reply has.
     pub fn put(&mut self, alloc: Global, key: u64, value: u64) -> Reply
         ensures { Writes (Puts key value) result self.old.held self.new.held }
     {
@@ -84,7 +84,7 @@ impl Handle {
         reply
     }
 
-    /// Sets the key to the value. The reply has the value before it, if there was one.
+    /// Sets the key to the value. The reply has the old value, if there was one.
     pub fn set(&mut self, alloc: Global, key: u64, value: u64) -> Reply
         ensures { Writes (Sets key value) result self.old.held self.new.held }
     {
@@ -108,8 +108,9 @@ impl Handle {
         reply
     }
 
-    /// Sets the key to the new value, or deletes it where there is none, if it has the expected value,
-    /// or none. The reply has the value that it had: it was set if that is what was expected.
+    /// If the key has the expected value, or no value if none is expected, sets it to the new
+    /// value, or deletes it if there is none. The reply has the old value: if that is the expected
+    /// one, the key was changed.
     pub fn compare_and_set(
         &mut self,
         alloc: Global,
@@ -152,9 +153,9 @@ impl Handle {
         popped
     }
 
-    /// Sets the key of each pair to its value, one after the other: of pairs with the same key the
-    /// last one stays. If a fault ends it before, the first ones are set, and the answer has their
-    /// number.
+    /// Sets the key of each pair to its value, one after the other, so of pairs with the same key
+    /// the last one stays. If a fault ends the call early, the first ones are set, and the answer
+    /// has their number.
     pub fn extend(&mut self, alloc: Global, pairs: &[Pair]) -> Filled
         ensures { Extends (are_pairs pairs.now) result self.old.held self.new.held }
     {
@@ -167,7 +168,7 @@ impl Handle {
     }
 
     /// Deletes the keys from the low on and below the high, and returns how many it deleted. If a
-    /// fault ends it before, it has deleted some of them, and no others.
+    /// fault ends the call early, some of these keys are deleted, and no others.
     pub fn clear(&mut self, alloc: Global, low: u64, high: High) -> Cleared
         ensures { ClearsHeld low (end_at high) result self.old.held self.new.held }
     {
@@ -179,8 +180,9 @@ impl Handle {
         cleared
     }
 
-    /// Takes memory ahead for pages enough for that many pairs more, or for as many pages as the map
-    /// may have. With any status but `OK` all stays as it is: `CLOSED`, `FROZEN` or `NO_MEMORY`.
+    /// Takes memory ahead for the pages that so many more pairs may need, or for as many pages as
+    /// the map may have. With any status but `OK` nothing changes: `CLOSED`, `FROZEN` or
+    /// `NO_MEMORY`.
     pub fn reserve(&mut self, alloc: Global, pairs: u64) -> u32
         ensures { Reserves pairs result self.old.held self.new.held }
     {
@@ -192,8 +194,8 @@ impl Handle {
         status
     }
 
-    /// Makes the map anew, with no more pages than its pairs want. With any status but `OK` all
-    /// stays as it is: `CLOSED`, `FROZEN`, or a fault.
+    /// Rebuilds the map with no more pages than its pairs need. With any status but `OK` nothing
+    /// changes: `CLOSED`, `FROZEN`, or a fault.
     pub fn shrink(&mut self, alloc: Global) -> u32
         ensures { Shrinks result self.old.held self.new.held }
     {
@@ -206,7 +208,7 @@ impl Handle {
     }
 
     /// Freezes the map: from now on no call changes it, and `share` opens more handles on it. With
-    /// any status but `OK` all stays as it is: `CLOSED`, `FROZEN` if it is frozen already, or
+    /// any status but `OK` nothing changes: `CLOSED`, `FROZEN` if it is frozen already, or
     /// `NO_MEMORY`.
     pub fn freeze(&mut self, alloc: Global) -> u32
         ensures { Freezes result self.old.held self.new.held }
@@ -219,8 +221,8 @@ impl Handle {
         status
     }
 
-    /// Opens another handle, which is closed, on the same frozen map, for another thread say. With
-    /// any status but `OK` it stays closed: `OPEN` if it has a map, else `CLOSED` if this one
+    /// Opens another handle, which is closed, on the same frozen map, such as for another thread.
+    /// With any status but `OK` it stays closed: `OPEN` if it has a map, else `CLOSED` if this one
     /// has none, `NOT_FROZEN` if its map isn't frozen, or `NO_MEMORY`.
     pub fn share(&mut self, alloc: Global, other: &mut Handle) -> u32
         ensures { Shares result self.old.held self.new.held other.old.held other.new.held }

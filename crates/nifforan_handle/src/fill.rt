@@ -1,4 +1,4 @@
-//! Many pairs of C's array, set in a map or made a map of.
+//! Pairs of C's array, set in a map or made into one.
 
 ghost use Rattle.std.specs.Prelude.{◌≡◌, ◌≢◌, ◌≤◌, None, true, IfOk, IfErr, OnOk, length, take};
 ghost use Rattle.bw_delta.specs.Entries.{rises};
@@ -45,18 +45,18 @@ pub(crate) fn set_each(map: &mut Map<Global>, pairs: &[Pair]) -> Filled
     Filled::whole(fault, pairs.len() as u64)
 }
 
-/// Takes memory ahead for so many pairs. Without it pages come by and by.
+/// Takes memory ahead for so many pairs. Without it, pages are added as they are needed.
 fn take_ahead(map: &mut Map<Global>, pairs: usize)
     ensures pairs { map.new.pairs ≡ map.old.pairs }
     ensures config { map.new.config ≡ map.old.config }
 {
-    // Keys of a map that has some may be among them.
+    // Some of the keys may be in the map already.
     let new = if map.is_empty() { pairs } else { pairs / 2 };
     let _ahead = map.reserve(new as u64);
 }
 
 impl Handle {
-    /// Opens a map with the pairs, whose keys have to rise, at a closed handle. With any status but
+    /// Opens a map with the pairs, whose keys must rise, at a closed handle. With any status but
     /// `OK` the handle stays as it is: those of `create`, `UNSORTED` if a key isn't above the one
     /// before, or a fault. The count is that of the pairs, or with `UNSORTED` of those that rise.
     pub fn from_sorted(&mut self, alloc: Global, settings: &Settings, pairs: &[Pair]) -> Filled
@@ -85,7 +85,7 @@ impl Handle {
     }
 }
 
-/// Creates a map with the pairs, whose keys have to rise.
+/// Creates a map with the pairs, whose keys must rise.
 fn sorted(alloc: Global, config: Config, pairs: &[Pair]) -> Result<Map<Global>, SortedFault>
     ensures pairs { IfOk result (λ map. map.pairs ≡ are_pairs pairs.now) }
     ensures rise { OnOk result (rises 0 key_count (are_pairs pairs.now) ≡ true) }

@@ -12,7 +12,7 @@ use nifforan::Fault;
 pub struct Filled {
     /// `OK`, or what ended the call before its last pair.
     pub status: u32,
-    /// With `OK`, `OK`, or what cut the care for the pages short first, which a later call resumes.
+    /// With `OK`, `OK`, or what first cut page maintenance short, which a later call resumes.
     pub care: u16,
     /// The number of pairs that were set, or of those before the first that isn't above the one
     /// before.

@@ -73,7 +73,7 @@ impl Handle {
         drop(replace(self, Handle::of(held)).into_box(alloc));
     }
 
-    /// Returns the handle, as a thread that goes on with it has it.
+    /// Returns the handle, as the thread that takes it over has it.
     pub fn sent(self) -> Handle
         ensures { result ≡ self }
     {
@@ -84,7 +84,7 @@ impl Handle {
 // What it holds is its own, or is shared by an `Arc`; any thread may free its box.
 unsafe impl Send for Handle {}
 
-/// Returns the value: only one that may go to another thread gets here.
+/// Returns the value, which must be one that may go to another thread.
 fn passed_on<T: Send>(value: T) -> T
     ensures { result ≡ value }
 {

@@ -15,7 +15,7 @@ use crate::status::CLOSED;
 use std::alloc::Global;
 
 impl Handle {
-    /// Returns the number of pairs, and how many pages more the map has room for.
+    /// Returns the number of pairs, and how many more pages the map has room for.
     pub fn pairs(&mut self, alloc: Global) -> Count
         ensures closed { (map_in self.old.held ≡ None) ↔ (result.status ≡ CLOSED) }
         ensures open { (map_in self.old.held ≢ None) ↔ (result.status ≡ OK) }

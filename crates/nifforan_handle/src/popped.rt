@@ -15,7 +15,7 @@ use nifforan::{Done, Fault};
 pub struct Popped {
     /// `OK`, or else why nothing was removed.
     pub status: u32,
-    /// With `OK`, `OK`, or what cut the care for the pages short, which a later call resumes.
+    /// With `OK`, `OK`, or what cut page maintenance short, which a later call resumes.
     pub care: u16,
     /// Whether there was a pair.
     pub found: bool,

@@ -28,7 +28,7 @@ pub const BAD_PAGES: u32 = 5;
 /// The tries aren't from 1 to 1,000.
 pub const BAD_TRIES: u32 = 6;
 
-/// Memory is short, be it for more pages.
+/// Memory is short, perhaps for more pages.
 pub const NO_MEMORY: u32 = 7;
 
 /// No page is free, and the map has as many as it may have.
@@ -40,7 +40,7 @@ pub const TOO_TALL: u32 = 9;
 /// The version of a page, or the number of changes, is used up.
 pub const WORN: u32 = 10;
 
-/// The call used all tries that it has.
+/// The call used all its tries.
 pub const CONTENDED: u32 = 11;
 
 /// The settings have another size than in this version.

@@ -4,10 +4,10 @@ use crate::job::{Job, ReadingJob};
 use crate::reading::Reads;
 use bw_crew::Worker;
 
-/// Jobs by the workers' numbers: worker `i` does the job at `i`, and brings back what that returns.
-/// A worker past the last job does nothing, and brings back `None`.
+/// Jobs by the workers' numbers: worker `i` does the job at `i`, and returns its output. A worker
+/// past the last job does nothing, and returns `None`.
 ///
-/// Where the workers differ in kind, `J` is an enum with a variant for each kind of work.
+/// If the workers differ in kind, make `J` an enum with a variant for each kind of work.
 #[derive(Drop)]
 pub struct Each<'j, J> {
     pub jobs: &'j [J],

@@ -20,8 +20,8 @@ pub enum ShareFault {
     BadWorkers,
     #[error("out of memory")]
     NoMemory,
-    /// A worker's thread couldn't be started. Those that were started did their jobs, and what they
-    /// did is given up.
+    /// A worker's thread couldn't be started. The threads that did start did their jobs, and what
+    /// they did is lost.
     #[error("threads")]
     NoThread,
 }

@@ -31,7 +31,7 @@ pub struct Gathered<I: Ledger, D: Ledger, O, L: Trail = Vec<Receipt>> {
 }
 
 impl<I: Ledger, D: Ledger, O: Drop, L: Trail> Gathered<I, D, O, L> {
-    /// Makes room for what `workers` workers bring back, and for one share more.
+    /// Makes room for what `workers` workers bring back, and for one more share.
     pub fn with_room(machine: Global, workers: usize) -> Result<Gathered<I, D, O, L>, NoMemory>
         requires few { workers ≤ 64 }
         ensures empty { IfOk result (λ room. room.shares.items ≡ []) }
@@ -47,8 +47,8 @@ impl<I: Ledger, D: Ledger, O: Drop, L: Trail> Gathered<I, D, O, L> {
     }
 }
 
-/// Sorts what the workers bring back into the room. Asks for no memory, so that what was done isn't
-/// given up for want of it.
+/// Sorts what the workers bring back into the room. Needs no memory, so that nothing done is lost
+/// for want of it.
 pub fn gather<I: Ledger, D: Ledger, O: Drop, L: Trail>(
     room: Gathered<I, D, O, L>,
     all: Vec<Worked<I, D, O, L>>,

@@ -61,8 +61,8 @@ impl<
 /// gathers what the workers bring back, by the workers' numbers. The worker with number `i` has the
 /// kit at `i`, and calls the gate after each of its steps that changes the tree's shape.
 ///
-/// Fails where memory is wanting before the first thread starts, and where a thread can't be
-/// started: those that were started do their part to the end. There is room for one share more.
+/// Fails if memory is short before the first thread starts, or if a thread can't be started; those
+/// that did start do their part to the end. Leaves room for one more share.
 pub fn work_all<
     I: Ledger + Send + Sync,
     D: Ledger + Send + Sync,

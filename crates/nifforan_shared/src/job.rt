@@ -1,4 +1,4 @@
-//! What the workers of a shared tree are to do.
+//! What the workers of a shared tree do.
 
 use crate::reading::Reads;
 use bw_crew::Worker;
@@ -9,12 +9,11 @@ pub trait Job {
     ghost use Rattle.std.specs.Prelude.{◌≡◌, ◌<◌, []};
     ghost use Rattle.bw_crew.specs.Workers.{Promised};
 
-    /// What a worker brings back.
+    /// What a worker returns.
     type Output: Drop;
 
-    /// What becomes of the receipts of a worker's steps. `Vec<Receipt>` keeps each, of some 40
-    /// bytes, to the end; [`GivenUp`](crate::GivenUp) keeps none, for a job whose receipts nobody
-    /// will ask for.
+    /// What becomes of the receipts of a worker's steps. `Vec<Receipt>` keeps all of them, about 40
+    /// bytes each; [`GivenUp`](crate::GivenUp) keeps none, for a job whose receipts nobody needs.
     type Trail: Trail;
 
     // what the job promises of a worker's number, of what that worker brings back, and of its trail
@@ -33,12 +32,11 @@ pub trait ReadingJob {
     ghost use Rattle.std.specs.Prelude.{◌≡◌, ◌<◌, []};
     ghost use Rattle.bw_crew.specs.Workers.{Promised};
 
-    /// What a worker brings back.
+    /// What a worker returns.
     type Output: Drop;
 
-    /// What becomes of the receipts of a worker's steps. `Vec<Receipt>` keeps each, of some 40
-    /// bytes, to the end; [`GivenUp`](crate::GivenUp) keeps none, for a job whose receipts nobody
-    /// will ask for.
+    /// What becomes of the receipts of a worker's steps. `Vec<Receipt>` keeps all of them, about 40
+    /// bytes each; [`GivenUp`](crate::GivenUp) keeps none, for a job whose receipts nobody needs.
     type Trail: Trail;
 
     // what the job promises of a worker's number, of what that worker brings back, and of its trail

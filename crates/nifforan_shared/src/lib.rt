@@ -1,5 +1,5 @@
-//! A tree shared by worker threads, in one call: it makes the tree, starts a thread for each
-//! worker, joins them all, and hands the table out.
+//! Shares a tree among worker threads in one call: makes the tree, starts a thread for each worker,
+//! joins them, and returns the table.
 #![tactic(auto)]
 
 mod each;

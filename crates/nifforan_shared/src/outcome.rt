@@ -9,7 +9,7 @@ pub struct Outcome<O, L = Vec<Receipt>> {
     pub table: Table<Global>,
     /// What each worker's job returned, by the workers' numbers.
     pub outputs: Vec<O>,
-    /// What became of each worker's receipts, by the workers' numbers: as a rule a list of them, in
-    /// their order.
+    /// What became of each worker's receipts, by the workers' numbers: usually a list of them, in
+    /// order.
     pub trails: Vec<L>,
 }

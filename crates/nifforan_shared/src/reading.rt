@@ -10,8 +10,8 @@ use std::snapshot::Snapshot;
 use std::sync::Wait;
 use std::sync::ledger::Ledger;
 
-/// Reads what was published of a tree, without the tree's lock. What it reads is the map after a
-/// list of accepted steps, which begins with each list that it has read before.
+/// Reads what was published of a tree, without the tree's lock: the map after a list of accepted
+/// steps that begins with each list it has read before.
 pub trait Reads {
     ghost use Rattle.std.specs.Prelude.{◌≡◌, List, IfOk, OnOk, OnErr};
     ghost use Rattle.bw_keys.specs.declared.config.Config.{Config};
@@ -34,9 +34,9 @@ pub trait Reads {
     // the list of steps that the stamp covers
     ghost covers: { Self.Stamp → List Proposal };
 
-    /// Publishes what all workers have changed so far, and learns of it: what this reader reads
-    /// from then on has all that. Takes the tree's lock. What it returns has no bytes: by it clauses
-    /// name the list that was published.
+    /// Publishes what all workers have changed so far, and learns of it, so this reader sees all of
+    /// that from then on. Takes the tree's lock. The value that it returns has no bytes; clauses
+    /// use it to name the published list.
     fn publish(&mut self) -> Result<Snapshot<Self::Stamp>, NoMemory>
         ensures made_by { made_by self.new ≡ made_by self.old }
         ensures seen { BeginsWith (list self.new) (list self.old) }
@@ -51,8 +51,8 @@ pub trait Reads {
         ensures found { IfOk result (IsFoundIn (made_by self.old) key (list self.new)) }
         ensures closed { OnErr result (list self.new ≡ list self.old) };
 
-    /// Returns the values at the keys, each in the place of its key, all after one list of steps:
-    /// what `Reader::get_many` does for eight keys, as a trait's method has no const parameter here.
+    /// Returns the values at the keys, each at its key's place, all after one list of steps. It is
+    /// `Reader::get_many` for eight keys, since a trait's method can't have a const parameter here.
     fn get_eight(&mut self, keys: [Key; 8]) -> Result<[Option<u64>; 8], Closed>
         ensures made_by { made_by self.new ≡ made_by self.old }
         ensures seen { BeginsWith (list self.new) (list self.old) }
@@ -101,8 +101,8 @@ pub trait Reads {
         ensures len { IfOk result (IsLenIn (made_by self.old) (list self.new)) }
         ensures closed { OnErr result (list self.new ≡ list self.old) };
 
-    /// Replaces the list by the first pairs of the map from the key on, in the order of their keys
-    /// and at most `limit` of them. After a fault the list is as before.
+    /// Replaces the list by the first pairs of the map from the key on, in the order of their keys,
+    /// at most `limit` of them. After a fault the list is as before.
     fn scan(&mut self, low: Key, limit: usize, out: &mut Vec<(Key, u64)>) -> Result<(), ScanFault>
         ensures made_by { made_by self.new ≡ made_by self.old }
         ensures seen { BeginsWith (list self.new) (list self.old) }

@@ -27,10 +27,11 @@ use std::sync::ledger::Ledger;
 use std::thread::Threads;
 
 /// Shares a new tree among `workers` workers, 1 to `MAX_WORKERS`, each of which does the job in a
-/// thread of its own, and returns the table once all have ended. All lies in the machine's memory.
+/// thread of its own, and returns the table once all have ended. Everything lies in the machine's
+/// memory.
 ///
-/// A job that ends early costs nothing: what it returns stands in [`outputs`](Outcome::outputs),
-/// and the table has all that was done by then.
+/// A job may end early: [`outputs`](Outcome::outputs) has what it returns, and the table has
+/// everything done by then.
 ///
 /// The job says what becomes of the receipts of each worker's accepted steps and looks
 /// ([`Trail`](Job::Trail)).
@@ -63,8 +64,8 @@ pub fn share<
 /// Shares a table that may have pairs already, as [`share`] does a new one. Its book is then that of
 /// the given table with what the trails tell.
 ///
-/// Where it fails, the table comes back: as it was, or where a thread couldn't be started, with what
-/// was done by those that were.
+/// If it fails, the table comes back: as it was, or, if a thread couldn't be started, with what the
+/// others did.
 pub fn share_table<
     O: Drop + Send,
     L: Trail + Send,
@@ -91,8 +92,8 @@ pub fn share_table<
 }
 
 /// Shares a new tree among `workers` workers, 1 to `MAX_READERS`, as [`share`] does. Each of them
-/// is given a reader beside its hand, by which it reads without the tree's lock what was published.
-/// What the workers change isn't read so before one of them publishes it.
+/// also gets a reader, which reads what was published without the tree's lock. Readers see what
+/// workers change only after one of them has published it.
 pub fn share_with_readers<
     O: Drop + Send,
     L: Trail + Send,
@@ -115,7 +116,7 @@ pub fn share_with_readers<
     share_read::<Brand, Brand, O, L, J, R>(rt, machine, config, workers, blanks, announcements, job)
 }
 
-/// Returns the first fault that is there before any thread starts, want of memory apart.
+/// Returns the first fault that can be found before any thread starts, apart from a lack of memory.
 fn check(config: Config, workers: u32, most: u32) -> Result<(), ShareFault>
     ensures fine { OnOk result (MayShare most config workers) }
     ensures fault { IfErr result (IsShareFault most config workers) }
@@ -129,7 +130,7 @@ fn check(config: Config, workers: u32, most: u32) -> Result<(), ShareFault>
     Ok(())
 }
 
-/// Shares a table with these blank ledgers, which have a part for each worker and one more.
+/// Shares a table with these blank ledgers, which have parts for one more than the workers.
 fn share_locked<
     I: MadeBy + Send + Sync,
     D: Ledger + Send + Sync,

@@ -8,12 +8,12 @@ use bw_snap::Naming;
 use std::sync::Wait;
 use std::sync::ledger::Ledger;
 
-/// A job with what else each worker is given for it, its kit.
+/// A job with what else each worker gets for it, its kit.
 pub trait Task<K> {
     ghost use Rattle.std.specs.Prelude.{◌≡◌, ◌<◌, ℕ, []};
     ghost use Rattle.bw_crew.specs.Workers.{Promised};
 
-    /// What a worker brings back.
+    /// What a worker returns.
     type Output: Drop;
 
     /// What becomes of the receipts of a worker's steps.

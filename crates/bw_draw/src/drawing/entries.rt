@@ -18,8 +18,8 @@ pub(crate) struct Lines {
     pub(crate) kept: usize,
 }
 
-/// Returns the lines of the entries: first those below the end, and then the others. Of many of a
-/// kind, all but the first ones and the last are only counted.
+/// Returns the lines of the entries: first those below the end, and then the others. If there are
+/// many of a kind, all but the first ones and the last are only counted.
 pub(crate) fn lines_of<A: Allocator + Copy>(pen: &mut Pen, base: &Base<A>, end: Fence) -> Lines {
     let below = match &base.entries {
         Entries::Pairs(pairs) => keys_below(pairs.as_slice().keys, end),

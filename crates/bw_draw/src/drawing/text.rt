@@ -9,7 +9,7 @@ use bw_step::Stage;
 const LONGEST: u64 = 999_999_999;
 
 impl Pen {
-    /// Writes a text, and the number of a page behind it.
+    /// Writes a text, and the number of a page after it.
     pub(crate) fn page(&mut self, text: &str, page: Pid) {
         self.number(text, u64::from(page.0));
     }
@@ -29,7 +29,7 @@ impl Pen {
         self.write(" more");
     }
 
-    /// Writes a text, and a key or a value behind it. A long number is written as its first and last
+    /// Writes a text, and a key or a value after it. A long number is written as its first and last
     /// three digits, with the number of digits left out between them, as 184‹14›615.
     pub(crate) fn short(&mut self, text: &str, number: u64) {
         if number <= LONGEST {
@@ -44,13 +44,13 @@ impl Pen {
         self.number("", number % 10);
     }
 
-    /// Writes a text, and a pair behind it.
+    /// Writes a text, and a pair after it.
     pub(crate) fn pair(&mut self, text: &str, key: Key, value: u64) {
         self.short(text, key);
         self.short(":", value);
     }
 
-    /// Writes a text, and a route behind it.
+    /// Writes a text, and a route after it.
     pub(crate) fn route(&mut self, text: &str, key: Key, page: Pid) {
         self.short(text, key);
         self.page(" → ", page);
@@ -70,7 +70,7 @@ impl Pen {
     }
 }
 
-/// Returns the first three digits of a number, and how many there are behind them.
+/// Returns the first three digits of a number, and how many follow.
 fn head_of(number: u64) -> (u64, usize) {
     let (mut head, mut digits) = (number, 0usize);
     for _ in 0..17 {

@@ -43,7 +43,8 @@ impl Spread {
         }
     }
 
-    /// Writes a text, and behind it the least, the mean with two decimals and the greatest, or `none`.
+    /// Writes a text, and after it the least, the mean with two decimals and the greatest, or
+    /// `none`.
     pub(crate) fn write(self, pen: &mut Pen, text: &str) {
         let count = self.count as u64;
         pen.write(text);

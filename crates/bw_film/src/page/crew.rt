@@ -131,7 +131,7 @@ fn push_reply(alloc: Global, page: &mut Vec<u8>, reply: Reply) -> Result<(), NoM
     Ok(())
 }
 
-/// Returns the reply without the fault that stands beside it, and that fault.
+/// Returns the reply without the fault beside it, and that fault.
 fn parted(reply: Reply) -> (Reply, Option<Fault>)
     ensures text { reply_text result.0 ≡ Some (bare_text reply) }
     ensures fault { result.1 ≡ fault_of reply }

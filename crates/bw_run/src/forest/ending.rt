@@ -36,9 +36,9 @@ pub struct FinishedForest {
     pub trails: Vec<Vec<Vec<Receipt>>>,
 }
 
-/// Ends a run on a forest, of which this was brought back: audits each tree's history, and brings the
-/// replies into the order of the rows. Fails where a worker stopped, and of several names the one with
-/// the least number; and where a history isn't legal.
+/// Ends a run on a forest that left this: audits each tree's history, and brings the replies into
+/// the order of the rows. Fails if a worker stopped, and names the one with the least number; and
+/// if a history isn't legal.
 pub(crate) fn finish_forest(
     machine: Global,
     rows: &[Row],

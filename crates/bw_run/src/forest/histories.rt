@@ -14,7 +14,7 @@ use bw_step::Receipt;
 use std::alloc::Global;
 
 /// Audits each tree's history: the trails of all workers there, with the pairs of its table. Fails
-/// where one isn't legal, and of several that aren't names the first.
+/// if one isn't legal, and names the first of these.
 pub(crate) fn judge_each(
     machine: Global,
     trees: &[ClosedTree<Global>],

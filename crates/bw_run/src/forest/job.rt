@@ -23,7 +23,7 @@ impl<'r> ForestJob for ForestRows<'r> {
     ghost use Rattle.std.specs.Prelude.{[], IfOk, map, slice_index_or};
     ghost use Rattle.bw_run.specs.ForestAnswers.{AreForestAnswersTo};
 
-    /// Fails where there is no memory for the replies.
+    /// Fails if there is no memory for the replies.
     type Output = Result<Answers, NoMemory>;
 
     // the audit asks for all of them

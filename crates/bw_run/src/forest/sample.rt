@@ -1,4 +1,4 @@
-//! Where the ranges of a forest begin that a trace is run on.
+//! Where the ranges begin of the forest that a trace runs on.
 
 ghost use Rattle.std.specs.Prelude.{◌≡◌, false, IfOk};
 ghost use Rattle.bw_forest.specs.Bounds.{AreOfSample, is_bad_number};
@@ -11,7 +11,7 @@ use bw_procedures::Act;
 use bw_texts::Row;
 use std::alloc::Global;
 
-/// Returns ranges that have as many of the rows' keys each, as far as that can be.
+/// Returns ranges that each have as many of the rows' keys, as far as possible.
 pub(crate) fn bounds_for(machine: Global, rows: &[Row], trees: u32) -> Result<Bounds, NoMemory>
     requires { is_bad_number trees ≡ false }
     ensures { IfOk result (AreOfSample (keys_of rows.now) trees) }
@@ -34,7 +34,7 @@ fn keys_of(machine: Global, rows: &[Row]) -> Result<Vec<Key>, NoMemory>
     Ok(keys)
 }
 
-/// Returns the key that the act names, and where it clears a range the least one of that.
+/// Returns the key that the act names, or the least key of a range that it clears.
 fn key_of(act: Act) -> Key
     ensures { result ≡ key_of act }
 {

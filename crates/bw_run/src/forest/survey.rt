@@ -19,12 +19,12 @@ const NOTHING: Book = Book {
 };
 
 impl FinishedForest {
-    /// Returns the leaves of all trees in the order of their keys, the levels of the highest tree, and
-    /// what the books of all trees have together, each number 2^64 - 1 where it is more.
+    /// Returns the leaves of all trees in the order of their keys, the levels of the highest tree,
+    /// and what the books of all trees have together, each number at most 2^64 - 1.
     ///
-    /// A tree's first leaf has all keys below the second one's in its own table, and its last leaf all
-    /// keys from its low on. Here each leaf's range ends where its tree's does, so that the leaves part
-    /// the keys; a leaf without a key of its tree's range isn't listed.
+    /// A tree's first leaf has all keys below the second one's in its own table, and its last leaf
+    /// all keys from its low on. Here each leaf's range ends where its tree's does, so that the
+    /// leaves partition the keys; a leaf without a key of its tree's range isn't listed.
     pub fn survey(&self, machine: Global) -> Result<Survey, NoMemory>
         ensures { IfOk result (IsForestSurvey (ranges_of self.now.forest.bounds)
             self.now.forest.tables) }

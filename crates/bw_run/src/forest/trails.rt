@@ -21,8 +21,8 @@ pub(crate) struct Sorted {
     pub(crate) trails: Vec<Vec<Vec<Receipt>>>,
 }
 
-/// Sorts what the workers brought back, each of them a trail at each of so many trees. Fails where
-/// one had no memory for its replies, too.
+/// Sorts what the workers brought back, each with a trail at each of so many trees. Also fails if
+/// one had no memory for its replies.
 pub(crate) fn sort_out(
     machine: Global,
     trees: usize,

@@ -72,7 +72,7 @@ fn read_fields(
     }
 }
 
-/// Reads a worker's row, of which none stands after an `end` row.
+/// Reads a worker's row; none may follow an `end` row.
 fn read_reply(
     last: Option<Key>,
     first: &[u8],

@@ -1,4 +1,4 @@
-//! The acts of a trace's rows: the word for each, and what stands after it.
+//! The acts of a trace's rows: the word for each, and what follows it.
 
 ghost use Rattle.std.specs.Prelude.{◌≡◌, ◌∷◌, [], decimal};
 ghost use Rattle.bw_texts.specs.Rows.{act_of, fence_of, op_of};

@@ -11,7 +11,7 @@ use crate::trace::act::{read_act, read_op};
 use bw_procedures::Act;
 use csv::ByteRecord;
 
-/// A row of a trace: what one worker is to do.
+/// A row of a trace: what one worker does.
 #[derive(Clone, Copy, Debug, PartialEq, Eq, Hash)]
 pub struct Row {
     /// The worker's number, counted from 0.

@@ -29,7 +29,7 @@ pub(crate) const AUDIT_NO: u8 = 4;
 /// Why the program ends without its result.
 #[derive(Debug, Drop, Error)]
 pub(crate) enum Fault {
-    /// The words ask for help, or are none of the program's.
+    /// The words ask for help, or the program doesn't know them.
     #[error(transparent)]
     Usage(clap::Error),
     #[error("bad {}", .0.name())]

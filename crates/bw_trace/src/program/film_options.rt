@@ -27,7 +27,7 @@ pub(crate) struct FilmOptions {
 }
 
 impl FilmOptions {
-    /// Reads the options. Fails with the first that is out of its range, or where the last moment is
+    /// Reads the options. Fails with the first that is out of its range, or if the last moment is
     /// before the first.
     pub(crate) fn of(matches: &ArgMatches) -> Result<FilmOptions, Field>
         ensures asked { IfOk result (IsFilmedBy (found_of matches.now)) }
@@ -49,7 +49,7 @@ impl FilmOptions {
     }
 }
 
-/// Fails where there is no moment of this number, with so many in all.
+/// Fails if there is no moment with this number, of so many in all.
 pub(crate) fn check_from(from: u64, moments: u64) -> Result<(), Field>
     ensures there { OnOk result (from < moments) }
     ensures past { IfErr result (λ field. (field ≡ fields.From) × (moments ≤ from)) }
@@ -64,8 +64,8 @@ pub(crate) fn check_from(from: u64, moments: u64) -> Result<(), Field>
 pub(crate) fn film_command<'a>(alloc: Global) -> Made<'a> {
     let about = "Writes a page that shows the table after each step";
     let made = shown_command(alloc, "film", about, OF_FILM);
-    let made = with_optional(alloc, made, "from", "The first moment, 0 if absent");
-    let help = "The last moment, that of the last step if absent";
+    let made = with_optional(alloc, made, "from", "The first moment [default: 0]");
+    let help = "The last moment [default: that of the last step]";
     let made = with_optional(alloc, made, "to", help);
     with_file(alloc, with_optional(alloc, made, "key", KEY))
 }

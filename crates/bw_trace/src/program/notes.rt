@@ -1,4 +1,4 @@
-//! What is said of a run that came to its end, where somebody watches.
+//! What is said of a finished run if somebody watches.
 
 use bw_run::{Reply, count_beside};
 use bw_work::Fault;

@@ -52,7 +52,7 @@ impl Field {
         }
     }
 
-    /// Returns the range that it has.
+    /// Returns the option's range.
     pub(crate) fn range(self) -> &'static str {
         match self {
             Field::Fanout => "--fanout is 4 to 64",

@@ -21,7 +21,7 @@ pub(crate) struct RunOptions {
     pub trees: Option<u32>,
     /// Whether the replies are printed, before the leaves.
     pub replies: bool,
-    /// Whether the history is printed, in place of all else, the replies too.
+    /// Whether the history is printed instead of everything else, the replies included.
     pub history: bool,
     /// Whether nothing is noted of a run that ends well, though somebody watches.
     pub quiet: bool,
@@ -57,14 +57,14 @@ fn trees_of(matches: &ArgMatches) -> Result<Option<u32>, Field>
     }
 }
 
-/// Returns the command `run` with its options and defaults. That for a forest conflicts with what is to
-/// be had of one tree alone.
+/// Returns the command `run` with its options and defaults. The one for a forest conflicts with
+/// those that need a single tree.
 pub(crate) fn run_command<'a>(alloc: Global) -> Made<'a> {
     let made = with_setting(alloc, new_command(alloc, "run", "Runs a trace", OF_RUN));
-    let help = "Runs it on this many trees by ranges of keys, 1 to 1024, and not on one";
+    let help = "Runs it on this many trees by ranges of keys, 1 to 1024";
     let made = with_apart(made, number(alloc, "trees", help), &["readers", "history"]);
-    let made = with_flag(alloc, made, "replies", "Prints the replies, too");
-    let made = with_flag(alloc, made, "history", "Prints the history alone");
-    let help = "Says nothing of a run that ends well, not even on a terminal";
+    let made = with_flag(alloc, made, "replies", "Also prints the replies");
+    let made = with_flag(alloc, made, "history", "Prints only the history");
+    let help = "Shows neither progress nor a note of faults on a terminal";
     with_file(alloc, with_flag(alloc, made, "quiet", help))
 }

@@ -51,15 +51,15 @@ impl Setting {
 
 /// Adds the options of a setting.
 pub(crate) fn with_setting<'a>(alloc: Global, made: Made<'a>) -> Made<'a> {
-    let help = "Entries of a page at most, 4 to 64";
+    let help = "The most entries of a page, 4 to 64";
     let made = with_number(alloc, made, "fanout", "16", help);
     let help = "Consolidate at this depth, 1 to 32";
     let made = with_number(alloc, made, "chain", "8", help);
-    let made = with_number(alloc, made, "pages", "4096", "Pages at most, 8 to 65536");
-    let help = "Effort of one call at most, 1 to 1000";
+    let made = with_number(alloc, made, "pages", "4096", "The most pages, 8 to 65536");
+    let help = "The most effort of one call, 1 to 1000";
     let made = with_number(alloc, made, "tries", "1000", help);
     let help = "Workers who do the rows, 1 to 64";
     let made = with_number(alloc, made, "workers", "1", help);
-    let help = "Workers who read without the lock, 0 to 16 and to --workers";
+    let help = "Workers who read without the lock, 0 to 16, at most --workers";
     with_number(alloc, made, "readers", "0", help)
 }

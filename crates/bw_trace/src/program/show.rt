@@ -73,7 +73,7 @@ fn drawing_of(alloc: Global, table: &Table<Global>, key: Option<Key>) -> Result<
 }
 
 /// Writes the page that shows the film of the trace or of the script, unless that ends before the
-/// first moment wanted.
+/// first moment asked for.
 pub(crate) fn write_film<R: Read + Drop, W: Write>(
     alloc: Global,
     options: FilmOptions,
@@ -106,7 +106,8 @@ fn write_page<W: Write>(output: &mut W, page: &[u8]) -> io::Result<()> {
     output.flush()
 }
 
-/// Returns of how many workers a film shows what they do: of one alone each row tells it.
+/// Returns how many workers a film shows at work. One alone isn't shown, as each row tells what it
+/// does.
 fn shown_workers(workers: u32) -> u32
     ensures several { 1 < workers → result ≡ workers }
     ensures alone { workers ≤ 1 → result ≡ 0 }

@@ -85,7 +85,7 @@ pub(crate) fn shown_command<'a>(
     help: &'a str,
 ) -> Made<'a> {
     let made = with_setting(alloc, new_command(alloc, name, about, help));
-    let steps = flag(alloc, "steps", "Reads a script of steps, not a trace");
+    let steps = flag(alloc, "steps", "Reads a script of steps instead of a trace");
     let others = &["fanout", "chain", "pages", "tries", "workers", "readers"];
     with_apart(made, steps, others)
 }

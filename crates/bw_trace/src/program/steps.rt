@@ -58,7 +58,7 @@ pub(crate) fn played_table<R: Read + Drop, N: Write>(
     Ok(player.into_table().ok_or(ScriptFault::NoTable)?)
 }
 
-/// Notes the answer to the line with this number, where it says that the line changed nothing.
+/// Notes the answer to the line with this number, if it says that the line changed nothing.
 fn note_refusal<N: Write>(notes: &mut N, line: u64, answer: &Answer) {
     match answer {
         Answer::BadConfig(_)
