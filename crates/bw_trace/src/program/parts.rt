@@ -49,7 +49,7 @@ pub(crate) fn with_flag<'a>(
 
 /// Adds the file that is read in place of standard input.
 pub(crate) fn with_file<'a>(alloc: Global, made: Made<'a>) -> Made<'a> {
-    let file = Arg::new(alloc, "FILE").help("Reads this file, and not standard input");
+    let file = Arg::new(alloc, "FILE").help("The file to read [default: standard input]");
     with(made, file)
 }
 

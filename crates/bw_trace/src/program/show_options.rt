@@ -12,7 +12,7 @@ use bw_keys::Key;
 use clap::ArgMatches;
 use std::alloc::Global;
 
-const AFTER: &str = "Does this many rows or lines, not all";
+const AFTER: &str = "Does only this many rows or lines";
 
 pub(crate) const KEY: &str = "Draws the path to this key's leaf, and the leaves beside it";
 
