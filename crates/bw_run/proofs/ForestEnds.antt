@@ -1,11 +1,12 @@
 -- What the parts of a run on a forest say of the whole.
-use Rattle.std.proofs.Common.{◌≡◌, ℕ, ◌+◌, ◌<◌, false, List, [], ◌∷◌, ◌++◌, get_or, map, Vec, Global, refl, ap, sym, subst, ◌∙◌, arith}
+use Rattle.std.proofs.Common.{◌≡◌, ℕ, ◌+◌, ◌<◌, ◌≤◌, false, List, [], ◌∷◌, ◌++◌, get_or, map, Vec, Global, refl, ap, sym, subst, ◌∙◌, arith}
 use Rattle.std.specs.Prelude.{All, length, slice_index_or, sum_by}
 use Rattle.std.proofs.lemmas.List.{length-map}
 use Rattle.std.proofs.lemmas.List.Sums.{sum_by-cons}
 use Rattle.bw_keys.specs.declared.config.Config.{Config}
 use Rattle.bw_step.specs.declared.receipt.Receipt.{Receipt}
 use Rattle.bw_step.specs.Trails.{lists_of}
+use Rattle.bw_law.specs.Tables.{TableValue}
 use Rattle.bw_tree.specs.Shares.{ShareValue, share_of, sum_of}
 use Rattle.bw_forest.specs.Forests.{ForestValue, IsClosedForest, pairs_of, ranges_in}
 use Rattle.bw_forest.specs.Plots.{PlotValue}
@@ -20,10 +21,10 @@ use Rattle.nifforan_forest.specs.declared.returned.Returned.{Returned}
 use Rattle.nifforan_forest.specs.Sharing.{IsShareForestFault}
 use Rattle.nifforan_forest.specs.Workers.{trails_of}
 use Rattle.bw_run.specs.declared.fault.RunFault.{RunFault}
-use Rattle.bw_run.specs.declared.fault.RunFault.TheVariants.{Config as BadConfig, Workers, NoReader, Threads, Memory, Stopped, Audit}
-use Rattle.bw_run.specs.Faults.{EndsBadly, IsCrewFault, StopsWithin}
+use Rattle.bw_run.specs.declared.fault.RunFault.TheVariants.{Config as BadConfig, Workers, NoReader, Threads, Memory, Stopped, TreeAudit}
+use Rattle.bw_run.specs.Faults.{IsCrewFault, StopsWithin}
 use Rattle.bw_run.specs.ForestAnswers.{ToldBy}
-use Rattle.bw_run.specs.ForestFaults.{EndsForest, IsForestRunFault, MayRunForest, run_fault_of_share}
+use Rattle.bw_run.specs.ForestFaults.{EndsForest, IsForestRunFault, MayRunForest, NamesFirstBad, run_fault_of_share}
 use Rattle.bw_run.specs.ForestRuns.{by_trees, in_a_row}
 use Rattle.bw_run.proofs.ForestColumns.{Have, each_by_trees, length_by_trees, row_of, sum_by_trees}
 use Rattle.bw_run.proofs.ForestLeaves.{read_many}
@@ -36,31 +37,40 @@ crew_in_forest_run config workers trees rows (BadConfig bad) is = is
 crew_in_forest_run config workers trees rows Workers is = is
 crew_in_forest_run config workers trees rows fault is = absurd is
 
--- a worker that stopped is one of the run's, and there are no readers
-pub stops_end : (n workers : ℕ) (rows : List Row) (fault : RunFault) → n ≡ workers → StopsWithin false n rows fault
-    → EndsForest workers rows fault
-stops_end n workers rows NoReader many stops = absurd (cc stops)
-stops_end n workers rows Threads many stops = tt
-stops_end n workers rows Memory many stops = tt
-stops_end n workers rows (Stopped worker number fault) many stops = (subst (λ k. worker < k) many stops.0, stops.1)
-stops_end n workers rows fault many stops = absurd stops
+module _ (rows : List Row) (tables : List TableValue) (trails : List (List (List Receipt))) where
+  -- a worker that stopped is one of the run's, and there are no readers
+  pub stops_end : (n workers : ℕ) (fault : RunFault) → n ≡ workers → StopsWithin false n rows fault
+      → EndsForest workers rows tables trails fault
+  stops_end n workers NoReader many stops = absurd (cc stops)
+  stops_end n workers Threads many stops = tt
+  stops_end n workers Memory many stops = tt
+  stops_end n workers (Stopped worker number fault) many stops = (subst (λ k. worker < k) many stops.0, stops.1)
+  stops_end n workers fault many stops = absurd stops
 
-pub badly_ends : (workers : ℕ) (rows : List Row) (fault : RunFault) → EndsBadly workers fault → EndsForest workers rows fault
-badly_ends workers rows Memory ends = tt
-badly_ends workers rows (Audit worker receipt) ends = ends
-badly_ends workers rows fault ends = absurd ends
+  pub bad_ends : (workers : ℕ) (fault : RunFault) → NamesFirstBad tables trails fault → EndsForest workers rows tables trails fault
+  bad_ends workers Memory bad = tt
+  bad_ends workers (TreeAudit tree worker receipt) bad = bad
+  bad_ends workers fault bad = absurd bad
 
--- a run that began ended so
-pub forest_ends : (config : Config) (workers trees n : ℕ) (rows : List Row) (fault : RunFault) → n ≡ workers
-    → MayRunForest config workers trees → EndsForest n rows fault
-    → IsForestRunFault config workers trees rows fault
-forest_ends config workers trees n rows Threads many made ends = made
-forest_ends config workers trees n rows Memory many made ends = made
-forest_ends config workers trees n rows (Stopped worker number fault) many made ends =
-    (made, subst (λ k. worker < k) many ends.0, ends.1)
-forest_ends config workers trees n rows (Audit worker receipt) many made ends =
-    (made, record { trails = ends.trails; pairs = ends.pairs; count = ends.count ∙ many; verdict = ends.verdict })
-forest_ends config workers trees n rows fault many made ends = absurd ends
+  -- a run that began ended so
+  pub forest_ends : (config : Config) (workers trees n : ℕ) (fault : RunFault) → n ≡ workers
+      → MayRunForest config workers trees → length trails ≤ trees → All (λ its. length its ≡ n) trails
+      → EndsForest n rows tables trails fault → IsForestRunFault config workers trees rows fault
+  forest_ends config workers trees n Threads many made few each ends = made
+  forest_ends config workers trees n Memory many made few each ends = made
+  forest_ends config workers trees n (Stopped worker number fault) many made few each ends =
+      (made, subst (λ k. worker < k) many ends.0, ends.1)
+  forest_ends config workers trees n (TreeAudit tree worker receipt) many made few each ends = (
+    made,
+    record {
+      tables = tables;
+      trails = trails;
+      few = few;
+      each = subst (λ k. All (λ its. length its ≡ k) trails) many each;
+      first = ends;
+    },
+  )
+  forest_ends config workers trees n fault many made few each ends = absurd ends
 
 -- what is told of the sharing is so of the run
 pub share_ends : (config : Config) (workers trees : ℕ) (rows : List Row) (fault : ShareForestFault) → MayRunForest config workers trees

@@ -7,7 +7,7 @@ use Rattle.bw_audit.specs.Verdicts.{verdict_of}
 use Rattle.bw_audit.specs.declared.verdict.Verdict.TheVariants.{No}
 use Rattle.bw_tree.specs.Trees.{MayBeMade, is_bad_number}
 use Rattle.bw_run.specs.declared.fault.RunFault.{RunFault}
-use Rattle.bw_run.specs.declared.fault.RunFault.TheVariants.{Config as BadConfig, Workers, Readers, Trees, NoReader, Threads, Memory, Stopped, Audit, OtherRange}
+use Rattle.bw_run.specs.declared.fault.RunFault.TheVariants.{Config as BadConfig, Workers, Readers, Trees, NoReader, Threads, Memory, Stopped, Audit, TreeAudit, OtherRange}
 use Rattle.bw_crew.specs.declared.fault.CrewFault.{CrewFault}
 use Rattle.bw_crew.specs.declared.fault.CrewFault.TheVariants.{NoMemory, NoThread}
 use Rattle.bw_texts.specs.declared.trace.row.Row.{Row}
@@ -44,6 +44,7 @@ IsRunFault config workers readers rows Workers = IsCrewFault config workers Work
 IsRunFault config workers readers rows Readers = MayBeMade config workers × (most_readers workers < readers)
 IsRunFault config workers readers rows Trees = ⊥
 IsRunFault config workers readers rows OtherRange = ⊥
+IsRunFault config workers readers rows (TreeAudit tree worker receipt) = ⊥
 IsRunFault config workers readers rows NoReader = MayRun config workers readers × (0 < readers)
 IsRunFault config workers readers rows Threads = MayRun config workers readers
 IsRunFault config workers readers rows Memory = MayRun config workers readers

@@ -41,6 +41,9 @@ pub enum RunFault {
     /// The receipts have no order that explains them: see [`Verdict::No`](bw_audit::Verdict::No).
     #[error("audit no {0} {1}")]
     Audit(usize, usize),
+    /// The same of a forest's first tree, by its number from 0 on, whose receipts have no such order.
+    #[error("audit no {1} {2} tree {0}")]
+    TreeAudit(usize, usize, usize),
     /// A tree of a forest has another range than it was made for. This never happens, since no
     /// worker can change a range; but what lies under a lock isn't known outside it.
     #[error("a tree has another range")]

@@ -33,6 +33,7 @@ run_status runs.Threads = 3
 run_status runs.Memory = 3
 run_status (runs.Stopped worker number fault) = 3
 run_status (runs.Audit worker receipt) = 4
+run_status (runs.TreeAudit tree worker receipt) = 4
 run_status runs.OtherRange = 3
 
 -- so it is with a script, and one that makes no table is bad input

@@ -1,5 +1,5 @@
 -- What the program says of a history.
-use Rattle.std.specs.Prelude.{ℕ, ◌≡◌, ◌↔◌, ◌++◌, List, codes}
+use Rattle.std.specs.Prelude.{ℕ, ◌≡◌, ◌↔◌, ◌++◌, List, codes, decimal}
 use Rattle.bw_step.specs.declared.receipt.Receipt.{Receipt}
 use Rattle.bw_audit.specs.declared.verdict.Verdict.{Verdict}
 use Rattle.bw_audit.specs.declared.verdict.Verdict.TheVariants.{Yes}
@@ -16,3 +16,8 @@ IsVerdictOn bytes verdict =
 -- the line of a verdict
 abbrev pub verdict_line : Verdict → List ℕ
 verdict_line verdict = (codes "audit " ++ verdict_text verdict) ++ codes "\n"
+
+-- the line of a verdict on a tree of a forest, with the tree's number
+abbrev pub tree_verdict_line : ℕ → Verdict → List ℕ
+tree_verdict_line tree verdict =
+    codes "audit " ++ verdict_text verdict ++ codes " tree " ++ decimal tree ++ codes "\n"

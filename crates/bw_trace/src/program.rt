@@ -5,7 +5,7 @@ ghost use Rattle.std.specs.List.{AllByRecursion};
 ghost use Rattle.std.specs.Option.{ForSome};
 ghost use Rattle.std.specs.Io.KnownBytes.{Appends};
 ghost use Rattle.bw_trace.specs.Statuses.{run_status, status_of, verdict_status};
-ghost use Rattle.bw_trace.specs.Verdicts.{IsVerdictOn, verdict_line};
+ghost use Rattle.bw_trace.specs.Verdicts.{IsVerdictOn, tree_verdict_line, verdict_line};
 
 mod fault;
 mod film_options;
@@ -234,6 +234,9 @@ fn do_run<T: Threads + Wait + Sync + Send + Copy, R: Read + Drop, W: Write, N: W
         Err(Fault::Run(RunFault::Audit(worker, receipt))) => {
             print_verdict(output, Verdict::No(worker, receipt))
         }
+        Err(Fault::Run(RunFault::TreeAudit(tree, worker, receipt))) => {
+            print_bad_tree(output, tree, Verdict::No(worker, receipt))
+        }
         done => done,
     }
 }
@@ -369,6 +372,22 @@ fn write_verdict<W: Write>(output: &mut W, verdict: Verdict) -> io::Result<()>
         (Appends (W.contents output.old) (W.contents output.new) (verdict_line verdict)) }
 {
     writeln!(output, "audit {verdict}")
+}
+
+/// Prints the verdict on the first tree of a forest whose history isn't legal.
+fn print_bad_tree<W: Write>(output: &mut W, tree: usize, verdict: Verdict) -> Result<u8, Fault>
+    ensures { IfOk result (λ status. status ≤ 4) }
+{
+    write_tree_verdict(output, tree, verdict)?;
+    output.flush()?;
+    Ok(AUDIT_NO)
+}
+
+fn write_tree_verdict<W: Write>(output: &mut W, tree: usize, verdict: Verdict) -> io::Result<()>
+    ensures { OnOk result (Appends (W.contents output.old) (W.contents output.new)
+        (tree_verdict_line tree verdict)) }
+{
+    writeln!(output, "audit {verdict} tree {tree}")
 }
 
 /// Prints the help if the words ask for it, and otherwise the usage as a fault.

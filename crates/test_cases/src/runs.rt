@@ -185,12 +185,14 @@ pub(crate) fn stopped<R: Threads + Wait + Sync + Send + Copy>(
 }
 
 /// Faults that no case of the command comes to.
-const FAULTS: [RunFault; 5] = [
+const FAULTS: [RunFault; 7] = [
     RunFault::OtherRange,
     RunFault::NoReader,
     RunFault::Threads,
     RunFault::Memory,
     RunFault::Stopped(0, 4, Fault::Worn),
+    RunFault::Audit(1, 2),
+    RunFault::TreeAudit(3, 1, 2),
 ];
 
 /// The faults of runs have their texts.
@@ -199,7 +201,8 @@ pub(crate) fn fault_texts(machine: Global) -> Result<Ending, Stop> {
     for fault in FAULTS {
         told.push_str(&format!(in machine; "{fault}; ")?)?;
     }
-    let texts = "a tree has another range; reader; threads; memory; worker 0 row 4: worn; ";
+    let texts = "a tree has another range; reader; threads; memory; worker 0 row 4: worn; \
+        audit no 1 2; audit no 1 2 tree 3; ";
     hold(told.as_str() == texts, "each fault has its text")?;
     Ok(Ending::Whole)
 }

@@ -7,7 +7,8 @@ ghost use Rattle.bw_tree.specs.Shares.{sum_of};
 ghost use Rattle.bw_crew.specs.Workers.{ByNumber, share_by};
 ghost use Rattle.bw_run.specs.ForestAnswers.{AreForestAnswersTo};
 ghost use Rattle.bw_run.specs.ForestFaults.{EndsForest};
-ghost use Rattle.bw_run.specs.ForestRuns.{EachIsLegal, TellsByTrees, in_a_row, shares_at, trails_at};
+ghost use Rattle.bw_run.specs.ForestRuns.{EachIsLegal, TellsByTrees, by_trees, in_a_row};
+ghost use Rattle.bw_run.specs.ForestRuns.{shares_at, trails_at};
 ghost use Rattle.bw_run.specs.Rows.{acts_of};
 
 use crate::answers::Answers;
@@ -62,7 +63,9 @@ pub(crate) fn finish_forest(
     ensures legal { IfOk result
         (λ finished. EachIsLegal outcome.forest.tables (trails_at finished)) }
     ensures reported { IfOk result (TellsByTrees (length outcome.workers.items) rows.now) }
-    ensures fault { IfErr result (EndsForest (length outcome.workers.items) rows.now) }
+    ensures fault { IfErr result (EndsForest (length outcome.workers.items) rows.now
+        outcome.forest.tables (by_trees (length outcome.forest.bounds)
+        (map (λ it. lists_of it.trails.items) outcome.workers.items))) }
 {
     let ForestOutcome { forest, workers } = outcome;
     let Sorted { answers, trails } = sort_out(machine, forest.bounds().trees() as usize, workers)?;

@@ -1,16 +1,17 @@
 //! The audit of a run on a forest.
 
-ghost use Rattle.std.specs.Prelude.{◌≡◌, ℕ, All, OnOk, IfErr, length, map};
+ghost use Rattle.std.specs.Prelude.{◌≡◌, All, OnOk, IfErr, length, map};
 ghost use Rattle.bw_step.specs.Trails.{lists_of};
 ghost use Rattle.bw_tree.specs.Trees.{IsTree};
 ghost use Rattle.bw_forest.specs.Forests.{tables_of};
-ghost use Rattle.bw_run.specs.Faults.{EndsBadly};
-ghost use Rattle.bw_run.specs.ForestRuns.{EachIsLegal};
+ghost use Rattle.bw_run.specs.ForestFaults.{IsTreeVerdictOn, NamesFirstBad};
+ghost use Rattle.bw_run.specs.ForestRuns.{EachIsLegal, IsLegalAt};
 
 use crate::fault::RunFault;
 use crate::judgement::judge;
 use bw_forest::ClosedTree;
 use bw_step::Receipt;
+use bw_table::Table;
 use std::alloc::Global;
 
 /// Audits each tree's history: the trails of all workers there, with the pairs of its table. Fails
@@ -24,11 +25,31 @@ pub(crate) fn judge_each(
     requires each { length trails.now ≡ length trees.now }
     ensures legal { OnOk result
         (EachIsLegal (tables_of trees.now) (map (λ its. lists_of its.items) trails.now)) }
-    ensures fault { IfErr result (λ fault. (workers : ℕ)
-        → All (λ its. length its.items ≡ workers) trails.now → EndsBadly workers fault) }
+    ensures fault { IfErr result
+        (NamesFirstBad (tables_of trees.now) (map (λ its. lists_of its.items) trails.now)) }
 {
-    for (tree, its) in trees.iter().zip(trails) {
-        judge(machine, tree.table(), its)?;
+    for number in 0..trees.len() {
+        judge_tree(machine, number, trees[number].table(), &trails[number])?;
     }
     Ok(())
+}
+
+/// Audits the history of the tree with this number.
+fn judge_tree(
+    machine: Global,
+    number: usize,
+    table: &Table<Global>,
+    trails: &[Vec<Receipt>],
+) -> Result<(), RunFault>
+    requires { IsTree table.now }
+    ensures legal { OnOk result (IsLegalAt table.now (lists_of trails.now)) }
+    ensures fault { IfErr result (IsTreeVerdictOn number table.now (lists_of trails.now)) }
+{
+    match judge(machine, table, trails) {
+        Ok(()) => Ok(()),
+        Err(RunFault::Audit(worker, receipt)) => {
+            Err(RunFault::TreeAudit(number, worker, receipt))
+        }
+        Err(fault) => Err(fault),
+    }
 }

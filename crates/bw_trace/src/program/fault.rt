@@ -64,7 +64,7 @@ impl Fault {
             | Fault::Run(
                 RunFault::Config(_) | RunFault::Workers | RunFault::Readers | RunFault::Trees,
             ) => BAD_USAGE,
-            Fault::Run(RunFault::Audit(_, _)) => AUDIT_NO,
+            Fault::Run(RunFault::Audit(_, _) | RunFault::TreeAudit(_, _, _)) => AUDIT_NO,
             Fault::Text(TextFault::Rows | TextFault::Memory)
             | Fault::Script(ScriptFault::Lines | ScriptFault::Memory)
             | Fault::Run(_)

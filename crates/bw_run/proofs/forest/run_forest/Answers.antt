@@ -1,4 +1,4 @@
-use Rattle.std.proofs.Common.{◌≡◌, ◌<◌, ℕ, List, Result, Ok, Err, Vec, Global, length, map, ap, sym, subst, ◌∙◌}
+use Rattle.std.proofs.Common.{◌≡◌, ◌<◌, ◌≤◌, ℕ, List, Result, Ok, Err, Vec, Global, length, map, ap, sym, subst, ◌∙◌, arith}
 use Rattle.std.specs.Prelude.{All, IfErr, IfOk}
 use Rattle.std.specs.List.{AllByRecursion}
 use Rattle.std.proofs.lemmas.List.{length-map}
@@ -12,10 +12,11 @@ use Rattle.bw_crew.specs.Workers.{ByNumber, share_by}
 use Rattle.nifforan_forest.specs.Workers.{trails_of}
 use Rattle.bw_run.specs.declared.forest.ending.FinishedForest.{FinishedForest}
 use Rattle.bw_run.specs.ForestFaults.{EndsForest, IsForestRunFault}
-use Rattle.bw_run.specs.ForestRuns.{EachIsLegal, TellsByTrees, in_a_row, shares_at, trails_at}
+use Rattle.bw_run.specs.ForestRuns.{EachIsLegal, TellsByTrees, by_trees, in_a_row, shares_at, trails_at}
 use Rattle.bw_run.specs.Rows.{ArePlanned, keys_of}
 use Rattle.bw_run.proofs.ForestDone.{AsPromised, as_planned}
-use Rattle.bw_run.proofs.ForestEnds.{closed_same, forest_ends, trails_in_rows}
+use Rattle.bw_run.proofs.ForestColumns.{each_by_trees, length_by_trees}
+use Rattle.bw_run.proofs.ForestEnds.{closed_same, forest_ends, have_trails, trails_in_rows}
 use Rattle.bw_run.proofs.forest.run_forest.Goals as goal
 
 ok_then : {T E : Type 0} → (r : Result T E) (P Q : T → Type 0) → ((x : T) → P x → Q x) → IfOk r P → IfOk r Q
@@ -115,9 +116,20 @@ returns-clause-reported g c =
 
 pub returns-clause-fault : goal.returns-clause-fault
 returns-clause-fault g c =
+    let outcome = c.in_ok-outcome.outcome in
     let shared = c.in_ok-outcome.ensures.shared in
-    let n = length c.in_ok-outcome.outcome.workers.items in
-    err_then c.finish_forest.result (EndsForest n c.args.rows.now)
+    let workers = outcome.workers.items in
+    let n = length workers in
+    let many = length outcome.forest.bounds in
+    let rows_of = map (λ it. lists_of it.trails.items) workers in
+    let trails = by_trees many rows_of in
+    let few : length trails ≤ c.args.trees =
+    omega (arith, length_by_trees many rows_of, ap length shared.ranges, c.in_ok-bounds.ensures.at_quantiles.few) in
+    let have = have_trails many workers
+    (subst (λ (k : ℕ). All (λ it. length it.trails.items ≡ k) workers) (ap length (sym shared.ranges)) shared.trails) in
+    let each = subst (λ (k : ℕ). All (λ (its : List (List Receipt)). length its ≡ k) trails)
+    (length-map workers (λ it. lists_of it.trails.items)) (each_by_trees many rows_of have) in
+    err_then c.finish_forest.result (EndsForest n c.args.rows.now outcome.forest.tables trails)
     (IsForestRunFault c.args.config c.args.workers c.args.trees c.args.rows.now)
-    (λ fault ends. forest_ends c.args.config c.args.workers c.args.trees n c.args.rows.now fault shared.returned
-    c.in_ok-check.ensures.fine ends) c.finish_forest.ensures.fault
+    (λ fault ends. forest_ends c.args.rows.now outcome.forest.tables trails c.args.config c.args.workers c.args.trees n fault
+    shared.returned c.in_ok-check.ensures.fine few each ends) c.finish_forest.ensures.fault

@@ -2,6 +2,7 @@ use Rattle.std.proofs.Common.{◌≡◌, ◌<◌, ℕ, false, List, [], None, Ok
 use Rattle.std.specs.Prelude.{All, slice_index_or}
 use Rattle.std.specs.List.{AllByRecursion}
 use Rattle.std.proofs.lemmas.List.{length-map}
+use Rattle.bw_step.specs.declared.receipt.Receipt.{Receipt}
 use Rattle.bw_step.specs.Trails.{lists_of}
 use Rattle.bw_law.specs.Tables.{TableValue}
 use Rattle.bw_tree.specs.Trees.{IsTree}
@@ -10,11 +11,11 @@ use Rattle.bw_forest.specs.Forests.{tables_of}
 use Rattle.bw_crew.specs.Workers.{ByNumber}
 use Rattle.bw_run.specs.declared.answers.Answers.{Answers}
 use Rattle.bw_run.specs.Answers.{StopsIn, columns_of}
-use Rattle.bw_run.specs.ForestFaults.{EndsForest}
-use Rattle.bw_run.specs.ForestRuns.{EachIsLegal}
+use Rattle.bw_run.specs.ForestFaults.{EndsForest, NamesFirstBad}
+use Rattle.bw_run.specs.ForestRuns.{EachIsLegal, by_trees}
 use Rattle.bw_run.specs.Rows.{acts_of}
 use Rattle.bw_run.proofs.ForestDone.{full, stops_promised, told}
-use Rattle.bw_run.proofs.ForestEnds.{as_many, badly_ends, each_sorted, have_trails, many_sorted, shares_sorted, told_sorted}
+use Rattle.bw_run.proofs.ForestEnds.{as_many, bad_ends, each_sorted, have_trails, many_sorted, shares_sorted, told_sorted}
 use Rattle.bw_run.proofs.Runs.{passed_on, same_length}
 use Rattle.bw_run.proofs.forest.ending.finish_forest.Goals as goal
 
@@ -42,16 +43,18 @@ judge_each-requires-clause-each c =
 pub returns-in_err-judge_each-clause-fault : goal.returns-in_err-judge_each-clause-fault
 returns-in_err-judge_each-clause-fault c =
     let workers = c.args.outcome.workers.items in
-    let sorted = c.in_ok-answers.field-0.trails.items in
+    let tables = c.args.outcome.forest.tables in
+    let fault = c.in_err-judge_each.field-0.0 in
+    let rows_of = map (λ it. lists_of it.trails.items) workers in
+    let trails = by_trees (length c.args.outcome.forest.bounds) rows_of in
     let number : c.trees.result ≡ length c.args.outcome.forest.bounds = c.trees.ensures.count ∙ ap length c.bounds.ensures in
-    let each = each_sorted c.trees.result workers sorted
-    (subst (λ (n : ℕ). All (λ it. length it.trails.items ≡ n) workers) (sym number) c.requires.trails)
-    c.in_ok-answers.ensures.trails in
-    let here = subst (λ (ts : List _). All (λ its. length its.items ≡ length workers) ts) (sym c.deref-2.ensures.value) each in
-    passed_on c.from_residual-in_err-judge_each.result c.in_err-judge_each.field-0.0
-    (EndsForest (length workers) c.args.rows.now) c.from_residual-in_err-judge_each.ensures.1
-    (badly_ends (length workers) c.args.rows.now c.in_err-judge_each.field-0.0
-    (c.in_err-judge_each.ensures.fault (length workers) here))
+    let same = ap (λ (ts : List _). map (λ its. lists_of its.items) ts) c.deref-2.ensures.value
+    ∙ (c.in_ok-answers.ensures.trails ∙ ap (λ (n : ℕ). by_trees n rows_of) number) in
+    let bad = subst (λ (all : List TableValue). NamesFirstBad all trails fault) c.trees-2.ensures.tables
+    (subst (λ (all : List (List (List Receipt))). NamesFirstBad (tables_of c.trees-2.result.now) all fault) same
+    c.in_err-judge_each.ensures.fault) in
+    passed_on c.from_residual-in_err-judge_each.result fault (EndsForest (length workers) c.args.rows.now tables trails)
+    c.from_residual-in_err-judge_each.ensures.1 (bad_ends c.args.rows.now tables trails (length workers) fault bad)
 
 pub merge-requires-clause-workers : goal.merge-requires-clause-workers
 merge-requires-clause-workers c =
