@@ -1,5 +1,5 @@
 -- What the parts of a run on a forest say of the whole.
-use Rattle.std.proofs.Common.{◌≡◌, ℕ, ◌+◌, ◌<◌, ◌≤◌, false, List, [], ◌∷◌, ◌++◌, get_or, map, Vec, Global, refl, ap, sym, subst, ◌∙◌, arith}
+use Rattle.std.proofs.Common.{◌≡◌, ℕ, ◌+◌, ◌<◌, ◌≤◌, List, [], ◌∷◌, ◌++◌, get_or, map, Vec, Global, refl, ap, sym, subst, ◌∙◌, arith}
 use Rattle.std.specs.Prelude.{All, length, slice_index_or, sum_by}
 use Rattle.std.proofs.lemmas.List.{length-map}
 use Rattle.std.proofs.lemmas.List.Sums.{sum_by-cons}
@@ -21,8 +21,8 @@ use Rattle.nifforan_forest.specs.declared.returned.Returned.{Returned}
 use Rattle.nifforan_forest.specs.Sharing.{IsShareForestFault}
 use Rattle.nifforan_forest.specs.Workers.{trails_of}
 use Rattle.bw_run.specs.declared.fault.RunFault.{RunFault}
-use Rattle.bw_run.specs.declared.fault.RunFault.TheVariants.{Config as BadConfig, Workers, NoReader, Threads, Memory, Stopped, TreeAudit}
-use Rattle.bw_run.specs.Faults.{IsCrewFault, StopsWithin}
+use Rattle.bw_run.specs.declared.fault.RunFault.TheVariants.{Config as BadConfig, Workers, Threads, Memory, Stopped, TreeAudit}
+use Rattle.bw_run.specs.Faults.{IsCrewFault}
 use Rattle.bw_run.specs.ForestAnswers.{ToldBy}
 use Rattle.bw_run.specs.ForestFaults.{EndsForest, IsForestRunFault, MayRunForest, NamesFirstBad, run_fault_of_share}
 use Rattle.bw_run.specs.ForestRuns.{by_trees, in_a_row}
@@ -38,15 +38,6 @@ crew_in_forest_run config workers trees rows Workers is = is
 crew_in_forest_run config workers trees rows fault is = absurd is
 
 module _ (rows : List Row) (tables : List TableValue) (trails : List (List (List Receipt))) where
-  -- a worker that stopped is one of the run's, and there are no readers
-  pub stops_end : (n workers : ℕ) (fault : RunFault) → n ≡ workers → StopsWithin false n rows fault
-      → EndsForest workers rows tables trails fault
-  stops_end n workers NoReader many stops = absurd (cc stops)
-  stops_end n workers Threads many stops = tt
-  stops_end n workers Memory many stops = tt
-  stops_end n workers (Stopped worker number fault) many stops = (subst (λ k. worker < k) many stops.0, stops.1)
-  stops_end n workers fault many stops = absurd stops
-
   pub bad_ends : (workers : ℕ) (fault : RunFault) → NamesFirstBad tables trails fault → EndsForest workers rows tables trails fault
   bad_ends workers Memory bad = tt
   bad_ends workers (TreeAudit tree worker receipt) bad = bad

@@ -45,11 +45,11 @@ fn judge_tree(
     ensures legal { OnOk result (IsLegalAt table.now (lists_of trails.now)) }
     ensures fault { IfErr result (IsTreeVerdictOn number table.now (lists_of trails.now)) }
 {
-    match judge(machine, table, trails) {
-        Ok(()) => Ok(()),
-        Err(RunFault::Audit(worker, receipt)) => {
-            Err(RunFault::TreeAudit(number, worker, receipt))
-        }
-        Err(fault) => Err(fault),
+    let Err(fault) = judge(machine, table, trails) else {
+        return Ok(());
+    };
+    match fault {
+        RunFault::Audit(worker, receipt) => Err(RunFault::TreeAudit(number, worker, receipt)),
+        _ => Err(fault),
     }
 }
