@@ -11,6 +11,13 @@ use std::sync::Wait;
 use std::thread;
 use std::thread::{Promise, PromisedHandle, Threads};
 
+/// What a worker brings back: its hand, or its hands, and what it returned.
+#[derive(Drop)]
+pub struct Worked<W, O> {
+    pub hands: W,
+    pub output: O,
+}
+
 /// What each worker of a crew does, in a thread of its own, with a kit of its own.
 pub trait Part<K> {
     ghost use Rattle.std.specs.Prelude.{◌<◌, ℕ};

@@ -1,7 +1,7 @@
 use Rattle.std.proofs.Common.{◌≡◌, ◌+◌, ◌≤◌, [], length, map, take}
 use Rattle.std.specs.Prelude.{All, vec_capacity}
 use Rattle.bw_tree.specs.Shares.{no_changes}
-use Rattle.nifforan_forest.proofs.seat.hands_of.Given as goal
+use Rattle.nifforan_forest.proofs.hands.Hands.new.Given as goal
 
 abbrev pub invariant-loop-i : goal.invariant-loop-i
 invariant-loop-i g l = record {
