@@ -2,11 +2,11 @@
 use Rattle.std.proofs.Common.{◌≡◌, ℕ, zero, suc, ◌+◌, ◌<◌, List, [], ◌∷◌, ◌++◌, length, map, Option, Some, slice_get, slice_index_or, take, All, refl, sym, ap, subst, ◌∙◌, arith}
 use Rattle.std.specs.Prelude.{sum_by, unwrap_or, Result, Ok, Err, IfOk, IfErr}
 use Rattle.std.proofs.lemmas.List.{map-append}
-use Rattle.std.proofs.lemmas.List.Sums.{sum_by-cons, sum_by_more}
+use Rattle.std.proofs.lemmas.List.Sums.{sum_by-cons, sum_by_more, sum_by_push}
 use Rattle.std.proofs.lemmas.List.Elements.{All-append, All-head, All-tail, All-replicate}
 use Rattle.bw_keys.specs.declared.config.Config.{Config}
 use Rattle.bw_law.specs.Tables.{TableValue, pair_count}
-use Rattle.bw_tree.specs.Shares.{ShareValue, shared_in, sum_of}
+use Rattle.bw_tree.specs.Shares.{ShareValue, shared_in, sum_of, together}
 use Rattle.bw_tree.specs.Trees.{IsTree}
 use Rattle.bw_forest.specs.Bounds.{ranges_of}
 use Rattle.bw_forest.specs.Forests.{ComesApart, HasPairsWithin, books_of, pairs_of, ranges_in, tables_of}
@@ -19,13 +19,14 @@ pub tables_more : (trees more : List PlotValue) (tree : PlotValue) → more ≡ 
     → tables_of more ≡ tables_of trees ++ tree.table ∷ []
 tables_more trees more tree grown = rw (grown, map-append (λ (tree : PlotValue). tree.table) trees (tree ∷ [])) refl
 
--- a table more, and a stock more that counted what its book has
-pub books_more : (tables more : List TableValue) (stocks : List ShareValue) (table : TableValue) (stock : ShareValue)
-    → more ≡ tables ++ table ∷ []
-    → map (λ (t : TableValue). shared_in t.book) tables ≡ stocks → shared_in table.book ≡ stock
-    → map (λ (t : TableValue). shared_in t.book) more ≡ stocks ++ stock ∷ []
-books_more tables more stocks table stock grown same is =
-    rw (grown, map-append (λ (t : TableValue). shared_in t.book) tables (table ∷ []), same, is) refl
+-- what the books have of a table more, which a stock counted
+pub books_more : (tables more : List TableValue) (table : TableValue) (stock : ShareValue) → more ≡ tables ++ table ∷ []
+    → shared_in table.book ≡ stock → sum_of (books_of more) ≡ together (sum_of (books_of tables)) stock
+books_more tables more table stock grown is =
+    let books = map-append (λ (t : TableValue). shared_in t.book) tables (table ∷ []) in
+    let inserted = sum_by_push (λ (s : ShareValue). s.inserted) (books_of tables) (shared_in table.book) in
+    let removed = sum_by_push (λ (s : ShareValue). s.removed) (books_of tables) (shared_in table.book) in
+    rw (grown, books, inserted, removed, ← is) refl
 
 -- the pairs of all trees, by their books
 pub sum_pairs : (tables : List TableValue) → All IsTree tables
@@ -41,11 +42,10 @@ sum_pairs (table ∷ tables) all =
     rw (a, b, c) (omega (arith, here, rest))
 
 -- the pairs of all trees, where their books are what the shares have
-pub all_pairs : (tables : List TableValue) (stocks shares : List ShareValue) → All IsTree tables → books_of tables ≡ stocks
-    → sum_of stocks ≡ sum_of shares
+pub all_pairs : (tables : List TableValue) (shares : List ShareValue) → All IsTree tables → sum_of (books_of tables) ≡ sum_of shares
     → pairs_of tables + (sum_of shares).removed ≡ (sum_of shares).inserted
-all_pairs tables stocks shares all books sum =
-    subst (λ (s : ShareValue). pairs_of tables + s.removed ≡ s.inserted) (ap sum_of books ∙ sum) (sum_pairs tables all)
+all_pairs tables shares all sum =
+    subst (λ (s : ShareValue). pairs_of tables + s.removed ≡ s.inserted) sum (sum_pairs tables all)
 
 -- lists that have the same at each place
 pub same_by_get : {X : Type 0} → (xs ys : List X) → length xs ≡ length ys → ((k : ℕ) → k < length xs → slice_get xs k ≡ slice_get ys k)

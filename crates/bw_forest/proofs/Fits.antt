@@ -8,15 +8,14 @@ use Rattle.std.proofs.lemmas.Option.{get_or_from_slice_get, slice_get-get_or, sl
 use Rattle.bw_keys.specs.declared.config.Config.{Config}
 use Rattle.bw_keys.specs.declared.range.Range.{Range}
 use Rattle.bw_keys.specs.Ranges.{end_of, key_count}
-use Rattle.bw_delta.proofs.Rises.{there-below}
-use Rattle.bw_law.specs.Tables.{TableValue, Lawful, Booked, Maps, joined_pairs}
+use Rattle.bw_law.specs.Tables.{TableValue, Lawful, Booked}
 use Rattle.bw_table.specs.Orders.{HasNoKeyWithin}
-use Rattle.bw_tree.proofs.Trees.{is_tree}
+use Rattle.bw_tree.proofs.Trees.{is_tree, key_within}
 use Rattle.bw_forest.specs.Bounds.{AreBounds, ranges_of}
 use Rattle.bw_forest.specs.Fitting.{IsAlike, LiesInItsRange}
 use Rattle.bw_forest.specs.Forests.{AreAlike, config_of, tables_of}
 use Rattle.bw_forest.specs.Plots.{PlotValue}
-use Rattle.bw_forest.specs.Ranges.{LiesIn}
+use Rattle.bw_tree.specs.Ranges.{LiesIn}
 
 pub some_bounds : (bounds : List ℕ) → AreBounds bounds → 0 < length bounds
 some_bounds [] are = let first = are.from_zero in absurd (cc (first))
@@ -63,12 +62,6 @@ pub all_alike : (tables : List TableValue) (i : ℕ) → length tables ≤ i →
 all_alike tables i past each = λ k d less.
     each k (omega (arith, past, less)) (slice_index_or tables k d) (slice_get-get_or tables k d less)
 
-pub key_within : (table : TableValue) → Lawful table → Booked table → (key value : ℕ) → Maps table.slots key value → key < key_count
-key_within table law booked key value maps =
-    let tree = is_tree table law booked in
-    let found = (tree.map.same key value).1 maps in
-    there-below key_count 0 key (joined_pairs table.slots tree.leaves.row) (ap is_some found) tree.map.rise
-
 -- a table that has no pair below a range's low, and none from its end on
 pub lies_within : (table : TableValue) (range : Range) → Lawful table → Booked table
     → HasNoKeyWithin table 0 range.low → HasNoKeyWithin table (end_of range.high) key_count → LiesIn range table.slots
@@ -76,7 +69,7 @@ lies_within table range law booked below past key value maps = (
   ⊎_elim (λ (less : key < range.low). absurd (below key value (omega arith) less maps)) (λ (from : range.low ≤ key). from)
       (cases_lt key range.low),
   ⊎_elim (λ (less : key < end_of range.high). less)
-      (λ (from : end_of range.high ≤ key). absurd (past key value from (key_within table law booked key value maps) maps))
+      (λ (from : end_of range.high ≤ key). absurd (past key value from (key_within table (is_tree table law booked) key value maps) maps))
       (cases_lt key (end_of range.high)),
 )
 

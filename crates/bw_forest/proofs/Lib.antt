@@ -4,6 +4,4 @@ mod Fits
 mod Joining
 mod Mapping
 mod Opening
-mod Plotting
 mod Quantiles
-mod Staying

@@ -16,7 +16,7 @@ use Rattle.bw_tree.specs.Trees.{IsTree}
 use Rattle.bw_forest.specs.Bounds.{IsTreeOf, end_before, ranges_of}
 use Rattle.bw_forest.specs.Forests.{AreInARow, ForestMaps, HasForestMap, HasPairsWithin, IsForest, IsForestMap, IsForestValueAt, ranges_in, tables_of}
 use Rattle.bw_forest.specs.Plots.{PlotValue}
-use Rattle.bw_forest.specs.Ranges.{LiesIn}
+use Rattle.bw_tree.specs.Ranges.{LiesIn}
 use Rattle.bw_forest.proofs.Joining.{at_left, at_right, rises_join}
 
 -- each bound is below the next

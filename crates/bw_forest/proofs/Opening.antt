@@ -1,9 +1,21 @@
 -- The trees of a closed forest, put under their locks again, and the opening shares that count their books.
-use Rattle.std.proofs.Common.{◌≡◌, ℕ, ◌+◌, List, [], ◌∷◌, ◌++◌, All, Some, slice_get, take, map, ap, sym, subst, ◌∙◌, append_assoc}
+use Rattle.std.proofs.Common.{◌≡◌, ℕ, ◌+◌, ◌<◌, ◌^◌, List, [], ◌∷◌, ◌++◌, All, None, Some, slice_get, take, map, ap, sym, subst, ◌∙◌, append_assoc}
 use Rattle.std.proofs.lemmas.List.{map-append, take_more}
 use Rattle.std.proofs.lemmas.Option.{get_or_from_slice_get, slice_get_within}
 use Rattle.std.proofs.lemmas.List.Elements.{All-head, All-tail}
+use Rattle.bw_keys.specs.declared.config.Config.{Config}
 use Rattle.bw_keys.specs.declared.range.Range.{Range}
+use Rattle.bw_keys.specs.Limits.{first_bad_field}
+use Rattle.bw_law.specs.Tables.{TableValue, new_table}
+use Rattle.bw_law.proofs.NewTable.{new_law}
+use Rattle.bw_tree.specs.Ranges.{LiesIn}
+
+-- a new table has no pairs, so they lie in each range
+pub new_within : (made : Config) (range : Range) (table : TableValue) → table ≡ new_table made → first_bad_field made ≡ None
+    → made.first_version < 2 ^ 64 → LiesIn range table.slots
+new_within made range table is fine fits =
+    let empty = new_law made fine fits in
+    rw is (λ key value maps. absurd (empty.no_pairs key value maps))
 
 -- one item of the rest stands among those before it
 pub one_left : {X : Type 0} → (done more all : List X) (x y : X) (rest : List X) → more ≡ done ++ x ∷ [] → x ≡ y → done ++ y ∷ rest ≡ all

@@ -4,7 +4,7 @@ use Rattle.bw_keys.specs.declared.range.Range.{Range}
 use Rattle.bw_law.specs.Tables.{TableValue}
 use Rattle.bw_forest.specs.Bounds.{ranges_of}
 use Rattle.bw_forest.specs.Forests.{AreAlike, config_of}
-use Rattle.bw_forest.specs.Ranges.{LiesIn}
+use Rattle.bw_tree.specs.Ranges.{LiesIn}
 use Rattle.bw_forest.specs.declared.fault.BadTables.{BadTables}
 use Rattle.bw_forest.specs.declared.fault.BadTables.TheVariants.{BadNumber, OtherConfig, PairOutside, NoMemory}
 

@@ -13,7 +13,7 @@ use Rattle.bw_tree.specs.Trees.{IsTree}
 use Rattle.bw_keys.specs.declared.range.Range.{Range}
 use Rattle.bw_forest.specs.Bounds.{AreBounds, ranges_of}
 use Rattle.bw_forest.specs.Plots.{PlotValue}
-use Rattle.bw_forest.specs.Ranges.{LiesIn}
+use Rattle.bw_tree.specs.Ranges.{LiesIn}
 
 -- the ranges and the tables of trees
 abbrev pub ranges_in : List PlotValue → List Range

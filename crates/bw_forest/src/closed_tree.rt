@@ -1,7 +1,7 @@
 //! One tree of a forest that was closed.
 
 ghost use Rattle.std.specs.Prelude.{◌≡◌};
-ghost use Rattle.bw_forest.specs.Ranges.{LiesIn};
+ghost use Rattle.bw_tree.specs.Ranges.{LiesIn};
 
 use bw_keys::Range;
 use bw_table::Table;
@@ -17,7 +17,7 @@ pub struct ClosedTree<A: Allocator + Copy> {
 
 impl<A: Allocator + Copy> Model for ClosedTree<A> {
     ghost use Rattle.bw_forest.specs.Plots.{PlotValue, plot_code};
-    ghost use Rattle.bw_forest.specs.Ranges.{LiesIn};
+    ghost use Rattle.bw_tree.specs.Ranges.{LiesIn};
 
     ghost Value = { PlotValue };
 

@@ -9,7 +9,7 @@ ghost use Rattle.bw_forest.specs.Bounds.{AreBounds, ranges_of};
 ghost use Rattle.bw_forest.specs.Fitting.{FitRanges, IsAlike, IsBadTables, IsFirstWithout};
 ghost use Rattle.bw_forest.specs.Fitting.{LiesInItsRange};
 ghost use Rattle.bw_forest.specs.Forests.{AreAlike, HasPairsWithin, ranges_in, tables_of};
-ghost use Rattle.bw_forest.specs.Ranges.{LiesIn};
+ghost use Rattle.bw_tree.specs.Ranges.{LiesIn};
 
 use crate::bounds::Bounds;
 use crate::closed::ClosedForest;

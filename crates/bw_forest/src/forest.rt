@@ -4,7 +4,7 @@ ghost use Rattle.std.specs.Prelude.{◌≡◌, ◌≢◌, ◌+◌, ◌-◌, ◌*
 ghost use Rattle.std.specs.Prelude.{IsOk, IfOk, IfErr, OnOk, IsTrue, vec_capacity};
 ghost use Rattle.bw_keys.specs.Limits.{first_bad_field};
 ghost use Rattle.bw_tree.specs.Shares.{no_changes, shared_in, sum_of};
-ghost use Rattle.bw_tree.specs.Stocks.{OpensForest};
+ghost use Rattle.bw_tree.specs.Stocks.{OpensForest, fresh};
 ghost use Rattle.bw_tree.specs.Trees.{IsTree, IsNewFault, MayBeMade};
 ghost use Rattle.bw_forest.specs.Bounds.{AreBounds, ranges_of};
 ghost use Rattle.bw_forest.specs.Forests.{HasForestMap, HasPairsWithin, IsClosedForest};
@@ -16,12 +16,11 @@ use crate::bounds::Bounds;
 use crate::closed::ClosedForest;
 use crate::closed_tree::ClosedTree;
 use crate::fault::ForestFault;
-use crate::forest_tree::ForestTree;
 use crate::given_back::{NotClosed, Unopened};
 use bw_delta::NoMemory;
-use bw_keys::{Config, Fence, MAX_WORKERS, Range};
+use bw_keys::{Config, Range};
 use bw_table::Table;
-use bw_tree::{Endowment, ForestBlanks, MadeBy, NewFault, Share, Stock, Totals};
+use bw_tree::{Blanks, Endowment, ForestTree, MadeBy, NewFault, Share, Stock, Totals, Tree, check};
 use std::alloc::{Allocator, Global};
 use std::sync::Wait;
 use std::sync::ledger::Ledger;
@@ -33,13 +32,11 @@ pub struct Forest<R: Wait + Drop, A: Allocator + Copy, I: MadeBy, D: Ledger> {
     trees: Vec<ForestTree<R, A, I, D>>,
     totals: Totals<I, D>,
     // taken at the start, so that no closing fails for want of memory
-    room: Felled<A, I, D>,
+    room: Vec<ClosedTree<A>>,
     ghost each: { length trees.items ≡ length bounds },
     ghost placed: { map (λ tree. tree.range) trees.items ≡ ranges_of bounds },
-    ghost counted: { totals.trees ≡ length trees.items },
-    ghost empty: { (length room.trees.items ≡ 0) × (length room.stocks.items ≡ 0) },
-    ghost enough: { (length trees.items ≤ vec_capacity room.trees)
-        × (length trees.items ≤ vec_capacity room.stocks) },
+    ghost counted: { totals ≡ fresh (length trees.items) totals.workers },
+    ghost enough: { (length room.items ≡ 0) × (length trees.items ≤ vec_capacity room) },
 }
 
 /// Trees under their locks, and what their tables' books had before.
@@ -47,13 +44,6 @@ pub struct Forest<R: Wait + Drop, A: Allocator + Copy, I: MadeBy, D: Ledger> {
 struct Planted<R: Wait + Drop, A: Allocator + Copy, I: MadeBy, D: Ledger> {
     trees: Vec<ForestTree<R, A, I, D>>,
     opening: Vec<Share<I, D>>,
-}
-
-/// Trees that were taken out of their locks, and their stocks.
-#[derive(Drop)]
-struct Felled<A: Allocator + Copy, I: MadeBy, D: Ledger> {
-    trees: Vec<ClosedTree<A>>,
-    stocks: Vec<Stock<I, D>>,
 }
 
 impl<R: Wait + Drop, A: Allocator + Copy, I: MadeBy, D: Ledger> Planted<R, A, I, D> {
@@ -70,34 +60,6 @@ impl<R: Wait + Drop, A: Allocator + Copy, I: MadeBy, D: Ledger> Planted<R, A, I,
     }
 }
 
-impl<A: Allocator + Copy, I: MadeBy, D: Ledger> Felled<A, I, D> {
-    fn with_room(machine: Global, trees: usize) -> Result<Felled<A, I, D>, NoMemory>
-        ensures empty { IfOk result (λ it.
-            (length it.trees.items ≡ 0) × (length it.stocks.items ≡ 0)) }
-        ensures enough { IfOk result (λ it.
-            (trees ≤ vec_capacity it.trees) × (trees ≤ vec_capacity it.stocks)) }
-    {
-        Ok(Felled {
-            trees: Vec::with_capacity(machine, trees)?,
-            stocks: Vec::with_capacity(machine, trees)?,
-        })
-    }
-}
-
-/// Returns the first fault of a forest's arguments, in the order of [`NewFault`].
-fn check(config: &Config, workers: u32) -> Result<(), NewFault>
-    ensures fine { OnOk result (MayBeMade config.now workers) }
-    ensures fault { IfErr result (IsNewFault config.now workers) }
-{
-    if let Err(bad) = config.check() {
-        return Err(NewFault::BadConfig(bad));
-    }
-    if !(1..=MAX_WORKERS).contains(&workers) {
-        return Err(NewFault::BadWorkers);
-    }
-    Ok(())
-}
-
 impl<R: Wait + Drop + Copy, A: Allocator + Copy, I: MadeBy, D: Ledger> Forest<R, A, I, D> {
     /// Returns a forest with a tree without pairs for each range, and for each worker, 1 to
     /// `MAX_WORKERS`, a list with a share of nothing at each tree. The chains lie in `alloc`, all else
@@ -108,7 +70,7 @@ impl<R: Wait + Drop + Copy, A: Allocator + Copy, I: MadeBy, D: Ledger> Forest<R,
         alloc: A,
         config: Config,
         bounds: Bounds,
-        blanks: ForestBlanks,
+        blanks: Blanks,
     ) -> Result<(Forest<R, A, I, D>, Vec<Vec<Share<I, D>>>), NewFault>
         requires ledgers { OpensForest I.Ledger I.config D.Ledger config blanks }
         requires trees { blanks.trees ≡ length bounds }
@@ -123,10 +85,24 @@ impl<R: Wait + Drop + Copy, A: Allocator + Copy, I: MadeBy, D: Ledger> Forest<R,
         ensures fault { IfErr result (IsNewFault config blanks.workers) }
     {
         check(&config, blanks.workers)?;
-        match Forest::make(rt, machine, alloc, config, bounds, blanks) {
-            Ok(made) => Ok(made),
-            Err(NoMemory) => Err(NewFault::NoMemory),
-        }
+        let (number, workers) = (blanks.trees, blanks.workers);
+        let Ok(mut made) = Endowment::open(machine, blanks) else {
+            return Err(NewFault::NoMemory);
+        };
+        let (Ok(room), Ok(shares), Ok(trees)) = (
+            Vec::with_capacity(machine, number as usize),
+            made.parts.lists(machine, workers, number),
+            plant(rt, machine, alloc, config, &bounds, made.stocks),
+        ) else {
+            return Err(NewFault::NoMemory);
+        };
+        let forest = Forest {
+            bounds,
+            trees,
+            totals: made.totals,
+            room,
+        };
+        Ok((forest, shares))
     }
 
     /// Returns a forest with the closed one's ranges and pairs, for each worker, 1 to `MAX_WORKERS`, a
@@ -139,7 +115,7 @@ impl<R: Wait + Drop + Copy, A: Allocator + Copy, I: MadeBy, D: Ledger> Forest<R,
         rt: R,
         machine: Global,
         forest: ClosedForest<A>,
-        blanks: ForestBlanks,
+        blanks: Blanks,
     ) -> Result<(Forest<R, A, I, D>, Vec<Vec<Share<I, D>>>, Vec<Share<I, D>>), Unopened<A>>
         requires ledgers { OpensForest I.Ledger I.config D.Ledger (config_of forest.tables) blanks }
         requires trees { blanks.trees ≡ length forest.bounds }
@@ -164,10 +140,10 @@ impl<R: Wait + Drop + Copy, A: Allocator + Copy, I: MadeBy, D: Ledger> Forest<R,
         if let Err(fault) = check(&config, blanks.workers.saturating_sub(1)) {
             return Err(Unopened { fault, forest });
         }
-        let number = blanks.trees as usize;
+        let (number, workers) = (blanks.trees, blanks.workers);
         let (Ok(room), Ok(planted), Ok(endowment)) = (
-            Felled::with_room(machine, number),
-            Planted::with_room(machine, number),
+            Vec::with_capacity(machine, number as usize),
+            Planted::with_room(machine, number as usize),
             Endowment::open(machine, blanks),
         ) else {
             return Err(Unopened {
@@ -178,13 +154,19 @@ impl<R: Wait + Drop + Copy, A: Allocator + Copy, I: MadeBy, D: Ledger> Forest<R,
         let Endowment {
             totals,
             stocks,
-            mut shares,
+            mut parts,
         } = endowment;
+        let Ok(mut shares) = parts.lists(machine, workers, number) else {
+            return Err(Unopened {
+                fault: NewFault::NoMemory,
+                forest,
+            });
+        };
         let Some(opening) = shares.pop() else {
             unreachable!()
         };
         let (bounds, closed) = forest.into_parts();
-        let Planted { trees, opening } = replant(rt, config, closed, stocks, opening, planted);
+        let Planted { trees, opening } = replant(rt, closed, stocks, opening, planted);
         let forest = Forest {
             bounds,
             trees,
@@ -192,42 +174,6 @@ impl<R: Wait + Drop + Copy, A: Allocator + Copy, I: MadeBy, D: Ledger> Forest<R,
             room,
         };
         Ok((forest, shares, opening))
-    }
-
-    /// Returns what `new` does, where the configuration and the number of workers are fine.
-    fn make(
-        rt: R,
-        machine: Global,
-        alloc: A,
-        config: Config,
-        bounds: Bounds,
-        blanks: ForestBlanks,
-    ) -> Result<(Forest<R, A, I, D>, Vec<Vec<Share<I, D>>>), NoMemory>
-        requires ledgers { OpensForest I.Ledger I.config D.Ledger config blanks }
-        requires trees { blanks.trees ≡ length bounds }
-        requires fine { MayBeMade config blanks.workers }
-        ensures bounds { IfOk result (λ made. made.0.bounds ≡ bounds) }
-        ensures all { IfOk result (λ made. made.0.totals.workers ≡ blanks.workers) }
-        ensures workers { IfOk result (λ made. length made.1.items ≡ blanks.workers) }
-        ensures each { IfOk result (λ made.
-            All (λ its. length its.items ≡ length bounds) made.1.items) }
-        ensures shares { IfOk result (λ made.
-            All (λ its. All (λ share. share ≡ no_changes) its.items) made.1.items) }
-    {
-        let Endowment {
-            totals,
-            stocks,
-            shares,
-        } = Endowment::open(machine, blanks)?;
-        let trees = plant(rt, machine, alloc, config, &bounds, stocks)?;
-        let room = Felled::with_room(machine, trees.len())?;
-        let forest = Forest {
-            bounds,
-            trees,
-            totals,
-            room,
-        };
-        Ok((forest, shares))
     }
 }
 
@@ -257,7 +203,7 @@ fn plant<R: Wait + Drop + Copy, A: Allocator + Copy, I: MadeBy, D: Ledger>(
         let Ok(table) = Table::new(machine, alloc, config) else {
             return Err(NoMemory);
         };
-        trees.push_reserved(ForestTree::new(rt, config, table, stock, bounds.range(i)));
+        trees.push_reserved(Tree::in_forest(rt, bounds.range(i), table, stock));
     }
     Ok(trees)
 }
@@ -266,14 +212,12 @@ fn plant<R: Wait + Drop + Copy, A: Allocator + Copy, I: MadeBy, D: Ledger>(
 /// its opening share did.
 fn replant<R: Wait + Drop + Copy, A: Allocator + Copy, I: MadeBy, D: Ledger>(
     rt: R,
-    config: Config,
     closed: Vec<ClosedTree<A>>,
     stocks: Vec<Stock<I, D>>,
     shares: Vec<Share<I, D>>,
     room: Planted<R, A, I, D>,
 ) -> Planted<R, A, I, D>
-    requires made { I.config ≡ config }
-    requires alike { All (λ table. table.config ≡ config) (tables_of closed.items) }
+    requires alike { All (λ table. table.config ≡ I.config) (tables_of closed.items) }
     requires stocks { length stocks.items ≡ length closed.items }
     requires none_counted { All (λ stock. stock ≡ no_changes) stocks.items }
     requires shares { length shares.items ≡ length closed.items }
@@ -302,7 +246,7 @@ fn replant<R: Wait + Drop + Copy, A: Allocator + Copy, I: MadeBy, D: Ledger>(
         let table = tree.into_table();
         stock.begin(&mut share, table.book());
         opening.push_reserved(share);
-        trees.push_reserved(ForestTree::new(rt, config, table, stock, range));
+        trees.push_reserved(Tree::in_forest(rt, range, table, stock));
     }
     Planted { trees, opening }
 }
@@ -339,14 +283,8 @@ impl<R: Wait + Drop, A: Allocator + Copy, I: MadeBy, D: Ledger> Forest<R, A, I, 
         ensures back { IfErr result (λ it.
             ComesApart self.bounds I.config it.bounds it.trees.items) }
     {
-        let Forest {
-            bounds,
-            trees,
-            room,
-            ..
-        } = self;
-        let Felled { trees, .. } = fell(trees, room);
-        closed(bounds, trees)
+        let mut totals = self.totals;
+        closed(self.bounds, fell(self.trees, &mut totals, self.room))
     }
 
     /// Returns the trees' tables with their ranges. Their books together are the sum of the shares, of
@@ -366,21 +304,16 @@ impl<R: Wait + Drop, A: Allocator + Copy, I: MadeBy, D: Ledger> Forest<R, A, I, 
         ensures back { IfErr result (λ it.
             ComesApart self.bounds I.config it.bounds it.trees.items) }
     {
-        let Forest {
-            bounds,
-            trees,
-            totals,
-            room,
-        } = self;
-        let Felled { trees, stocks } = fell(trees, room);
-        if totals.close(stocks, shares).is_err() {
+        let mut totals = self.totals;
+        let trees = fell(self.trees, &mut totals, self.room);
+        if totals.close(shares).is_err() {
             return Err(NotClosed {
                 fault: ForestFault::MissingShare,
-                bounds,
+                bounds: self.bounds,
                 trees,
             });
         }
-        closed(bounds, trees)
+        closed(self.bounds, trees)
     }
 }
 
@@ -410,36 +343,31 @@ fn closed<A: Allocator + Copy>(
     Ok(ClosedForest::new(bounds, trees))
 }
 
-/// Takes each tree out of its lock.
+/// Takes each tree out of its lock, and its stock back.
 fn fell<R: Wait + Drop, A: Allocator + Copy, I: MadeBy, D: Ledger>(
     trees: Vec<ForestTree<R, A, I, D>>,
-    room: Felled<A, I, D>,
-) -> Felled<A, I, D>
-    requires empty { (length room.trees.items ≡ 0) × (length room.stocks.items ≡ 0) }
-    requires enough { (length trees.items ≤ vec_capacity room.trees)
-        × (length trees.items ≤ vec_capacity room.stocks) }
-    ensures trees { All IsTree (tables_of result.trees.items) }
-    ensures config { All (λ table. table.config ≡ I.config) (tables_of result.trees.items) }
-    ensures alike { AreAlike (tables_of result.trees.items) }
-    ensures within { All HasPairsWithin result.trees.items }
-    ensures books { map (λ table. shared_in table.book) (tables_of result.trees.items)
-        ≡ result.stocks.items }
-    ensures count { length result.trees.items ≡ length trees.items }
-    ensures stocks { length result.stocks.items ≡ length trees.items }
+    totals: &mut Totals<I, D>,
+    room: Vec<ClosedTree<A>>,
+) -> Vec<ClosedTree<A>>
+    requires none { totals.old ≡ fresh (length trees.items) totals.old.workers }
+    requires enough { (length room.items ≡ 0) × (length trees.items ≤ vec_capacity room) }
+    ensures trees { All IsTree (tables_of result.items) }
+    ensures config { All (λ table. table.config ≡ I.config) (tables_of result.items) }
+    ensures alike { AreAlike (tables_of result.items) }
+    ensures within { All HasPairsWithin result.items }
+    ensures count { length result.items ≡ length trees.items }
+    ensures back { totals.new ≡ record totals.old {
+      back = totals.old.trees;
+      counted = sum_of (books_of (tables_of result.items));
+    } }
 {
-    let Felled {
-        trees: mut felled,
-        mut stocks,
-    } = room;
+    let mut felled = room;
     for tree in trees {
-        let (tree, stock) = tree.apart();
-        felled.push_reserved(tree);
-        stocks.push_reserved(stock);
+        let (range, table, stock) = tree.apart();
+        totals.take(stock);
+        felled.push_reserved(ClosedTree::new(range, table));
     }
-    Felled {
-        trees: felled,
-        stocks,
-    }
+    felled
 }
 
 /// Reports whether the trees have the ranges, one each.
@@ -459,9 +387,5 @@ fn have_ranges<A: Allocator + Copy>(trees: &[ClosedTree<A>], bounds: &Bounds) ->
 fn is_same(one: Range, other: Range) -> bool
     ensures { IsTrue result → one ≡ other }
 {
-    match (one.high, other.high) {
-        (Fence::Top, Fence::Top) => one.low == other.low,
-        (Fence::Key(end), Fence::Key(other_end)) => one.low == other.low && end == other_end,
-        (Fence::Key(_), Fence::Top) | (Fence::Top, Fence::Key(_)) => false,
-    }
+    one == other
 }

@@ -7,13 +7,14 @@ use Rattle.std.specs.contracts.alloc.Global as Heap
 use Rattle.std.specs.contracts.impls.GlobalAllocator.TheImpl.{ghosts}
 use Rattle.std.proofs.alloc.Global.TheSendSync as heap
 use Rattle.core.specs.declared.ledger.Ledger as ledger
-use Rattle.core.proofs.ledger.Book.TheSendSync as book
 use Rattle.logbook.proofs.tokens.Seen.TheSendSync as seen
 use Rattle.logbook.proofs.word.Word.TheSendSync as word
 use Rattle.bw_delta.proofs.base.Base.TheSendSync as base
 use Rattle.bw_delta.proofs.chain.Chain.TheLaws.TheKnot as chain
 use Rattle.bw_delta.specs.contracts.chain.Spare as Spare
 use Rattle.bw_step.specs.contracts.step.Step as Step
+use Rattle.bw_tree.proofs.stock.Stock.TheSendSync as stock
+use Rattle.bw_tree.proofs.stock.Totals.TheSendSync as totals
 use Rattle.bw_tree.specs.declared.made_by.MadeBy as made_by
 use Rattle.bw_snap.specs.declared.front.Naming as naming
 use Rattle.bw_snap.specs.contracts.front.Front as Front
@@ -61,7 +62,7 @@ module _ (N : RattleType) (names : naming.Ghosts N.Denot) (made : made_by.Ghosts
 module _ (R N D : RattleType) (names : naming.Ghosts N.Denot) (made : made_by.Ghosts N.Denot) (counts : ledger.Ghosts N.Denot) (removals : ledger.Ghosts D.Denot) where
   Inside-send : IsSend R → IsSend (Inside.the_field R N D names made counts removals).row
   Inside-send r = struct_send (shape (Inside.the_type R N D names made counts removals)) (
-    search (Table-send, book.the_send, sendable, crosses) depth 60 fits 10000,
+    search (Table-send, stock.the_send, totals.the_send, sendable, crosses) depth 80 fits 10000,
     (
       search (Note-send, Shown-send, Shown-sync, writing.the_field_send, sendable, crosses) depth 60 fits 10000,
       (

@@ -1,2 +1,3 @@
 pub mod AtOnce
+pub mod Staying
 pub mod Trees

@@ -1,9 +1,10 @@
 -- What the law of a table says of a tree.
-use Rattle.std.proofs.Common.{◌≡◌, ℕ, zero, suc, ◌<◌, ◌^◌, List, Option, Some, None, refl, sym, subst, ◌∙◌, ap, arith}
+use Rattle.std.proofs.Common.{◌≡◌, ℕ, zero, suc, ◌<◌, List, Option, Some, None, refl, sym, subst, ◌∙◌, ap, arith}
 use Rattle.bw_keys.specs.declared.config.Config.{Config}
-use Rattle.bw_keys.specs.Limits.{first_bad_field}
 use Rattle.bw_keys.specs.declared.range.Fence.{Fence}
-use Rattle.bw_keys.specs.Ranges.{end_of}
+use Rattle.std.specs.Prelude.{is_some}
+use Rattle.bw_keys.specs.Ranges.{end_of, key_count}
+use Rattle.bw_delta.proofs.Rises.{there-below}
 use Rattle.bw_chain.specs.Leaves.{AppendsLeaf, ReadsLeaf}
 use Rattle.bw_table.specs.Orders.{ArePairsWithin}
 use Rattle.bw_step.specs.declared.receipt.Receipt.{Receipt}
@@ -13,14 +14,14 @@ use Rattle.bw_step.specs.Tellings.{Telling, change, look, shape, telling_of}
 use Rattle.bw_law.specs.Effects.{TakesStep, after, receipt_of}
 use Rattle.bw_law.specs.Laws.{MapAfter}
 use Rattle.bw_law.specs.Refusals.{refusal}
-use Rattle.bw_law.specs.Tables.{TableValue, Lawful, Booked, book_with, new_table}
+use Rattle.bw_law.specs.Tables.{TableValue, Lawful, Booked, Maps, book_with, joined_pairs}
 use Rattle.bw_law.proofs.AllSteps.{step_law}
 use Rattle.bw_law.proofs.Count.{joined_count}
 use Rattle.bw_law.proofs.MapAndTerms.{map_law}
-use Rattle.bw_law.proofs.NewTable.{new_law}
 use Rattle.bw_law.proofs.RowList.{row_law}
 use Rattle.bw_law.proofs.Walk.{walk_law}
-use Rattle.bw_tree.specs.Shares.{ShareValue, shared_in, share_with, counted, no_changes, sum_of}
+use Rattle.bw_tree.specs.Ranges.{LiesIn, all_keys}
+use Rattle.bw_tree.specs.Shares.{ShareValue, shared_in, share_with, counted, sum_of}
 use Rattle.bw_tree.specs.Trees.{IsTree, IsClosed, CountsPairs, IsBookOf, MayBeMade, ReadsTree}
 
 pub is_tree : (table : TableValue) → Lawful table → Booked table → IsTree table
@@ -39,14 +40,7 @@ pub some_workers : (config : Config) (workers : ℕ) → MayBeMade config worker
 some_workers config zero made = let bad = made.1 in absurd (cc (bad))
 some_workers config (suc n) made = omega arith
 
--- the new table, with nothing in its book
-pub new_book : (config : Config) (table : TableValue) (totals : ShareValue) → table ≡ new_table config → first_bad_field config ≡ None
-    → config.first_version < 2 ^ 64 → totals ≡ no_changes → IsBookOf table totals
-new_book config table totals is fine fits none =
-    let empty = new_law config fine fits in
-    rw (is, none) (record { lawful = empty.lawful; booked = empty.booked; book = refl })
-
--- a table whose book was counted in the ledgers
+-- a table whose book was counted by its stock
 pub begun_book : (table : TableValue) (totals : ShareValue) → Lawful table → Booked table → totals ≡ shared_in table.book → IsBookOf table totals
 begun_book table totals lawful booked begun = record { lawful = lawful; booked = booked; book = sym begun }
 
@@ -83,6 +77,15 @@ closed table config totals shares kept made sum =
     let tree = tree_of table totals kept in
     let book : shared_in table.book ≡ sum_of shares = kept.book ∙ sum in
     record { config = made; tree = tree; book = book; pairs = subst (CountsPairs table) book tree.pairs }
+
+pub key_within : (table : TableValue) → IsTree table → (key value : ℕ) → Maps table.slots key value → key < key_count
+key_within table tree key value maps =
+    let found = (tree.map.same key value).1 maps in
+    there-below key_count 0 key (joined_pairs table.slots tree.leaves.row) (ap is_some found) tree.map.rise
+
+-- a tree alone takes all keys
+pub all_within : (table : TableValue) → IsTree table → LiesIn all_keys table.slots
+all_within table tree key value maps = (omega arith, key_within table tree key value maps)
 
 -- what was read of its table was read of the tree
 pub tree_read : (table : TableValue) (key : ℕ) (high : Fence) (limit : ℕ) (result : Option Fence) (old new : List (ℕ × ℕ))

@@ -1,3 +1,4 @@
+pub mod Ranges
 pub mod Shares
 pub mod Trees
 pub mod Stocks

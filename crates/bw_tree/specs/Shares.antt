@@ -61,6 +61,6 @@ sum_of shares =
 abbrev pub together : ShareValue → ShareValue → ShareValue
 together one other = share_of (one.inserted + other.inserted) (one.removed + other.removed)
 
--- a type with this name and this number of parts may stand for the blank ledger
+-- a type with this name and this number of parts may stand for the blank ledger, which has one more
 abbrev pub Opens : ℕ → ℕ → Blank → Type 0
-Opens name parts blank = (blank.name ≡ name) × (blank.parts ≡ parts)
+Opens name parts blank = (blank.name ≡ name) × (blank.parts ≡ parts + 1)

@@ -4,8 +4,6 @@ use Rattle.std.specs.declared.sync.ledger.Ledger.{Ghosts as Ledger}
 use Rattle.bw_keys.specs.declared.config.Config.{Config}
 use Rattle.bw_keys.specs.Limits.{first_bad_field, is_out_of}
 use Rattle.bw_keys.specs.declared.range.Fence.{Fence}
-use Rattle.bw_keys.specs.declared.range.Fence.TheVariants.{Top}
-use Rattle.bw_keys.specs.declared.range.Range.{Range}
 use Rattle.bw_keys.specs.Ranges.{end_of, key_count}
 use Rattle.bw_chain.specs.Leaves.{AppendsLeaf}
 use Rattle.bw_step.specs.Proposals.{Proposal}
@@ -19,10 +17,6 @@ use Rattle.bw_tree.specs.Shares.{ShareValue, shared_in, sum_of, Opens}
 use Rattle.bw_tree.specs.declared.fault.NewFault.{NewFault}
 use Rattle.bw_tree.specs.declared.fault.NewFault.TheVariants.{BadConfig, BadWorkers, NoMemory}
 use Rattle.bw_tree.specs.declared.share.Blanks.{Blanks}
-
--- the range that no key lies out of
-abbrev pub all_keys : Range
-all_keys = record { low = 0; high = Top }
 
 -- the leaf row's pairs are as many as the insertions less the removals
 abbrev pub CountsPairs : TableValue → ShareValue → Type 0
@@ -81,10 +75,11 @@ IsNewFault config workers BadWorkers =
     (first_bad_field config ≡ None) × (is_bad_number workers ≡ true)
 IsNewFault config workers NoMemory = MayBeMade config workers
 
--- two types may stand for the blank ledgers of a tree, and the first of them
+-- two types may stand for the blank ledgers of a tree alone, and the first of them
 -- names the configuration that it is made by
 pub record OpensFor {I D : Type 0} (insertions : Ledger I) (named : Config) (removals : Ledger D)
     (config : Config) (blanks : Blanks) : Type 0 where
   pub inserted : Opens insertions.name insertions.parts blanks.insertions
   pub removed : Opens removals.name removals.parts blanks.removals
   pub made : named ≡ config
+  pub alone : blanks.trees ≡ 1

@@ -1,4 +1,4 @@
-//! A table whose book is the sum of its workers' shares, at every moment outside its own calls.
+//! A table whose book is what its stock counted, at every moment outside its own calls.
 
 ghost use Rattle.std.specs.Prelude.{◌≡◌, ◌≢◌, ◌+◌, ◌-◌, ◌<◌, ◌↔◌, None, Some, All, length};
 ghost use Rattle.std.specs.Prelude.{IsOk, IfOk, IfErr, OnOk, OnErr};
@@ -9,34 +9,40 @@ ghost use Rattle.bw_law.specs.Refusals.{refusal};
 ghost use Rattle.bw_table.specs.Actions.{IsPerformed, IsWhyNot};
 ghost use Rattle.bw_table.specs.Orders.{HasPairs};
 ghost use Rattle.bw_tree.specs.Shares.{no_changes, shared_in, CountsIn, CountsPerformed};
+ghost use Rattle.bw_tree.specs.Stocks.{closing};
 ghost use Rattle.bw_step.specs.Actions.{Reports};
 ghost use Rattle.bw_step.specs.Steps.{IsReceiptOf};
 ghost use Rattle.bw_tree.specs.Trees.{IsTree, IsClosed, Leads};
 ghost use Rattle.bw_tree.specs.Trees.{OpensFor, IsNewFault, MayBeMade, is_bad_number};
 
 use crate::fault::{MissingShare, NewFault, Unshared};
-use crate::ledgers::Ledgers;
+use crate::keys::{AnyKey, Keys};
 use crate::made_by::MadeBy;
 use crate::share::{Blanks, Share};
+use crate::stock::{Stock, Totals, open_one};
 use bw_delta::Spare;
 use bw_keys::{Config, MAX_WORKERS};
 use bw_step::{Action, Performed, Receipt, Refused, Step, Unperformed};
 use bw_table::Table;
 use std::alloc::{Allocator, Global};
-use std::marker::Model;
+use std::marker::{Model, PhantomData};
 use std::sync::ledger::Ledger;
 
-/// A table and the two ledgers that its book is the total of. Contracts see it as the table.
+/// A table, the stock that counted what its book has, and in a tree alone the totals that close the
+/// count. Contracts see it as the table.
 #[derive(Drop)]
-pub struct Booked<A: Allocator + Copy, I: MadeBy, D: Ledger> {
-    table: Table<A>,
-    ledgers: Ledgers<I, D>,
+pub struct Booked<A: Allocator + Copy, I: MadeBy, D: Ledger, K: Keys = AnyKey> {
+    pub(crate) table: Table<A>,
+    pub(crate) stock: Stock<I, D>,
+    totals: Option<Totals<I, D>>,
+    keys: PhantomData<K>,
 }
 
-impl<A: Allocator + Copy, I: MadeBy, D: Ledger> Model for Booked<A, I, D> {
+impl<A: Allocator + Copy, I: MadeBy, D: Ledger, K: Keys> Model for Booked<A, I, D, K> {
     ghost use Rattle.std.specs.Prelude.{◌≡◌};
     ghost use Rattle.bw_law.specs.Tables.{TableValue};
     ghost use Rattle.bw_table.specs.Codes.{table_code};
+    ghost use Rattle.bw_tree.specs.Stocks.{closing};
     ghost use Rattle.bw_tree.specs.Trees.{IsBookOf};
 
     ghost Value = { TableValue };
@@ -45,7 +51,8 @@ impl<A: Allocator + Copy, I: MadeBy, D: Ledger> Model for Booked<A, I, D> {
 
     ghost view = { λ b. b.table };
 
-    ghost invariant = { λ b. IsBookOf b.table b.ledgers × (b.table.config ≡ I.config) };
+    ghost invariant = { λ b. IsBookOf b.table b.stock × (b.table.config ≡ I.config)
+        × (b.totals ≡ closing K.alone I.parts) };
 }
 
 impl<A: Allocator + Copy, I: MadeBy, D: Ledger> Booked<A, I, D> {
@@ -69,11 +76,10 @@ impl<A: Allocator + Copy, I: MadeBy, D: Ledger> Booked<A, I, D> {
         let Ok(table) = Table::new(machine, alloc, config) else {
             return Err(NewFault::NoMemory);
         };
-        let Ok(shares) = Vec::with_capacity(machine, blanks.workers as usize) else {
+        let Ok((stock, totals, shares)) = open_one(machine, blanks) else {
             return Err(NewFault::NoMemory);
         };
-        let (ledgers, shares) = Ledgers::open(blanks, shares);
-        Ok((Booked { table, ledgers }, shares))
+        Ok((Booked::over(table, stock, Some(totals)), shares))
     }
 
     /// Returns the table with its pairs, a share of nothing for each worker, 1 to `MAX_WORKERS`, and
@@ -101,18 +107,66 @@ impl<A: Allocator + Copy, I: MadeBy, D: Ledger> Booked<A, I, D> {
         if let Err(fault) = check(&table.config(), workers) {
             return Err(Unshared { fault, table });
         }
-        let Ok(shares) = Vec::with_capacity(machine, blanks.workers as usize) else {
+        let Ok((mut stock, totals, mut shares)) = open_one(machine, blanks) else {
             return Err(Unshared {
                 fault: NewFault::NoMemory,
                 table,
             });
         };
-        let (mut ledgers, mut shares) = Ledgers::open(blanks, shares);
         let Some(mut opening) = shares.pop() else {
             unreachable!()
         };
-        ledgers.begin(&mut opening, table.book());
-        Ok((Booked { table, ledgers }, shares, opening))
+        stock.begin(&mut opening, table.book());
+        Ok((Booked::over(table, stock, Some(totals)), shares, opening))
+    }
+
+    /// Returns the table, and asks for no share. So nothing ties its book to the shares.
+    pub fn into_table(self) -> Table<A>
+        ensures table { result ≡ self }
+        ensures config { result.config ≡ I.config }
+        ensures tree { IsTree result }
+    {
+        let Self { table, .. } = self;
+        table
+    }
+
+    /// Returns the table, whose book is the sum of the shares, which are all that there are. Fails
+    /// where one is missing, and drops the table: `into_table` returns it then.
+    pub fn close(self, shares: Vec<Share<I, D>>) -> Result<Table<A>, MissingShare>
+        ensures table { IfOk result (λ table. table ≡ self) }
+        ensures closed { IfOk result (IsClosed I.config shares.items) }
+        ensures all { IsOk result ↔ (length shares.items ≡ I.parts) }
+        ensures missing { OnErr result (length shares.items < I.parts) }
+    {
+        let (table, stock, totals) = (self.table, self.stock, self.totals);
+        let Some(mut totals) = totals else {
+            unreachable!()
+        };
+        totals.take(stock);
+        totals.close(shares)?;
+        Ok(table)
+    }
+}
+
+impl<A: Allocator + Copy, I: MadeBy, D: Ledger, K: Keys> Booked<A, I, D, K> {
+    /// Puts a table beside the stock that counted what its book has.
+    pub(crate) fn over(
+        table: Table<A>,
+        stock: Stock<I, D>,
+        totals: Option<Totals<I, D>>,
+    ) -> Booked<A, I, D, K>
+        requires made { table.config ≡ I.config }
+        requires stock { stock ≡ shared_in table.book }
+        requires closes { totals ≡ closing K.alone I.parts }
+        ensures table { result ≡ table }
+    {
+        table.law();
+        Booked {
+            table,
+            stock,
+            totals,
+            keys: PhantomData,
+        }
     }
 
     /// Returns the table.
@@ -145,7 +199,7 @@ impl<A: Allocator + Copy, I: MadeBy, D: Ledger> Booked<A, I, D> {
         ensures share { CountsIn share.old share.new result }
     {
         let receipt = self.table.install(step)?;
-        self.ledgers.count(share, receipt);
+        self.stock.count(share, receipt);
         Ok(receipt)
     }
 
@@ -165,36 +219,13 @@ impl<A: Allocator + Copy, I: MadeBy, D: Ledger> Booked<A, I, D> {
         ensures share { CountsPerformed share.old share.new result }
     {
         let done = self.table.perform(alloc, action, spare)?;
-        self.ledgers.count(share, done.receipt);
+        self.stock.count(share, done.receipt);
         Ok(done)
-    }
-
-    /// Returns the table, and asks for no share. So nothing ties its book to the shares.
-    pub fn into_table(self) -> Table<A>
-        ensures table { result ≡ self }
-        ensures config { result.config ≡ I.config }
-        ensures tree { IsTree result }
-    {
-        let Self { table, .. } = self;
-        table
-    }
-
-    /// Returns the table, whose book is the sum of the shares, which are all that there are. Fails
-    /// where one is missing, and drops the table: `into_table` returns it then.
-    pub fn close(self, shares: Vec<Share<I, D>>) -> Result<Table<A>, MissingShare>
-        ensures table { IfOk result (λ table. table ≡ self) }
-        ensures closed { IfOk result (IsClosed I.config shares.items) }
-        ensures all { IsOk result ↔ (length shares.items ≡ I.parts) }
-        ensures missing { OnErr result (length shares.items < I.parts) }
-    {
-        let Booked { table, ledgers } = self;
-        ledgers.close(shares)?;
-        Ok(table)
     }
 }
 
 /// Returns the first fault of a tree's arguments, in the order of [`NewFault`].
-fn check(config: &Config, workers: u32) -> Result<(), NewFault>
+pub fn check(config: &Config, workers: u32) -> Result<(), NewFault>
     ensures fine { OnOk result (MayBeMade config.now workers) }
     ensures fault { IfErr result (IsNewFault config.now workers) }
     ensures no_want { IfErr result (λ fault. fault ≢ NewFault.NoMemory) }

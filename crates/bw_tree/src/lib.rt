@@ -4,22 +4,23 @@
 
 mod booked;
 mod fault;
-mod forest_blanks;
-mod ledgers;
+mod keys;
 mod made_by;
 mod ordered;
+mod plot;
 mod share;
 mod shared;
 mod stock;
 mod tree;
 
-pub use booked::Booked;
+pub use booked::{Booked, check};
 pub use bw_step::{Denied, Proposes};
 pub use fault::{MissingShare, NewFault, Unshared};
-pub use forest_blanks::ForestBlanks;
+pub use keys::{AnyKey, Keys};
 pub use made_by::MadeBy;
 pub use ordered::Ordered;
-pub use share::{Blanks, Share};
+pub use plot::Plot;
+pub use share::{Blanks, Share, Stocked};
 pub use shared::Shared;
-pub use stock::{Endowment, Stock, Totals};
-pub use tree::Tree;
+pub use stock::{Endowment, Parts, Stock, Totals};
+pub use tree::{ForestTree, Tree};

@@ -21,8 +21,9 @@ pub trait Shared<A: Allocator + Copy, P: Proposes> {
     ghost use Rattle.bw_keys.specs.declared.config.Config.{Config};
     ghost use Rattle.bw_keys.specs.declared.range.Range.{Range};
     ghost use Rattle.bw_delta.specs.Sound.{IsSound};
+    ghost use Rattle.bw_tree.specs.Ranges.{all_keys};
     ghost use Rattle.bw_tree.specs.Shares.{CountsIn, CountsPerformed};
-    ghost use Rattle.bw_tree.specs.Trees.{ReadsTree, all_keys};
+    ghost use Rattle.bw_tree.specs.Trees.{ReadsTree};
     ghost use Rattle.bw_step.specs.Actions.{Reports};
     ghost use Rattle.bw_step.specs.Steps.{IsNext, IsReceiptOf};
 

@@ -1,29 +1,27 @@
-//! The ledgers of a forest, whose trees are counted by one pair of ledgers. Each tree has a stock of
-//! what it may still count, and each insertion and each removal moves one from there to the share of
-//! the worker that did it.
+//! The ledgers of a tree, or of a forest, whose trees are counted by one pair of ledgers. Each tree has
+//! a stock of what it may still count, and each insertion and each removal moves one from there to the
+//! share of the worker that did it.
 
 ghost use Rattle.std.specs.Prelude.{◌≡◌, ◌+◌, ◌*◌, ◌<◌, ◌≤◌, ◌↔◌, All, length};
-ghost use Rattle.std.specs.Prelude.{IsOk, IfOk, OnOk};
-ghost use Rattle.bw_tree.specs.Shares.{no_changes, shared_in, counted, sum_of, Opens};
-ghost use Rattle.bw_tree.specs.Stocks.{most, Fits};
+ghost use Rattle.std.specs.Prelude.{IsOk, IfOk, OnOk, OnErr};
+ghost use Rattle.bw_tree.specs.Shares.{no_changes, shared_in, counted, sum_of, together, Opens};
+ghost use Rattle.bw_tree.specs.Stocks.{Fits, fresh};
 
 use crate::fault::MissingShare;
-use crate::forest_blanks::ForestBlanks;
-use crate::ledgers::merge;
-use crate::share::Share;
+use crate::share::{Blanks, Share, Stocked};
 use bw_delta::NoMemory;
 use bw_step::{Book as TableBook, Receipt};
 use std::alloc::Global;
 use std::marker::Model;
 use std::sync::ledger;
-use std::sync::ledger::{Book, Ledger, Total};
+use std::sync::ledger::{Ledger, Total};
 
-/// What one tree of a forest may still count. It lies under the tree's lock. Contracts see it as what
+/// What one tree may still count. It lies under the tree's lock. Contracts see it as what
 /// the tree counted.
 #[derive(Drop)]
 pub struct Stock<I: Ledger, D: Ledger> {
-    insertions: ledger::Share<I>,
-    removals: ledger::Share<D>,
+    insertions: ledger::Share<Stocked<I>>,
+    removals: ledger::Share<Stocked<D>>,
 }
 
 impl<I: Ledger, D: Ledger> Model for Stock<I, D> {
@@ -69,190 +67,243 @@ impl<I: Ledger, D: Ledger> Stock<I, D> {
     }
 }
 
-/// The ledgers of a forest while its trees are at work: all stocks and all shares together have a fixed
-/// total.
+/// The ledgers while trees are at work: all stocks and all shares together have a fixed total. Contracts
+/// see them as the numbers of the trees and the workers, how many stocks are back, and what those trees
+/// counted.
 #[derive(Drop)]
 pub struct Totals<I: Ledger, D: Ledger> {
-    pub trees: u32,
-    pub workers: u32,
-    insertions: Total<I>,
-    removals: Total<D>,
-    ghost some: { (0 < trees) × (0 < workers) },
-    ghost insertion_parts: { insertions.parts ≡ trees + workers * trees },
-    ghost removal_parts: { removals.parts ≡ trees + workers * trees },
-    ghost inserted: { insertions.amount ≡ trees * most },
-    ghost removed: { removals.amount ≡ trees * most },
+    trees: u32,
+    workers: u32,
+    insertions: Total<Stocked<I>>,
+    removals: Total<Stocked<D>>,
+    // what is left of the stocks that are back
+    left_insertions: ledger::Share<Stocked<I>>,
+    left_removals: ledger::Share<Stocked<D>>,
 }
 
-/// What the trees and the workers of a forest begin with: a stock for each tree, and for each worker a
-/// share at each tree.
+impl<I: Ledger, D: Ledger> Model for Totals<I, D> {
+    ghost use Rattle.std.specs.Prelude.{◌≡◌, ◌+◌, ◌*◌, ◌≤◌};
+    ghost use Rattle.bw_tree.specs.Stocks.{TotalsValue, counted_by, most, totals_code};
+
+    ghost Value = { TotalsValue };
+
+    ghost coded = { totals_code };
+
+    ghost view = { λ t. record {
+      trees = t.trees;
+      workers = t.workers;
+      back = t.left_insertions.parts;
+      counted = counted_by t.left_insertions.parts
+          t.left_insertions.amount t.left_removals.amount;
+    } };
+
+    ghost invariant = { λ t. (t.trees + t.workers * t.trees ≡ I.parts + 1)
+        × (t.insertions.parts ≡ I.parts + 1) × (t.insertions.amount ≡ t.trees * most)
+        × (t.removals.parts ≡ I.parts + 1) × (t.removals.amount ≡ t.trees * most)
+        × (t.left_removals.parts ≡ t.left_insertions.parts)
+        × (t.left_insertions.amount ≤ t.left_insertions.parts * most)
+        × (t.left_removals.amount ≤ t.left_insertions.parts * most) };
+}
+
+/// Parts of both ledgers that have counted nothing. Contracts see how many they are.
+#[derive(Drop)]
+pub struct Parts<I: Ledger, D: Ledger> {
+    insertions: ledger::Share<Stocked<I>>,
+    removals: ledger::Share<Stocked<D>>,
+}
+
+impl<I: Ledger, D: Ledger> Model for Parts<I, D> {
+    ghost use Rattle.std.specs.Prelude.{◌≡◌, ℕ};
+
+    ghost Value = { ℕ };
+
+    ghost view = { λ p. p.insertions.parts };
+
+    ghost invariant = { λ p. (p.removals.parts ≡ p.insertions.parts)
+        × (p.insertions.amount ≡ 0) × (p.removals.amount ≡ 0) };
+}
+
+impl<I: Ledger, D: Ledger> Parts<I, D> {
+    /// Returns so many shares of nothing.
+    fn shares(&mut self, machine: Global, count: u32) -> Result<Vec<Share<I, D>>, NoMemory>
+        requires enough { count ≤ self.old }
+        ensures rest { OnOk result (self.new + count ≡ self.old) }
+        ensures count { IfOk result (λ shares. length shares.items ≡ count) }
+        ensures none_changed { IfOk result (λ shares.
+            All (λ share. share ≡ no_changes) shares.items) }
+    {
+        let mut shares = Vec::with_capacity(machine, count as usize)?;
+        for _share in 0..count {
+            shares.push_reserved(Share {
+                insertions: self.insertions.split_off(1, 0),
+                removals: self.removals.split_off(1, 0),
+            });
+        }
+        Ok(shares)
+    }
+
+    /// Returns for each worker a share of nothing at each tree.
+    pub fn lists(
+        &mut self,
+        machine: Global,
+        workers: u32,
+        trees: u32,
+    ) -> Result<Vec<Vec<Share<I, D>>>, NoMemory>
+        requires enough { workers * trees ≤ self.old }
+        ensures count { IfOk result (λ lists. length lists.items ≡ workers) }
+        ensures each { IfOk result (λ lists. All (λ its. length its.items ≡ trees) lists.items) }
+        ensures none_changed { IfOk result (λ lists.
+            All (λ its. All (λ share. share ≡ no_changes) its.items) lists.items) }
+    {
+        let mut lists = Vec::with_capacity(machine, workers as usize)?;
+        for _worker in 0..workers {
+            lists.push_reserved(self.shares(machine, trees)?);
+        }
+        Ok(lists)
+    }
+}
+
+/// What trees begin with: a stock for each, and the parts that their workers' shares are made of.
 #[derive(Drop)]
 pub struct Endowment<I: Ledger, D: Ledger> {
     pub totals: Totals<I, D>,
     pub stocks: Vec<Stock<I, D>>,
-    pub shares: Vec<Vec<Share<I, D>>>,
+    pub parts: Parts<I, D>,
 }
 
 impl<I: Ledger, D: Ledger> Endowment<I, D> {
-    /// Opens the blank ledgers of a forest.
-    pub fn open(machine: Global, blanks: ForestBlanks) -> Result<Endowment<I, D>, NoMemory>
+    /// Opens the blank ledgers.
+    pub fn open(machine: Global, blanks: Blanks) -> Result<Endowment<I, D>, NoMemory>
         requires insertions { Opens I.name I.parts blanks.insertions }
         requires removals { Opens D.name D.parts blanks.removals }
-        requires some { (0 < blanks.trees) × (0 < blanks.workers) }
-        ensures trees { IfOk result (λ made. made.totals.trees ≡ blanks.trees) }
-        ensures workers { IfOk result (λ made. made.totals.workers ≡ blanks.workers) }
+        ensures totals { IfOk result (λ made. made.totals ≡ fresh blanks.trees blanks.workers) }
         ensures stocks { IfOk result (λ made. length made.stocks.items ≡ blanks.trees) }
         ensures none_counted { IfOk result (λ made.
             All (λ stock. stock ≡ no_changes) made.stocks.items) }
-        ensures shares { IfOk result (λ made. length made.shares.items ≡ blanks.workers) }
-        ensures each { IfOk result (λ made.
-            All (λ its. length its.items ≡ blanks.trees) made.shares.items) }
-        ensures none_changed { IfOk result (λ made.
-            All (λ its. All (λ share. share ≡ no_changes) its.items) made.shares.items) }
+        ensures parts { IfOk result (λ made. made.parts ≡ blanks.workers * blanks.trees) }
     {
-        let ForestBlanks {
+        let Blanks {
             trees,
             workers,
             insertions,
             removals,
         } = blanks;
-        let (mut insertions, mut all_insertions) = insertions.open::<I>();
-        let (mut removals, mut all_removals) = removals.open::<D>();
-        let mut shares = Vec::with_capacity(machine, workers as usize)?;
-        for _worker in 0..workers {
-            shares.push_reserved(share_at_each(
-                machine,
-                &mut all_insertions,
-                &mut all_removals,
-                trees,
-            )?);
-        }
+        let (mut insertions, mut all_insertions) = insertions.open::<Stocked<I>>();
+        let (mut removals, mut all_removals) = removals.open::<Stocked<D>>();
         let mut stocks = Vec::with_capacity(machine, trees as usize)?;
         for _tree in 0..trees {
-            stocks.push_reserved(full_stock(
-                &mut insertions,
-                &mut removals,
-                &mut all_insertions,
-                &mut all_removals,
-            ));
+            let mut to_insert = all_insertions.split_off(1, 0);
+            insertions.add(&mut to_insert, u64::MAX);
+            let mut to_remove = all_removals.split_off(1, 0);
+            removals.add(&mut to_remove, u64::MAX);
+            stocks.push_reserved(Stock {
+                insertions: to_insert,
+                removals: to_remove,
+            });
         }
         let totals = Totals {
             trees,
             workers,
             insertions: insertions.close(),
             removals: removals.close(),
+            left_insertions: all_insertions.empty(),
+            left_removals: all_removals.empty(),
+        };
+        let parts = Parts {
+            insertions: all_insertions,
+            removals: all_removals,
         };
         Ok(Endowment {
             totals,
             stocks,
-            shares,
+            parts,
         })
     }
 }
 
-/// Returns a worker's shares, one for each tree.
-fn share_at_each<I: Ledger, D: Ledger>(
+/// Returns what a tree alone and its workers begin with.
+pub(crate) fn open_one<I: Ledger, D: Ledger>(
     machine: Global,
-    insertions: &mut ledger::Share<I>,
-    removals: &mut ledger::Share<D>,
-    trees: u32,
-) -> Result<Vec<Share<I, D>>, NoMemory>
-    requires insertions { (trees ≤ insertions.old.parts) × (insertions.old.amount ≡ 0) }
-    requires removals { (trees ≤ removals.old.parts) × (removals.old.amount ≡ 0) }
-    ensures insertions { OnOk result ((insertions.new.parts + trees ≡ insertions.old.parts)
-        × (insertions.new.amount ≡ 0)) }
-    ensures removals { OnOk result ((removals.new.parts + trees ≡ removals.old.parts)
-        × (removals.new.amount ≡ 0)) }
-    ensures count { IfOk result (λ shares. length shares.items ≡ trees) }
-    ensures none_changed { IfOk result (λ shares. All (λ share. share ≡ no_changes) shares.items) }
+    blanks: Blanks,
+) -> Result<(Stock<I, D>, Totals<I, D>, Vec<Share<I, D>>), NoMemory>
+    requires insertions { Opens I.name I.parts blanks.insertions }
+    requires removals { Opens D.name D.parts blanks.removals }
+    requires alone { blanks.trees ≡ 1 }
+    ensures stock { IfOk result (λ made. made.0 ≡ no_changes) }
+    ensures totals { IfOk result (λ made. made.1 ≡ fresh 1 I.parts) }
+    ensures count { IfOk result (λ made. length made.2.items ≡ blanks.workers) }
+    ensures shares { IfOk result (λ made. All (λ share. share ≡ no_changes) made.2.items) }
 {
-    let mut shares = Vec::with_capacity(machine, trees as usize)?;
-    for _tree in 0..trees {
-        shares.push_reserved(Share {
-            insertions: insertions.split_off(1, 0),
-            removals: removals.split_off(1, 0),
-        });
-    }
-    Ok(shares)
-}
-
-/// Returns the stock of a tree that counted nothing.
-fn full_stock<I: Ledger, D: Ledger>(
-    insertions: &mut Book<I>,
-    removals: &mut Book<D>,
-    all_insertions: &mut ledger::Share<I>,
-    all_removals: &mut ledger::Share<D>,
-) -> Stock<I, D>
-    requires insertions { (0 < all_insertions.old.parts) × (all_insertions.old.amount ≡ 0) }
-    requires removals { (0 < all_removals.old.parts) × (all_removals.old.amount ≡ 0) }
-    ensures none { result ≡ no_changes }
-    ensures inserted { insertions.new.total ≡ insertions.old.total + most }
-    ensures removed { removals.new.total ≡ removals.old.total + most }
-    ensures insertions { (all_insertions.new.parts + 1 ≡ all_insertions.old.parts)
-        × (all_insertions.new.amount ≡ 0) }
-    ensures removals { (all_removals.new.parts + 1 ≡ all_removals.old.parts)
-        × (all_removals.new.amount ≡ 0) }
-{
-    let mut to_insert = all_insertions.split_off(1, 0);
-    insertions.add(&mut to_insert, u64::MAX);
-    let mut to_remove = all_removals.split_off(1, 0);
-    removals.add(&mut to_remove, u64::MAX);
-    Stock {
-        insertions: to_insert,
-        removals: to_remove,
-    }
+    let workers = blanks.workers;
+    let Endowment {
+        totals,
+        mut stocks,
+        mut parts,
+    } = Endowment::open(machine, blanks)?;
+    let shares = parts.shares(machine, workers)?;
+    let Some(stock) = stocks.pop() else {
+        unreachable!()
+    };
+    Ok((stock, totals, shares))
 }
 
 impl<I: Ledger, D: Ledger> Totals<I, D> {
-    /// Closes the ledgers: what the trees counted is what the shares have. Fails where a share is
-    /// missing.
-    pub fn close(
-        self,
-        stocks: Vec<Stock<I, D>>,
-        shares: Vec<Share<I, D>>,
-    ) -> Result<(), MissingShare>
-        requires stocks { length stocks.items ≡ self.trees }
-        ensures sum { OnOk result (sum_of stocks.items ≡ sum_of shares.items) }
-        ensures all { IsOk result ↔ (length shares.items ≡ self.workers * self.trees) }
+    /// Takes the stock of a tree back.
+    pub fn take(&mut self, stock: Stock<I, D>)
+        ensures { self.new ≡ record self.old {
+          back = self.old.back + 1;
+          counted = together self.old.counted stock;
+        } }
     {
-        let Totals {
-            trees,
-            workers,
+        let Stock {
             insertions,
             removals,
-        } = self;
-        if shares.len() as u64 != workers as u64 * trees as u64 {
+        } = stock;
+        self.left_insertions.merge(insertions);
+        self.left_removals.merge(removals);
+    }
+
+    /// Closes the ledgers when all stocks are back: what the trees counted is what the shares have.
+    /// Fails where a share is missing.
+    pub fn close(self, shares: Vec<Share<I, D>>) -> Result<(), MissingShare>
+        requires back { self.back ≡ self.trees }
+        ensures sum { OnOk result (self.counted ≡ sum_of shares.items) }
+        ensures all { IsOk result ↔ (length shares.items ≡ self.workers * self.trees) }
+        ensures missing { OnErr result (length shares.items < self.workers * self.trees) }
+    {
+        let (mut insertions, mut removals) = (self.left_insertions, self.left_removals);
+        let gathered = shares.len() as u64;
+        gather(&mut insertions, &mut removals, shares);
+        // A merge shows that the parts are within the ledger's.
+        let none = insertions.empty();
+        insertions.merge(none);
+        if gathered != self.workers as u64 * self.trees as u64 {
             return Err(MissingShare);
         }
-        let Some(mut all) = merge(shares) else {
-            return Err(MissingShare);
-        };
-        pour(&mut all.insertions, &mut all.removals, stocks);
-        insertions.audit(&mut all.insertions);
-        removals.audit(&mut all.removals);
+        self.insertions.audit(&mut insertions);
+        self.removals.audit(&mut removals);
         Ok(())
     }
 }
 
-/// Adds what is left of all stocks.
-fn pour<I: Ledger, D: Ledger>(
-    insertions: &mut ledger::Share<I>,
-    removals: &mut ledger::Share<D>,
-    stocks: Vec<Stock<I, D>>,
+/// Adds what all shares have.
+fn gather<I: Ledger, D: Ledger>(
+    insertions: &mut ledger::Share<Stocked<I>>,
+    removals: &mut ledger::Share<Stocked<D>>,
+    shares: Vec<Share<I, D>>,
 )
-    ensures insertion_parts { insertions.new.parts ≡ insertions.old.parts + length stocks.items }
-    ensures removal_parts { removals.new.parts ≡ removals.old.parts + length stocks.items }
-    ensures inserted { insertions.new.amount + (sum_of stocks.items).inserted
-        ≡ insertions.old.amount + length stocks.items * most }
-    ensures removed { removals.new.amount + (sum_of stocks.items).removed
-        ≡ removals.old.amount + length stocks.items * most }
+    ensures insertion_parts { insertions.new.parts ≡ insertions.old.parts + length shares.items }
+    ensures removal_parts { removals.new.parts ≡ removals.old.parts + length shares.items }
+    ensures inserted { insertions.new.amount
+        ≡ insertions.old.amount + (sum_of shares.items).inserted }
+    ensures removed { removals.new.amount ≡ removals.old.amount + (sum_of shares.items).removed }
 {
-    let mut stocks = stocks;
-    'stocks: while let Some(stock) = stocks.pop() {
-        let Stock {
+    let mut shares = shares;
+    'shares: while let Some(share) = shares.pop() {
+        let Share {
             insertions: more_insertions,
             removals: more_removals,
-        } = stock;
+        } = share;
         insertions.merge(more_insertions);
         removals.merge(more_removals);
     }

@@ -22,7 +22,7 @@ use bw_delta::NoMemory;
 use bw_forest::{Bounds, ClosedForest, Forest};
 use bw_keys::{Config, MAX_WORKERS};
 use bw_procedures::Trail;
-use bw_tree::{ForestBlanks, MadeBy, NewFault, Share};
+use bw_tree::{Blanks, MadeBy, NewFault, Share};
 use std::alloc::Global;
 use std::marker::Brand;
 use std::sync::Wait;
@@ -57,7 +57,7 @@ pub fn share_forest<
     ensures fine { IsOk result → MayBeMade config workers }
     ensures fault { IfErr result (IsShareForestFault config workers) }
 {
-    let blanks = ForestBlanks::new(bounds.trees(), workers);
+    let blanks = Blanks::of_forest(bounds.trees(), workers);
     share_new::<Brand, Brand, O, L, J, R>(rt, machine, bounds, config, blanks, job)
 }
 
@@ -91,7 +91,7 @@ pub fn share_closed_forest<
             forest: Ok(forest),
         });
     }
-    let blanks = ForestBlanks::new(forest.bounds().trees(), workers + 1);
+    let blanks = Blanks::of_forest(forest.bounds().trees(), workers + 1);
     share_again::<Brand, Brand, O, L, J, R>(rt, machine, forest, workers, blanks, job)
 }
 
@@ -122,7 +122,7 @@ fn share_new<
     machine: Global,
     bounds: Bounds,
     config: Config,
-    blanks: ForestBlanks,
+    blanks: Blanks,
     job: &J,
 ) -> Result<ForestOutcome<O, L>, ShareForestFault>
     requires ledgers { OpensForest I.Ledger I.config D.Ledger config blanks }
@@ -163,7 +163,7 @@ fn share_again<
     machine: Global,
     forest: ClosedForest<Global>,
     workers: u32,
-    blanks: ForestBlanks,
+    blanks: Blanks,
     job: &J,
 ) -> Result<ForestOutcome<O, L>, UnsharedForest>
     requires ledgers { OpensForest I.Ledger I.config D.Ledger (config_of forest.tables) blanks }

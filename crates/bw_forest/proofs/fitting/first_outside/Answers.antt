@@ -1,7 +1,7 @@
 use Rattle.std.proofs.Common.{rules, ◌≡◌, ◌<◌, ◌≤◌, false, length, refl}
 use Rattle.std.proofs.lemmas.Option.{slice_get_read}
 use Rattle.bw_forest.specs.Fitting.{LiesInItsRange}
-use Rattle.bw_forest.specs.Ranges.{LiesIn}
+use Rattle.bw_tree.specs.Ranges.{LiesIn}
 use Rattle.bw_forest.proofs.Fits.{all_in_range, in_its_range, one_more}
 use Rattle.bw_forest.proofs.fitting.first_outside.Goals as goal
 

@@ -1,7 +1,9 @@
-use Rattle.std.proofs.Common.{rules, ◌≡◌, ◌∷◌, [], length, ap, sym, ◌∙◌, arith, length-append}
+use Rattle.std.proofs.Common.{rules, ◌≡◌, ◌+◌, ◌∷◌, [], length, ap, sym, ◌∙◌, arith, length-append}
 use Rattle.bw_law.specs.Tables.{TableValue}
+use Rattle.bw_tree.specs.Shares.{shared_in, sum_of, together}
+use Rattle.bw_tree.specs.Stocks.{TotalsValue}
 use Rattle.bw_tree.specs.Trees.{IsTree}
-use Rattle.bw_forest.specs.Forests.{HasPairsWithin, tables_of}
+use Rattle.bw_forest.specs.Forests.{HasPairsWithin, books_of, tables_of}
 use Rattle.bw_forest.proofs.Closing.{all_more, books_more, tables_more}
 use Rattle.bw_forest.proofs.Fits.{alike}
 use Rattle.bw_forest.proofs.forest.fell.Goals as goal
@@ -9,27 +11,32 @@ use Rattle.bw_forest.proofs.forest.fell.Goals as goal
 pub loop-tree-preserved : goal.loop-tree-preserved
 loop-tree-preserved g c =
     let inv = c.loop-tree.invariant in
+    let start = c.args.totals.now in
     let before = c.loop-tree.felled.items in
-    let tree = c.apart-tree.result.0 in
-    let stock = c.apart-tree.result.1 in
+    let after = c.push_reserved.new.self.items in
+    let tree = c.new.result in
+    let stock = c.apart-table.result.2 in
+    let apart = c.apart-table.ensures in
+    let is : IsTree tree.table = rw c.new.ensures.table apart.tree in
+    let made : tree.table.config ≡ g.I.MadeBy.config = rw c.new.ensures.table apart.config in
+    let lies : HasPairsWithin tree = rw (c.new.ensures.table, c.new.ensures.range) apart.within in
+    let book : shared_in tree.table.book ≡ stock = rw c.new.ensures.table apart.book in
     let split : c.loop-tree.tree-iterator.rest.items ≡ c.in-Some.tree ∷ c.next.new.self.rest.items = search rules in
     let felled = c.push_reserved.ensures.items in
-    let stocks = c.push_reserved-in-loop-tree.ensures.items in
-    let one = ap length felled in
-    let other = ap length stocks in
-    let more = length-append before (tree ∷ []) in
-    let more_stocks = length-append c.loop-tree.stocks.items (stock ∷ []) in
+    let longer : length after ≡ length before + 1 = omega (arith, ap length felled, length-append before (tree ∷ [])) in
     let tables = tables_more before _ tree felled in
+    let counted : sum_of (books_of (tables_of after)) ≡ together (sum_of (books_of (tables_of before))) stock =
+    books_more (tables_of before) _ tree.table stock tables book in
     record {
-      left = omega (arith, ap length split, inv.left, other, more_stocks);
-      count = omega (arith, inv.count, one, more, other, more_stocks);
-      room = (rw c.push_reserved.ensures.capacity inv.room.0, rw c.push_reserved-in-loop-tree.ensures.capacity inv.room.1);
-      trees = all_more IsTree (tables_of before) _ tree.table tables inv.trees c.apart-tree.ensures.tree;
+      left = omega (arith, ap length split, inv.left, longer);
+      room = rw c.push_reserved.ensures.capacity inv.room;
+      trees = all_more IsTree (tables_of before) _ tree.table tables inv.trees is;
       config = all_more (λ (table : TableValue). table.config ≡ g.I.MadeBy.config)
-          (tables_of before) _ tree.table tables inv.config c.apart-tree.ensures.config;
-      within = all_more HasPairsWithin before _ tree felled inv.within c.apart-tree.ensures.within;
-      books = books_more
-          (tables_of before) _ c.loop-tree.stocks.items tree.table stock tables inv.books c.apart-tree.ensures.book ∙ sym stocks;
+          (tables_of before) _ tree.table tables inv.config made;
+      within = all_more HasPairsWithin before _ tree felled inv.within lies;
+      totals = c.take.ensures
+          ∙ (ap (λ (t : TotalsValue). record t { back = t.back + 1; counted = together t.counted stock }) inv.totals
+          ∙ (λ j. record start { back = sym longer j; counted = sym counted j }));
     }
 
 pub returns-clause-alike : goal.returns-clause-alike

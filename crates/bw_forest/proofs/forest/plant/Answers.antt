@@ -5,12 +5,11 @@ use Rattle.std.proofs.lemmas.List.Elements.{All-take}
 use Rattle.bw_tree.specs.Shares.{no_changes}
 use Rattle.bw_forest.specs.Bounds.{ranges_of}
 use Rattle.bw_forest.proofs.Closing.{length_ranges}
-use Rattle.bw_forest.proofs.Opening.{range_taken}
-use Rattle.bw_forest.proofs.Plotting.{new_within}
+use Rattle.bw_forest.proofs.Opening.{new_within, range_taken}
 use Rattle.bw_forest.proofs.forest.plant.Goals as goal
 
-pub new-requires-in-loop-i-clause-within : goal.new-requires-in-loop-i-clause-within
-new-requires-in-loop-i-clause-within g c =
+pub in_forest-requires-clause-within : goal.in_forest-requires-clause-within
+in_forest-requires-clause-within g c =
     new_within c.args.config c.range.result c.in-Ok.table c.in-Ok.ensures.ok c.requires.fine (omega arith)
 
 pub loop-i-preserved : goal.loop-i-preserved
@@ -23,9 +22,9 @@ loop-i-preserved g c =
       left = left;
       none = rw c.pop.ensures.rest (All-take (λ stock. stock ≡ no_changes) _ _ inv.none);
       placed =
-          range_taken (λ tree. tree.range) c.loop-i.trees.items c.push_reserved.new.self.items c.new-in-loop-i.result
+          range_taken (λ tree. tree.range) c.loop-i.trees.items c.push_reserved.new.self.items c.in_forest.result
           (ranges_of c.args.bounds.now) c.loop-i.i c.push_reserved.ensures.items
-          (c.range.ensures.range ∙ ap Some (sym c.new-in-loop-i.ensures.range)) inv.placed;
+          (c.range.ensures.range ∙ ap Some (sym c.in_forest.ensures.range)) inv.placed;
       room = room;
     }
 

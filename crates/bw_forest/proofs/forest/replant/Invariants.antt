@@ -12,7 +12,7 @@ invariant-loop-tree g l = record {
   none_counted : All (λ stock. stock ≡ no_changes) l.stocks.items;
   shares : length l.shares.items ≡ length l.tree-iterator.rest.items;
   none_changed : All (λ share. share ≡ no_changes) l.shares.items;
-  alike : All (λ table. table.config ≡ l.config) (tables_of l.tree-iterator.rest.items);
+  alike : All (λ table. table.config ≡ g.I.MadeBy.config) (tables_of l.tree-iterator.rest.items);
   ranges : map (λ tree. tree.range) l.trees.items ++ ranges_in l.tree-iterator.rest.items ≡ ranges_in l.fn.closed.items;
   books : l.opening.items ++ books_of (tables_of l.tree-iterator.rest.items) ≡ books_of (tables_of l.fn.closed.items);
   room : (length l.fn.closed.items ≤ vec_capacity l.trees) × (length l.fn.closed.items ≤ vec_capacity l.opening);

@@ -1,10 +1,11 @@
+use Rattle.std.proofs.Common.{◌-◌}
 use Rattle.test_cases.proofs.workers.work_by_hand.Given as goal
 
 abbrev pub ghosts-work_by_hand_over-I-Ledger : goal.ghosts-work_by_hand_over-I-Ledger
-ghosts-work_by_hand_over-I-Ledger g a = record { name = a.blanks.insertions.name; parts = a.blanks.insertions.parts }
+ghosts-work_by_hand_over-I-Ledger g a = record { name = a.blanks.insertions.name; parts = a.blanks.insertions.parts - 1 }
 
 abbrev pub ghosts-work_by_hand_over-D-Ledger : goal.ghosts-work_by_hand_over-D-Ledger
-ghosts-work_by_hand_over-D-Ledger g a = record { name = a.blanks.removals.name; parts = a.blanks.removals.parts }
+ghosts-work_by_hand_over-D-Ledger g a = record { name = a.blanks.removals.name; parts = a.blanks.removals.parts - 1 }
 
 abbrev pub ghosts-work_by_hand_over-I-MadeBy : goal.ghosts-work_by_hand_over-I-MadeBy
 ghosts-work_by_hand_over-I-MadeBy g a = record { config = a.config }
