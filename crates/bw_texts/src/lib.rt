@@ -3,6 +3,7 @@
 #![tactic(auto)]
 
 mod fault;
+mod found;
 mod history;
 mod number;
 mod output;
@@ -12,6 +13,7 @@ mod trace;
 
 pub use bw_procedures::Act;
 pub use fault::{OutFault, TextFault};
+pub use found::row_fields;
 pub use history::{History, MOST_HISTORY_ROWS, read_history, write_history};
 pub use part::Part;
 pub use trace::{MOST_TRACE_ROWS, Row, is_trace_for, make, read_trace, write_trace};

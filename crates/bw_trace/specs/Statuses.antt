@@ -50,7 +50,7 @@ status_of (faults.Bad field) = 2
 status_of (faults.Text fault) = text_status fault
 status_of (faults.Run fault) = run_status fault
 status_of (faults.Script fault) = script_status fault
-status_of (faults.Open name) = 1
+status_of (faults.Open name why) = 1
 status_of faults.Write = 1
 status_of faults.Memory = 3
 

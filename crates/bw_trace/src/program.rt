@@ -7,25 +7,34 @@ ghost use Rattle.std.specs.Io.KnownBytes.{Appends};
 ghost use Rattle.bw_trace.specs.Statuses.{run_status, status_of, verdict_status};
 ghost use Rattle.bw_trace.specs.Verdicts.{IsVerdictOn, tree_verdict_line, verdict_line};
 
+mod asked;
 mod fault;
 mod film_options;
 mod help;
+mod kept;
 mod notes;
 mod options;
 mod parts;
 mod report;
+mod room;
+mod row_sentence;
 mod run_options;
+mod run_sentence;
+mod sentence;
 mod setting;
 mod show;
 mod show_options;
 mod steps;
 
+use crate::program::asked::{Asked, file_of};
 use crate::program::fault::{AUDIT_NO, BAD_USAGE, DONE, Fault};
 use crate::program::film_options::FilmOptions;
+use crate::program::kept::{Keeping, Kept, reason_of};
 use crate::program::notes::write_notes;
 use crate::program::options::{Field, commands, ranged};
 use crate::program::report::write_report;
 use crate::program::run_options::RunOptions;
+use crate::program::sentence::sentence_of;
 use crate::program::setting::Setting;
 use crate::program::show::{draw, tell_stats, write_film};
 use crate::program::show_options::{DrawOptions, ShowOptions};
@@ -79,8 +88,8 @@ pub fn command<T: Threads + Wait + Files + Sync + Send + Copy, R: Read + Drop, W
 
 /// Carries out the words as [`command`] does, for somebody who watches the faults, as on a
 /// terminal. It counts the rows of a run meanwhile. If all ends well, it notes how many rows have a
-/// fault beside their reply, and which lines of a script were refused. If an option is out of its
-/// range, it says which range that is.
+/// fault beside their reply, and which lines of a script were refused. After a fault, a sentence
+/// says what was found and where, and what may be there.
 pub fn command_watched<
     T: Threads + Wait + Files + Sync + Send + Copy,
     R: Read + Drop,
@@ -97,20 +106,54 @@ pub fn command_watched<
 ) -> u8
     ensures { result ≤ 4 }
 {
-    let obeyed = obey(rt, alloc, words, input, output, faults, progress);
-    let bad = bad_field(&obeyed);
+    let (obeyed, sentence) = obey_watched(rt, alloc, words, input, output, faults, progress);
     let status = end(output, faults, obeyed);
-    if let Some(field) = bad {
-        let _ = writeln!(faults, "{}", field.range());
+    if let Some(sentence) = sentence {
+        let _ = writeln!(faults, "{sentence}");
     }
     status
 }
 
-/// Returns the option that is out of its range, if that is why the words aren't carried out.
-fn bad_field(obeyed: &Result<u8, Fault>) -> Option<Field> {
+/// Carries out the words. Writes results to `output`, and to `notes` what is noted of them. Also
+/// returns the sentence that is said of a fault.
+fn obey_watched<T: Threads + Wait + Files + Sync + Send + Copy, R: Read + Drop, W: Write, N: Write>(
+    rt: T,
+    alloc: Global,
+    words: &[&str],
+    input: R,
+    output: &mut W,
+    notes: &mut N,
+    progress: &Progress,
+) -> (Result<u8, Fault>, Option<String>)
+    ensures { IfOk result.0 (λ status. status ≤ 4) }
+{
+    let matches = match parse(alloc, words) {
+        Ok(matches) => matches,
+        Err(error) => return (Err(Fault::from(error)), None),
+    };
+    let mut kept = Kept::new(alloc);
+    let keep = Some(&mut kept);
+    let obeyed = follow(rt, alloc, &matches, input, output, notes, progress, keep);
+    let sentence = sentence_after(alloc, &matches, &kept, &obeyed);
+    (obeyed, sentence)
+}
+
+/// Returns the sentence that is said of the fault, if there is one.
+fn sentence_after(
+    alloc: Global,
+    matches: &ArgMatches,
+    kept: &Kept,
+    obeyed: &Result<u8, Fault>,
+) -> Option<String> {
+    let (command, options) = matches.subcommand()?;
+    let asked = Asked {
+        command,
+        options,
+        kept,
+    };
     match obeyed {
-        Err(Fault::Bad(field)) => Some(*field),
-        _ => None,
+        Ok(_) => None,
+        Err(fault) => sentence_of(alloc, &asked, fault),
     }
 }
 
@@ -140,10 +183,10 @@ fn obey<T: Threads + Wait + Files + Sync + Send + Copy, R: Read + Drop, W: Write
     ensures { IfOk result (λ status. status ≤ 4) }
 {
     let matches = parse(alloc, words)?;
-    follow(rt, alloc, &matches, input, output, notes, progress)
+    follow(rt, alloc, &matches, input, output, notes, progress, None)
 }
 
-/// Carries out the parsed words.
+/// Carries out the parsed words, and keeps what is read if that is wanted.
 fn follow<T: Threads + Wait + Files + Sync + Send + Copy, R: Read + Drop, W: Write, N: Write>(
     rt: T,
     alloc: Global,
@@ -152,18 +195,23 @@ fn follow<T: Threads + Wait + Files + Sync + Send + Copy, R: Read + Drop, W: Wri
     output: &mut W,
     notes: &mut N,
     progress: &Progress,
+    kept: Option<&mut Kept>,
 ) -> Result<u8, Fault>
     ensures { IfOk result (λ status. status ≤ 4) }
 {
     let Some((name, options)) = matches.subcommand() else {
         return do_check(alloc, input, output);
     };
-    let Some(path) = options.get_str("FILE") else {
+    let Some(path) = file_of(options) else {
+        let input = Keeping { input, kept };
         return carry_out(rt, alloc, name, options, input, output, notes, progress);
     };
     match File::open(&rt, path) {
-        Ok(file) => carry_out(rt, alloc, name, options, file, output, notes, progress),
-        Err(_) => Err(Fault::Open(path.to_string(alloc)?)),
+        Ok(input) => {
+            let input = Keeping { input, kept };
+            carry_out(rt, alloc, name, options, input, output, notes, progress)
+        }
+        Err(error) => Err(Fault::Open(path.to_string(alloc)?, reason_of(alloc, &error))),
     }
 }
 
@@ -294,7 +342,7 @@ fn on_forest<T: Threads + Wait + Sync + Send + Copy, W: Write, N: Write>(
 /// Notes the faults beside the replies, if the options ask for that.
 fn note<N: Write>(options: RunOptions, notes: &mut N, replies: &[Reply]) {
     if !options.quiet {
-        let _ = write_notes(notes, replies);
+        let _ = write_notes(notes, options.setting, replies);
     }
 }
 

@@ -40,9 +40,9 @@ pub(crate) enum Fault {
     Run(RunFault),
     #[error(transparent)]
     Script(ScriptFault),
-    /// The file that the words name.
+    /// The file that the words name, and why it can't be opened, unless memory is short for that.
     #[error("can't open '{0}'")]
-    Open(String),
+    Open(String, Option<String>),
     #[error("write")]
     Write,
     #[error("memory")]
@@ -57,7 +57,7 @@ impl Fault {
         match self {
             Fault::Text(TextFault::Row(_, _) | TextFault::Read)
             | Fault::Script(ScriptFault::Line(_) | ScriptFault::NoTable | ScriptFault::Read)
-            | Fault::Open(_)
+            | Fault::Open(_, _)
             | Fault::Write => BAD_INPUT,
             Fault::Usage(_)
             | Fault::Bad(_)

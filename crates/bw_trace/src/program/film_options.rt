@@ -52,12 +52,12 @@ impl FilmOptions {
 /// Fails if there is no moment with this number, of so many in all.
 pub(crate) fn check_from(from: u64, moments: u64) -> Result<(), Field>
     ensures there { OnOk result (from < moments) }
-    ensures past { IfErr result (λ field. (field ≡ fields.From) × (moments ≤ from)) }
+    ensures past { IfErr result (λ field. (field ≡ fields.From moments) × (moments ≤ from)) }
 {
     if from < moments {
         return Ok(());
     }
-    Err(Field::From)
+    Err(Field::From(moments))
 }
 
 /// Returns the command `film` with its options and defaults.

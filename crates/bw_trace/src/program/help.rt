@@ -27,8 +27,8 @@ If row N can't be read, 'bwtree: row N: PART' names its first bad part:
   key     not a number: a sign, a blank, 2^64 or more
   value   not a number, or a value after get or del
 
-If an option's number is out of its range, 'bwtree: bad NAME' names the option; on a terminal the
-range follows.
+If an option's number is out of its range, 'bwtree: bad NAME' names the option. On a terminal, a line
+below each fault says what was found, and what may be there.
 
 Replies: inserted, present V (put left V there), replaced V, removed V, nokey, found V, none,
 cleared N. 'inserted (table full)' calls for more --pages. On a terminal, standard error says every

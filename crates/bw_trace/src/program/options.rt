@@ -25,7 +25,8 @@ pub(crate) enum Field {
     Trees,
     Rows,
     Span,
-    From,
+    /// The number of a first moment, of so many moments in all.
+    From(u64),
     To,
 }
 
@@ -47,25 +48,25 @@ impl Field {
             Field::Trees => "trees",
             Field::Rows => "rows",
             Field::Span => "span",
-            Field::From => "from",
+            Field::From(_) => "from",
             Field::To => "to",
         }
     }
 
-    /// Returns the option's range.
+    /// Returns what the option's number may be.
     pub(crate) fn range(self) -> &'static str {
         match self {
-            Field::Fanout => "--fanout is 4 to 64",
-            Field::Chain => "--chain is 1 to 32",
-            Field::Pages => "--pages is 8 to 65536",
-            Field::Tries => "--tries is 1 to 1000",
-            Field::Workers => "--workers is 1 to 64",
-            Field::Readers => "--readers is 0 to 16, and no more than --workers",
-            Field::Trees => "--trees is 1 to 1024",
-            Field::Rows => "--rows is 0 to 1000000",
-            Field::Span => "--span is 1 to 4294967295",
-            Field::From => "--from is the number of a moment that there is",
-            Field::To => "--to is no less than --from",
+            Field::Fanout => "4 to 64",
+            Field::Chain => "1 to 32",
+            Field::Pages => "8 to 65536",
+            Field::Tries => "1 to 1000",
+            Field::Workers => "1 to 64",
+            Field::Readers => "0 to 16, and no more than --workers",
+            Field::Trees => "1 to 1024",
+            Field::Rows => "0 to 1000000",
+            Field::Span => "1 to 4294967295",
+            Field::From(_) => "the number of a moment that there is",
+            Field::To => "--from or more",
         }
     }
 }
