@@ -234,7 +234,7 @@ fn carry_out<T: Threads + Wait + Sync + Send + Copy, R: Read + Drop, W: Write, N
             do_run(rt, alloc, options, input, output, notes, progress)
         }
         "draw" => done(draw(rt, alloc, DrawOptions::of(options)?, input, output, notes)),
-        "film" => done(write_film(alloc, FilmOptions::of(options)?, input, output)),
+        "film" => done(write_film(alloc, FilmOptions::of(options)?, input, output, notes)),
         "stats" => done(tell_stats(rt, alloc, ShowOptions::of(options)?, input, output, notes)),
         "steps" => done(write_answers(alloc, input, output)),
         "make" => done(do_make(alloc, options, output)),
@@ -257,7 +257,16 @@ fn parse<'a>(alloc: Global, words: &'a [&'a str]) -> Result<ArgMatches<'a>, clap
     if words.is_empty() {
         commands.try_get_matches_from(USUAL.as_slice())
     } else {
-        commands.try_get_matches_from(words)
+        commands.try_get_matches_from(without_second_help(words))
+    }
+}
+
+/// Returns the words without `--help` at their end, if they begin with `help`.
+fn without_second_help<'a>(words: &'a [&'a str]) -> &'a [&'a str] {
+    match (words.first(), words.split_last()) {
+        (Some(first), Some((last, before)))
+            if *first == "help" && (*last == "--help" || *last == "-h") => { before }
+        _ => words,
     }
 }
 

@@ -46,9 +46,13 @@ impl<'m, 'a> Asked<'m, 'a> {
     }
 }
 
-/// Returns the file that is read in place of standard input, if there is one.
+/// Returns the file that is read in place of standard input, if there is one. The name `-` is that of
+/// standard input.
 pub(crate) fn file_of<'a>(options: &ArgMatches<'a>) -> Option<&'a str> {
-    options.get_str("FILE")
+    match options.get_str("FILE") {
+        Some("-") => None,
+        file => file,
+    }
 }
 
 /// Returns the text, or its beginning if it is long.

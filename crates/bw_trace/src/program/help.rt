@@ -77,9 +77,10 @@ pub(crate) const OF_FILM: &str =
 file: the drawing after each step, the row or line that asked for the step, and the comment that
 follows that line in a script. A comment that begins with 'Worker 2:' says what that worker does from
 there on. Moment 0 is the new table, and each step makes the next moment, with its changes marked. A
-page has at most 200 moments, from --from on. The rows of a trace are done one after the other, each
-to its end, and --readers changes nothing. With --workers 2 or more, the page says at each moment
-which row each worker did last, with the answer, which row it does now, and which is next.
+page has at most 200 moments, from --from on; on a terminal, standard error says if there are more.
+The rows of a trace are done one after the other, each to its end, and --readers changes nothing.
+With --workers 2 or more, the page says at each moment which row each worker did last, with the
+answer, which row it does now, and which is next.
 
 Example:
   bwtree make --rows 20 | bwtree film --fanout 4 --chain 4 > film.html";

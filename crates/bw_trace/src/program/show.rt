@@ -10,7 +10,7 @@ use crate::program::show_options::{DrawOptions, ShowOptions};
 use crate::program::steps::played_table;
 use bw_delta::NoMemory;
 use bw_draw::{Drawing, Picture, Stats};
-use bw_film::{Choice, film_rows, film_script, page_of};
+use bw_film::{Choice, Film, film_rows, film_script, page_of};
 use bw_keys::Key;
 use bw_run::run;
 use bw_table::Table;
@@ -73,12 +73,13 @@ fn drawing_of(alloc: Global, table: &Table<Global>, key: Option<Key>) -> Result<
 }
 
 /// Writes the page that shows the film of the trace or of the script, unless that ends before the
-/// first moment asked for.
-pub(crate) fn write_film<R: Read + Drop, W: Write>(
+/// first moment asked for, and notes if it goes on past the last moment that a page shows.
+pub(crate) fn write_film<R: Read + Drop, W: Write, N: Write>(
     alloc: Global,
     options: FilmOptions,
     input: R,
     output: &mut W,
+    notes: &mut N,
 ) -> Result<(), Fault> {
     let choice = Choice {
         from: options.from.unwrap_or(0),
@@ -98,7 +99,23 @@ pub(crate) fn write_film<R: Read + Drop, W: Write>(
     }?;
     check_from(choice.from, film.moments)?;
     write_page(output, &page_of(alloc, &film)?)?;
+    note_cut(notes, &film);
     Ok(())
+}
+
+/// Notes which moments of how many are shown, if there are more of those asked for.
+fn note_cut<N: Write>(notes: &mut N, film: &Film) {
+    let (Some(first), Some(last)) = (film.frames.first(), film.frames.last()) else {
+        return;
+    };
+    let (first, last, moments) = (first.moment, last.moment, film.moments);
+    let next = last.saturating_add(1);
+    if next < moments && last < film.choice.to {
+        let _ = writeln!(
+            notes,
+            "the page shows moments {first} to {last} of {moments}: --from {next} goes on"
+        );
+    }
 }
 
 fn write_page<W: Write>(output: &mut W, page: &[u8]) -> io::Result<()> {
