@@ -16,4 +16,6 @@ pub use fault::{OutFault, TextFault};
 pub use found::row_fields;
 pub use history::{History, MOST_HISTORY_ROWS, read_history, write_history};
 pub use part::Part;
-pub use trace::{MOST_TRACE_ROWS, Row, is_trace_for, make, read_trace, write_trace};
+pub use trace::{
+    MOST_TRACE_ROWS, Row, Variation, is_trace_for, make, make_varied, read_trace, write_trace,
+};

@@ -31,7 +31,7 @@ use crate::program::fault::{AUDIT_NO, BAD_USAGE, DONE, Fault};
 use crate::program::film_options::FilmOptions;
 use crate::program::kept::{Keeping, Kept, reason_of};
 use crate::program::notes::write_notes;
-use crate::program::options::{Field, commands, ranged};
+use crate::program::options::{Field, commands, ranged, span_of};
 use crate::program::report::write_report;
 use crate::program::run_options::RunOptions;
 use crate::program::sentence::sentence_of;
@@ -43,7 +43,10 @@ use bw_audit::{Verdict, audit};
 use bw_keys::MAX_WORKERS;
 use bw_run::{Finished, Progress, Reply, Row, RunFault, run_counted, run_forest};
 use bw_step::Survey;
-use bw_texts::{MOST_TRACE_ROWS, make, read_history, read_trace, write_history, write_trace};
+use bw_texts::{
+    MOST_TRACE_ROWS, Variation, make, make_varied, read_history, read_trace, write_history,
+    write_trace,
+};
 use bw_work::Open;
 use clap::ArgMatches;
 use std::alloc::Global;
@@ -392,8 +395,14 @@ fn do_make<W: Write>(alloc: Global, options: &ArgMatches, output: &mut W) -> Res
     let most = u64::from(MAX_WORKERS);
     let workers = ranged(options, "workers", 1, most, Field::Workers)?;
     let rows = ranged(options, "rows", 0, MOST_TRACE_ROWS, Field::Rows)?;
-    let span = ranged(options, "span", 1, u64::from(u32::MAX), Field::Span)?;
-    let made = make(alloc, seed, rows, workers as u32, span)?;
+    let (mix, skew) = (options.get_flag("mix"), options.get_flag("skew"));
+    let span = span_of(options, skew)?;
+    let made = if mix || skew {
+        let variation = Variation { mix, skew };
+        make_varied(alloc, seed, rows, workers as u32, span as u32, variation)?
+    } else {
+        make(alloc, seed, rows, workers as u32, span)?
+    };
     write_trace(output, &made)?;
     Ok(())
 }

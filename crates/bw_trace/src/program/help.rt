@@ -100,7 +100,14 @@ pub(crate) const OF_STATS: &str =
 Example:
   bwtree make --rows 1000 | bwtree stats";
 
-pub(crate) const OF_MAKE: &str = "Run it with as many workers, or more.
+pub(crate) const OF_MAKE: &str =
+    "Run it with as many workers, or more. A row takes two words of the generator PCG32. The first chooses:
+modulo 4, put for 0 and 1, del for 2, get for 3; with --mix, modulo 8, put for 0 to 2, set for 3 and
+4, del for 5, get for 6, and for 7 a clr of eight keys. The second, modulo --span, is the key.
+
+With --skew key K comes up about as often as 1/(K+1): key 0 has the weight 2^54, and key K+1 that of
+key K times (200K+201)/(200K+399), rounded down. Let S be the sum of all, over 2^32 and rounded down:
+the key is the first whose weight and those before it sum up to more than the second word times S.
 
 Example:
   bwtree make --rows 20 --workers 4 | bwtree run --workers 4";

@@ -6,7 +6,7 @@ ghost use Rattle.bw_trace.specs.Options.{IsNumberFor, IsOptionFor};
 
 use crate::program::film_options::film_command;
 use crate::program::help::{OF_ALL, OF_CHECK, OF_MAKE, OF_STEPS, VERSION};
-use crate::program::parts::{Made, new_command, over, with_file, with_number};
+use crate::program::parts::{Made, new_command, over, with_file, with_flag, with_number};
 use crate::program::run_options::run_command;
 use crate::program::show_options::{draw_command, stats_command};
 use clap::ArgMatches;
@@ -25,6 +25,8 @@ pub(crate) enum Field {
     Trees,
     Rows,
     Span,
+    /// The span if low keys are drawn more often.
+    SkewedSpan,
     /// The number of a first moment, of so many moments in all.
     From(u64),
     To,
@@ -47,7 +49,7 @@ impl Field {
             Field::Readers => "readers",
             Field::Trees => "trees",
             Field::Rows => "rows",
-            Field::Span => "span",
+            Field::Span | Field::SkewedSpan => "span",
             Field::From(_) => "from",
             Field::To => "to",
         }
@@ -65,6 +67,7 @@ impl Field {
             Field::Trees => "1 to 1024",
             Field::Rows => "0 to 1000000",
             Field::Span => "1 to 4294967295",
+            Field::SkewedSpan => "1 to 1000000 with --skew",
             Field::From(_) => "the number of a moment that there is",
             Field::To => "--from or more",
         }
@@ -99,13 +102,22 @@ fn make_command<'a>(alloc: Global) -> Made<'a> {
     let made = with_number(alloc, made, "rows", "100", "How many rows, at most 1000000");
     let help = "How many workers take turns, 1 to 64";
     let made = with_number(alloc, made, "workers", "1", help);
-    with_number(
-        alloc,
-        made,
-        "span",
-        "1000",
-        "Keys are below it, 1 to 4294967295",
-    )
+    let help = "Keys are below it, 1 to 4294967295";
+    let made = with_number(alloc, made, "span", "1000", help);
+    let made = with_flag(alloc, made, "mix", "Also draws sets and clears");
+    let help = "Draws low keys more often; --span is then at most 1000000";
+    with_flag(alloc, made, "skew", help)
+}
+
+/// Returns the span of a trace that is to be drawn.
+pub(crate) fn span_of(options: &ArgMatches, skew: bool) -> Result<u64, Field>
+    ensures inside { IfOk result (λ span. (1 ≤ span) × (span ≤ 4294967295)) }
+{
+    if skew {
+        ranged(options, "span", 1, 1_000_000, Field::SkewedSpan)
+    } else {
+        ranged(options, "span", 1, u64::from(u32::MAX), Field::Span)
+    }
 }
 
 /// Returns the value of an option that may be absent.
