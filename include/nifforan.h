@@ -260,9 +260,9 @@ nifforan_filled nifforan_extend(nifforan *map, const nifforan_pair *pairs, size_
  * repeat it while it removes any. */
 nifforan_cleared nifforan_clear(nifforan *map, uint64_t low, nifforan_high high);
 
-/* Takes memory ahead for the pages that so many more pairs may need, in any order, or for as many pages as the map may have:
- * about six bytes a pair. Puts then need memory only for what the pages hold. With any status but NIFFORAN_OK nothing
- * changes: NIFFORAN_CLOSED_HANDLE, NIFFORAN_FROZEN, or NIFFORAN_NO_MEMORY. */
+/* Takes memory ahead for the pages that so many more pairs may need, in any order: about six bytes a pair. Puts then need
+ * memory only for what the pages hold. With any status but NIFFORAN_OK nothing changes: NIFFORAN_CLOSED_HANDLE,
+ * NIFFORAN_FROZEN, NIFFORAN_TABLE_FULL if the pages that the map may have can be too few, or NIFFORAN_NO_MEMORY. */
 uint32_t nifforan_reserve(nifforan *map, uint64_t pairs);
 
 /* Rebuilds the map, with the same pairs and settings and no more pages than they need, such as after a nifforan_reserve for

@@ -260,8 +260,8 @@ static void full(void) {
     nifforan_close(&map);
 }
 
-/* Pages that are taken ahead and given back leave the pairs and what is free as they were, also where a map may have no
- * more, and far more pairs are asked for than there may be. */
+/* Pages that are taken ahead and given back leave the pairs and what is free as they were, also where more pairs are asked
+ * for than the pages that a map may have hold. */
 static void room(void) {
     nifforan map = NIFFORAN_CLOSED;
     const nifforan_settings few = { SIZE, 4, 1, 8, 1000, 0 }, some = { SIZE, 64, 1, 4096, 1000, 0 };
@@ -270,8 +270,9 @@ static void room(void) {
         MUST(nifforan_create(&map, &made_by[i]) == NIFFORAN_OK);
         for (uint64_t key = 0; key < 12; key++) MUST(nifforan_put(&map, key, 2 * key).status == NIFFORAN_OK);
         const uint64_t free = nifforan_pairs(&map).free_pages;
-        MUST(nifforan_reserve(&map, 0) == NIFFORAN_OK && nifforan_reserve(&map, 1000) == NIFFORAN_OK);
-        MUST(nifforan_reserve(&map, UINT64_MAX) == NIFFORAN_OK);
+        MUST(nifforan_reserve(&map, 0) == NIFFORAN_OK);
+        MUST(nifforan_reserve(&map, 1000) == (i == 0 ? NIFFORAN_TABLE_FULL : NIFFORAN_OK));
+        MUST(nifforan_reserve(&map, UINT64_MAX) == NIFFORAN_TABLE_FULL);
         MUST(nifforan_pairs(&map).free_pages == free);
         MUST(nifforan_shrink(&map) == NIFFORAN_OK);
         MUST(nifforan_pairs(&map).pairs == 12);

@@ -253,6 +253,7 @@ static void faults() {
     must_throw(NIFFORAN_CLOSED_HANDLE, [&] { map.begin(); });
     must_throw(NIFFORAN_CLOSED_HANDLE, [&] { map.put(1, 1); });
     must_throw(NIFFORAN_CLOSED_HANDLE, [&] { map.reserve(1); });
+    must_throw(NIFFORAN_TABLE_FULL, [&] { moved.reserve(UINT64_MAX); });
     must_throw(NIFFORAN_CLOSED_HANDLE, [&] { map.shrink_to_fit(); });
     must_throw(NIFFORAN_CLOSED_HANDLE, [&] { map.pop_first(); });
     must_throw(NIFFORAN_CLOSED_HANDLE, [&] { map.extend(nullptr, 0); });

@@ -333,7 +333,8 @@ public:
         changes++;
         return nifforan_clear(&handle, low, high);
     }
-    // Takes memory ahead for that many pairs, as in an unordered_map: those already there count.
+    // Takes memory ahead for that many pairs, as in an unordered_map: those already there count. It throws
+    // NIFFORAN_TABLE_FULL if the settings allow too few pages.
     void reserve(std::uint64_t pairs) { check(try_reserve(pairs)); }
     [[nodiscard]] std::uint32_t try_reserve(std::uint64_t pairs) noexcept {
         const std::uint64_t there = nifforan_pairs(&handle).pairs;

@@ -133,8 +133,9 @@ impl Map {
         Ok(map)
     }
 
-    /// Takes memory ahead for the pages that this many more pairs may need, in any order, or for as many pages as the
-    /// settings allow: about six bytes a pair. Fails with [`Fault::NoMemory`], and leaves the map as it was.
+    /// Takes memory ahead for the pages that this many more pairs may need, in any order: about six bytes a pair. Fails
+    /// with [`Fault::TableFull`] if the pages that the settings allow can be too few, or with [`Fault::NoMemory`], and
+    /// leaves the map as it was.
     pub fn reserve(&mut self, additional: usize) -> Result<(), Fault> {
         // SAFETY: see `Reads::handle`.
         let status = unsafe { ffi::nifforan_reserve(self.reads.handle(), additional as u64) };

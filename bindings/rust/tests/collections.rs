@@ -83,8 +83,14 @@ fn pages_are_taken_ahead_and_given_back() -> Result<(), Fault> {
         assert!(map.iter().eq(kept));
     }
     let mut small = Map::new(&few)?;
-    small.reserve(usize::MAX)?; // as many pages as it may have
-    assert_eq!(small.free_pages(), 4095);
+    assert_eq!(small.reserve(usize::MAX), Err(Fault::TableFull));
+    assert_eq!(
+        Map::with_capacity(&few, 200_000).err(),
+        Some(Fault::TableFull)
+    );
+    small.try_extend((0..100).map(|key| (key, key)))?;
+    assert_eq!(small.reserve(usize::MAX - 99), Err(Fault::TableFull));
+    assert_eq!((small.len(), small.care()), (100, None));
     Ok(())
 }
 

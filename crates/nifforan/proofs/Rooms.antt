@@ -1,14 +1,13 @@
 -- How many pages a map wants for its pairs.
-use Rattle.std.proofs.Common.{◌≡◌, inl, inr, ℕ, ◌+◌, ◌-◌, ◌*◌, ◌/◌, ◌^◌, ◌<◌, ◌≤◌, List, [], ◌∷◌, Option, Some, None, Result, Ok, Err, ap, ⊎_elim, arith}
+use Rattle.std.proofs.Common.{◌≡◌, refl, ℕ, ◌+◌, ◌-◌, ◌*◌, ◌/◌, ◌^◌, ◌<◌, ◌≤◌, List, [], ◌∷◌, Option, Some, None, ap, arith}
 use Rattle.std.specs.Option.{option_or}
-use Rattle.std.specs.Prelude.{sum, min, OnOk}
-use Rattle.std.proofs.lemmas.Bool.{cases_lt}
+use Rattle.std.specs.Prelude.{sum, min}
 use Rattle.std.proofs.lemmas.List.Sums.{sum_by-cons}
 use Rattle.bw_keys.specs.declared.config.Config.{Config}
 use Rattle.bw_keys.specs.Rooms.{half, AreLevels}
 use Rattle.bw_procedures.specs.declared.fault.Fault.{Fault}
 use Rattle.bw_procedures.specs.declared.fault.Fault.TheVariants.{TableFull}
-use Rattle.nifforan.specs.Growing.{HasAllPages, HasPagesFor}
+use Rattle.nifforan.specs.Growing.{AreWantedAbove, AreWantedFor, HasAllPages, HasPagesFor, MayBeTooMany}
 use Rattle.nifforan.specs.Maps.{MapValue}
 
 -- above a level that has no more than one page there is none
@@ -25,20 +24,36 @@ all_above pages rest below (next ∷ above) higher few levels =
     let all : sum (next ∷ above) ≡ next + sum above = sum_by-cons (λ (n : ℕ). n) next above in
     omega (arith, all, is_next, higher next above is_next levels.2)
 
--- pages enough for so many pairs, or as many as there may be
-pub enough_or_all : (pairs asked wanted most pages : ℕ) (map : MapValue) → asked ≡ min pairs (2 ^ 64 - 1)
-    → ((leaves : ℕ) (above : List ℕ) → half * (leaves - 1) ≤ asked → AreLevels leaves above → leaves + sum above ≤ wanted) → asked < half * wanted
-    → pages ≡ min wanted most → most ≡ map.config.pages → most < 2 ^ 32 → min pages most ≤ map.pages → HasPagesFor pairs map
-enough_or_all pairs asked wanted most pages map asks room many takes is_most few has = ⊎_elim
-    (λ (less : wanted < most).
+-- pages enough for so many pairs
+pub enough : (pairs asked wanted most : ℕ) (map : MapValue) → asked ≡ min pairs (2 ^ 64 - 1)
+    → ((leaves : ℕ) (above : List ℕ) → half * (leaves - 1) ≤ asked → AreLevels leaves above → leaves + sum above ≤ wanted)
+    → asked < half * wanted → wanted ≤ most → most < 2 ^ 32 → min wanted most ≤ map.pages → HasPagesFor pairs map
+enough pairs asked wanted most map asks room many less few has leaves above fits levels =
     let same : asked ≡ pairs = omega (arith, asks, many, less, few) in
-    inl (λ leaves above enough levels. omega (arith, room leaves above (omega (arith, same, enough)) levels, takes, has, less)))
-    (λ (all : most ≤ wanted). inr (omega (arith, takes, has, all, is_most)))
-    (cases_lt wanted most)
+    omega (arith, room leaves above (omega (arith, same, fits)) levels, has, less)
 
-pub on_done : {E P Q : Type 0} (result : Result (Unit {0}) E) → (P → Q) → OnOk result P → OnOk result Q
-on_done (Ok done) then fact = then fact
-on_done (Err fault) then fact = tt
+-- so many pairs don't fill half of each page
+pub not_so_many : (pairs asked wanted most : ℕ) → asked ≡ min pairs (2 ^ 64 - 1) → asked < half * wanted → wanted ≤ most → most < 2 ^ 32
+    → half * most ≤ pairs → ⊥
+not_so_many pairs asked wanted most asks many less few fill = omega (arith, asks, many, less, few, fill)
+
+-- as many pages are wanted for more pairs, or more
+pub too_many : (pairs asked wanted : ℕ) (map : MapValue) → asked ≡ min pairs (2 ^ 64 - 1) → AreWantedFor asked wanted
+    → map.config.pages < wanted → MayBeTooMany pairs map
+too_many pairs asked wanted map asks (leaves, above, fits, levels, is) more =
+    (wanted, (leaves, above, omega (arith, asks, fits), levels, is), more)
+
+-- one level that is the root
+pub wanted_at_root : (pages : ℕ) → pages ≤ 1 → 1 ≤ pages → AreWantedAbove pages 2
+wanted_at_root pages few some = ([], omega arith, refl)
+
+-- the next level, and those above it
+pub wanted_above : (pages rest : ℕ) → 1 < pages → AreWantedAbove ((pages - 1) / 32 + 1) rest
+    → AreWantedAbove pages ((pages - 1) / 32 + 1 + 1 + rest)
+wanted_above pages rest many (above, levels, is) =
+    let next : ℕ = (pages - 1) / 32 + 1 in
+    let all : sum (next ∷ above) ≡ next + sum above = sum_by-cons (λ (n : ℕ). n) next above in
+    (next ∷ above, (many, omega arith, levels), omega (arith, all, is))
 
 -- a map that had all its pages when a fault was reported has them still
 pub full_still : (one other : Option Fault) (old new : MapValue) → (one ≡ Some TableFull → HasAllPages old) → (other ≡ Some TableFull → HasAllPages new)

@@ -21,7 +21,7 @@ pub enum FillFault {
     /// The empty map couldn't be made.
     #[error("{0}")]
     New(NewFault),
-    /// A pair couldn't be set.
+    /// A pair couldn't be set, or pages for it couldn't be taken ahead.
     #[error("{0}")]
     Set(Fault),
 }

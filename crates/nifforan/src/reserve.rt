@@ -1,17 +1,19 @@
 //! Pages taken ahead, for pairs to come, and given back.
 
-ghost use Rattle.std.specs.Prelude.{◌≡◌, ◌≢◌, ◌+◌, ◌-◌, ◌*◌, ◌^◌, ◌<◌, ◌≤◌, ℕ, List, [], None, Err, length, sum};
+ghost use Rattle.std.specs.Prelude.{◌≡◌, ◌≢◌, ◌⊎◌, ◌+◌, ◌-◌, ◌*◌, ◌^◌, ◌<◌, ◌≤◌, ℕ, List, [], None, Err, length, sum};
 ghost use Rattle.std.specs.Prelude.{IsOk, IfOk, IfErr, OnOk, OnErr};
 ghost use Rattle.bw_keys.specs.Rooms.{half, AreLevels};
 ghost use Rattle.bw_procedures.specs.declared.fault.Fault.TheVariants as faults;
-ghost use Rattle.nifforan.specs.Growing.{HasGrown, HasPagesFor};
-ghost use Rattle.nifforan.specs.Settings.{first_bad_setting, IsMapFault};
+ghost use Rattle.nifforan.specs.Filling.{IsFillFault};
+ghost use Rattle.nifforan.specs.Growing.{AreWantedAbove, AreWantedFor, HasGrown, HasPagesFor};
+ghost use Rattle.nifforan.specs.Growing.{MayBeTooMany};
+ghost use Rattle.nifforan.specs.Settings.{first_bad_setting};
 
+use crate::fill::FillFault;
 use crate::map::Map;
 use bw_delta::NoMemory;
 use bw_keys::Config;
 use bw_procedures::{Fault, Steps};
-use bw_table::NewFault;
 use std::alloc::{Allocator, Global};
 
 impl<A: Allocator + Copy> Map<A> {
@@ -21,32 +23,50 @@ impl<A: Allocator + Copy> Map<A> {
         alloc: A,
         config: Config,
         pairs: u64,
-    ) -> Result<Map<A>, NewFault>
+    ) -> Result<Map<A>, FillFault>
         ensures config { IfOk result (λ map. map.config ≡ config) }
         ensures empty { IfOk result (λ map. map.pairs ≡ []) }
         ensures room { IfOk result (HasPagesFor pairs) }
         ensures free { IfOk result (λ map. map.free ≡ config.pages - 1) }
         ensures fine { IsOk result → first_bad_setting config ≡ None }
-        ensures fault { IfErr result (IsMapFault config) }
+        ensures fault { IfErr result (IsFillFault config) }
     {
-        let mut map = Map::new(machine, alloc, config)?;
+        let mut map = match Map::new(machine, alloc, config) {
+            Ok(map) => map,
+            Err(fault) => return Err(FillFault::New(fault)),
+        };
         match map.reserve(pairs) {
             Ok(()) => Ok(map),
-            Err(NoMemory) => Err(NewFault::NoMemory),
+            Err(fault) => Err(FillFault::Set(fault)),
         }
     }
 
     /// Takes memory ahead for the pages that so many more pairs may need, in any order and at the
-    /// usual fanout, or for as many pages as the map may have. That is about six bytes a pair, or
-    /// at least as much again as there was. If memory is refused, the map stays as it was.
-    pub fn reserve(&mut self, additional: u64) -> Result<(), NoMemory>
+    /// usual fanout. That is about six bytes a pair, or at least as much again as there was.
+    ///
+    /// # Errors
+    ///
+    /// Fails with [`Fault::TableFull`] if the pages that the map may have can be too few for so many
+    /// pairs, or with [`Fault::NoMemory`]. The map then stays as it was.
+    pub fn reserve(&mut self, additional: u64) -> Result<(), Fault>
         ensures kept { HasGrown self.old self.new }
         ensures room { OnOk result (HasPagesFor (length self.old.pairs + additional) self.new) }
         ensures unchanged { OnErr result (self.new ≡ self.old) }
+        ensures full { result ≡ Err faults.TableFull
+            → MayBeTooMany (length self.old.pairs + additional) self.old }
+        ensures many { half * self.old.config.pages ≤ length self.old.pairs + additional
+            → result ≡ Err faults.TableFull }
+        ensures fault { IfErr result (λ fault.
+            (fault ≡ faults.TableFull) ⊎ (fault ≡ faults.NoMemory)) }
     {
-        let pairs = self.len().saturating_add(additional);
-        let pages = pages_for(pairs).min(u64::from(self.most)) as u32;
-        self.grow_to(pages)
+        let pages = pages_for(self.len().saturating_add(additional));
+        if pages > u64::from(self.most) {
+            return Err(Fault::TableFull);
+        }
+        match self.grow_to(pages as u32) {
+            Ok(()) => Ok(()),
+            Err(NoMemory) => Err(Fault::NoMemory),
+        }
     }
 
     /// Rebuilds the map by puts of rising keys, so that it has no more pages than its pairs need,
@@ -104,6 +124,7 @@ const HALF: u64 = 32;
 fn pages_for(pairs: u64) -> u64
     ensures room { (leaves : ℕ) (above : List ℕ) → half * (leaves - 1) ≤ pairs
         → AreLevels leaves above → leaves + sum above ≤ result }
+    ensures wanted { AreWantedFor pairs result }
     ensures many { pairs < half * result }
 {
     let leaves = pairs / HALF + 1;
@@ -116,6 +137,7 @@ fn pages_above(pages: u64) -> u64
     requires { pages < 2 ^ 60 }
     ensures all { (below : ℕ) (above : List ℕ) → below ≤ pages → AreLevels below above
         → sum above ≤ result }
+    ensures wanted { 1 ≤ pages → AreWantedAbove pages result }
     ensures few { result ≤ 2 * pages + 2 }
 {
     if pages <= 1 {

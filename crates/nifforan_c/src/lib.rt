@@ -237,8 +237,8 @@ pub extern "C" fn nifforan_clear(alloc: Global, map: &mut Handle, low: u64, high
     map.clear(alloc, low, high)
 }
 
-/// Takes memory ahead for pages enough for that many pairs more, or for as many pages as the map may
-/// have. With any status but `OK` all stays as it is: `CLOSED`, `FROZEN` or `NO_MEMORY`.
+/// Takes memory ahead for pages enough for that many pairs more. With any status but `OK` all stays as
+/// it is: `CLOSED`, `FROZEN`, `TABLE_FULL` if the map may have too few pages, or `NO_MEMORY`.
 #[unsafe(no_mangle)]
 pub extern "C" fn nifforan_reserve(alloc: Global, map: &mut Handle, pairs: u64) -> u32
     ensures { Reserves pairs result map.old.held map.new.held }

@@ -1,8 +1,9 @@
 -- What the calls on a handle do to what it holds.
-use Rattle.std.specs.Prelude.{◌≡◌, ◌≢◌, ◌↔◌, ℕ, ◌+◌, ◌≤◌, false, List, Option, None, IfSome, length, take, drop, min}
+use Rattle.std.specs.Prelude.{◌≡◌, ◌≢◌, ◌↔◌, ◌⊎◌, ℕ, ◌+◌, ◌*◌, ◌≤◌, false, List, Option, None, IfSome, length, take, drop, min}
 use Rattle.bw_delta.specs.Entries.{at}
+use Rattle.bw_keys.specs.Rooms.{half}
 use Rattle.nifforan.specs.Calls.{Clears, set_all, with_value}
-use Rattle.nifforan.specs.Growing.{HasAllPages, HasPagesFor}
+use Rattle.nifforan.specs.Growing.{HasAllPages, HasPagesFor, MayBeTooMany}
 use Rattle.nifforan.specs.Maps.{PairList}
 use Rattle.nifforan.specs.Settings.{first_bad_setting}
 use Rattle.nifforan_handle.specs.declared.answer.Cleared.{Cleared}
@@ -97,11 +98,15 @@ pub record ClearsHeld (low end : ℕ) (it : Cleared) (old new : Held) : Type 0 w
   pub full : it.status ≡ TABLE_FULL → IfSome (map_in new) HasAllPages
   pub config : config_in new ≡ config_in old
 
--- the map has pages enough for that many pairs more, or as many as it may have
+-- the map has pages enough for that many pairs more, unless it may have too few
 pub record Reserves (more status : ℕ) (old new : Held) : Type 0 where
   pub closed : (map_in old ≡ None) ↔ (status ≡ CLOSED)
   pub frozen : IsFrozen old ↔ (status ≡ FROZEN)
-  pub memory : IsOwn old → status ≢ OK → status ≡ NO_MEMORY
+  pub memory : IsOwn old → status ≢ OK → (status ≡ NO_MEMORY) ⊎ (status ≡ TABLE_FULL)
+  pub full : status ≡ TABLE_FULL → IfSome (map_in old)
+      (MayBeTooMany (length (pairs_in old) + more))
+  pub many : IsOwn old → IfSome (map_in old)
+      (λ map. half * map.config.pages ≤ length map.pairs + more → status ≡ TABLE_FULL)
   pub room : status ≡ OK → IfSome (map_in new) (HasPagesFor (length (pairs_in old) + more))
   pub pairs : pairs_in new ≡ pairs_in old
   pub config : config_in new ≡ config_in old

@@ -180,9 +180,9 @@ impl Handle {
         cleared
     }
 
-    /// Takes memory ahead for the pages that so many more pairs may need, or for as many pages as
-    /// the map may have. With any status but `OK` nothing changes: `CLOSED`, `FROZEN` or
-    /// `NO_MEMORY`.
+    /// Takes memory ahead for the pages that so many more pairs may need. With any status but `OK`
+    /// nothing changes: `CLOSED`, `FROZEN`, `TABLE_FULL` if the pages that the map may have can be
+    /// too few, or `NO_MEMORY`.
     pub fn reserve(&mut self, alloc: Global, pairs: u64) -> u32
         ensures { Reserves pairs result self.old.held self.new.held }
     {

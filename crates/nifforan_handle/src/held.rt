@@ -135,7 +135,7 @@ impl Held {
             Held::Closed => CLOSED,
             Held::Own(map) => match map.reserve(pairs) {
                 Ok(()) => OK,
-                Err(_) => NO_MEMORY,
+                Err(refused) => status::of_fault(refused),
             },
             Held::Frozen(_) => FROZEN,
         }

@@ -112,8 +112,16 @@ fn pages_taken_ahead_do_for_their_pairs(rt: HostRuntime) {
     }
 }
 
-/// For how many pairs pages are taken ahead by a map of at most a thousand pages, and how many it has then.
-const AHEAD: [(u64, usize); 4] = [(0, 8), (200, 16), (201, 16), (u64::MAX, 1000)];
+/// For how many pairs pages are taken ahead by a map of at most a thousand pages, and how many it has then. 964 leaves
+/// have 31 pages above them and one above these, and four pages are to be free.
+const AHEAD: [(u64, usize); 6] = [
+    (0, 8),
+    (200, 16),
+    (201, 16),
+    (30_847, 1000),
+    (30_848, 8),
+    (u64::MAX, 8),
+];
 
 #[test]
 fn a_map_has_the_pages_that_are_wanted(rt: HostRuntime) {
@@ -125,7 +133,8 @@ fn a_map_has_the_pages_that_are_wanted(rt: HostRuntime) {
     };
     for (pairs, pages) in AHEAD {
         let mut map = new_map(&rt, config);
-        map.reserve(pairs).expect(&rt, MEMORY);
+        let full = (pages < 1000 && pairs > 201).then_some(Fault::TableFull);
+        assert_same(&rt, map.reserve(pairs).err(), full, ("reserve", pairs));
         assert_same(&rt, map.pages(), pages, ("pages for", pairs));
     }
     let mut map = new_map(&rt, usual_config());
