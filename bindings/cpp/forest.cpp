@@ -198,6 +198,9 @@ static void sorted_and_faults() {
     std::vector<nifforan_pair> pairs;
     for (std::uint64_t n = 0; n < 10000; n++) pairs.push_back({3 * n, n});
     Forest forest(Bounds(Keys{0, 100, 101, 5000, 90000}), pairs.data(), pairs.size());
+    Forest balanced = forest.balanced(4);
+    MUST((balanced.bounds().firsts() == Keys{0, 7500, 15000, 22500}) && all_of(balanced) == all_of(forest));
+    must_throw<std::invalid_argument>([&] { forest.balanced(0); });
     MUST(forest.size() == pairs.size() && forest.get(29997) == 9999 && forest.clear(0, NIFFORAN_BELOW(101)) == 34);
     pairs[5000].key = pairs[4999].key;
     must_throw<Fault>([&] { Forest falling(Bounds::even(3, 30000), pairs.data(), pairs.size()); });

@@ -108,6 +108,20 @@ public:
     Forest(const Forest &) = delete;
     Forest &operator=(const Forest &) = delete;
 
+    // A forest with the same pairs and this many trees, or fewer if there are fewer pairs. Each has as many pairs, where this
+    // forest may have grown in a few of its ranges alone. No other thread may change it meanwhile. Throws
+    // std::invalid_argument for other than 1 to 1,024 trees.
+    Forest balanced(std::size_t count, const nifforan_settings &settings = NIFFORAN_USUAL_SETTINGS) {
+        std::vector<nifforan_pair> pairs;
+        std::vector<std::uint64_t> sample;
+        scan(0, NIFFORAN_TOP, [&](std::uint64_t key, std::uint64_t value) {
+            pairs.push_back({key, value});
+            sample.push_back(key);
+            return true;
+        });
+        return Forest(Bounds::of_sample(std::move(sample), count), pairs.data(), pairs.size(), settings);
+    }
+
     const Bounds &bounds() const { return its_bounds; }
 
     std::optional<std::uint64_t> get(std::uint64_t key) {

@@ -196,6 +196,29 @@ impl Forest {
         Ok(Forest { bounds, trees })
     }
 
+    /// Makes a forest with the same pairs and settings, and with this many trees, at least 1 and at most 1,024, or fewer if
+    /// there are fewer pairs. Each tree has as many pairs, where this forest may have grown in a few of its ranges alone.
+    /// No thread changes it meanwhile. If the call fails, it is as it was.
+    ///
+    /// ```
+    /// # use nifforan::{Bounds, Forest, Settings};
+    /// let forest = Forest::new(&Settings::default(), Bounds::even(4, 1_000_000)?)?;
+    /// for key in 0..1000 {
+    ///     forest.set(key, key)?;
+    /// }
+    /// let mut crooked = forest;
+    /// let forest = crooked.balanced(4)?;
+    /// assert_eq!(forest.bounds().firsts(), [0, 250, 500, 750]);
+    /// assert!(forest.iter().eq(&crooked));
+    /// # Ok::<(), Box<dyn std::error::Error>>(())
+    /// ```
+    pub fn balanced(&mut self, trees: usize) -> Result<Forest, Fault> {
+        let settings = *self.trees[0].lock().settings();
+        let keys = self.iter().map(|(key, _)| key);
+        let bounds = Bounds::of_sample(keys, trees.clamp(1, MOST_TREES));
+        Forest::from_sorted(&settings, bounds.expect("the trees are few"), self.iter())
+    }
+
     /// Returns the bounds of its trees' ranges.
     pub fn bounds(&self) -> &Bounds {
         &self.bounds

@@ -172,6 +172,31 @@ fn bounds_are_told_and_refused() {
 }
 
 #[test]
+fn a_crooked_forest_is_balanced_again() -> Result<(), Fault> {
+    let settings = Settings {
+        fanout: 4,
+        ..Settings::default()
+    };
+    let bounds = Bounds::of(vec![0, 10, 1 << 40]).expect("they rise");
+    let mut crooked = Forest::new(&settings, bounds)?;
+    assert_eq!(crooked.balanced(8)?.bounds().firsts(), [0]);
+    for key in 0..10_000 {
+        crooked.set(key * key, key)?;
+    }
+    for trees in [0, 1, 7, 64, 1024, 5000] {
+        let forest = crooked.balanced(trees)?;
+        let trees = trees.clamp(1, 1024);
+        assert_eq!(forest.bounds().firsts().len(), trees);
+        assert!(forest.iter().eq(&crooked));
+        for map in forest.into_maps() {
+            assert!(map.len().abs_diff(10_000 / trees) <= 1);
+            assert_eq!(*map.settings(), settings);
+        }
+    }
+    Ok(())
+}
+
+#[test]
 fn the_least_and_the_greatest_key_have_their_trees() {
     let ends = [0, 1, u64::MAX - 1, u64::MAX];
     let forest = forest(Bounds::of(vec![0, 1, 7, u64::MAX]));
