@@ -18,7 +18,7 @@ use crate::entries::sorted::count_below_key;
 use crate::page::part_from;
 use crate::page::shape::allocator;
 use bw_delta::{Base, Chain, Delta, Entries, EntryList, EntrySlice, Node};
-use bw_keys::{Fence, Key, Pid, Wished};
+use bw_keys::{Fence, FenceWord, Key, Pid, Wished};
 use std::alloc::Allocator;
 use std::mem;
 
@@ -137,7 +137,7 @@ fn change_and_cut<A: Allocator + Copy>(
     ensures memory { IfNone result
         (WantsMemory (split_page separator right base.old) key wished) }
 {
-    if separator <= base.low || !base.high.is_above(separator) {
+    if separator <= base.low || !base.high.fence().is_above(separator) {
         return None;
     }
     let had = change_on_base(base, key, wished)?;
@@ -350,7 +350,7 @@ fn cut_base<A: Allocator + Copy>(base: &mut Base<A>, separator: Key, right: Pid)
         Entries::Pairs(pairs) => cut_listed(pairs, separator),
         Entries::Routes(routes) => cut_listed(routes, separator),
     }
-    base.high = Fence::Key(separator);
+    base.high = FenceWord::new(Fence::Key(separator));
     base.right = Some(right);
 }
 

@@ -7,7 +7,7 @@ ghost use Rattle.bw_delta.specs.Pages.{leaf_page, inner_page, is_page, lists_pai
 
 use crate::entry_list::EntryList;
 use crate::fault::{BaseFault, NoMemory};
-use bw_keys::{Fence, Key, Pid};
+use bw_keys::{Fence, FenceWord, Key, Pid};
 use std::alloc::Allocator;
 use std::marker::Model;
 
@@ -15,13 +15,13 @@ use std::marker::Model;
 /// inside its range.
 #[derive(Drop)]
 pub struct Base<A: Allocator> {
+    pub entries: Entries<A>,
     /// The least key of the range.
     pub low: Key,
     /// Where the range ends.
-    pub high: Fence,
+    pub high: FenceWord,
     /// The page to the right, if there is one.
     pub right: Option<Pid>,
-    pub entries: Entries<A>,
 }
 
 /// What a base page lists.
@@ -55,7 +55,7 @@ impl<A: Allocator + Copy> Base<A> {
     {
         Base {
             low: 0,
-            high: Fence::Top,
+            high: FenceWord::new(Fence::Top),
             right: None,
             entries: Entries::Pairs(EntryList::new(alloc)),
         }
@@ -81,7 +81,7 @@ impl<A: Allocator + Copy> Base<A> {
         };
         Ok(Base {
             low,
-            high,
+            high: FenceWord::new(high),
             right,
             entries: Entries::Pairs(pairs),
         })
@@ -107,7 +107,7 @@ impl<A: Allocator + Copy> Base<A> {
         };
         Ok(Base {
             low,
-            high,
+            high: FenceWord::new(high),
             right,
             entries: Entries::Routes(routes),
         })

@@ -12,12 +12,12 @@ mod spread;
 
 use crate::pen::Pen;
 use crate::picture::Picture;
-use crate::stats::memory::{entry_bytes, link_bytes, slot_bytes, stored_entries, stored_links};
+use crate::stats::memory::{entry_bytes, link_bytes, stored_entries, stored_links};
 use crate::stats::pages::{levels_of, pages_at, spread_in, spread_of_depths};
 use bw_delta::NoMemory;
 use bw_keys::Pid;
 use bw_step::Stage;
-use bw_table::Table;
+use bw_table::{SLOT_BYTES, Table};
 pub use spread::Spread;
 use std::alloc::Global;
 
@@ -112,7 +112,7 @@ impl Stats {
         self.leaves.write(pen, "\nleaf entries ");
         self.inner.write(pen, "\ninner entries ");
         self.records.write(pen, "\nchain records ");
-        let slots = u64::from(self.slots).saturating_mul(slot_bytes());
+        let slots = u64::from(self.slots).saturating_mul(SLOT_BYTES);
         pen.number("\nbytes slots ", slots);
         pen.number(" pages ", self.stored.saturating_mul(entry_bytes()));
         pen.number(" records ", self.links.saturating_mul(link_bytes()));

@@ -3,3 +3,4 @@ pub mod Reasons
 pub mod Limits
 pub mod Rooms
 pub mod Texts
+pub mod Words

@@ -98,7 +98,7 @@ module _ (table : TableValue) (page seen separator : ℕ) (base : Page) (law : L
   staying = let bad = may.good_separator in grind arith
 
   -- the separator is past the page's low
-  above_low : slot.low < separator
+  pub above_low : slot.low < separator
   above_low = ⊎_elim
       (λ (pair : is_some (at separator (pairs_in slot)) ≡ true).
       omega (

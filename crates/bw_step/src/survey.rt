@@ -16,18 +16,18 @@ pub struct Book {
 /// What the table keeps of a page beside its chain, so that no chain is walked for it.
 #[derive(Clone, Copy, Debug, PartialEq, Eq, Hash)]
 pub struct Summary {
-    /// The least key of the page's range.
-    pub low: Key,
-    /// Where the range ends.
-    pub high: Fence,
-    /// The page to the right, if there is one.
-    pub right: Option<Pid>,
-    /// 0 for a leaf, and at most `MAX_LEVEL`.
-    pub level: u8,
     /// How many pairs a leaf has, or routes an inner page.
     pub count: u64,
+    /// The least key of the page's range.
+    pub low: Key,
+    /// The page to the right, if there is one.
+    pub right: Option<Pid>,
+    /// Where the range ends.
+    pub high: Fence,
     /// How many records stand above a base, along the deepest path.
     pub depth: u8,
+    /// 0 for a leaf, and at most `MAX_LEVEL`.
+    pub level: u8,
 }
 
 /// A leaf of the tree.

@@ -22,11 +22,13 @@ use Rattle.bw_law.specs.Tables.{TableValue, slot_at, number_of, Lawful}
 use Rattle.bw_law.specs.Refusals.{refusal, found_reasons, new_id, last_id}
 use Rattle.bw_law.specs.Effects.{after}
 use Rattle.bw_law.proofs.Accepted.{insert_accepted, found_accepted, consolidate_accepted, split_accepted, term_add_accepted, grow_accepted, mark_accepted, merge_accepted, term_delete_accepted}
+use Rattle.bw_law.proofs.SplitStep.{above_low}
 use Rattle.bw_law.proofs.Room.{CanRise, insert_room, found_room, consolidate_room, split_room, term_add_room, grow_room, mark_room, merge_room, term_delete_room}
+use Rattle.bw_table.specs.Fields.{no_page}
 use Rattle.bw_table.specs.SlotFacts.{MayGrowDeeper}
 use Rattle.bw_table.specs.Views.{root_place}
 use Rattle.bw_table.specs.Whole.{IsWhole}
-use Rattle.bw_table.proofs.Whole.{whole_after}
+use Rattle.bw_table.proofs.Whole.{has_link, whole_after}
 
 pub record DoesInsert (table : TableValue) (page : ℕ) : Type 0 where
   pub exists : page < length table.slots
@@ -41,25 +43,34 @@ pub record DoesFound (table : TableValue) (page : ℕ) : Type 0 where
   pub count : 0 < (slot_at table page).count
   pub number : number_of table.book + 1 < 2 ^ 64
 
-pub record DoesSplit (table : TableValue) (page : ℕ) (base : Page) : Type 0 where
+pub record DoesConsolidate (table : TableValue) (page : ℕ) : Type 0 where
+  pub inside : page < length table.slots
+  pub in_row : is_in_row (slot_at table page).stage ≡ true
+  pub version : (slot_at table page).version + 1 < 2 ^ 64
+
+pub record DoesSplit (table : TableValue) (page separator : ℕ) (base : Page) : Type 0 where
   pub exists : page < length table.slots
   pub deeper : MayGrowDeeper (slot_at table page)
   pub new_exists : new_id table < length table.slots
   pub new_version : (slot_at table (new_id table)).version + 1 < 2 ^ 64
   pub apart : new_id table ≢ page
   pub count : listed_length base.listed ≤ (slot_at table page).count
+  pub later : 0 < separator
+  pub link : new_id table < no_page
   pub room : last_id table.free ≡ Some (new_id table)
 
 pub record DoesTermAdd (table : TableValue) (parent child : ℕ) : Type 0 where
   pub exists : parent < length table.slots
   pub deeper : MayGrowDeeper (slot_at table parent)
   pub child_exists : child < length table.slots
+  pub child_here : is_in_row (slot_at table child).stage ≡ true
   pub child_version : (slot_at table child).version + 1 < 2 ^ 64
   pub apart : child ≢ parent
   pub count : (slot_at table parent).count + 1 < 2 ^ 64
 
 pub record DoesGrow (table : TableValue) (child : ℕ) : Type 0 where
   pub child_exists : child < length table.slots
+  pub child_here : is_in_row (slot_at table child).stage ≡ true
   pub child_version : (slot_at table child).version + 1 < 2 ^ 64
   pub new_exists : new_id table < length table.slots
   pub new_version : (slot_at table (new_id table)).version + 1 < 2 ^ 64
@@ -87,6 +98,7 @@ pub record DoesTermDelete (table : TableValue) (parent child : ℕ) : Type 0 whe
 -- a page in a row whose depth is below the greatest, and whose version can rise, takes a record more
 may_grow_deeper : (table : TableValue) (page : ℕ) → Lawful table → is_in_row (slot_at table page).stage ≡ true → CanRise table page → (slot_at table page).depth < MAX_DEPTH → MayGrowDeeper (slot_at table page)
 may_grow_deeper table page law here rises shallow = record {
+  in_row = here;
   version = rises.version;
   shallow = shallow;
   chain_shallow = λ chain is.
@@ -133,12 +145,13 @@ module _ {table shown : TableValue} {room : ℕ} (whole : IsWhole table room) (i
   pub does_modify : {A : Type 0} (step : Modify A) → refusal shown (modify_of step) ≡ None → DoesFound table step.page.0
   does_modify step none = does_found step.page.0 step.seen.0 step.key (accepted (modify_of step) none)
 
-  pub does_consolidate : {A : Type 0} (step : Consolidate A) → refusal shown (consolidate_of step) ≡ None → CanRise table step.page.0
+  pub does_consolidate : {A : Type 0} (step : Consolidate A) → refusal shown (consolidate_of step) ≡ None → DoesConsolidate table step.page.0
   does_consolidate step none =
-      consolidate_room table whole.lawful whole.booked step.page.0 step.seen.0 step.base
-      (consolidate_accepted table step.page.0 step.seen.0 step.base (accepted (consolidate_of step) none))
+      let may = consolidate_accepted table step.page.0 step.seen.0 step.base (accepted (consolidate_of step) none) in
+      let rises = consolidate_room table whole.lawful whole.booked step.page.0 step.seen.0 step.base may in
+      record { inside = rises.inside; in_row = may.open_page.in_row; version = rises.version }
 
-  pub does_split : {A : Type 0} (step : Split A) → refusal shown (split_of step) ≡ None → DoesSplit table step.page.0 step.base
+  pub does_split : {A : Type 0} (step : Split A) → refusal shown (split_of step) ≡ None → DoesSplit table step.page.0 step.separator step.base
   does_split step none =
       let may = split_accepted table step.page.0 step.seen.0 step.separator step.base (accepted (split_of step) none) in
       let has = split_room table whole.lawful whole.booked step.page.0 step.seen.0 step.separator step.base may in record {
@@ -148,6 +161,8 @@ module _ {table shown : TableValue} {room : ℕ} (whole : IsWhole table room) (i
         new_version = has.new_raised.version;
         apart = has.apart;
         count = has.count;
+        later = omega (arith, above_low table step.page.0 step.seen.0 step.separator step.base whole.lawful may);
+        link = has_link table (new_id table) whole.lawful has.new_raised.inside;
         room = may.room;
       }
 
@@ -158,6 +173,7 @@ module _ {table shown : TableValue} {room : ℕ} (whole : IsWhole table room) (i
         exists = has.raised.inside;
         deeper = may_grow_deeper table step.parent.0 whole.lawful may.change.open_parent.in_row has.raised may.change.shallow;
         child_exists = has.child_raised.inside;
+        child_here = ap is_in_row may.unposted;
         child_version = has.child_raised.version;
         apart = has.apart;
         count = has.count;
@@ -168,6 +184,7 @@ module _ {table shown : TableValue} {room : ℕ} (whole : IsWhole table room) (i
       let may = grow_accepted table step.child.0 step.seen.0 step.base (accepted (grow_of step) none) in
       let has = grow_room table whole.lawful whole.booked step.child.0 step.seen.0 step.base may in record {
         child_exists = has.child_raised.inside;
+        child_here = ap is_in_row may.unposted;
         child_version = has.child_raised.version;
         new_exists = has.new_raised.inside;
         new_version = has.new_raised.version;

@@ -1,5 +1,5 @@
 -- What the code asks for holds of each table.
-use Rattle.std.proofs.Common.{◌≡◌, ℕ, ◌+◌, ◌<◌, ◌≤◌, ◌^◌, Bool, true, Option, Some, None, unwrap_or, refl, ◌∙◌, ap, arith}
+use Rattle.std.proofs.Common.{◌≡◌, ℕ, ◌+◌, ◌<◌, ◌≤◌, ◌^◌, Bool, true, length, Option, Some, None, unwrap_or, refl, ◌∙◌, ap, arith}
 use Rattle.std.specs.Prelude.{option_map, is_none}
 use Rattle.std.proofs.lemmas.Bool.Decides.{nat_tests}
 use Rattle.bw_keys.specs.declared.config.Config.{Config}
@@ -17,6 +17,7 @@ use Rattle.bw_law.proofs.AllSteps.{step_law}
 use Rattle.bw_law.proofs.Facts.{leaf_decides}
 use Rattle.bw_law.proofs.NewTable.{new_law}
 use Rattle.bw_law.proofs.MorePages.{more_pages_law}
+use Rattle.bw_table.specs.Fields.{no_page}
 use Rattle.bw_table.specs.SlotFacts.{HasSoundChain}
 use Rattle.bw_table.specs.Whole.{IsWhole}
 
@@ -30,6 +31,10 @@ pub found_is_mapped : (table : TableValue) (page key : ℕ) → Lawful table →
 found_is_mapped table page key law leaf within value =
     let decides = leaf_decides table law page key value (grind (arith, nat_tests)) (grind (arith, nat_tests)) (grind (arith, nat_tests), grind (arith, nat_tests)) in
     (decides.1, decides.0)
+
+-- a page inside may be linked to: its id isn't that of no page
+pub has_link : (table : TableValue) (page : ℕ) → Lawful table → page < length table.slots → page < no_page
+has_link table page law inside = omega (arith, law.bounds.slots, law.bounds.config.few)
 
 -- what is so whichever slot stands for a new page's, where none is free, is so of the table's
 pub by_new_slot : {X : Type 0} (table : TableValue) (new : Option SlotValue) (answer : X) (by_slot : SlotValue → Bool → X)

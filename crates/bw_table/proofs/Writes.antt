@@ -1,11 +1,8 @@
 -- What is read of a list, and written to it, at two places.
-use Rattle.std.proofs.Common.{◌≡◌, ◌≢◌, ℕ, zero, suc, ◌<◌, List, [], ◌∷◌, length, slice_set, get_or, Option, refl, sym, ◌∙◌, ap}
+use Rattle.std.proofs.Common.{◌≡◌, ◌≢◌, ℕ, zero, suc, ◌<◌, List, [], ◌∷◌, length, slice_set, get_or, refl, sym, ◌∙◌, ap}
 use Rattle.std.proofs.lemmas.List.{get_or_read, get_or-set_other, length-set}
-use Rattle.bw_delta.specs.Records.{Records}
-use Rattle.bw_step.specs.declared.survey.Summary.{Summary}
 use Rattle.bw_law.specs.Effects.{joined, taken_in}
 use Rattle.bw_law.specs.Slots.{SlotValue, slot_in, free_slot}
-use Rattle.bw_table.specs.SlotFacts.{joined_with, summary_of}
 
 -- writes at different places may be done in either order
 pub set-swap : {X : Type 0} → (xs : List X) (i j : ℕ) (x y : X) → j ≢ i → slice_set (slice_set xs j y) i x ≡ slice_set (slice_set xs i x) j y
@@ -20,16 +17,16 @@ pub reads : (slots : List SlotValue) (page : ℕ) (read : SlotValue) → page < 
 reads slots page read inside is = get_or_read slots page read inside is (free_slot 0)
 
 -- the page is read and given up first, and then its left neighbour takes it in
-pub merged_slots : (slots : List SlotValue) (left page : ℕ) (read taken into new : SlotValue) (given : Summary) (chain : Option Records)
+pub merged_slots : (slots : List SlotValue) (left page : ℕ) (read taken given into new : SlotValue)
     → left < length slots → page < length slots → page ≢ left
-    → read ≡ get_or slots page read → taken ≡ taken_in read → given ≡ summary_of read → chain ≡ read.chain
-    → into ≡ get_or (slice_set slots page taken) left into → new ≡ joined_with into given chain
+    → read ≡ get_or slots page read → taken ≡ taken_in read → given ≡ read
+    → into ≡ get_or (slice_set slots page taken) left into → new ≡ joined into given
     → slice_set (slice_set slots page taken) left new ≡ slice_set (slice_set slots left (joined (slot_in slots left) (slot_in slots page))) page (taken_in (slot_in slots page))
-merged_slots slots left page read taken into new given chain left_inside inside apart read_is taken_is given_is chain_is into_is new_is =
+merged_slots slots left page read taken given into new left_inside inside apart read_is taken_is given_is into_is new_is =
     let page_slot : read ≡ slot_in slots page = get_or_read slots page read inside read_is (free_slot 0) in
     let inside_still : left < length (slice_set slots page taken) = rw (length-set slots page taken) left_inside in
     let other : left ≢ page = λ same. apart (sym same) in
     let left_slot : into ≡ slot_in slots left =
     get_or_read (slice_set slots page taken) left into inside_still into_is (free_slot 0) ∙ get_or-set_other slots page left taken (free_slot 0) other in
-    let joined_is : new ≡ joined (slot_in slots left) (slot_in slots page) = new_is ∙ rw (given_is, chain_is, left_slot, page_slot) refl in
+    let joined_is : new ≡ joined (slot_in slots left) (slot_in slots page) = new_is ∙ rw (given_is, left_slot, page_slot) refl in
     rw (joined_is, taken_is, page_slot) (set-swap slots left page (joined (slot_in slots left) (slot_in slots page)) (taken_in (slot_in slots page)) apart)

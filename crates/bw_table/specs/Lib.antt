@@ -3,6 +3,7 @@ pub mod Answers
 pub mod Appends
 pub mod InPlaces
 pub mod Codes
+pub mod Fields
 pub mod FreeLists
 pub mod LeafRows
 pub mod Orders

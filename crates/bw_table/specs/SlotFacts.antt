@@ -1,5 +1,5 @@
 -- What the functions on single slots take for granted of them, and what they make of them.
-use Rattle.std.specs.Prelude.{◌≡◌, ℕ, suc, ◌+◌, ◌<◌, ◌^◌, max, Bool, true, ◌&&◌, ◌||◌, not, is_some, Option, Some}
+use Rattle.std.specs.Prelude.{◌≡◌, ℕ, suc, ◌+◌, ◌<◌, ◌^◌, Bool, true, ◌&&◌, ◌||◌, not, is_some, Some}
 use Rattle.bw_keys.specs.declared.page.TheConstants.{MAX_DEPTH}
 use Rattle.bw_delta.specs.Entries.{at, starts_at}
 use Rattle.bw_delta.specs.Pages.{Page}
@@ -8,31 +8,20 @@ use Rattle.bw_delta.specs.Sound.{IsSound}
 use Rattle.bw_step.specs.Stages.{is_in_row}
 use Rattle.bw_step.specs.declared.survey.Summary.{Summary}
 use Rattle.bw_step.specs.declared.view.Stage.{Stage}
-use Rattle.bw_law.specs.Effects.{merged_chains}
 use Rattle.bw_law.specs.Slots.{SlotValue, pairs_in, routes_in}
+use Rattle.bw_table.specs.declared.slot.Kept.{Kept}
 
 -- a page in a row has a sound chain
 abbrev pub HasSoundChain : SlotValue → Type 0
 HasSoundChain slot =
     is_in_row slot.stage ≡ true → (chain : Records) × (slot.chain ≡ Some chain) × IsSound chain
 
--- the version can rise, and a record more may stand on the chain
+-- the page is in a row, the version can rise, and a record more may stand on the chain
 pub record MayGrowDeeper (slot : SlotValue) : Type 0 where
+  pub in_row : is_in_row slot.stage ≡ true
   pub version : slot.version + 1 < 2 ^ 64
   pub shallow : slot.depth < MAX_DEPTH
   pub chain_shallow : (chain : Records) → slot.chain ≡ Some chain → depth chain < MAX_DEPTH
-
--- the page that takes in another with this summary and this chain
-abbrev pub joined_with : SlotValue → Summary → Option Records → SlotValue
-joined_with into given chain = record into {
-  version = suc into.version;
-  high = given.high;
-  right = given.right;
-  count = into.count + given.count;
-  depth = suc (max into.depth given.depth);
-  chain = merged_chains (record { separator = given.low; high = given.high; right = given.right })
-      into.chain chain;
-}
 
 abbrev pub summary_of : SlotValue → Summary
 summary_of slot =
@@ -45,29 +34,28 @@ summary_of slot =
       depth = slot.depth;
     }
 
--- the summary of the part from the separator on, which has this many entries
-abbrev pub upper_summary : ℕ → ℕ → SlotValue → Summary
-upper_summary separator count slot =
+-- what is kept of the part from the separator on, which has this many entries
+abbrev pub kept_from : ℕ → ℕ → SlotValue → Kept
+kept_from separator count slot =
     record {
       low = separator;
       high = slot.high;
       right = slot.right;
       level = slot.level;
       count = count;
-      depth = 0;
     }
 
--- the slot that has taken up a page of this stage, summary and base
-abbrev pub holding : Stage → Summary → Page → SlotValue → SlotValue
-holding stage summary base slot = record {
+-- the slot that has taken up a page of this stage, and of this base
+abbrev pub holding : Stage → Kept → Page → SlotValue → SlotValue
+holding stage kept base slot = record {
   version = suc slot.version;
   stage = stage;
-  low = summary.low;
-  high = summary.high;
-  right = summary.right;
-  level = summary.level;
-  count = summary.count;
-  depth = summary.depth;
+  low = kept.low;
+  high = kept.high;
+  right = kept.right;
+  level = kept.level;
+  count = kept.count;
+  depth = 0;
   chain = Some (bare base);
 }
 

@@ -7,7 +7,6 @@ ghost use Rattle.bw_law.specs.Tables.{slot_at};
 ghost use Rattle.bw_table.specs.SlotFacts.{HasSoundChain};
 ghost use Rattle.bw_table.specs.Views.{IsAbsent, IsStale};
 
-use crate::slot::Slot;
 use crate::table::Table;
 use bw_chain::consolidate;
 use bw_delta::{Base, Chain, NoMemory};
@@ -64,28 +63,12 @@ impl<A: Allocator + Copy> Table<A> {
         let Some(slot) = self.slot(pid) else {
             return Err(CopyFault::Absent);
         };
-        let Some(chain) = slot.chain_in_row() else {
+        let Some(chain) = slot.chain() else {
             return Err(CopyFault::Absent);
         };
         if slot.version != seen.0 {
             return Err(CopyFault::Stale);
         }
         Ok(chain)
-    }
-}
-
-impl<A: Allocator + Copy> Slot<A> {
-    /// The chain of the page, if it is in a row.
-    #[inline(always)]
-    fn chain_in_row(&self) -> Option<&Chain<A>>
-        requires { HasSoundChain self.now }
-        ensures chain { IfSome result (λ chain. self.now.chain ≡ Some chain.now) }
-        ensures in_row { IfSome result (λ chain. is_in_row self.now.stage ≡ true) }
-        ensures outside { IfNone result (is_in_row self.now.stage ≡ false) }
-    {
-        if !self.stage.is_in_row() {
-            return None;
-        }
-        self.chain.as_ref()
     }
 }

@@ -21,7 +21,7 @@ pub(crate) fn first_slots<A: Allocator + Copy>(
     slots.push(Slot::first(alloc, version))?;
     let others = pages - 1;
     for _page in 0..others {
-        slots.push(Slot::free(version))?;
+        slots.push(Slot::free(alloc, version))?;
     }
     Ok(slots)
 }

@@ -77,9 +77,9 @@ impl<A: Allocator + Copy> Table<A> {
         requires sound { HasSoundChain slot.now }
         ensures { result ≡ next_page self.now.slots slot.now key }
     {
-        match slot.summary.high {
-            Fence::Key(high) if high <= key => slot.summary.right,
-            _ if slot.summary.level == 0 => None,
+        match slot.high() {
+            Fence::Key(high) if high <= key => slot.right(),
+            _ if slot.level == 0 => None,
             _ => self.live_child(slot, key),
         }
     }

@@ -25,7 +25,7 @@ impl<A: Allocator + Copy> Table<A> {
         ensures { AllZip (HasReached self.now) keys.now result }
     {
         let mut pages = [Pid(self.root); N];
-        'levels: for _ in 0..self.root_slot().summary.level {
+        'levels: for _ in 0..self.root_slot().level {
             self.each_onward(keys, &mut pages);
         }
         pages

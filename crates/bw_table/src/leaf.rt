@@ -64,7 +64,7 @@ impl<'t, A: Allocator + Copy> LeafRef<'t, A> {
         ensures { result ≡ self.now.low }
     {
         let slot = self.slot;
-        slot.summary.low
+        slot.low
     }
 
     /// Returns the end of the keys that the leaf may have.
@@ -73,7 +73,7 @@ impl<'t, A: Allocator + Copy> LeafRef<'t, A> {
         ensures { result ≡ self.now.high }
     {
         let slot = self.slot;
-        slot.summary.high
+        slot.high()
     }
 
     /// Returns the pair with the least key at or above the key, if the leaf has one. It takes no
@@ -91,10 +91,7 @@ impl<'t, A: Allocator + Copy> LeafRef<'t, A> {
         ensures { IsTrue result ↔ IsSome (first_from key self.now.pairs) }
     {
         let slot = self.slot;
-        match &slot.chain {
-            Some(chain) => has_pair_from(chain, key),
-            None => false,
-        }
+        has_pair_from(slot.own_chain(), key)
     }
 
     /// Returns pairs of the leaf from the key on, as they lie side by side: all of them, unless a
@@ -105,10 +102,7 @@ impl<'t, A: Allocator + Copy> LeafRef<'t, A> {
         ensures { BeginsWith (from key self.now.pairs) (list_of result) }
     {
         let slot = self.slot;
-        let Some(chain) = &slot.chain else {
-            return EntrySlice::empty();
-        };
-        pairs_from(chain, key)
+        pairs_from(slot.own_chain(), key)
     }
 
     /// Returns pairs of the leaf up to the key, as they lie side by side: all of them, unless a
@@ -119,10 +113,7 @@ impl<'t, A: Allocator + Copy> LeafRef<'t, A> {
         ensures { EndsWith (below (key + 1) self.now.pairs) (list_of result) }
     {
         let slot = self.slot;
-        let Some(chain) = &slot.chain else {
-            return EntrySlice::empty();
-        };
-        pairs_upto(chain, key)
+        pairs_upto(slot.own_chain(), key)
     }
 
     /// Returns the pair with the greatest key at or below the key, if the leaf has one. It takes no
@@ -172,7 +163,7 @@ impl<A: Allocator + Copy> Table<A> {
         let slot = self.slot_in_row(self.page_for(key));
         let pairs = slot.pairs_within(key, high)?;
         if append_first(pairs, limit, list) {
-            Some(slot.summary.high)
+            Some(slot.high())
         } else {
             None
         }
@@ -190,7 +181,7 @@ impl<A: Allocator + Copy> Table<A> {
         ensures last { (result ≡ None) ↔ (end_of (slot_at self.now pid.0).high ≡ key_count) }
     {
         let leaf = self.slot_in_row(pid);
-        let right = leaf.summary.right?;
+        let right = leaf.right()?;
         Some(LeafRef {
             pid: right,
             slot: self.slot_in_row(right),

@@ -10,6 +10,7 @@ mod fresh;
 mod get;
 mod get_many;
 mod leaf;
+mod link;
 mod listing;
 mod order;
 mod pages;
@@ -29,4 +30,5 @@ pub use bw_step::{
 };
 pub use fault::NewFault;
 pub use leaf::LeafRef;
+pub use slot::SLOT_BYTES;
 pub use table::Table;

@@ -63,7 +63,7 @@ impl<A: Allocator + Copy> Table<A> {
             if slot.ends_past(high) {
                 return listed;
             }
-            next = slot.summary.right;
+            next = slot.right();
         }
         listed
     }
@@ -102,7 +102,7 @@ impl<A: Allocator + Copy> Slot<A> {
     fn ends_past(&self, high: Fence) -> bool
         ensures { IsTrue result ↔ (end_of high ≤ end_of self.now.high) }
     {
-        match self.summary.high {
+        match self.high() {
             Fence::Key(end) => !high.is_above(end),
             Fence::Top => true,
         }
@@ -118,9 +118,6 @@ impl<A: Allocator + Copy> Slot<A> {
         ensures items { result.items ≡ take limit (list.items ++ from low (pairs_in self.now)) }
         ensures capacity { vec_capacity list ≤ vec_capacity result }
     {
-        match &self.chain {
-            Some(chain) => append_first_pairs(chain, low, limit, list),
-            None => list,
-        }
+        append_first_pairs(self.own_chain(), low, limit, list)
     }
 }

@@ -22,7 +22,7 @@ impl<A: Allocator + Copy> Table<A> {
     {
         let free = self.free.behind(self.config.pages, more)?;
         self.slots.reserve(more as usize)?;
-        push_free(&mut self.slots, more, self.config.first_version);
+        push_free(self.alloc, &mut self.slots, more, self.config.first_version);
         self.free = free;
         self.config.pages += more;
         Ok(())
@@ -30,12 +30,12 @@ impl<A: Allocator + Copy> Table<A> {
 }
 
 /// Puts that many free slots after the others. There is room for them.
-fn push_free<A: Allocator + Copy>(slots: &mut Vec<Slot<A>>, more: u32, version: u64)
+fn push_free<A: Allocator + Copy>(alloc: A, slots: &mut Vec<Slot<A>>, more: u32, version: u64)
     requires { length slots.old.items + more ≤ vec_capacity slots.old }
     ensures fits { version < 2 ^ 64 }
     ensures slots { slots.new.items ≡ slots.old.items ++ replicate more (free_slot version) }
 {
     for _page in 0..more {
-        slots.push_reserved(Slot::free(version));
+        slots.push_reserved(Slot::free(alloc, version));
     }
 }

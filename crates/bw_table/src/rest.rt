@@ -101,7 +101,7 @@ impl<A: Allocator + Copy> Table<A> {
         ensures unchanged { self.new ≡ self.old }
     {
         let page = self.page_at_rest(key)?;
-        match self.slot_in_row(page).summary.high {
+        match self.slot_in_row(page).high() {
             Fence::Top => self.note_last_leaf(),
             Fence::Key(high) => self.last_from = high,
         }
@@ -114,7 +114,7 @@ impl<A: Allocator + Copy> Table<A> {
         ensures { self.new ≡ self.old }
     {
         if let Some(page) = self.page_at_rest(Key::MAX) {
-            self.last_from = self.slot_in_row(page).summary.low;
+            self.last_from = self.slot_in_row(page).low;
             self.last_leaf = page.0;
         }
     }
@@ -141,9 +141,9 @@ impl<A: Allocator + Copy> Slot<A> {
         requires sound { HasSoundChain self.now }
         ensures { result ≡ next_by_routes self.now key }
     {
-        match self.summary.high {
-            Fence::Key(high) if high <= key => self.summary.right,
-            _ if self.summary.level == 0 => None,
+        match self.high() {
+            Fence::Key(high) if high <= key => self.right(),
+            _ if self.level == 0 => None,
             _ => self.child_page(key),
         }
     }

@@ -28,10 +28,10 @@ impl<A: Allocator + Copy> Table<A> {
         'leaves: while let Some(pid) = next {
             let slot = self.page(pid);
             leaves.push(slot.leaf(pid))?;
-            next = slot.summary.right;
+            next = slot.right();
         }
         Ok(Survey {
-            levels: self.root_slot().summary.level + 1,
+            levels: self.root_slot().level + 1,
             leaves,
             book: self.book,
         })
@@ -47,7 +47,7 @@ impl<A: Allocator + Copy> Table<A> {
         'leaves: while let Some(pid) = next {
             let slot = self.page(pid);
             slot.append_pairs(&mut pairs)?;
-            next = slot.summary.right;
+            next = slot.right();
         }
         Ok(pairs)
     }
@@ -95,10 +95,10 @@ impl<A: Allocator + Copy> Slot<A> {
         Leaf {
             pid,
             range: Range {
-                low: self.summary.low,
-                high: self.summary.high,
+                low: self.low,
+                high: self.high(),
             },
-            count: self.summary.count,
+            count: self.count,
             stage: self.stage,
         }
     }
@@ -109,7 +109,7 @@ impl<A: Allocator + Copy> Slot<A> {
         requires sound { HasSoundChain self.now }
         ensures { OnOk result (list.new.items ≡ list.old.items ++ pairs_in self.now) }
     {
-        if let Some(chain) = &self.chain {
+        if let Some(chain) = self.chain() {
             append_pairs(chain, list)?;
         }
         Ok(())

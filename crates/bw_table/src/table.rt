@@ -13,15 +13,13 @@ use crate::book::number_of;
 use crate::fault::NewFault;
 use crate::free::FreeList;
 use crate::fresh::first_slots;
+use crate::link::NO_PAGE;
 use crate::slot::Slot;
 use bw_delta::NoMemory;
 use bw_keys::{Config, Key, Pid};
 use bw_step::{Book, Look, Place, Stage, Summary, View};
 use std::alloc::{Allocator, Global};
 use std::marker::Model;
-
-/// The id of no page: a table has fewer.
-pub(crate) const NO_PAGE: u32 = u32::MAX;
 
 /// The mapping table: an entry for each page id, the ids that are free, the root, and the book of
 /// the map's changes. The law of the tree is a fact of this type.
@@ -38,6 +36,8 @@ pub struct Table<A: Allocator> {
     pub(crate) slots: Vec<Slot<A>>,
     pub(crate) free: FreeList,
     pub(crate) config: Config,
+    // Where the chains lie.
+    pub(crate) alloc: A,
 }
 
 impl<A: Allocator> Model for Table<A> {
@@ -90,6 +90,7 @@ impl<A: Allocator + Copy> Table<A> {
                 modified: 0,
             },
             config,
+            alloc,
         })
     }
 
@@ -123,7 +124,7 @@ impl<A: Allocator + Copy> Table<A> {
     {
         Place {
             pid: Pid(self.root),
-            level: self.root_slot().summary.level,
+            level: self.root_slot().level,
             from: 0,
         }
     }
@@ -143,17 +144,17 @@ impl<A: Allocator + Copy> Table<A> {
     }
 
     /// Returns what is kept of the page beside its chain, where `peek` sees it.
-    pub fn summary(&self, pid: Pid) -> Option<&Summary>
-        ensures summary { option_copied result ≡ summary_at self.now pid }
+    pub fn summary(&self, pid: Pid) -> Option<Summary>
+        ensures summary { result ≡ summary_at self.now pid }
         ensures merged { (slot_at self.now pid.0).stage ≡ Merged
-            → IfSome (option_copied result) (λ summary.
+            → IfSome result (λ summary.
             HasNothing summary.high summary.right summary.count summary.depth) }
     {
         let slot = self.slot(pid)?;
         if slot.stage == Stage::Free {
             return None;
         }
-        Some(&slot.summary)
+        Some(slot.summary())
     }
 
     /// Returns what the map has at the key, if the page is a leaf in its row whose range holds the

@@ -52,19 +52,19 @@ impl<A: Allocator + Copy> Table<A> {
         ensures { let go = way_on self.now.slots pid slot.now key goal in
             result ≡ next_by self.now.slots pid slot.now key go }
     {
-        match slot.summary.high {
-            Fence::Key(high) if high <= key => match slot.summary.right {
+        match slot.high() {
+            Fence::Key(high) if high <= key => match slot.right() {
                 Some(right) => Next {
                     go: Go::Right(Place {
                         pid: right,
-                        level: slot.summary.level,
+                        level: slot.level,
                         from: high,
                     }),
                     todo: slot.todo(pid),
                 },
                 None => GONE,
             },
-            _ if goal < slot.summary.level => self.next_down(pid, slot, key),
+            _ if goal < slot.level => self.next_down(pid, slot, key),
             _ => Next {
                 go: Go::Here(slot.view(pid)),
                 todo: slot.todo(pid),
@@ -153,7 +153,7 @@ fn down<A: Allocator + Copy>(slot: &Slot<A>, separator: Key, child: Pid) -> Go
 {
     Go::Down(Place {
         pid: child,
-        level: slot.summary.level - 1,
+        level: slot.level - 1,
         from: separator,
     })
 }

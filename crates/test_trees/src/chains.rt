@@ -48,7 +48,7 @@ fn the_newest_record_of_a_key_decides(rt: HostRuntime) -> Result<(), Fail> {
     assert_same(&rt, pairs, [Some((4, 40)), Some((5, 50)), None], "the page");
     let pairs = pairs_of(&upper);
     assert_same(&rt, pairs, [Some((5, 50)), None, None], "its upper half");
-    let is_upper = separator == 5 && upper.low == 5 && upper.high == Fence::Top;
+    let is_upper = separator == 5 && upper.low == 5 && upper.high.fence() == Fence::Top;
     let is_small = matches!(halve(rt.alloc(), &upper), Err(HalveFault::TooSmall));
     assert_same(
         &rt,

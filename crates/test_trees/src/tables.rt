@@ -41,8 +41,8 @@ const KEPT: Summary = Summary {
 #[test]
 fn summaries_are_kept_of_pages_alone(rt: HostRuntime) -> Result<(), Fail> {
     let table = table_after(&rt, rt.alloc(), EMPTIED);
-    assert_same(&rt, table.summary(Pid(0)).copied(), Some(KEPT), "page 0");
-    assert_same(&rt, table.summary(Pid(1)).copied(), None, "page 1");
+    assert_same(&rt, table.summary(Pid(0)), Some(KEPT), "page 0");
+    assert_same(&rt, table.summary(Pid(1)), None, "page 1");
     Ok(())
 }
 

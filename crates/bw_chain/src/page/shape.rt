@@ -53,7 +53,7 @@ fn range_end<A: Allocator + Copy>(end: &Chain<A>) -> (Fence, Option<Pid>)
     ensures right { result.1 ≡ (fences end.now).right }
 {
     match &end.node {
-        Node::Bare(base) => (base.high, base.right),
+        Node::Bare(base) => (base.high.fence(), base.right),
         Node::Above(delta, _) => match *delta {
             Delta::Split(separator, right) => (Fence::Key(separator), Some(right)),
             _ => unreachable!(),

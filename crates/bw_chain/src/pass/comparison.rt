@@ -30,7 +30,7 @@ pub fn same<A: Allocator + Copy>(base: &Base<A>, chain: &Chain<A>) -> bool
     let extent = extent_of(chain);
     let Fences { low, high, right } = extent.fences;
     base.low == low
-        && base.high == high
+        && base.high.fence() == high
         && base.right == right
         && lists_from(base, chain, Fence::Key(0), extent)
 }
@@ -44,7 +44,7 @@ pub fn is_upper_part<A: Allocator + Copy>(base: &Base<A>, chain: &Chain<A>, sepa
     let extent = extent_of(chain);
     let Fences { high, right, .. } = extent.fences;
     base.low == separator
-        && base.high == high
+        && base.high.fence() == high
         && base.right == right
         && lists_from(base, chain, Fence::Key(separator), extent)
 }

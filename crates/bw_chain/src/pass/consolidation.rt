@@ -13,7 +13,7 @@ use crate::pass::edits::{Edits, MOST_EDITS};
 use crate::pass::lists::Lists;
 use crate::pass::pass;
 use bw_delta::{Base, Chain, Entries, EntryList, Fences, NoMemory};
-use bw_keys::{Fence, Key, Pid};
+use bw_keys::{Fence, FenceWord, Key, Pid};
 use std::alloc::Allocator;
 
 /// Returns the base page with all of the chain's effects: its entries, its range and its side link
@@ -31,7 +31,7 @@ pub fn consolidate<A: Allocator + Copy>(alloc: A, chain: &Chain<A>) -> Result<Ba
     let entries = entries_of(alloc, chain, high, is_leaf, room)?;
     Ok(Base {
         low,
-        high,
+        high: FenceWord::new(high),
         right,
         entries,
     })

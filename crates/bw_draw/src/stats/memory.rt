@@ -6,16 +6,7 @@ ghost use Rattle.bw_draw.specs.Figures.{capped, entries_stored, links_below, ent
 use crate::page::Page;
 use bw_delta::{Chain, Node};
 use bw_keys::Key;
-use bw_step::Summary;
 use std::alloc::{Allocator, Global};
-
-/// Returns the size of a slot: version, stage, summary and the newest link of its chain.
-pub(crate) fn slot_bytes() -> u64 {
-    let own = 16;
-    let summary = size_of::<Summary>() as u64;
-    let chain = size_of::<Option<Chain<Global>>>() as u64;
-    summary.saturating_add(chain).saturating_add(own)
-}
 
 /// Returns the size of an entry of a base page.
 pub(crate) fn entry_bytes() -> u64 {

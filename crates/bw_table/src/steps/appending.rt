@@ -102,10 +102,7 @@ impl<A: Allocator + Copy> Slot<A> {
         ensures unfit { result ≡ false
             → (number : ℕ) → TakesPairs self.now number (list_of pairs.entry) → ⊥ }
     {
-        self.stage == Stage::Posted
-            && self.summary.level == 0
-            && self.summary.depth == 0
-            && self.holds_all(pairs)
+        self.stage == Stage::Posted && self.level == 0 && self.depth == 0 && self.holds_all(pairs)
     }
 
     /// Whether the range of the page holds all keys, which rise.
@@ -147,15 +144,12 @@ impl<A: Allocator + Copy> Slot<A> {
             → self.new ≡ slot_with_each (list_of pairs.entry) self.old }
         ensures unchanged { result ≡ false → self.new ≡ self.old }
     {
-        let Some(chain) = &mut self.chain else {
-            return false;
-        };
-        if !append_in_place(chain, pairs) {
+        if !self.stage.is_in_row() || !append_in_place(&mut self.chain, pairs) {
             return false;
         }
         let count = pairs.len() as u64;
         self.version += 2 * count;
-        self.summary.count += count;
+        self.count += count;
         true
     }
 }

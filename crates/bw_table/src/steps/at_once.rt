@@ -8,7 +8,8 @@ ghost use Rattle.bw_delta.specs.Pages.{upper_part};
 ghost use Rattle.bw_delta.specs.Records.{Records, depth};
 ghost use Rattle.bw_delta.specs.Slices.{list_of};
 ghost use Rattle.bw_delta.specs.Sound.{page_for};
-ghost use Rattle.bw_table.specs.SlotFacts.{HasSoundChain, upper_summary};
+ghost use Rattle.bw_table.specs.Fields.{no_page};
+ghost use Rattle.bw_table.specs.SlotFacts.{HasSoundChain, kept_from};
 ghost use Rattle.bw_chain.specs.InPlaces.{WantsMemory, delta_for, inserts, is_flat};
 ghost use Rattle.bw_chain.specs.Pages.Halves.{key_at, listed_key_at};
 ghost use Rattle.bw_step.specs.declared.action.Action.TheVariants as actions;
@@ -25,12 +26,13 @@ ghost use Rattle.bw_table.specs.Actions.{Performs, IsUnfit, IsUsedUp, had_at};
 ghost use Rattle.bw_table.specs.InPlaces.{IsPostedLeaf, IsWhyUndone, MayCut, MayPost, MayPostAtOnce, MaySplitAtOnce, MaySplitBefore, TakesCut, TakesInPlace, IsSplitAtOnce, IsSplitUnder, IsPosted, HasNoTerm, TakesTerm, slot_cut, IsDoneAtOnce, count_after, slot_with, slots_with, slots_posted_at_once, slots_split_at_once, receipt_for};
 
 use crate::book::number_of;
-use crate::slot::Slot;
-use crate::table::{NO_PAGE, Table};
+use crate::link::{Link, NO_PAGE};
+use crate::slot::{Kept, Slot};
+use crate::table::Table;
 use bw_chain::{InPlace, change_in_place, cut_in_place, route_in_place, upper_part_of};
 use bw_delta::{Base, Delta, Entries, EntrySlice, Node};
-use bw_keys::{Fence, Key, Pid, Wished};
-use bw_step::{Book, Denied, Performed, Receipt, Stage, Summary, Unperformed};
+use bw_keys::{Fence, FenceWord, Key, Pid, Wished};
+use bw_step::{Book, Denied, Performed, Receipt, Stage, Unperformed};
 use std::alloc::Allocator;
 
 impl<A: Allocator + Copy> Table<A> {
@@ -162,6 +164,7 @@ fn post_at<A: Allocator + Copy>(
     requires child_exists { child.0 < length slots.old.items }
     requires apart { child.0 ≢ parent.0 }
     requires takes { TakesTerm slots.old.items parent.0 child.0 }
+    requires child_here { is_in_row (slot_in slots.old.items child.0).stage ≡ true }
     requires version { (slot_in slots.old.items child.0).version + 1 < 2 ^ 64 }
     ensures absent { OnOk result (HasNoTerm slots.old.items parent.0 child.0) }
     ensures inner { OnOk result (is_leaf (chain_in (slot_in slots.old.items parent.0)) ≡ false) }
@@ -186,8 +189,8 @@ impl<A: Allocator + Copy> Slot<A> {
         self.stage == Stage::Posted
             && under.stage == Stage::Unposted
             && self.is_above(under)
-            && self.summary.depth == 0
-            && self.holds(under.summary.low)
+            && self.depth == 0
+            && self.holds(under.low)
             && self.version < u64::MAX - 1
             && under.version < u64::MAX
     }
@@ -213,15 +216,12 @@ impl<A: Allocator + Copy> Slot<A> {
             → self.new ≡ slot_with (Some (deltas.TermAdd separator child)) self.old }
         ensures unchanged { result ≡ false → self.new ≡ self.old }
     {
-        let Some(chain) = &mut self.chain else {
-            return false;
-        };
-        if !route_in_place(chain, separator, child) {
+        if !self.stage.is_in_row() || !route_in_place(&mut self.chain, separator, child) {
             return false;
         }
         self.version += 2;
-        self.summary.count += 1;
-        self.summary.depth = 0;
+        self.count += 1;
+        self.depth = 0;
         true
     }
 }
@@ -356,6 +356,7 @@ fn cut_at<A: Allocator + Copy>(
     requires new_exists { new.0 < length slots.old.items }
     requires apart { new.0 ≢ page.0 }
     requires takes { TakesCut (slot_in slots.old.items page.0) separator }
+    requires link { new.0 < no_page }
     requires new_version { (slot_in slots.old.items new.0).version + 1 < 2 ^ 64 }
     ensures { slots.new.items ≡ slots_split_at_once page.0 new separator base slots.old.items }
 {
@@ -382,7 +383,7 @@ impl<A: Allocator + Copy> Slot<A> {
         ensures page { IfSome result (λ part.
             part.1 ≡ upper_part part.0 (page_for (chain_in self.now))) }
     {
-        match &self.chain {
+        match self.chain() {
             Some(chain) => upper_part_of(chain, number, room),
             None => None,
         }
@@ -394,36 +395,29 @@ impl<A: Allocator + Copy> Slot<A> {
         ensures unfit { result ≡ false → MayCut self.now separator → ⊥ }
     {
         self.stage == Stage::Posted
-            && self.summary.depth == 0
+            && self.depth == 0
             && self.version < u64::MAX - 1
-            && self.summary.low < separator
+            && self.low < separator
             && self.holds(separator)
             && self.is_later_key(separator)
     }
 
-    /// Ends the page before the separator, and returns the summary of the part from it on.
-    fn cut_in_place(&mut self, separator: Key, new: Pid, count: u64) -> Summary
+    /// Ends the page before the separator, and returns what is kept of the part from it on.
+    fn cut_in_place(&mut self, separator: Key, new: Pid, count: u64) -> Kept
         requires takes { TakesCut self.old separator }
-        ensures upper { result ≡ upper_summary separator count self.old }
+        requires link { new.0 < no_page }
+        ensures upper { result ≡ kept_from separator count self.old }
         ensures lower { self.new ≡ slot_cut separator new count self.old }
     {
-        let upper = Summary {
-            low: separator,
-            count,
-            depth: 0,
-            ..self.summary
-        };
-        let Some(chain) = &mut self.chain else {
-            unreachable!()
-        };
-        if !cut_in_place(chain, separator, new) {
+        let upper = self.kept_from(separator, count);
+        if !self.stage.is_in_row() || !cut_in_place(&mut self.chain, separator, new) {
             unreachable!()
         }
         self.version += 2;
-        self.summary.count = self.summary.count.saturating_sub(count);
-        self.summary.depth = 0;
-        self.summary.high = Fence::Key(separator);
-        self.summary.right = Some(new);
+        self.count = self.count.saturating_sub(count);
+        self.depth = 0;
+        self.high = FenceWord::new(Fence::Key(separator));
+        self.right = Link::to(new);
         upper
     }
 }
@@ -501,14 +495,14 @@ impl<A: Allocator + Copy> Slot<A> {
         ensures leaf { IsTrue result → IsPostedLeaf self.now key }
         ensures unfit { result ≡ false → IsPostedLeaf self.now key → ⊥ }
     {
-        self.stage == Stage::Posted && self.summary.level == 0 && self.holds(key)
+        self.stage == Stage::Posted && self.level == 0 && self.holds(key)
     }
 
     /// Whether no record stands on the page, or only that of its split.
     fn is_flat(&self) -> bool
         ensures { result ≡ is_flat (chain_in self.now) }
     {
-        match &self.chain {
+        match self.chain() {
             Some(chain) => match &chain.node {
                 Node::Bare(_) => true,
                 Node::Above(Delta::Split(_, _), below) => matches!(&below.node, Node::Bare(_)),
@@ -530,15 +524,15 @@ impl<A: Allocator + Copy> Slot<A> {
         ensures memory { IfNone result ((chain : Records)
             → self.old.chain ≡ Some chain → WantsMemory chain key wished) }
     {
-        let Some(chain) = &mut self.chain else {
+        if !self.stage.is_in_row() {
             return None;
-        };
-        let done = change_in_place(chain, key, wished)?;
+        }
+        let done = change_in_place(&mut self.chain, key, wished)?;
         if let Some(delta) = done.delta {
             self.version += 2;
-            let count = count_after(delta, self.summary.count);
-            settle(&mut self.summary.count, count);
-            settle_depth(&mut self.summary.depth);
+            let count = count_after(delta, self.count);
+            settle(&mut self.count, count);
+            settle_depth(&mut self.depth);
         }
         Some(done)
     }

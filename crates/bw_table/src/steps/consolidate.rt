@@ -1,6 +1,7 @@
 //! consolidate: the base is the chain.
 
-ghost use Rattle.std.specs.Prelude.{◌≡◌, ◌+◌, ◌^◌, ◌<◌, None};
+ghost use Rattle.std.specs.Prelude.{◌≡◌, ◌+◌, ◌^◌, ◌<◌, true, None};
+ghost use Rattle.bw_step.specs.Stages.{is_in_row};
 ghost use Rattle.bw_step.specs.ProposalView.{consolidate_of};
 ghost use Rattle.bw_law.specs.Effects.{TakesStep, consolidated};
 ghost use Rattle.bw_law.specs.Refusals.{refusal, consolidate_reasons};
@@ -67,11 +68,12 @@ fn may_consolidate<A: Allocator + Copy>(
 impl<A: Allocator + Copy> Slot<A> {
     #[inline(always)]
     fn consolidate(&mut self, base: Base<A>)
+        requires in_row { is_in_row self.old.stage ≡ true }
         requires version { self.old.version + 1 < 2 ^ 64 }
         ensures { self.new ≡ consolidated base self.old }
     {
         self.version += 1;
-        self.summary.depth = 0;
-        self.chain = Some(Chain::bare(base));
+        self.depth = 0;
+        self.chain = Chain::bare(base);
     }
 }

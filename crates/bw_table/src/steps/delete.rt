@@ -62,7 +62,7 @@ impl<A: Allocator + Copy> Slot<A> {
         ensures slot { self.new ≡ with_record (deltas.Delete key) (self.old.count - 1) self.old }
     {
         let value = self.find(key).unwrap_or(0);
-        let count = self.summary.count - 1;
+        let count = self.count - 1;
         self.record(Delta::Delete(key), count, spare);
         value
     }

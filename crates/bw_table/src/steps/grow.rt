@@ -1,7 +1,8 @@
 //! grow: a new page takes the base and is the root, one level higher; the child is Posted.
 
-ghost use Rattle.std.specs.Prelude.{◌≡◌, ◌≢◌, ◌+◌, ◌^◌, ◌<◌, None, [], ◌∷◌, length, is_none, unwrap_or, option_copied};
+ghost use Rattle.std.specs.Prelude.{◌≡◌, ◌≢◌, ◌+◌, ◌^◌, ◌<◌, true, None, [], ◌∷◌, length, is_none, unwrap_or, option_copied};
 ghost use Rattle.bw_step.specs.ProposalView.{grow_of};
+ghost use Rattle.bw_step.specs.Stages.{is_in_row};
 ghost use Rattle.bw_law.specs.Effects.{TakesStep, slots_grown};
 ghost use Rattle.bw_law.specs.Refusals.{refusal, grow_reasons, root_page};
 ghost use Rattle.bw_delta.specs.Slices.{list_of};
@@ -9,12 +10,13 @@ ghost use Rattle.bw_law.specs.Same.{is_same_page, are_same_entries, is_same_pid}
 ghost use Rattle.bw_law.specs.Slots.{SlotValue, slot_in};
 ghost use Rattle.bw_table.specs.Answers.{AnswersFirst, fine_unless};
 
-use crate::slot::{NOTHING, Slot};
+use crate::link::Link;
+use crate::slot::{Kept, Slot};
 use crate::steps::shared::check_room;
 use crate::table::Table;
 use bw_delta::{Base, Entries, EntrySlice};
-use bw_keys::{Fence, Key, MAX_LEVEL, Pid};
-use bw_step::{Grow, Kind, Receipt, Refused, Stage, Summary};
+use bw_keys::{Fence, FenceWord, Key, MAX_LEVEL, Pid};
+use bw_step::{Grow, Kind, Receipt, Refused, Stage};
 use std::alloc::Allocator;
 
 impl<A: Allocator + Copy> Table<A> {
@@ -75,16 +77,16 @@ fn may_grow<A: Allocator + Copy>(
     if step.base.is_leaf() {
         return Err(Refused::WrongKind);
     }
-    if !is_root_page(&step.base, root_id, under.summary.low, step.child) {
+    if !is_root_page(&step.base, root_id, under.low, step.child) {
         return Err(Refused::NotSame);
     }
     if under.stage != Stage::Unposted {
         return Err(Refused::WrongStage);
     }
-    if under.summary.level != root.summary.level {
+    if under.level != root.level {
         return Err(Refused::WrongParent);
     }
-    if root.summary.level >= MAX_LEVEL {
+    if root.level >= MAX_LEVEL {
         return Err(Refused::TooTall);
     }
     check_room(under, new)
@@ -95,7 +97,7 @@ fn is_root_page<A: Allocator + Copy>(base: &Base<A>, root: Pid, low: Key, child:
     ensures { result ≡ is_same_page base.now (root_page root.0 low child.0) }
 {
     base.low == 0
-        && base.high == Fence::Top
+        && base.high.fence() == Fence::Top
         && base.right.is_none()
         && match &base.entries {
             Entries::Routes(routes) => are_root_routes(routes.as_slice(), root, low, child),
@@ -134,16 +136,19 @@ fn grow_at<A: Allocator + Copy>(
     requires child_exists { child.0 < length slots.old.items }
     requires new_exists { new.0 < length slots.old.items }
     requires apart { new.0 ≢ child.0 }
+    requires child_here { is_in_row (slot_in slots.old.items child.0).stage ≡ true }
     requires child_version { (slot_in slots.old.items child.0).version + 1 < 2 ^ 64 }
     requires new_version { (slot_in slots.old.items new.0).version + 1 < 2 ^ 64 }
     requires level { level + 1 < 256 }
     ensures { slots.new.items ≡ slots_grown child.0 new.0 level base slots.old.items }
 {
     slots[child.0 as usize].post();
-    let whole = Summary {
+    let whole = Kept {
+        low: 0,
+        high: FenceWord::new(Fence::Top),
+        right: Link::none(),
         level: level + 1,
         count: base.len() as u64,
-        ..NOTHING
     };
     slots[new.0 as usize].hold(Stage::Posted, whole, base);
 }

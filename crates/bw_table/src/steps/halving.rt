@@ -132,7 +132,7 @@ fn may_halve<A: Allocator + Copy>(
     if !slot.holds(separator) {
         return Err(Refused::OutOfRange);
     }
-    if slot.summary.depth > 0 {
+    if slot.depth > 0 {
         return Err(Refused::NotBare);
     }
     if !slot.is_later_key(separator) || child_leaving {
@@ -150,7 +150,7 @@ impl<A: Allocator + Copy> Slot<A> {
         ensures above { IfNone result ((records : Records)
             → self.now.chain ≡ Some records → 0 < depth records) }
     {
-        match &self.chain {
+        match self.chain() {
             Some(chain) => match &chain.node {
                 Node::Bare(base) => Some(base),
                 Node::Above(_, _) | Node::Merged(_, _, _) => None,

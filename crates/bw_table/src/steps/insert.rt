@@ -75,7 +75,7 @@ impl<A: Allocator + Copy> Slot<A> {
         requires count { self.old.count + 1 < 2 ^ 64 }
         ensures { self.new ≡ with_record (deltas.Insert key value) (suc self.old.count) self.old }
     {
-        let count = self.summary.count + 1;
+        let count = self.count + 1;
         self.record(Delta::Insert(key, value), count, spare);
     }
 }

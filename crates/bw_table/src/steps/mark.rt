@@ -7,8 +7,9 @@ ghost use Rattle.bw_law.specs.Refusals.{refusal, mark_reasons};
 ghost use Rattle.bw_table.specs.Answers.{AnswersFirst, fine_unless};
 ghost use Rattle.bw_table.specs.SlotFacts.{MayGrowDeeper};
 
+use crate::link::NO_PAGE;
 use crate::slot::Slot;
-use crate::table::{NO_PAGE, Table};
+use crate::table::Table;
 use bw_delta::{Delta, Spare};
 use bw_keys::MAX_DEPTH;
 use bw_step::{Kind, Mark, Receipt, Refused, Stage};
@@ -64,14 +65,14 @@ fn may_mark<A: Allocator + Copy>(
     if slot.stage != Stage::Posted {
         return Err(Refused::WrongStage);
     }
-    if !over.holds(slot.summary.low) {
+    if !over.holds(slot.low) {
         return Err(Refused::WrongParent);
     }
-    if slot.summary.low == over.summary.low {
+    if slot.low == over.low {
         return Err(Refused::Leftmost);
     }
     // The chain must still fit under the merge record of its left neighbour.
-    if slot.summary.depth > MAX_DEPTH - 2 {
+    if slot.depth > MAX_DEPTH - 2 {
         return Err(Refused::Deep);
     }
     if slot.is_worn() {
@@ -85,7 +86,7 @@ impl<A: Allocator + Copy> Slot<A> {
         requires deeper { MayGrowDeeper self.old }
         ensures { self.new ≡ marked self.old }
     {
-        let count = self.summary.count;
+        let count = self.count;
         self.record(Delta::Remove, count, spare);
         self.stage = Stage::Marked;
     }

@@ -2,22 +2,20 @@
 //! link, and the counts add up; the page is Merged and keeps its low and level.
 
 ghost use Rattle.std.specs.Prelude.{◌≡◌, ◌≢◌, ◌+◌, ◌^◌, ◌<◌, None, length};
-ghost use Rattle.std.specs.Option.{ForSome};
-ghost use Rattle.bw_keys.specs.declared.page.TheConstants.{MAX_DEPTH};
-ghost use Rattle.bw_delta.specs.Records.{depth};
 ghost use Rattle.bw_step.specs.ProposalView.{merge_of};
-ghost use Rattle.bw_law.specs.Effects.{TakesStep, slots_merged, taken_in};
+ghost use Rattle.bw_law.specs.Effects.{TakesStep, joined, slots_merged, taken_in};
 ghost use Rattle.bw_law.specs.Refusals.{refusal, merge_reasons};
 ghost use Rattle.bw_law.specs.Slots.{slot_in};
 ghost use Rattle.bw_table.specs.Answers.{AnswersFirst, fine_unless};
-ghost use Rattle.bw_table.specs.SlotFacts.{MayGrowDeeper, joined_with, summary_of};
+ghost use Rattle.bw_table.specs.SlotFacts.{MayGrowDeeper};
 
-use crate::slot::{NOTHING, Slot};
+use crate::slot::Slot;
 use crate::table::Table;
-use bw_delta::{Chain, Spare};
+use bw_delta::Spare;
 use bw_keys::{MAX_DEPTH, Pid};
-use bw_step::{Kind, Merge, Receipt, Refused, Stage, Summary};
+use bw_step::{Kind, Merge, Receipt, Refused, Stage};
 use std::alloc::Allocator;
+use std::mem;
 
 impl<A: Allocator + Copy> Table<A> {
     /// Why the merge is refused.
@@ -42,7 +40,14 @@ impl<A: Allocator + Copy> Table<A> {
             page_spare,
             ..
         } = step;
-        merge_at(&mut self.slots, left, page, left_spare, page_spare);
+        merge_at(
+            self.alloc,
+            &mut self.slots,
+            left,
+            page,
+            left_spare,
+            page_spare,
+        );
         Receipt::Shaped {
             kind: Kind::Merge,
             page: left,
@@ -69,16 +74,16 @@ fn may_merge<A: Allocator + Copy>(
     if into.stage == Stage::Marked {
         return Err(Refused::Frozen);
     }
-    if into.summary.level != slot.summary.level {
+    if into.level != slot.level {
         return Err(Refused::WrongKind);
     }
     if slot.stage != Stage::Marked {
         return Err(Refused::WrongStage);
     }
-    if into.summary.right != Some(step.page) {
+    if into.right() != Some(step.page) {
         return Err(Refused::NotNeighbours);
     }
-    if into.summary.depth.max(slot.summary.depth) >= MAX_DEPTH {
+    if into.depth.max(slot.depth) >= MAX_DEPTH {
         return Err(Refused::Deep);
     }
     if into.is_worn() || slot.is_worn() {
@@ -89,6 +94,7 @@ fn may_merge<A: Allocator + Copy>(
 
 /// Moves the chain of a page under a merge record of its left neighbour.
 fn merge_at<A: Allocator + Copy>(
+    alloc: A,
     slots: &mut Vec<Slot<A>>,
     left: Pid,
     page: Pid,
@@ -104,64 +110,53 @@ fn merge_at<A: Allocator + Copy>(
         + (slot_in slots.old.items page.0).count < 2 ^ 64 }
     ensures { slots.new.items ≡ slots_merged left.0 page.0 slots.old.items }
 {
-    let given = slots[page.0 as usize].give_up();
+    let given = slots[page.0 as usize].give_up(alloc);
     slots[left.0 as usize].take_in(given, left_spare, page_spare);
 }
 
-/// What a page that is merged leaves to its left neighbour.
-#[derive(Drop)]
-struct Given<A: Allocator> {
-    summary: Summary,
-    chain: Option<Chain<A>>,
-}
-
 impl<A: Allocator + Copy> Slot<A> {
-    /// Ends the page: it keeps its low and its level, until its term is taken out.
-    fn give_up(&mut self) -> Given<A>
+    /// Ends the page, which keeps its low and its level until its term is taken out. Returns the slot as it
+    /// was.
+    fn give_up(&mut self, alloc: A) -> Slot<A>
         requires version { self.old.version + 1 < 2 ^ 64 }
-        ensures given { result ≡ record { summary = summary_of self.old; chain = self.old.chain } }
+        ensures given { result ≡ self.old }
         ensures slot { self.new ≡ taken_in self.old }
     {
-        let summary = self.summary;
-        self.version += 1;
-        self.stage = Stage::Merged;
-        self.summary = Summary {
-            low: summary.low,
-            level: summary.level,
-            ..NOTHING
-        };
-        Given {
-            summary,
-            chain: self.chain.take(),
-        }
+        let mut ended = Slot::free(alloc, self.version + 1);
+        ended.stage = Stage::Merged;
+        ended.low = self.low;
+        ended.level = self.level;
+        mem::replace(self, ended)
     }
 
-    fn take_in(&mut self, given: Given<A>, left_spare: Spare<A>, page_spare: Spare<A>)
+    /// Takes in the page that the slot was given up by.
+    fn take_in(&mut self, given: Slot<A>, left_spare: Spare<A>, page_spare: Spare<A>)
         requires deeper { MayGrowDeeper self.old }
-        requires given_shallow { ForSome given.chain (λ chain. depth chain < MAX_DEPTH) }
-        requires given_depth { given.summary.depth < MAX_DEPTH }
-        requires count { self.old.count + given.summary.count < 2 ^ 64 }
-        ensures { self.new ≡ joined_with self.old given.summary given.chain }
+        requires given_deeper { MayGrowDeeper given }
+        requires count { self.old.count + given.count < 2 ^ 64 }
+        ensures { self.new ≡ joined self.old given }
     {
-        let Given { summary, chain } = given;
+        let Slot {
+            high,
+            right,
+            depth,
+            count,
+            low,
+            chain,
+            ..
+        } = given;
         self.version += 1;
-        self.summary.high = summary.high;
-        self.summary.right = summary.right;
-        self.summary.count += summary.count;
-        self.summary.depth = self.summary.depth.max(summary.depth) + 1;
-        let Some(right) = chain else {
-            self.chain = None;
-            return;
-        };
-        if let Some(left) = &mut self.chain {
-            left.merge(
-                right,
-                summary.low,
-                summary.high,
-                summary.right,
-                left_spare,
-                page_spare,
-            );
-        }
+        self.high = high;
+        self.right = right;
+        self.count += count;
+        self.depth = self.depth.max(depth) + 1;
+        self.chain.merge(
+            chain,
+            low,
+            high.fence(),
+            right.page(),
+            left_spare,
+            page_spare,
+        );
     }
 }

@@ -34,7 +34,7 @@ impl<A: Allocator + Copy> Table<A> {
         if !self.may_merge_under(parent, left, page) {
             return Err(Unperformed::StepByStep);
         }
-        let Some(version) = merge_at(&mut self.slots, parent, left, page) else {
+        let Some(version) = merge_at(self.alloc, &mut self.slots, parent, left, page) else {
             return Err(Unperformed::Denied(Denied::NoMemory));
         };
         self.free.give_back(page, version);
@@ -92,7 +92,7 @@ impl<A: Allocator + Copy> Slot<A> {
         ensures may { IsTrue result → IsBare self.now }
         ensures unfit { result ≡ false → IsBare self.now → ⊥ }
     {
-        self.stage == Stage::Posted && self.summary.depth == 0
+        self.stage == Stage::Posted && self.depth == 0
     }
 
     /// Whether this is the page above the other, and not the first one under it.
@@ -100,7 +100,7 @@ impl<A: Allocator + Copy> Slot<A> {
         ensures may { IsTrue result → IsOver self.now slot.now }
         ensures unfit { result ≡ false → IsOver self.now slot.now → ⊥ }
     {
-        self.is_above(slot) && self.holds(slot.summary.low) && self.summary.low < slot.summary.low
+        self.is_above(slot) && self.holds(slot.low) && self.low < slot.low
     }
 
     /// Whether the page links to the other, and both together have no more entries than that.
@@ -108,15 +108,14 @@ impl<A: Allocator + Copy> Slot<A> {
         ensures may { IsTrue result → IsLeftOf self.now slot.now page.0 most }
         ensures unfit { result ≡ false → IsLeftOf self.now slot.now page.0 most → ⊥ }
     {
-        self.summary.right == Some(page)
-            && self.summary.count <= most
-            && slot.summary.count <= most - self.summary.count
+        self.right() == Some(page) && self.count <= most && slot.count <= most - self.count
     }
 }
 
 /// Moves the entries of the page to the left one, frees its slot, and takes its term out of the
 /// parent. Returns the version of the free slot, or returns `None` and changes nothing.
 fn merge_at<A: Allocator + Copy>(
+    alloc: A,
     slots: &mut Vec<Slot<A>>,
     parent: Pid,
     left: Pid,
@@ -130,7 +129,7 @@ fn merge_at<A: Allocator + Copy>(
     ensures unchanged { IfNone result (slots.new.items ≡ slots.old.items) }
 {
     let version = slots[page.0 as usize].version + 3;
-    let taken = mem::replace(&mut slots[page.0 as usize], Slot::free(version));
+    let taken = mem::replace(&mut slots[page.0 as usize], Slot::free(alloc, version));
     if !slots[left.0 as usize].join(&taken) {
         slots[page.0 as usize] = taken;
         return None;
@@ -146,20 +145,17 @@ impl<A: Allocator + Copy> Slot<A> {
         ensures joined { result ≡ true → self.new ≡ slot_joined self.old right.now }
         ensures unchanged { result ≡ false → self.new ≡ self.old }
     {
-        let Some(taken) = &right.chain else {
+        let Some(taken) = right.chain() else {
             return false;
         };
-        let Some(chain) = &mut self.chain else {
-            return false;
-        };
-        if !join_in_place(chain, taken) {
+        if !self.stage.is_in_row() || !join_in_place(&mut self.chain, taken) {
             return false;
         }
         self.version += 2;
-        self.summary.high = right.summary.high;
-        self.summary.right = right.summary.right;
-        self.summary.count += right.summary.count;
-        self.summary.depth = 0;
+        self.high = right.high;
+        self.right = right.right;
+        self.count += right.count;
+        self.depth = 0;
         true
     }
 
@@ -168,12 +164,12 @@ impl<A: Allocator + Copy> Slot<A> {
         requires { LosesTerm self.old }
         ensures { self.new ≡ slot_with (Some (deltas.TermDelete separator)) self.old }
     {
-        let Some(chain) = &mut self.chain else {
+        if !self.stage.is_in_row() {
             unreachable!()
-        };
-        unroute_in_place(chain, separator);
+        }
+        unroute_in_place(&mut self.chain, separator);
         self.version += 2;
-        self.summary.count = self.summary.count.saturating_sub(1);
-        self.summary.depth = 0;
+        self.count = self.count.saturating_sub(1);
+        self.depth = 0;
     }
 }

@@ -60,7 +60,7 @@ impl<A: Allocator + Copy> Slot<A> {
         ensures slot { self.new ≡ with_record (deltas.Modify key value) self.old.count self.old }
     {
         let old = self.find(key).unwrap_or(0);
-        let count = self.summary.count;
+        let count = self.count;
         self.record(Delta::Modify(key, value), count, spare);
         old
     }

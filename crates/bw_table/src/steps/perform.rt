@@ -51,7 +51,7 @@ impl<A: Allocator + Copy> Table<A> {
         ensures depth { result.depth ≡ (slot_at self.now page.0).depth }
     {
         let (count, depth) = match self.slot(page) {
-            Some(slot) => (slot.summary.count, slot.summary.depth),
+            Some(slot) => (slot.count, slot.depth),
             None => (0, 0),
         };
         Performed {

@@ -1,17 +1,18 @@
 //! What several steps have in common: reasons to refuse them, and changes of one slot.
 
-ghost use Rattle.std.specs.Prelude.{◌≡◌, ◌+◌, ◌^◌, ◌<◌, is_none, unwrap_or, option_copied};
+ghost use Rattle.std.specs.Prelude.{◌≡◌, ◌+◌, ◌^◌, ◌<◌, true, is_none, unwrap_or, option_copied};
 ghost use Rattle.bw_step.specs.declared.view.Stage.TheVariants.{Posted};
+ghost use Rattle.bw_step.specs.Stages.{is_in_row};
 ghost use Rattle.bw_law.specs.Effects.{with_record, with_stage};
 ghost use Rattle.bw_law.specs.Slots.{SlotValue};
 ghost use Rattle.bw_law.specs.Refusals.{found_reasons, open_reasons, leaf_reasons, change_reasons, room_reasons};
 ghost use Rattle.bw_table.specs.Answers.{AnswersFirst};
 ghost use Rattle.bw_table.specs.SlotFacts.{MayGrowDeeper, holding};
 
-use crate::slot::Slot;
+use crate::slot::{Kept, Slot};
 use bw_delta::{Base, Chain, Delta, Spare};
 use bw_keys::{Key, Version};
-use bw_step::{Refused, Stage, Summary};
+use bw_step::{Refused, Stage};
 use std::alloc::Allocator;
 
 /// Why a page isn't open for a change: it isn't in a row, has another version, or is leaving.
@@ -41,7 +42,7 @@ pub(super) fn check_leaf<A: Allocator + Copy>(
     ensures { AnswersFirst (leaf_reasons slot.now seen.0 key) result }
 {
     check_open(slot, seen)?;
-    if slot.summary.level > 0 {
+    if slot.level > 0 {
         return Err(Refused::WrongKind);
     }
     if !slot.holds(key) {
@@ -102,7 +103,7 @@ impl<A: Allocator + Copy> Slot<A> {
     pub(super) fn low(&self) -> Key
         ensures { result ≡ self.now.low }
     {
-        self.summary.low
+        self.low
     }
 
     /// Puts a record on top of the chain, by which the page has `count` entries.
@@ -112,26 +113,31 @@ impl<A: Allocator + Copy> Slot<A> {
         ensures { self.new ≡ with_record delta count self.old }
     {
         self.version += 1;
-        self.summary.count = count;
-        self.summary.depth += 1;
-        if let Some(chain) = &mut self.chain {
-            chain.prepend(delta, spare);
-        }
+        self.count = count;
+        self.depth += 1;
+        self.chain.prepend(delta, spare);
     }
 
     /// Takes up a new page.
-    pub(super) fn hold(&mut self, stage: Stage, summary: Summary, base: Base<A>)
+    pub(super) fn hold(&mut self, stage: Stage, kept: Kept, base: Base<A>)
+        requires row { is_in_row stage ≡ true }
         requires version { self.old.version + 1 < 2 ^ 64 }
-        ensures { self.new ≡ holding stage summary base self.old }
+        ensures { self.new ≡ holding stage kept base self.old }
     {
         self.version += 1;
         self.stage = stage;
-        self.summary = summary;
-        self.chain = Some(Chain::bare(base));
+        self.low = kept.low;
+        self.high = kept.high;
+        self.right = kept.right;
+        self.level = kept.level;
+        self.count = kept.count;
+        self.depth = 0;
+        self.chain = Chain::bare(base);
     }
 
     /// Ends the time in which no parent names the page.
     pub(super) fn post(&mut self)
+        requires in_row { is_in_row self.old.stage ≡ true }
         requires version { self.old.version + 1 < 2 ^ 64 }
         ensures { self.new ≡ with_stage Posted self.old }
     {

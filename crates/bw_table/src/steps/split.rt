@@ -8,14 +8,16 @@ ghost use Rattle.bw_law.specs.Effects.{TakesStep, slots_split, cut_before};
 ghost use Rattle.bw_law.specs.Refusals.{refusal, split_reasons, is_leaving_at};
 ghost use Rattle.bw_law.specs.Slots.{SlotValue, slot_in, routes_in};
 ghost use Rattle.bw_table.specs.Answers.{AnswersFirst, fine_unless};
-ghost use Rattle.bw_table.specs.SlotFacts.{HasSoundChain, MayGrowDeeper, upper_summary};
+ghost use Rattle.bw_table.specs.Fields.{no_page};
+ghost use Rattle.bw_table.specs.SlotFacts.{HasSoundChain, MayGrowDeeper, kept_from};
 
-use crate::slot::Slot;
+use crate::link::{Link, NO_PAGE};
+use crate::slot::{Kept, Slot};
 use crate::steps::shared::{check_open, check_room};
-use crate::table::{NO_PAGE, Table};
+use crate::table::Table;
 use bw_delta::{Base, Delta, Spare};
-use bw_keys::{Fence, Key, Pid};
-use bw_step::{Kind, Receipt, Refused, Split, Stage, Summary};
+use bw_keys::{Fence, FenceWord, Key, Pid};
+use bw_step::{Kind, Receipt, Refused, Split, Stage};
 use std::alloc::Allocator;
 
 impl<A: Allocator + Copy> Table<A> {
@@ -87,7 +89,7 @@ fn may_split<A: Allocator + Copy>(
     if !slot.holds(step.separator) {
         return Err(Refused::OutOfRange);
     }
-    if slot.summary.depth > 0 {
+    if slot.depth > 0 {
         return Err(Refused::NotBare);
     }
     if !slot.is_later_key(step.separator) || child_leaving {
@@ -114,6 +116,8 @@ fn split_at<A: Allocator + Copy>(
     requires deeper { MayGrowDeeper (slot_in slots.old.items page.0) }
     requires new_version { (slot_in slots.old.items new.0).version + 1 < 2 ^ 64 }
     requires count { listed_length base.listed ≤ (slot_in slots.old.items page.0).count }
+    requires later { 0 < separator }
+    requires link { new.0 < no_page }
     ensures { slots.new.items ≡ slots_split page.0 new separator base slots.old.items }
 {
     let upper = slots[page.0 as usize].split_off(separator, new, base.len() as u64, spare);
@@ -121,23 +125,20 @@ fn split_at<A: Allocator + Copy>(
 }
 
 impl<A: Allocator + Copy> Slot<A> {
-    /// Ends the page before the separator, and returns the summary of the part from it on.
-    fn split_off(&mut self, separator: Key, new: Pid, count: u64, spare: Spare<A>) -> Summary
+    /// Ends the page before the separator, and returns what is kept of the part from it on.
+    fn split_off(&mut self, separator: Key, new: Pid, count: u64, spare: Spare<A>) -> Kept
         requires deeper { MayGrowDeeper self.old }
         requires count { count ≤ self.old.count }
-        ensures upper { result ≡ upper_summary separator count self.old }
+        requires later { 0 < separator }
+        requires link { new.0 < no_page }
+        ensures upper { result ≡ kept_from separator count self.old }
         ensures lower { self.new ≡ cut_before separator new count self.old }
     {
-        let upper = Summary {
-            low: separator,
-            count,
-            depth: 0,
-            ..self.summary
-        };
-        let left = self.summary.count - count;
+        let upper = self.kept_from(separator, count);
+        let left = self.count - count;
         self.record(Delta::Split(separator, new), left, spare);
-        self.summary.high = Fence::Key(separator);
-        self.summary.right = Some(new);
+        self.high = FenceWord::new(Fence::Key(separator));
+        self.right = Link::to(new);
         upper
     }
 }

@@ -1,8 +1,9 @@
 //! term add: a record on the parent; the child is Posted.
 
-ghost use Rattle.std.specs.Prelude.{◌≡◌, ◌≢◌, suc, ◌+◌, ◌^◌, ◌<◌, None, length};
+ghost use Rattle.std.specs.Prelude.{◌≡◌, ◌≢◌, suc, ◌+◌, ◌^◌, ◌<◌, true, None, length};
 ghost use Rattle.bw_delta.specs.declared.chain.Delta.TheVariants as deltas;
 ghost use Rattle.bw_step.specs.ProposalView.{term_add_of};
+ghost use Rattle.bw_step.specs.Stages.{is_in_row};
 ghost use Rattle.bw_law.specs.Effects.{TakesStep, slots_posted, with_record};
 ghost use Rattle.bw_law.specs.Refusals.{refusal, term_add_reasons};
 ghost use Rattle.bw_law.specs.Slots.{slot_in};
@@ -71,10 +72,10 @@ fn may_add_term<A: Allocator + Copy>(
     if under.stage != Stage::Unposted {
         return Err(Refused::WrongStage);
     }
-    if !over.holds(under.summary.low) {
+    if !over.holds(under.low) {
         return Err(Refused::WrongParent);
     }
-    if let Some(child) = over.route_at(under.summary.low) {
+    if let Some(child) = over.route_at(under.low) {
         return Err(Refused::TermStands(child));
     }
     if over.is_full() {
@@ -97,6 +98,7 @@ fn term_add_at<A: Allocator + Copy>(
     requires child_exists { child.0 < length slots.old.items }
     requires apart { child.0 ≢ parent.0 }
     requires deeper { MayGrowDeeper (slot_in slots.old.items parent.0) }
+    requires child_here { is_in_row (slot_in slots.old.items child.0).stage ≡ true }
     requires child_version { (slot_in slots.old.items child.0).version + 1 < 2 ^ 64 }
     requires count { (slot_in slots.old.items parent.0).count + 1 < 2 ^ 64 }
     ensures { slots.new.items ≡ slots_posted parent.0 child slots.old.items }
@@ -112,7 +114,7 @@ impl<A: Allocator + Copy> Slot<A> {
         requires count { self.old.count + 1 < 2 ^ 64 }
         ensures { self.new ≡ with_record (deltas.TermAdd low child) (suc self.old.count) self.old }
     {
-        let count = self.summary.count + 1;
+        let count = self.count + 1;
         self.record(Delta::TermAdd(low, child), count, spare);
     }
 }

@@ -39,7 +39,7 @@ impl<A: Allocator + Copy> Table<A> {
             spare,
             ..
         } = step;
-        let version = term_delete_at(&mut self.slots, parent, child, spare);
+        let version = term_delete_at(self.alloc, &mut self.slots, parent, child, spare);
         self.free.give_back(child, version);
         Receipt::Shaped {
             kind: Kind::TermDelete,
@@ -73,7 +73,7 @@ fn may_delete_term<A: Allocator + Copy>(
     if under.stage != Stage::Merged {
         return Err(Refused::WrongStage);
     }
-    if !over.holds(under.summary.low) {
+    if !over.holds(under.low) {
         return Err(Refused::WrongParent);
     }
     if over.is_full() {
@@ -88,6 +88,7 @@ fn may_delete_term<A: Allocator + Copy>(
 /// Takes the term of a merged child out of its parent, and frees the child's slot. Returns the
 /// version of the free slot.
 fn term_delete_at<A: Allocator + Copy>(
+    alloc: A,
     slots: &mut Vec<Slot<A>>,
     parent: Pid,
     child: Pid,
@@ -104,7 +105,7 @@ fn term_delete_at<A: Allocator + Copy>(
 {
     let low = slots[child.0 as usize].low();
     slots[parent.0 as usize].term_delete(low, spare);
-    slots[child.0 as usize].free_up()
+    slots[child.0 as usize].free_up(alloc)
 }
 
 impl<A: Allocator + Copy> Slot<A> {
@@ -113,17 +114,17 @@ impl<A: Allocator + Copy> Slot<A> {
         requires count { 0 < self.old.count }
         ensures { self.new ≡ with_record (deltas.TermDelete low) (self.old.count - 1) self.old }
     {
-        let count = self.summary.count - 1;
+        let count = self.count - 1;
         self.record(Delta::TermDelete(low), count, spare);
     }
 
     /// Frees the slot, and returns its version.
-    fn free_up(&mut self) -> u64
+    fn free_up(&mut self, alloc: A) -> u64
         requires version { self.old.version + 1 < 2 ^ 64 }
         ensures version { result ≡ suc self.old.version }
         ensures slot { self.new ≡ free_slot (suc self.old.version) }
     {
-        *self = Slot::free(self.version + 1);
+        *self = Slot::free(alloc, self.version + 1);
         self.version
     }
 }

@@ -22,12 +22,12 @@ invariant_of-base g c =
     let base = c.base.inside in
     elim c.match-base.branch [
       | in-Pairs w ↦
-          rw w.base-inside-is
+          rw (w.base-inside-is, c.new-base-inside.ensures)
           (cut_lists c.args.separator c.args.right (page_of base.low base.high base.right base.entries) _ c.base.invariant (rw (← c.base.view_is) at c.requires.within)
           (rw (← c.base.view_is) at c.requires.later)
           (ap (λ e. listed_below c.args.separator (listed e)) w.in-Pairs.is ∙ ap pairs_of (sym w.cut_listed.ensures)))
       | in-Routes w ↦
-          rw w.base-inside-is
+          rw (w.base-inside-is, c.new-base-inside.ensures)
           (cut_lists c.args.separator c.args.right (page_of base.low base.high base.right base.entries) _ c.base.invariant (rw (← c.base.view_is) at c.requires.within)
           (rw (← c.base.view_is) at c.requires.later)
           (ap (λ e. listed_below c.args.separator (listed e)) w.in-Routes.is ∙ ap routes_of (sym w.cut_listed-in-Routes.ensures)))

@@ -11,7 +11,7 @@ pub consolidate-requires : goal.consolidate-requires
 consolidate-requires g c =
     let does = does_consolidate c.self.invariant c.self.view_is c.args.step c.requires in
     let read = reads _ _ _ does.inside c.index_mut.ensures.value in
-    record { version = rw read does.version }
+    record { in_row = rw read does.in_row; version = rw read does.version }
 
 pub invariant_of-self : goal.invariant_of-self
 invariant_of-self g c =

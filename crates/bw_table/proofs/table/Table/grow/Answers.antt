@@ -14,6 +14,7 @@ grow_at-requires g c =
     rw (← new, level)
     (record {
       child_exists = does.child_exists;
+      child_here = does.child_here;
       new_exists = does.new_exists;
       apart = does.apart;
       child_version = does.child_version;

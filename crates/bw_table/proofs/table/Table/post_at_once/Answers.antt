@@ -1,7 +1,8 @@
-use Rattle.std.proofs.Common.{ℕ, List}
+use Rattle.std.proofs.Common.{ℕ, List, ap}
 use Rattle.std.specs.Prelude.{Result, Ok, Err, IfErr}
 use Rattle.bw_law.specs.Slots.{SlotValue}
 use Rattle.bw_step.specs.declared.action.Unperformed.{Unperformed}
+use Rattle.bw_step.specs.Stages.{is_in_row}
 use Rattle.bw_table.specs.InPlaces.{HasNoTerm, IsWhyUndone, MayPost}
 use Rattle.bw_table.proofs.InPlaces.{parent_is_inside, child_is_inside, child_is_apart, parent_takes, posted_or_not, unposted_why, whole_if_posted}
 use Rattle.bw_table.proofs.table.Table.post_at_once.Goals as goal
@@ -16,6 +17,7 @@ post_at-requires g c =
       child_exists = child_is_inside c.self.invariant parent child may;
       apart = child_is_apart c.self.invariant parent child may;
       takes = parent_takes c.self.invariant parent child may;
+      child_here = ap is_in_row may.unposted;
       version = may.under_version;
     }
 

@@ -18,6 +18,8 @@ split_at-requires g c =
       deeper = does.deeper;
       new_version = does.new_version;
       count = does.count;
+      later = does.later;
+      link = does.link;
     })
 
 pub invariant_of-self : goal.invariant_of-self

@@ -1,6 +1,7 @@
 use Rattle.std.proofs.Common.{◌≡◌}
 use Rattle.bw_table.proofs.InPlaces.{split_is_inside, new_is_inside, new_is_other, new_rises, split_takes, splits_at_once, whole_both}
 use Rattle.bw_table.proofs.Undone.{may_split_there, not_split_there, one_key}
+use Rattle.bw_table.proofs.Whole.{has_link}
 use Rattle.bw_table.proofs.table.Table.split_at_once.Goals as goal
 
 pub cut_at-requires : goal.cut_at-requires
@@ -12,6 +13,7 @@ cut_at-requires g c =
       new_exists = new_is_inside c.self.invariant may last;
       apart = new_is_other c.self.invariant may last;
       takes = split_takes c.self.invariant may;
+      link = has_link _ _ c.self.invariant.lawful (new_is_inside c.self.invariant may last);
       new_version = new_rises c.self.invariant may last;
     }
 

@@ -16,7 +16,7 @@ leaves-preserved g c =
     let table = c.args.self.now in
     let page = c.in-Some.pid in
     let slot = c.page-slot.ensures in
-    listing_goes_on table slot.lawful (map (leaf_at table.slots)) (map-append (leaf_at table.slots)) c.leaves.next c.slot.inside.summary.right page c.leaves.leaves.items c.push.new.self.items
+    listing_goes_on table slot.lawful (map (leaf_at table.slots)) (map-append (leaf_at table.slots)) c.leaves.next c.slot.inside.right page c.leaves.leaves.items c.push.new.self.items
     c.leaves.invariant c.in-Some.is
     (ap (λ (s : SlotValue). s.right) (c.slot.view_is ∙ slot.there))
     (c.in_ok-push.ensures.items ∙ ap (λ leaf. c.leaves.leaves.items ++ leaf ∷ []) (c.leaf.ensures ∙ ap (leaf_of page) slot.there))
@@ -27,7 +27,7 @@ leaves-smaller g c =
     let page = c.in-Some.pid in
     let slot = c.page-slot.ensures in
     let here = at_next table slot.lawful _ _ page _ c.leaves.invariant c.in-Some.is in
-    fewer_keys_left table slot.lawful c.leaves.next c.slot.inside.summary.right page here.in_row c.in-Some.is (ap (λ (s : SlotValue). s.right) (c.slot.view_is ∙ slot.there))
+    fewer_keys_left table slot.lawful c.leaves.next c.slot.inside.right page here.in_row c.in-Some.is (ap (λ (s : SlotValue). s.right) (c.slot.view_is ∙ slot.there))
 
 pub returns : goal.returns
 returns g c = search rules

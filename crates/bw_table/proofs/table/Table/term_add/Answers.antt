@@ -9,6 +9,7 @@ term_add_at-requires g c =
     record {
       exists = does.exists;
       child_exists = does.child_exists;
+      child_here = does.child_here;
       apart = does.apart;
       deeper = does.deeper;
       child_version = does.child_version;
