@@ -42,6 +42,18 @@ impl<A: Allocator + Copy> Table<A> {
         ensures lawful { Lawful self.now }
         ensures leaf { IsLeafOf self.now key result.0 }
     {
+        match self.guided(key) {
+            Some(page) => page,
+            None => self.walk_down(key),
+        }
+    }
+
+    /// The same by a walk from the root.
+    #[inline(never)]
+    fn walk_down(&self, key: Key) -> Pid
+        ensures lawful { Lawful self.now }
+        ensures leaf { IsLeafOf self.now key result.0 }
+    {
         self.walk(Pid(self.root), key)
     }
 

@@ -1,5 +1,5 @@
-//! Several gets at once: their searches go down side by side, so that the processor fetches the page
-//! of one while it waits for that of another.
+//! Several gets at once: their leaves are found first, so that the processor fetches the leaf of one
+//! while it waits for that of another.
 ghost use Rattle.std.specs.List.{AllZip};
 ghost use Rattle.bw_table.specs.Gets.{IsMapAt, HasReached};
 
@@ -18,39 +18,26 @@ impl<A: Allocator + Copy> Table<A> {
         self.find_each(&keys, &pages)
     }
 
-    /// The page that the search for each key has reached after a step for each level. It is the leaf,
-    /// but where a step went to the right.
+    /// The leaf of each key to which the guide leads, and the root for the others.
     #[inline(always)]
     fn pages_below<const N: usize>(&self, keys: &[Key; N]) -> [Pid; N]
         ensures { AllZip (HasReached self.now) keys.now result }
     {
         let mut pages = [Pid(self.root); N];
-        'levels: for _ in 0..self.root_slot().level {
-            self.each_onward(keys, &mut pages);
+        'keys: for place in 0..N {
+            pages[place] = self.page_towards(keys[place]);
         }
         pages
     }
 
-    /// Takes the search for each key one step further, where it isn't at its leaf.
+    /// The key's leaf, if the guide leads to it, or the root.
     #[inline(always)]
-    fn each_onward<const N: usize>(&self, keys: &[Key; N], pages: &mut [Pid; N])
-        requires { AllZip (HasReached self.now) keys.now pages.old }
-        ensures { AllZip (HasReached self.now) keys.now pages.new }
-    {
-        'keys: for place in 0..N {
-            pages[place] = self.onward_or_here(pages[place], keys[place]);
-        }
-    }
-
-    /// The next page of a search for the key, or this one where it is the leaf.
-    #[inline(always)]
-    fn onward_or_here(&self, page: Pid, key: Key) -> Pid
-        requires { HasReached self.now key page }
+    fn page_towards(&self, key: Key) -> Pid
         ensures { HasReached self.now key result }
     {
-        match self.onward(page, key) {
-            Some(next) => next,
-            None => page,
+        match self.guided(key) {
+            Some(page) => page,
+            None => Pid(self.root),
         }
     }
 

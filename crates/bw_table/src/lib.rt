@@ -9,6 +9,7 @@ mod free;
 mod fresh;
 mod get;
 mod get_many;
+mod guide;
 mod leaf;
 mod link;
 mod listing;

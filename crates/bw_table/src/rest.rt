@@ -49,6 +49,19 @@ impl<A: Allocator + Copy> Table<A> {
         ensures posted { IfSome result (λ page. (slot_at self.now page.0).stage ≡ Stage.Posted) }
         ensures unfinished { IfNone result (MeetsTodo self.now key) }
     {
+        match self.guided(key) {
+            Some(page) => Some(page),
+            None => self.page_from_root(key),
+        }
+    }
+
+    /// The same by a walk from the root.
+    #[inline(never)]
+    fn page_from_root(&self, key: Key) -> Option<Pid>
+        ensures leaf { IfSome result (λ page. IsLeafOf self.now key page.0) }
+        ensures posted { IfSome result (λ page. (slot_at self.now page.0).stage ≡ Stage.Posted) }
+        ensures unfinished { IfNone result (MeetsTodo self.now key) }
+    {
         let mut page = Pid(self.root);
         'walk: loop {
             let slot = self.slot_inside(page);

@@ -13,6 +13,7 @@ use crate::book::number_of;
 use crate::fault::NewFault;
 use crate::free::FreeList;
 use crate::fresh::first_slots;
+use crate::guide::Guide;
 use crate::link::NO_PAGE;
 use crate::slot::Slot;
 use bw_delta::NoMemory;
@@ -33,6 +34,8 @@ pub struct Table<A: Allocator> {
     // A hint: the last leaf, or no page, and the key from which on changes ask it first.
     pub(crate) last_leaf: u32,
     pub(crate) last_from: Key,
+    // A hint: where the leaves began.
+    pub(crate) guide: Guide,
     pub(crate) slots: Vec<Slot<A>>,
     pub(crate) free: FreeList,
     pub(crate) config: Config,
@@ -84,6 +87,7 @@ impl<A: Allocator + Copy> Table<A> {
             root: 0,
             last_leaf: NO_PAGE,
             last_from: 0,
+            guide: Guide::new(machine),
             book: Book {
                 inserted: 0,
                 removed: 0,

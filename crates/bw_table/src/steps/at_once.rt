@@ -138,7 +138,11 @@ impl<A: Allocator + Copy> Table<A> {
         if !self.may_post_at_once(parent, child) {
             return Err(Unperformed::StepByStep);
         }
-        post_at(&mut self.slots, parent, child)
+        let posted = post_at(&mut self.slots, parent, child);
+        if posted.is_ok() {
+            self.pages_changed();
+        }
+        posted
     }
 
     fn may_post_at_once(&self, parent: Pid, child: Pid) -> bool

@@ -38,6 +38,7 @@ impl<A: Allocator + Copy> Table<A> {
             return Err(Unperformed::Denied(Denied::NoMemory));
         };
         self.free.give_back(page, version);
+        self.pages_changed();
         Ok(left)
     }
 

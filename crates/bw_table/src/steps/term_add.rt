@@ -40,6 +40,7 @@ impl<A: Allocator + Copy> Table<A> {
             ..
         } = step;
         term_add_at(&mut self.slots, parent, child, spare);
+        self.pages_changed();
         Receipt::Shaped {
             kind: Kind::TermAdd,
             page: parent,
