@@ -31,9 +31,9 @@ pub record IsUpTo (table : TableValue) (key page : ℕ) : Type 0 where
   pub in_row : is_in_row (slot_at table page).stage ≡ true
   pub low_upto : (slot_at table page).low ≤ key
 
--- a search for the key can go on from this page
-abbrev pub HasReached : TableValue → ℕ → Pid → Type 0
-HasReached table key page = IsUpTo table key page.0
+-- the page is the key's leaf
+abbrev pub HasLeaf : TableValue → ℕ → Pid → Type 0
+HasLeaf table key page = IsLeafOf table key page.0
 
 abbrev pub page_of : ℕ × Pid → Pid
 page_of route = route.1

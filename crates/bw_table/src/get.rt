@@ -37,18 +37,20 @@ impl<A: Allocator + Copy> Table<A> {
     }
 
     /// The leaf whose range holds the key.
+    #[tactic(auto, using(crate::proofs::InPlaces::posted_leaf_is_its))]
     #[inline(always)]
     pub(crate) fn page_for(&self, key: Key) -> Pid
         ensures lawful { Lawful self.now }
         ensures leaf { IsLeafOf self.now key result.0 }
     {
+        self.law();
         match self.guided(key) {
             Some(page) => page,
             None => self.walk_down(key),
         }
     }
 
-    /// The same by a walk from the root.
+    /// The leaf at the end of a walk from the root.
     #[inline(never)]
     fn walk_down(&self, key: Key) -> Pid
         ensures lawful { Lawful self.now }

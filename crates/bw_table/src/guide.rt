@@ -1,185 +1,212 @@
-//! A guide to the leaves: the least key and the page of each, as they were when they were noted.
-//! The keys lie in buckets, so that a search begins near its end. The guide is a hint and no part of
-//! the table's value: a leaf is asked before it is believed.
+//! A guide to the leaves: where each of them ended when it was noted, and its page. It leads a search
+//! straight to the leaf of its key. It is a hint and no part of the table's value, so a leaf is asked
+//! before it is believed.
 
-ghost use Rattle.std.specs.Prelude.{◌≡◌, ◌≤◌, length, IfSome};
-ghost use Rattle.bw_table.specs.InPlaces.{IsPostedLeaf};
+ghost use Rattle.std.specs.Prelude.{◌≡◌, ◌≤◌, IfSome};
 ghost use Rattle.bw_law.specs.Tables.{slot_at};
+ghost use Rattle.bw_table.specs.InPlaces.{IsPostedLeaf};
 
+use crate::link::NO_PAGE;
 use crate::slot::Slot;
-use crate::table::{NO_PAGE, Table};
-use bw_delta::{Base, Entries, EntrySlice, Node};
-use bw_keys::{Fence, Key, MAX_DEPTH, MAX_LEVEL, Pid};
+use crate::table::Table;
+use bw_delta::{Base, Chain, Entries, Node};
+use bw_keys::{Key, MAX_LEVEL, Pid};
 use std::alloc::{AllocError, Allocator, Global};
 
-/// The least keys of leaves in their order, and the page of each.
-#[derive(Drop)]
-pub(crate) struct Guide {
-    // How many keys come before each bucket, and how many there are.
-    starts: Vec<u32>,
-    // The least key of the first bucket.
-    low: Key,
-    // A bucket is two to the power of this many keys wide.
-    shift: u32,
-    // How many leaves were split or merged since the guide was made.
-    changes: u32,
-    // The least keys, and then the greatest key four times.
-    keys: Vec<Key>,
-    // The page of each least key, after the id of no page.
-    pages: Vec<u32>,
+/// A leaf as it was when the guide was made.
+#[derive(Clone, Copy)]
+struct Signpost {
+    /// The least key past the leaf, or the greatest key for the last leaf.
+    end: Key,
+    page: u32,
+    /// How many leaves end before the bucket that has the signpost's number.
+    start: u32,
 }
 
-/// How many buckets there may be for each leaf. Keys that are evenly spread have most of them.
-const BUCKETS: usize = 2;
+impl Signpost {
+    /// 1 if the leaf ends at or below the key, and 0 if not: a number to count by without a branch.
+    #[inline(always)]
+    fn passed_by(&self, key: Key) -> usize
+        ensures { result ≤ 1 }
+    {
+        if self.end <= key { 1 } else { 0 }
+    }
+}
+
+/// Signposts to the leaves, with a bucket of keys for each, and what changed since they were set up.
+#[derive(Drop)]
+pub(crate) struct Guide {
+    // The leaves in their order. The last one stands there again for the comparisons past it.
+    signposts: Vec<Signpost>,
+    // Where the first bucket begins. It takes the lesser keys, too.
+    low: Key,
+    // Two to the power of this is the width of a bucket.
+    shift: u32,
+    // How many pages came and went since the guide was made.
+    changes: u32,
+    // How many pages are in the middle of a split or a removal.
+    unfinished: u32,
+}
+
+/// How many leaves that end in a bucket a search passes at once. Few buckets have more.
+const AT_ONCE: usize = 3;
 
 impl Guide {
-    /// Makes a guide to no leaf. It takes no memory.
+    /// Makes a guide that leads nowhere. It takes no memory.
     pub(crate) fn new(machine: Global) -> Guide {
         Guide {
-            starts: Vec::new(machine),
+            signposts: Vec::new(machine),
             low: 0,
             shift: 0,
             changes: 0,
-            keys: Vec::new(machine),
-            pages: Vec::new(machine),
+            unfinished: 0,
         }
+    }
+
+    /// Notes that a page is in the middle of a split or a removal.
+    #[inline(always)]
+    pub(crate) fn note_unfinished(&mut self) {
+        self.unfinished = self.unfinished.saturating_add(1);
+    }
+
+    /// Whether no page at all is in the middle of a split or a removal.
+    #[inline(always)]
+    pub(crate) fn is_at_rest(&self) -> bool {
+        self.unfinished == 0
     }
 
     /// The page that was noted for the key, or the id of no page.
     #[inline(always)]
     fn page_for(&self, key: Key) -> Pid {
-        let starts = self.starts.as_slice();
-        let Some(last) = starts.len().checked_sub(2) else {
-            return Pid(NO_PAGE);
+        let signposts = self.signposts.as_slice();
+        let bucket = self.bucket_of(key);
+        let Some(first) = signposts.get(bucket) else {
+            return self.last_page();
         };
-        let bucket = self.bucket_of(key).min(last);
-        let from = starts[bucket] as usize;
-        let to = starts[bucket + 1] as usize;
-        match self.pages.as_slice().get(self.count_upto(from, to, key)) {
-            Some(page) => Pid(*page),
+        let start = first.start as usize;
+        let Some(next) = signposts.get(start + AT_ONCE) else {
+            return self.search(bucket, key);
+        };
+        if next.end <= key {
+            return self.search(bucket, key);
+        }
+        let passed = signposts[start].passed_by(key)
+            + signposts[start + 1].passed_by(key)
+            + signposts[start + 2].passed_by(key);
+        Pid(signposts[start + passed].page)
+    }
+
+    /// The number of the key's bucket. Past the last bucket there are more numbers.
+    #[inline(always)]
+    fn bucket_of(&self, key: Key) -> usize {
+        key.saturating_sub(self.low).wrapping_shr(self.shift) as usize
+    }
+
+    /// The page of the last leaf, or the id of no page.
+    fn last_page(&self) -> Pid {
+        match self.signposts.last() {
+            Some(last) => Pid(last.page),
             None => Pid(NO_PAGE),
         }
     }
 
-    #[inline(always)]
-    fn bucket_of(&self, key: Key) -> usize {
-        (key.saturating_sub(self.low) >> (self.shift & 63)) as usize
-    }
-
-    /// Counts the keys at or below the key, where those before `from` are, and those from `to` on
-    /// aren't. Four keys are compared at once, as most buckets have no more.
-    #[inline(always)]
-    fn count_upto(&self, from: usize, to: usize, key: Key) -> usize {
-        let keys = self.keys.as_slice();
-        if to > from + 4 || from + 4 > keys.len() {
-            return self.count_many(from, to, key);
-        }
-        from + usize::from(keys[from] <= key)
-            + usize::from(keys[from + 1] <= key)
-            + usize::from(keys[from + 2] <= key)
-            + usize::from(keys[from + 3] <= key)
-    }
-
+    /// Does what [`Guide::page_for`] does, in a bucket where many leaves end.
     #[inline(never)]
-    fn count_many(&self, from: usize, to: usize, key: Key) -> usize {
-        match self.keys.as_slice().get(from..to) {
-            Some(keys) => from + count_upto(keys, key),
+    fn search(&self, bucket: usize, key: Key) -> Pid {
+        let start = self.start_of(bucket);
+        let passed = match self
+            .signposts
+            .get(start..self.start_of(bucket.wrapping_add(1)))
+        {
+            Some(inside) => inside.partition_point(|leaf| leaf.end <= key),
             None => 0,
+        };
+        match self.signposts.get(start.wrapping_add(passed)) {
+            Some(leaf) => Pid(leaf.page),
+            None => self.last_page(),
         }
     }
 
-    /// Forgets all leaves, and keeps the memory.
+    fn start_of(&self, bucket: usize) -> usize {
+        match self.signposts.get(bucket) {
+            Some(signpost) => signpost.start as usize,
+            None => self.signposts.len(),
+        }
+    }
+
+    /// Gives the memory back, and leads nowhere.
     fn forget(&mut self) {
-        self.starts.clear();
-        self.keys.clear();
-        self.pages.clear();
+        self.signposts = Vec::new(*self.signposts.allocator());
         self.changes = 0;
     }
 
-    /// Notes the leaves of the routes below the end, which come after those that were noted.
-    fn note(&mut self, routes: EntrySlice<'_, Pid>, end: Fence) -> Result<(), AllocError> {
-        for place in 0..routes.len() {
-            let (low, page) = routes.entry(place);
-            if end.is_above(low) {
-                self.keys.push(low)?;
-                self.pages.push(page.0)?;
-            }
-        }
+    /// Leads to these leaves from now on. The first leaf and the last may be wide, so the buckets
+    /// begin where the first one ends, and end where the last one begins.
+    fn lead_to(&mut self, leaves: Vec<Signpost>) -> Result<(), AllocError> {
+        let count = leaves.len();
+        self.signposts = leaves;
+        let (Some(first), Some(before_last), Some(last)) = (
+            self.signposts.first(),
+            self.signposts.get(count.wrapping_sub(2)),
+            self.signposts.last(),
+        ) else {
+            return Ok(());
+        };
+        let last = *last;
+        let span = before_last.end.saturating_sub(first.end);
+        self.low = first.end;
+        self.shift = width_of(span, count);
+        self.signposts.resize(count.saturating_add(AT_ONCE), last)?;
+        self.fill_buckets();
         Ok(())
     }
 
-    /// Chooses the width of the buckets. The first leaf and the last may be wide, so the buckets
-    /// begin with the second and end with the last.
-    fn choose_width(&mut self) {
-        let count = self.keys.len();
-        if count < 2 {
+    /// Notes for each bucket how many leaves end before it.
+    fn fill_buckets(&mut self) {
+        for place in 0..self.signposts.len() {
+            self.count_in_bucket(place);
+        }
+        add_up(&mut self.signposts);
+    }
+
+    /// Counts the leaf in the bucket where it ends.
+    fn count_in_bucket(&mut self, place: usize) {
+        let Some(leaf) = self.signposts.get(place) else {
             return;
+        };
+        let bucket = self.bucket_of(leaf.end);
+        if let Some(first) = self.signposts.get_mut(bucket) {
+            first.start = first.start.wrapping_add(1);
         }
-        self.low = self.keys[1];
-        let span = self.keys[count - 1].saturating_sub(self.low);
-        let most = BUCKETS.saturating_mul(count) as u64;
-        self.shift = 0;
-        for _ in 0..63_usize {
-            if span >> (self.shift & 63) >= most {
-                self.shift += 1;
-            }
-        }
-    }
-
-    /// Puts the keys into buckets.
-    fn fill_buckets(&mut self) -> Result<(), AllocError> {
-        let count = self.keys.len();
-        let most = BUCKETS.saturating_mul(count);
-        for place in 1..count {
-            let bucket = self.bucket_of(self.keys[place]).min(most);
-            if self.starts.len() <= bucket {
-                self.starts.resize(bucket.saturating_add(1), place as u32)?;
-            }
-        }
-        self.starts.push(count as u32)?;
-        self.keys.resize(count + 4, Key::MAX)?;
-        Ok(())
     }
 
     /// Whether so many leaves changed that it often leads astray.
     #[inline(always)]
     fn is_stale(&self) -> bool {
-        self.changes as usize > self.keys.len() / 16 + 2
+        self.changes as usize > self.signposts.len() / 16
     }
 }
 
-/// Counts the keys at or below the key. Each step compares the keys at the ends of three quarters
-/// of those left.
-#[inline(always)]
-fn count_upto(keys: &[Key], key: Key) -> usize
-    ensures { result ≤ length keys.now }
-{
-    let mut passed = 0;
-    let mut left = keys.len();
-    'quarters: while left > 8 {
-        let quarter = left / 4;
-        let first = usize::from(keys[passed + quarter - 1] <= key);
-        let second = usize::from(keys[passed + 2 * quarter - 1] <= key);
-        let third = usize::from(keys[passed + 3 * quarter - 1] <= key);
-        passed += (first + second + third) * quarter;
-        left -= 3 * quarter;
+/// The width of buckets, as a power of two, by which no more than so many span the keys.
+fn width_of(span: u64, count: usize) -> u32 {
+    match span.checked_div(count as u64) {
+        Some(share) if share > 0 => share.ilog2() + 1,
+        _ => 0,
     }
-    passed + count_few(keys, passed, left, key)
 }
 
-/// Counts, among so many keys from the place on, those at or below the key.
-#[inline(always)]
-fn count_few(keys: &[Key], from: usize, many: usize, key: Key) -> usize {
-    let mut count = 0;
-    for place in from..from + many {
-        count += usize::from(keys[place] <= key);
+/// Puts in place of each count the sum of those before it.
+fn add_up(signposts: &mut Vec<Signpost>) {
+    let mut sum: u32 = 0;
+    for signpost in signposts.iter_mut() {
+        let count = signpost.start;
+        signpost.start = sum;
+        sum = sum.wrapping_add(count);
     }
-    count
 }
 
 impl<A: Allocator + Copy> Table<A> {
-    /// The leaf that holds the key, if the guide leads to it, or to the one on its left, and it is
-    /// posted.
+    /// The posted leaf whose range holds the key, if the guide leads to it or to its left neighbour.
     #[inline(always)]
     pub(crate) fn guided(&self, key: Key) -> Option<Pid>
         ensures { IfSome result (λ page. IsPostedLeaf (slot_at self.now page.0) key) }
@@ -192,19 +219,29 @@ impl<A: Allocator + Copy> Table<A> {
         self.guided_right(slot, key)
     }
 
-    /// The leaf on the right of the slot, if it is posted and holds the key, as after a split.
+    /// The leaf on the right of the slot, if it is posted and its range holds the key, as after a
+    /// split.
     #[inline(never)]
     fn guided_right(&self, slot: &Slot<A>, key: Key) -> Option<Pid>
         ensures { IfSome result (λ page. IsPostedLeaf (slot_at self.now page.0) key) }
     {
-        let right = slot.summary.right?;
+        let right = slot.right()?;
         if !self.slot(right)?.is_posted_leaf(key) {
             return None;
         }
         Some(right)
     }
 
-    /// Notes that a page was split or merged. If many were, the guide is made anew.
+    /// Notes that the split or the removal of a page has ended.
+    #[inline(always)]
+    pub(crate) fn page_finished(&mut self)
+        ensures { self.new ≡ self.old }
+    {
+        self.guide.unfinished = self.guide.unfinished.saturating_sub(1);
+        self.pages_changed();
+    }
+
+    /// Notes that a page came or went. After many such changes the guide is made anew.
     #[inline(always)]
     pub(crate) fn pages_changed(&mut self)
         ensures { self.new ≡ self.old }
@@ -215,96 +252,96 @@ impl<A: Allocator + Copy> Table<A> {
         }
     }
 
-    /// Makes the guide by the routes of the pages above the leaves. Where memory is refused it
-    /// leads nowhere.
+    /// Makes the guide anew. Without memory for it, it leads nowhere.
     #[inline(never)]
     fn make_guide(&mut self)
         ensures { self.new ≡ self.old }
     {
         self.guide.forget();
-        if self.note_leaves().is_err() {
+        let made = match self.noted_leaves() {
+            Ok(leaves) => self.guide.lead_to(leaves),
+            Err(why) => Err(why),
+        };
+        if made.is_err() {
             self.guide.forget();
         }
     }
 
-    fn note_leaves(&mut self) -> Result<(), AllocError>
-        ensures { self.new ≡ self.old }
-    {
-        self.guide.pages.push(NO_PAGE)?;
-        self.note_routes()?;
-        self.guide.choose_width();
-        self.guide.fill_buckets()
-    }
-
-    /// Notes the leaves of all pages above them, from the left on.
-    fn note_routes(&mut self) -> Result<(), AllocError>
-        ensures { self.new ≡ self.old }
-    {
-        let mut page = self.first_above_leaves();
-        for _ in 0..self.slots.len() {
-            let Some(above) = page else {
-                return Ok(());
+    /// The leaves to which the pages above them lead, from the left on, with room for all that the
+    /// guide takes.
+    fn noted_leaves(&self) -> Result<Vec<Signpost>, AllocError> {
+        let pages = self.slots.len().saturating_sub(self.free.len());
+        let machine = *self.guide.signposts.allocator();
+        let mut leaves = Vec::with_capacity(machine, pages.saturating_add(AT_ONCE))?;
+        let mut above = self.first_above_leaves();
+        for _ in 0..pages {
+            let Some(slot) = above else {
+                return Ok(leaves);
             };
-            note_page(&mut self.guide, &self.slots, above)?;
-            page = self.right_of(above);
+            note_leaves(&mut leaves, slot)?;
+            above = self.right_of(slot);
         }
-        Ok(())
+        Ok(leaves)
     }
 
     /// The first page above the leaves, unless the root is a leaf.
-    fn first_above_leaves(&self) -> Option<Pid> {
+    fn first_above_leaves(&self) -> Option<&Slot<A>> {
         let mut page = Pid(self.root);
         for _ in 0..MAX_LEVEL {
             let slot = self.slot(page)?;
-            if slot.summary.level == 1 {
-                return Some(page);
+            if slot.level == 1 {
+                return Some(slot);
             }
-            if !slot.stage.is_in_row() {
-                return None;
-            }
-            page = slot.child_page(0)?;
+            page = slot.route_at(0)?;
         }
         None
     }
 
-    fn right_of(&self, page: Pid) -> Option<Pid> {
-        self.slot(page)?.summary.right
+    fn right_of(&self, slot: &Slot<A>) -> Option<&Slot<A>> {
+        self.slot(slot.right()?)
     }
 }
 
-/// Notes the leaves to which the routes in the page's base page lead.
-fn note_page<A: Allocator + Copy>(
-    guide: &mut Guide,
-    slots: &Vec<Slot<A>>,
-    page: Pid,
+/// Notes the leaves to which the routes of the page's base page lead. The records above it may say
+/// otherwise.
+fn note_leaves<A: Allocator + Copy>(
+    leaves: &mut Vec<Signpost>,
+    slot: &Slot<A>,
 ) -> Result<(), AllocError> {
-    let Some(slot) = slots.get(page.0 as usize) else {
+    let Some(chain) = slot.chain() else {
         return Ok(());
     };
-    match slot.noted_routes() {
-        Some(routes) => guide.note(routes, slot.summary.high),
-        None => Ok(()),
+    let Entries::Routes(routes) = &lowest_base(chain).entries else {
+        return Ok(());
+    };
+    let routes = routes.as_slice();
+    for place in 0..routes.len() {
+        let (low, page) = routes.entry(place);
+        if slot.high().is_above(low) {
+            note_leaf(leaves, low, page)?;
+        }
     }
+    Ok(())
 }
 
-impl<A: Allocator + Copy> Slot<A> {
-    /// The routes in the base page of the chain. Records above it may say otherwise.
-    fn noted_routes(&self) -> Option<EntrySlice<'_, Pid>> {
-        match &self.lowest_base()?.entries {
-            Entries::Pairs(_) => None,
-            Entries::Routes(routes) => Some(routes.as_slice()),
-        }
+/// Notes a leaf, before which the one before it ends.
+fn note_leaf(leaves: &mut Vec<Signpost>, low: Key, page: Pid) -> Result<(), AllocError> {
+    if let Some(before) = leaves.last_mut() {
+        before.end = low;
     }
+    let leaf = Signpost {
+        end: Key::MAX,
+        page: page.0,
+        start: 0,
+    };
+    leaves.push(leaf)?;
+    Ok(())
+}
 
-    /// The base page of the chain, or of its left part.
-    fn lowest_base(&self) -> Option<&Base<A>> {
-        let mut node = &self.chain.as_ref()?.node;
-        for _ in 0..=MAX_DEPTH {
-            match node {
-                Node::Bare(base) => return Some(base),
-                Node::Above(_, below) | Node::Merged(_, below, _) => node = &below.node,
-            }
-        }
-        None
+/// The base page below all records, on the left where pages were merged.
+fn lowest_base<A: Allocator>(chain: &Chain<A>) -> &Base<A> {
+    match &chain.node {
+        Node::Bare(base) => base,
+        Node::Above(_, below) | Node::Merged(_, below, _) => lowest_base(below),
     }
 }

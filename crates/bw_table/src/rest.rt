@@ -43,19 +43,32 @@ impl<A: Allocator + Copy> Table<A> {
     }
 
     /// Does what [`Table::page_at_rest`] does, and is built into its caller.
+    #[tactic(auto, using(crate::proofs::InPlaces::posted_leaf_is_its))]
     #[inline(always)]
     pub(crate) fn page_by_walk(&self, key: Key) -> Option<Pid>
         ensures leaf { IfSome result (λ page. IsLeafOf self.now key page.0) }
         ensures posted { IfSome result (λ page. (slot_at self.now page.0).stage ≡ Stage.Posted) }
         ensures unfinished { IfNone result (MeetsTodo self.now key) }
     {
-        match self.guided(key) {
+        match self.guided_at_rest(key) {
             Some(page) => Some(page),
             None => self.page_from_root(key),
         }
     }
 
-    /// The same by a walk from the root.
+    /// The leaf to which the guide leads. While a page anywhere is unfinished the guide isn't asked, as a
+    /// walk may meet that page.
+    #[inline(always)]
+    fn guided_at_rest(&self, key: Key) -> Option<Pid>
+        ensures { IfSome result (λ page. IsPostedLeaf (slot_at self.now page.0) key) }
+    {
+        if !self.guide.is_at_rest() {
+            return None;
+        }
+        self.guided(key)
+    }
+
+    /// The leaf at the end of a walk from the root.
     #[inline(never)]
     fn page_from_root(&self, key: Key) -> Option<Pid>
         ensures leaf { IfSome result (λ page. IsLeafOf self.now key page.0) }

@@ -34,7 +34,7 @@ pub struct Table<A: Allocator> {
     // A hint: the last leaf, or no page, and the key from which on changes ask it first.
     pub(crate) last_leaf: u32,
     pub(crate) last_from: Key,
-    // A hint: where the leaves began.
+    // A hint: which leaf a key is likely to be in.
     pub(crate) guide: Guide,
     pub(crate) slots: Vec<Slot<A>>,
     pub(crate) free: FreeList,

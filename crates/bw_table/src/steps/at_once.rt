@@ -140,7 +140,7 @@ impl<A: Allocator + Copy> Table<A> {
         }
         let posted = post_at(&mut self.slots, parent, child);
         if posted.is_ok() {
-            self.pages_changed();
+            self.page_finished();
         }
         posted
     }
@@ -255,6 +255,7 @@ impl<A: Allocator + Copy> Table<A> {
         cut_at(&mut self.slots, page, new, separator, base);
         let _new = self.free.take_last();
         self.last_leaf = NO_PAGE;
+        self.guide.note_unfinished();
         Ok(new)
     }
 

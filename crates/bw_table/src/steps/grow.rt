@@ -46,6 +46,7 @@ impl<A: Allocator + Copy> Table<A> {
         let new = Pid(self.free.take_last());
         grow_at(&mut self.slots, child, new, level, base);
         self.root = new.0;
+        self.page_finished();
         Receipt::Shaped {
             kind: Kind::Grow,
             page: new,

@@ -34,6 +34,7 @@ impl<A: Allocator + Copy> Table<A> {
         let Mark { page, spare, .. } = step;
         self.slots[page.0 as usize].mark(spare);
         self.last_leaf = NO_PAGE;
+        self.guide.note_unfinished();
         Receipt::Shaped {
             kind: Kind::Mark,
             page,

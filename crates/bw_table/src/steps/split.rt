@@ -46,6 +46,7 @@ impl<A: Allocator + Copy> Table<A> {
         } = step;
         let new = Pid(self.free.take_last());
         self.last_leaf = NO_PAGE;
+        self.guide.note_unfinished();
         split_at(&mut self.slots, page, new, separator, base, spare);
         Receipt::Shaped {
             kind: Kind::Split,

@@ -40,7 +40,7 @@ impl<A: Allocator + Copy> Table<A> {
             ..
         } = step;
         term_add_at(&mut self.slots, parent, child, spare);
-        self.pages_changed();
+        self.page_finished();
         Receipt::Shaped {
             kind: Kind::TermAdd,
             page: parent,

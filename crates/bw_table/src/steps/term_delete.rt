@@ -41,7 +41,7 @@ impl<A: Allocator + Copy> Table<A> {
         } = step;
         let version = term_delete_at(self.alloc, &mut self.slots, parent, child, spare);
         self.free.give_back(child, version);
-        self.pages_changed();
+        self.page_finished();
         Receipt::Shaped {
             kind: Kind::TermDelete,
             page: parent,

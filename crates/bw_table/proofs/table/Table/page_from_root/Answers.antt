@@ -4,7 +4,7 @@ use Rattle.bw_table.specs.Rests.{is_unfinished}
 use Rattle.bw_step.specs.Stages.{is_in_row}
 use Rattle.bw_table.proofs.Rests.{led_by, rest_goes_on, rest_ends}
 use Rattle.bw_table.proofs.Todos.{root_is_come_to, come_goes_on, come_meets}
-use Rattle.bw_table.proofs.table.Table.page_by_walk.Goals as goal
+use Rattle.bw_table.proofs.table.Table.page_from_root.Goals as goal
 
 pub walk-smaller : goal.walk-smaller
 walk-smaller g c =
