@@ -43,8 +43,8 @@ leaves-preserved g c =
     let more : length c.leaves.listed.items < c.args.limit = omega (arith, c.len.ensures, c.leaves.listed.ok.0) in
     let slot = c.slot_in_row-slot in record {
       lawful = so_far.lawful;
-      up_to = row_goes_on c.args.self.now so_far.lawful c.args.low c.args.limit c.leaves.next c.leaves.listed.items so_far.up_to c.in-Some.pid slot.result.now c.slot.inside.right
-          c.list_from-listed.result.items c.in-Some.is slot.ensures.there (ap (λ (s : SlotValue). s.right) c.slot.view_is) more c.list_from-listed.ensures.items;
+      up_to = row_goes_on c.args.self.now so_far.lawful c.args.low c.args.limit c.leaves.next c.leaves.listed.items so_far.up_to c.in-Some.pid slot.result.now c.right-next.result
+          c.list_from-listed.result.items c.in-Some.is slot.ensures.there c.right-next.ensures more c.list_from-listed.ensures.items;
       capacity = omega (arith, c.list_from-listed.ensures.capacity, so_far.capacity);
     }
 

@@ -18,9 +18,9 @@ leaves-preserved g c =
     let page = c.in-Some.pid in
     let slot = c.page-slot.ensures in
     let here = at_next table slot.lawful _ _ page _ c.leaves.invariant c.in-Some.is in
-    listing_goes_on table slot.lawful (joined_pairs table.slots) (joined_pairs-append table.slots) c.leaves.next c.slot.inside.right page c.leaves.pairs.items c.append_pairs.new.list.items
+    listing_goes_on table slot.lawful (joined_pairs table.slots) (joined_pairs-append table.slots) c.leaves.next c.right-next.result page c.leaves.pairs.items c.append_pairs.new.list.items
     c.leaves.invariant c.in-Some.is
-    (ap (λ (s : SlotValue). s.right) (c.slot.view_is ∙ slot.there))
+    (c.right-next.ensures ∙ ap (λ (s : SlotValue). s.right) slot.there)
     (c.in_ok-append_pairs.ensures ∙ ap (λ pairs. c.leaves.pairs.items ++ pairs) (ap pairs_in slot.there ∙ sym (joined_pairs-one table.slots page.0 here.in_row here.is_leaf)))
 
 pub leaves-smaller : goal.leaves-smaller
@@ -29,7 +29,7 @@ leaves-smaller g c =
     let page = c.in-Some.pid in
     let slot = c.page-slot.ensures in
     let here = at_next table slot.lawful _ _ page _ c.leaves.invariant c.in-Some.is in
-    fewer_keys_left table slot.lawful c.leaves.next c.slot.inside.right page here.in_row c.in-Some.is (ap (λ (s : SlotValue). s.right) (c.slot.view_is ∙ slot.there))
+    fewer_keys_left table slot.lawful c.leaves.next c.right-next.result page here.in_row c.in-Some.is (c.right-next.ensures ∙ ap (λ (s : SlotValue). s.right) slot.there)
 
 pub returns-clause-map : goal.returns-clause-map
 returns-clause-map g c =

@@ -16,9 +16,9 @@ leaves-preserved g c =
     let table = c.args.self.now in
     let page = c.in-Some.pid in
     let slot = c.page-slot.ensures in
-    listing_goes_on table slot.lawful (map (leaf_at table.slots)) (map-append (leaf_at table.slots)) c.leaves.next c.slot.inside.right page c.leaves.leaves.items c.push.new.self.items
+    listing_goes_on table slot.lawful (map (leaf_at table.slots)) (map-append (leaf_at table.slots)) c.leaves.next c.right-next.result page c.leaves.leaves.items c.push.new.self.items
     c.leaves.invariant c.in-Some.is
-    (ap (λ (s : SlotValue). s.right) (c.slot.view_is ∙ slot.there))
+    (c.right-next.ensures ∙ ap (λ (s : SlotValue). s.right) slot.there)
     (c.in_ok-push.ensures.items ∙ ap (λ leaf. c.leaves.leaves.items ++ leaf ∷ []) (c.leaf.ensures ∙ ap (leaf_of page) slot.there))
 
 pub leaves-smaller : goal.leaves-smaller
@@ -27,7 +27,7 @@ leaves-smaller g c =
     let page = c.in-Some.pid in
     let slot = c.page-slot.ensures in
     let here = at_next table slot.lawful _ _ page _ c.leaves.invariant c.in-Some.is in
-    fewer_keys_left table slot.lawful c.leaves.next c.slot.inside.right page here.in_row c.in-Some.is (ap (λ (s : SlotValue). s.right) (c.slot.view_is ∙ slot.there))
+    fewer_keys_left table slot.lawful c.leaves.next c.right-next.result page here.in_row c.in-Some.is (c.right-next.ensures ∙ ap (λ (s : SlotValue). s.right) slot.there)
 
 pub returns : goal.returns
 returns g c = search rules
