@@ -1,5 +1,5 @@
 -- What fields of a slot tell: which page an id leads to, and whether a chain is there.
-use Rattle.std.specs.Prelude.{◌≡◌, ℕ, ◌==◌, if◌then◌else◌, Bool, true, false, Option, Some, None, refl}
+use Rattle.std.specs.Prelude.{◌≡◌, ℕ, ◌==◌, if◌then◌else◌, Option, Some, None}
 use Rattle.std.proofs.Common.{arith}
 use Rattle.bw_keys.specs.declared.page.Pid.{Pid}
 use Rattle.bw_delta.specs.Records.{Records}

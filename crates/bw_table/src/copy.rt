@@ -1,10 +1,8 @@
 //! A page's chain, copied for work outside the table, and the page that it stands for, made anew.
 
-ghost use Rattle.std.specs.Prelude.{◌≡◌, ◌≢◌, ◌↔◌, true, false, Some, Err, IfOk, IfSome, IfNone};
+ghost use Rattle.std.specs.Prelude.{◌≡◌, ◌≢◌, ◌↔◌, Some, Err, IfOk, IfSome};
 ghost use Rattle.bw_delta.specs.Sound.{IsSound, page_for};
-ghost use Rattle.bw_step.specs.Stages.{is_in_row};
 ghost use Rattle.bw_law.specs.Tables.{slot_at};
-ghost use Rattle.bw_table.specs.SlotFacts.{HasSoundChain};
 ghost use Rattle.bw_table.specs.Views.{IsAbsent, IsStale};
 
 use crate::table::Table;

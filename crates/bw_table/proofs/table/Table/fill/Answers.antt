@@ -1,6 +1,5 @@
-use Rattle.std.proofs.Common.{◌<◌, ◌≤◌, length, ap, arith}
+use Rattle.std.proofs.Common.{◌<◌, ◌≤◌, length, arith}
 use Rattle.std.specs.Prelude.{vec_capacity}
-use Rattle.bw_law.specs.Slots.{SlotValue}
 use Rattle.bw_keys.specs.Ranges.{end_of}
 use Rattle.bw_table.proofs.Cuts.{first_has_listing, page_ends_listing}
 use Rattle.bw_table.proofs.Listings.{row_begins, row_goes_on, page_has_room, listing_is_full, listing_is_whole}
