@@ -5,23 +5,11 @@ use Rattle.std.proofs.lemmas.List.{take_more, take_more_set}
 use Rattle.std.proofs.lemmas.Slice.Zip.{all_zipped_more}
 
 module _ {A B : Type 0} (R : A → B → Type 0) where
-  pub zip-replicate : (xs : List A) (n : ℕ) (y : B) → length xs ≡ n → ((x : A) → R x y) → AllZip R xs (replicate n y)
-  zip-replicate [] zero y long all = tt
-  zip-replicate [] (suc n) y long all = absurd (omega arith)
-  zip-replicate (x ∷ xs) zero y long all = absurd (omega arith)
-  zip-replicate (x ∷ xs) (suc n) y long all = (all x, zip-replicate xs n y (omega arith) all)
-
   pub zip-at : (xs : List A) (ys : List B) (i : ℕ) (d : A) (e : B) → AllZip R xs ys → i < length xs → R (get_or xs i d) (get_or ys i e)
   zip-at [] ys i d e zip inside = absurd (omega arith)
   zip-at (x ∷ xs) [] i d e zip inside = absurd zip
   zip-at (x ∷ xs) (y ∷ ys) zero d e zip inside = zip.0
   zip-at (x ∷ xs) (y ∷ ys) (suc i) d e zip inside = zip-at xs ys i d e zip.1 (omega arith)
-
-  pub zip-set : (xs : List A) (ys : List B) (i : ℕ) (d : A) (y : B) → AllZip R xs ys → i < length xs → R (get_or xs i d) y → AllZip R xs (set ys i y)
-  zip-set [] ys i d new zip inside here = absurd (omega arith)
-  zip-set (x ∷ xs) [] i d new zip inside here = absurd zip
-  zip-set (x ∷ xs) (y ∷ ys) zero d new zip inside here = (here, zip.1)
-  zip-set (x ∷ xs) (y ∷ ys) (suc i) d new zip inside here = (zip.0, zip-set xs ys i d new zip.1 (omega arith) here)
 
   -- one place more of a list that is written from its beginning on
   pub zip-more_set : (xs : List A) (ys : List B) (i : ℕ) (d : A) (y : B) → i < length xs → i < length ys → AllZip R (take i xs) (take i ys) → R (get_or xs i d) y

@@ -142,7 +142,7 @@ impl Guide {
 
     /// Leads to these leaves from now on. The first leaf and the last may be wide, so the buckets
     /// begin where the first one ends, and end where the last one begins.
-    fn lead_to(&mut self, leaves: Vec<Signpost>) -> Result<(), AllocError> {
+    fn lead_to(&mut self, leaves: Vec<Signpost>) {
         let count = leaves.len();
         self.signposts = leaves;
         let (Some(first), Some(before_last), Some(last)) = (
@@ -150,15 +150,16 @@ impl Guide {
             self.signposts.get(count.wrapping_sub(2)),
             self.signposts.last(),
         ) else {
-            return Ok(());
+            return;
         };
         let last = *last;
         let span = before_last.end.saturating_sub(first.end);
         self.low = first.end;
         self.shift = width_of(span, count);
-        self.signposts.resize(count.saturating_add(AT_ONCE), last)?;
-        self.fill_buckets();
-        Ok(())
+        match self.signposts.resize(count.saturating_add(AT_ONCE), last) {
+            Ok(()) => self.fill_buckets(),
+            Err(_) => self.forget(),
+        }
     }
 
     /// Notes for each bucket how many leaves end before it.
@@ -258,13 +259,10 @@ impl<A: Allocator + Copy> Table<A> {
         ensures { self.new ≡ self.old }
     {
         self.guide.forget();
-        let made = match self.noted_leaves() {
-            Ok(leaves) => self.guide.lead_to(leaves),
-            Err(why) => Err(why),
+        let Ok(leaves) = self.noted_leaves() else {
+            return;
         };
-        if made.is_err() {
-            self.guide.forget();
-        }
+        self.guide.lead_to(leaves);
     }
 
     /// The leaves to which the pages above them lead, from the left on, with room for all that the

@@ -138,11 +138,11 @@ impl<A: Allocator + Copy> Table<A> {
         if !self.may_post_at_once(parent, child) {
             return Err(Unperformed::StepByStep);
         }
-        let posted = post_at(&mut self.slots, parent, child);
-        if posted.is_ok() {
-            self.page_finished();
+        if let Err(why) = post_at(&mut self.slots, parent, child) {
+            return Err(why);
         }
-        posted
+        self.page_finished();
+        Ok(())
     }
 
     fn may_post_at_once(&self, parent: Pid, child: Pid) -> bool

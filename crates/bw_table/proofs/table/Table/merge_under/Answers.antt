@@ -26,7 +26,7 @@ returns-clause-done g c =
     let may = rw (← c.self.view_is) at (c.may_merge_under.ensures.may c.if-not-may_merge_under.false) in
     let it = c.in-Some-merge_at.ensures in
     let freed = rw it.version at c.give_back.ensures.ids in
-    rw (← c.self.view_is) (merged_at_once c.self.invariant c.args.parent.0 c.in-Some.left.0 c.args.page.0 may it.merged freed)
+    rw (← c.self.view_is, c.pages_changed.ensures) (merged_at_once c.self.invariant c.args.parent.0 c.in-Some.left.0 c.args.page.0 may it.merged freed)
 
 pub returns-clause-fanout : goal.returns-clause-fanout
 returns-clause-fanout g c =

@@ -17,7 +17,7 @@ term_add_at-requires g c =
     }
 
 pub returns : goal.returns
-returns g c = rw (← c.self.view_is) (record { leads = rw c.term_add_at.ensures refl; reported = refl })
+returns g c = rw (← c.self.view_is) (record { leads = rw (c.page_finished.ensures, c.term_add_at.ensures) refl; reported = refl })
 
 pub invariant_of-self : goal.invariant_of-self
 invariant_of-self g c =

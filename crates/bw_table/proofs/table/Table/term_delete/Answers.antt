@@ -1,4 +1,4 @@
-use Rattle.std.proofs.Common.{arith}
+use Rattle.std.proofs.Common.{refl, arith}
 use Rattle.bw_step.specs.ProposalView.{term_delete_of}
 use Rattle.bw_table.proofs.Doing.{does_term_delete, stays_whole}
 use Rattle.bw_table.proofs.table.Table.term_delete.Goals as goal
@@ -23,3 +23,11 @@ pub invariant_of-self : goal.invariant_of-self
 invariant_of-self g c =
     rw (c.term_delete_at-version.ensures.slots, c.give_back.ensures.ids, c.give_back.ensures.room, c.term_delete_at-version.ensures.version)
     (stays_whole c.self.invariant c.self.view_is (term_delete_of c.args.step) c.requires)
+
+pub returns : goal.returns
+returns g c =
+    rw (← c.self.view_is)
+    (record {
+      leads = rw (c.page_finished.ensures, c.term_delete_at-version.ensures.slots, c.give_back.ensures.ids, c.term_delete_at-version.ensures.version) refl;
+      reported = refl;
+    })
