@@ -6,11 +6,13 @@ use Rattle.bw_law.specs.Slots.{SlotValue, free_slot, slot_in}
 use Rattle.bw_table.proofs.table.Table.slot.Goals as goal
 
 there : {R : Type 0} (now : R → SlotValue) (found : Option R) (slots : List SlotValue) (page : ℕ)
-    → MatchOption found (length slots ≤ page) (λ slot. (page < length slots) × HoldsAt (λ s. now slot ≡ s) slots page) → IfSome found (λ slot. now slot ≡ slot_in slots page)
+    → MatchOption found (length slots ≤ page) (λ slot. (page < length slots) × HoldsAt (λ s. now slot ≡ s) slots page)
+    → IfSome found (λ slot. now slot ≡ slot_in slots page)
 there now (Some slot) slots page at = at.1 (free_slot 0)
 there now None slots page at = tt
 
-past_the_end : {R : Type 0} (P : R → Type 0) (found : Option R) (slots : List SlotValue) (page : ℕ) → MatchOption found (length slots ≤ page) P → IfNone found (slot_in slots page ≡ free_slot 0)
+past_the_end : {R : Type 0} (P : R → Type 0) (found : Option R) (slots : List SlotValue) (page : ℕ)
+    → MatchOption found (length slots ≤ page) P → IfNone found (slot_in slots page ≡ free_slot 0)
 past_the_end P (Some slot) slots page past = tt
 past_the_end P None slots page past = get_or_past slots page (free_slot 0) past
 
