@@ -47,11 +47,24 @@ struct Twins {
     was_full: bool,
 }
 
+/// Creates a map that has nearly all the pages it may have: those of the greatest capacity that isn't refused.
+fn whole_map(settings: &Settings) -> Map {
+    let (mut fits, mut too_many) = (0, 1 << 32);
+    while too_many - fits > 1 {
+        let middle = fits + (too_many - fits) / 2;
+        match Map::with_capacity(settings, middle) {
+            Ok(_) => fits = middle,
+            Err(_) => too_many = middle,
+        }
+    }
+    Map::with_capacity(settings, fits).expect("there is memory")
+}
+
 impl Twins {
     fn new(settings: &Settings) -> Twins {
         Twins {
             growing: Map::new(settings).expect("there is memory"),
-            whole: Map::with_capacity(settings, usize::MAX).expect("there is memory"),
+            whole: whole_map(settings),
             plain: BTreeMap::new(),
             was_full: false,
         }
