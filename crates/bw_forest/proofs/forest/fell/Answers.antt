@@ -1,12 +1,30 @@
-use Rattle.std.proofs.Common.{rules, ◌≡◌, ◌+◌, ◌∷◌, [], length, ap, sym, ◌∙◌, arith, length-append}
+use Rattle.std.proofs.Common.{rules, ◌≡◌, ◌+◌, ◌∷◌, [], length, ap, sym, ◌∙◌, arith, length-append, refl}
+use Rattle.std.proofs.lemmas.List.{nil_from_length}
+use Rattle.std.proofs.lemmas.List.Elements.{All-nil}
 use Rattle.bw_law.specs.Tables.{TableValue}
-use Rattle.bw_tree.specs.Shares.{shared_in, sum_of, together}
+use Rattle.bw_tree.specs.Shares.{no_changes, shared_in, sum_of, together}
 use Rattle.bw_tree.specs.Stocks.{TotalsValue}
 use Rattle.bw_tree.specs.Trees.{IsTree}
 use Rattle.bw_forest.specs.Forests.{HasPairsWithin, books_of, tables_of}
 use Rattle.bw_forest.proofs.Closing.{all_more, books_more, tables_more}
 use Rattle.bw_forest.proofs.Fits.{alike}
 use Rattle.bw_forest.proofs.forest.fell.Goals as goal
+
+pub loop-tree-init : goal.loop-tree-init
+loop-tree-init g c =
+    let none : c.args.room.items ≡ [] = nil_from_length c.args.room.items c.requires.enough.0 in
+    let all : c.into_iter-tree-iterator.result.rest.items ≡ c.args.trees.items = c.into_iter-tree-iterator.ensures.into_iter_gives.0 in
+    let start = c.args.totals.now in
+    let back : start.back ≡ 0 = ap (λ (t : TotalsValue). t.back) c.requires.none in
+    let counted : start.counted ≡ no_changes = ap (λ (t : TotalsValue). t.counted) c.requires.none in
+    record {
+      left = omega (arith, c.requires.enough.0, ap length all);
+      room = c.requires.enough.1;
+      trees = rw none (All-nil IsTree);
+      config = rw none (All-nil (λ (table : TableValue). table.config ≡ g.I.MadeBy.config));
+      within = rw none (All-nil HasPairsWithin);
+      totals = rw none (λ j. record start { back = back j; counted = counted j });
+    }
 
 pub loop-tree-preserved : goal.loop-tree-preserved
 loop-tree-preserved g c =

@@ -1,10 +1,14 @@
-use Rattle.std.proofs.Common.{◌≡◌, ◌∷◌, ◌++◌, [], All, length, sym, ap, subst, ◌∙◌}
+use Rattle.std.proofs.Common.{◌≡◌, ◌∷◌, ◌++◌, [], All, length, sym, ap, subst, subst₂, ◌∙◌}
 use Rattle.std.proofs.lemmas.List.Elements.{All-take}
 use Rattle.bw_tree.specs.Shares.{no_changes}
+use Rattle.bw_tree.specs.Trees.{MayBeMade}
 use Rattle.bw_forest.specs.Forests.{books_of}
 use Rattle.bw_forest.proofs.Closing.{sum_pairs}
 use Rattle.bw_forest.proofs.Opening.{last_too}
 use Rattle.bw_forest.proofs.forest.Forest.from_closed.Goals as goal
+
+pub returns-clause-fine : goal.returns-clause-fine
+returns-clause-fine g c = λ _. subst₂ MayBeMade c.config-config.ensures.first c.saturating_sub.ensures c.in_default.ensures.fine
 
 pub replant-trees-requires-clause-alike : goal.replant-trees-requires-clause-alike
 replant-trees-requires-clause-alike g c =
