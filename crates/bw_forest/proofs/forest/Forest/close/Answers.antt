@@ -48,7 +48,8 @@ returns-clause-back g c =
     c.closed.ensures.back
 
 pub returns-clause-whole : goal.returns-clause-whole
-returns-clause-whole g c = λ _. c.close.ensures.all.0 c.if-is_err.ensures.negation ∙ as_many c.fell-trees.ensures.back c.args.self.counted c.args.self.each
+returns-clause-whole g c = λ _.
+    c.close.ensures.all.0 c.if-is_err.ensures.negation ∙ as_many c.fell-trees.ensures.back c.args.self.counted c.args.self.each
 
 pub returns-clause-missing : goal.returns-clause-missing
 returns-clause-missing g c =
