@@ -134,9 +134,10 @@ fn obey_watched<T: Threads + Wait + Files + Sync + Send + Copy, R: Read + Drop, 
         Ok(matches) => matches,
         Err(error) => return (Err(Fault::from(error)), None),
     };
-    let mut kept = Kept::new(alloc);
-    let keep = Some(&mut kept);
-    let obeyed = follow(rt, alloc, &matches, input, output, notes, progress, keep);
+    let mut kept = Kept::new(alloc, true);
+    let obeyed = follow(
+        rt, alloc, &matches, input, output, notes, progress, &mut kept,
+    );
     let sentence = sentence_after(alloc, &matches, &kept, &obeyed);
     (obeyed, sentence)
 }
@@ -186,7 +187,10 @@ fn obey<T: Threads + Wait + Files + Sync + Send + Copy, R: Read + Drop, W: Write
     ensures { IfOk result (λ status. status ≤ 4) }
 {
     let matches = parse(alloc, words)?;
-    follow(rt, alloc, &matches, input, output, notes, progress, None)
+    let mut kept = Kept::new(alloc, false);
+    follow(
+        rt, alloc, &matches, input, output, notes, progress, &mut kept,
+    )
 }
 
 /// Carries out the parsed words, and keeps what is read if that is wanted.
@@ -198,7 +202,7 @@ fn follow<T: Threads + Wait + Files + Sync + Send + Copy, R: Read + Drop, W: Wri
     output: &mut W,
     notes: &mut N,
     progress: &Progress,
-    kept: Option<&mut Kept>,
+    kept: &mut Kept,
 ) -> Result<u8, Fault>
     ensures { IfOk result (λ status. status ≤ 4) }
 {
@@ -206,12 +210,18 @@ fn follow<T: Threads + Wait + Files + Sync + Send + Copy, R: Read + Drop, W: Wri
         return do_check(alloc, input, output);
     };
     let Some(path) = file_of(options) else {
-        let input = Keeping { input, kept };
+        let input = Keeping {
+            input,
+            kept: &mut *kept,
+        };
         return carry_out(rt, alloc, name, options, input, output, notes, progress);
     };
     match File::open(&rt, path) {
         Ok(input) => {
-            let input = Keeping { input, kept };
+            let input = Keeping {
+                input,
+                kept: &mut *kept,
+            };
             carry_out(rt, alloc, name, options, input, output, notes, progress)
         }
         Err(error) => Err(Fault::Open(path.to_string(alloc)?, reason_of(alloc, &error))),
@@ -266,11 +276,22 @@ fn parse<'a>(alloc: Global, words: &'a [&'a str]) -> Result<ArgMatches<'a>, clap
 
 /// Returns the words without `--help` at their end, if they begin with `help`.
 fn without_second_help<'a>(words: &'a [&'a str]) -> &'a [&'a str] {
-    match (words.first(), words.split_last()) {
-        (Some(first), Some((last, before)))
-            if *first == "help" && (*last == "--help" || *last == "-h") => { before }
-        _ => words,
+    let count = words.len();
+    let left = if asks_twice(words) {
+        count.saturating_sub(1)
+    } else {
+        count
+    };
+    &words[..left]
+}
+
+/// Whether the words begin with `help` and end with `--help`.
+fn asks_twice(words: &[&str]) -> bool {
+    let count = words.len();
+    if count < 2 {
+        return false;
     }
+    words[0] == "help" && (words[count - 1] == "--help" || words[count - 1] == "-h")
 }
 
 /// Runs the trace, and prints nothing before the run has ended.

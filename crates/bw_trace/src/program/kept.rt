@@ -4,20 +4,22 @@ use std::alloc::Global;
 use std::io;
 use std::io::{ErrorKind, Read};
 
-/// What was read of an input.
+/// What was read of an input, if that is wanted.
 #[derive(Drop)]
 pub(crate) struct Kept {
     alloc: Global,
+    is_wanted: bool,
     pub text: Vec<u8>,
     /// Why it can't be read any further, if it can't.
     pub failure: Option<String>,
 }
 
 impl Kept {
-    /// Creates what is kept of an input before its first read.
-    pub(crate) fn new(alloc: Global) -> Kept {
+    /// Creates what is kept of an input before its first read. It stays empty if it isn't wanted.
+    pub(crate) fn new(alloc: Global, is_wanted: bool) -> Kept {
         Kept {
             alloc,
+            is_wanted,
             text: Vec::new(alloc),
             failure: None,
         }
@@ -25,6 +27,9 @@ impl Kept {
 
     /// Keeps what a read gave. Without memory for that, less is said of a fault.
     fn keep(&mut self, buf: &[u8], read: &io::Result<usize>) {
+        if !self.is_wanted {
+            return;
+        }
         match read {
             Ok(count) => {
                 let _ = self
@@ -36,11 +41,11 @@ impl Kept {
     }
 }
 
-/// An input that may be kept.
+/// An input, and what is kept of it.
 #[derive(Drop)]
 pub(crate) struct Keeping<'a, R> {
     pub input: R,
-    pub kept: Option<&'a mut Kept>,
+    pub kept: &'a mut Kept,
 }
 
 impl<'a, R: Read> Read for Keeping<'a, R> {
@@ -48,9 +53,7 @@ impl<'a, R: Read> Read for Keeping<'a, R> {
 
     fn read(&mut self, buf: &mut [u8]) -> io::Result<usize> {
         let read = self.input.read(buf);
-        if let Some(kept) = &mut self.kept {
-            kept.keep(buf, &read);
-        }
+        self.kept.keep(buf, &read);
         read
     }
 }
