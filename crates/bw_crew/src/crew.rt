@@ -1,6 +1,6 @@
 //! The workers' threads.
 
-ghost use Rattle.std.specs.Prelude.{◌≡◌, ◌≤◌, ◌<◌, [], IfOk, All, length, vec_capacity};
+ghost use Rattle.std.specs.Prelude.{◌≡◌, ◌≤◌, ◌<◌, [], IfOk, All, length, vec_capacity, ℕ};
 ghost use Rattle.bw_crew.specs.Workers.{AreNumbered, ByNumber};
 
 use crate::fault::CrewFault;
@@ -11,10 +11,15 @@ use std::sync::Wait;
 use std::thread;
 use std::thread::{Promise, PromisedHandle, Threads};
 
+/// What a worker brings back: its hand, or its hands, and what it returned.
+#[derive(Drop)]
+pub struct Worked<W, O> {
+    pub hands: W,
+    pub output: O,
+}
+
 /// What each worker of a crew does, in a thread of its own, with a kit of its own.
 pub trait Part<K> {
-    ghost use Rattle.std.specs.Prelude.{◌<◌, ℕ};
-
     /// What a worker brings back.
     type Output: Drop;
 
@@ -89,7 +94,7 @@ pub fn run_all<
                 ) else {
                     return Err(CrewFault::NoThread);
                 };
-                handles.push(handle)?;
+                handles.push_reserved(handle);
                 worker += 1;
             }
             Ok(join_all(rt, room, part, handles))

@@ -1,10 +1,9 @@
 //! Where the ranges of a forest's trees begin, and which of them holds a key.
 
-ghost use Rattle.std.specs.Prelude.{◌≡◌, false, ◌<◌, ◌≤◌, ◌↔◌, ◌+◌, ◌-◌, ◌*◌, ◌^◌, [], Some, length, min, slice_get};
-ghost use Rattle.std.specs.Prelude.{IsOk, IfOk, IfErr, IfSome, IsTrue, vec_capacity};
+ghost use Rattle.std.specs.Prelude.{◌≡◌, false, ◌<◌, ◌≤◌, ◌↔◌, ◌+◌, ◌-◌, ◌*◌, ◌^◌, [], Some, length, min, slice_get, IsOk, IfOk, IfErr, IfSome, IsTrue, vec_capacity, ℕ, List};
 ghost use Rattle.std.specs.List.Sorted.{IsNonDecreasing, IsStrictlyIncreasing};
-ghost use Rattle.bw_forest.specs.Bounds.{AreBounds, AreAtQuantiles, AreEven, AreOfSample, quantile};
-ghost use Rattle.bw_forest.specs.Bounds.{IsBad, IsBadNumber, IsTreeOf, begun, is_bad_number, ranges_of};
+ghost use Rattle.bw_forest.specs.Bounds.{AreBounds, AreAtQuantiles, AreEven, AreOfSample, quantile, IsBad, IsBadNumber, IsTreeOf, begun, is_bad_number, ranges_of};
+ghost use Rattle.std.specs.Coded.{coded_list, coded_ℕ};
 
 use crate::fault::BadBounds;
 use crate::limits::MAX_TREES;
@@ -24,10 +23,6 @@ pub struct Bounds {
 }
 
 impl Model for Bounds {
-    ghost use Rattle.std.specs.Prelude.{ℕ, List};
-    ghost use Rattle.std.specs.Coded.{coded_list, coded_ℕ};
-    ghost use Rattle.bw_forest.specs.Bounds.{AreBounds};
-
     ghost Value = { List ℕ };
 
     ghost coded = { coded_list coded_ℕ };
@@ -154,28 +149,14 @@ fn guess(lows: &[Key], scale: u64, key: Key) -> Option<usize>
     if scale == 0 {
         return None;
     }
-    let tree = scaled(key, scale).min(lows.len() - 1);
-    if begins_last(lows, tree, key) {
+    // the upper half of the product
+    let scaled = ((u128::from(key) * u128::from(scale)) >> 64) as usize;
+    let tree = scaled.min(lows.len() - 1);
+    if lows[tree] <= key && is_past(lows, tree + 1, key) {
         Some(tree)
     } else {
         None
     }
-}
-
-/// Returns the upper half of the product.
-#[inline(always)]
-fn scaled(key: Key, scale: u64) -> usize {
-    ((u128::from(key) * u128::from(scale)) >> 64) as usize
-}
-
-/// Reports whether the bound at the place is the last one at or below the key.
-#[inline(always)]
-fn begins_last(lows: &[Key], place: usize, key: Key) -> bool
-    requires rise { IsStrictlyIncreasing lows.now }
-    requires inside { place < length lows.now }
-    ensures { IsTrue result → begun key lows.now ≡ place + 1 }
-{
-    lows[place] <= key && is_past(lows, place + 1, key)
 }
 
 /// Reports whether the bound at the place is above the key. One that isn't there is above all keys.

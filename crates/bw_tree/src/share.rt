@@ -2,6 +2,7 @@
 //! counts is known to contracts alone.
 
 ghost use Rattle.std.specs.Prelude.{◌≡◌, ◌+◌, ◌*◌};
+ghost use Rattle.bw_tree.specs.Shares.{ShareValue, share_code};
 
 use std::marker::{Model, PhantomData};
 use std::sync::ledger;
@@ -68,9 +69,6 @@ pub struct Share<I: Ledger, D: Ledger> {
 }
 
 impl<I: Ledger, D: Ledger> Model for Share<I, D> {
-    ghost use Rattle.std.specs.Prelude.{◌≡◌};
-    ghost use Rattle.bw_tree.specs.Shares.{ShareValue, share_code};
-
     ghost Value = { ShareValue };
 
     ghost coded = { share_code };

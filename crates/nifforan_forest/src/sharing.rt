@@ -11,9 +11,9 @@ ghost use Rattle.nifforan_forest.specs.Sharing.{ComesBack, IsClosedForestShared,
 ghost use Rattle.nifforan_forest.specs.Sharing.{IsForestShared, IsLate, IsShareForestFault};
 ghost use Rattle.nifforan_forest.specs.Workers.{AllReturn, trails_of};
 
-use crate::crew::{Gathered, work_all};
-use crate::divides::Divides;
+use crate::crew::work_all;
 use crate::fault::ShareForestFault;
+use crate::hand::Divides;
 use crate::job::ForestJob;
 use crate::outcome::ForestOutcome;
 use crate::unshared::UnsharedForest;
@@ -240,12 +240,20 @@ fn share_open<
     ensures late { IfErr result (λ it. IsLate it.fault) }
     ensures back { IfErr result (ComesBack I.bounds I.config) }
 {
-    let gathered = work_all(&rt, machine, forest.bounds(), forest.trees(), shares, job);
-    let Gathered { shares, workers } = match gathered {
+    let gathered = work_all(
+        &rt,
+        machine,
+        forest.bounds(),
+        forest.trees(),
+        shares,
+        opening,
+        job,
+    );
+    let (shares, workers) = match gathered {
         Ok(gathered) => gathered,
         Err(fault) => return Err(give_back(forest, fault)),
     };
-    match forest.close(joined(opening, shares)) {
+    match forest.close(shares) {
         Ok(forest) => Ok(ForestOutcome { forest, workers }),
         Err(apart) => Err(UnsharedForest {
             fault: ShareForestFault::OtherRange,

@@ -1,9 +1,10 @@
-use Rattle.std.proofs.Common.{rules, ◌≡◌, ◌∷◌, ◌++◌, [], length, map, ap, sym, ◌∙◌, append_assoc}
+use Rattle.std.proofs.Common.{rules, ◌≡◌, ◌∷◌, ◌++◌, [], length, map, refl, ap, sym, ◌∙◌, append_assoc}
 use Rattle.std.proofs.lemmas.List.{map-append}
 use Rattle.std.proofs.lemmas.List.Elements.{All-tail}
 use Rattle.bw_step.specs.Trails.{lists_of}
 use Rattle.bw_run.specs.ForestRuns.{by_trees, with_last}
 use Rattle.bw_run.proofs.ForestColumns.{by_trees_more, ok_more}
+use Rattle.bw_run.proofs.Plans.{none_of}
 use Rattle.bw_run.proofs.forest.trails.sort_out.Goals as goal
 
 pub loop-worker-preserved : goal.loop-worker-preserved
@@ -28,3 +29,7 @@ loop-worker-preserved c =
             ∙ ap (by_trees c.args.trees) (sym (map-append (λ it. lists_of it.trails.items) done (worker ∷ []))))),
       );
     }
+
+pub loop-worker-init-clause-trails : goal.loop-worker-init-clause-trails
+loop-worker-init-clause-trails c =
+    ([], refl, none_of (λ its. its.items) (λ trails. lists_of trails) c.in_ok-by_tree.by_tree.items c.args.trees refl c.in_ok-by_tree.ensures)

@@ -1,7 +1,7 @@
 use Rattle.std.proofs.Common.{◌≡◌, ◌+◌, ◌++◌, ◌<◌, ◌≤◌, length, map}
 use Rattle.std.specs.Prelude.{vec_capacity}
 use Rattle.bw_crew.specs.Workers.{share_by}
-use Rattle.nifforan_shared.proofs.gathering.gather.Given as goal
+use Rattle.nifforan_shared.proofs.hands.gather.Given as goal
 
 abbrev pub invariant-loop-worked : goal.invariant-loop-worked
 invariant-loop-worked g l = record {
@@ -9,7 +9,8 @@ invariant-loop-worked g l = record {
   room_for_shares : length l.fn.all.items < vec_capacity l.shares;
   room_for_trails : length l.fn.all.items ≤ vec_capacity l.trails;
   room_for_outputs : length l.fn.all.items ≤ vec_capacity l.outputs;
-  trails : l.trails.items ++ map (λ worked. worked.trail) l.worked-iterator.rest.items ≡ map (λ worked. worked.trail) l.fn.all.items;
+  trails : map g.L.Trail.added l.trails.items ++ map (λ worked. worked.hands.seen.trail) l.worked-iterator.rest.items
+      ≡ map (λ worked. worked.hands.seen.trail) l.fn.all.items;
   outputs : l.outputs.items ++ map (λ worked. worked.output) l.worked-iterator.rest.items ≡ map (λ worked. worked.output) l.fn.all.items;
   trailed : length l.trails.items ≡ length l.shares.items;
   answered : length l.outputs.items ≡ length l.shares.items;
