@@ -322,8 +322,8 @@ pub fn upper_part_of<A: Allocator + Copy>(
     }
 }
 
-/// Ends a base page before the separator, with a link to the page there. Returns false, and changes
-/// nothing, if a record stands over the page.
+/// Cuts a base page off at the separator and links it to the page that begins there. Returns false,
+/// and changes nothing, if a record stands over the page.
 pub fn cut_in_place<A: Allocator + Copy>(chain: &mut Chain<A>, separator: Key, right: Pid) -> bool
     requires within { LiesIn separator (fences chain.old) }
     requires later { (fences chain.old).low < separator }

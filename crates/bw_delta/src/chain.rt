@@ -124,8 +124,8 @@ impl<A: Allocator + Copy> Chain<A> {
         };
     }
 
-    /// Puts a merge record over this chain and the chain of the page that is taken in, by swaps
-    /// into the prepared boxes. It takes no memory.
+    /// Puts a merge record over this chain and the chain of the page on its right. Both chains are
+    /// swapped into boxes that the caller brings, so it takes no memory.
     pub fn merge(
         &mut self,
         right: Chain<A>,

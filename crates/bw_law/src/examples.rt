@@ -37,7 +37,8 @@ pub fn the_first_page_is_not_marked()
     ensures { refusal three_leaves (mark 0 0 2) ≡ Some Leftmost }
 {}
 
-/// A term isn't added over the term of a page that was merged: that one goes first.
+/// A term can't be added while the term of a merged page stands at the same key: that one is
+/// deleted first.
 pub fn a_standing_term_goes_first()
     ensures { answers three_leaves removal
         ≡ None ∷ None ∷ None ∷ None ∷ Some (TermStands (pid 1)) ∷ None ∷ None ∷ [] }

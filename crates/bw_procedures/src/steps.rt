@@ -144,16 +144,16 @@ pub trait Steps<A: Allocator + Copy, P: Proposes> {
         Ok(None)
     }
 
-    /// Whether the worker looks a key up and puts the record of its change in one step, where it may
-    /// choose.
+    /// Whether the worker looks a key up and puts the record of its change in one step when it has
+    /// the choice.
     fn records_at_once(&self) -> bool {
         false
     }
 
-    /// Performs the action, where the worker can do that in one step: the receipt of its look or of
-    /// its step is added to the trail, and where the action consolidates the page after it that of
-    /// the consolidation. Each step that changes the tree's shape costs effort. So does the refusal
-    /// of a page that is to be reshaped; where it isn't performed otherwise, nothing was done.
+    /// Performs the action if the worker can do so in one step. The receipt of its look or of its
+    /// step joins the trail, followed by that of the consolidation if the action consolidates the
+    /// page. Each step that changes the tree's shape costs effort, and so does the refusal of a step
+    /// that would reshape a page. Any other failure leaves everything as it was.
     fn perform(&mut self, _action: Action) -> Result<Performed, Unperformed>
         ensures follows { follows self.old self.new }
         ensures seen { PerformedBy _action result (seen self.old) (seen self.new) }

@@ -12,8 +12,7 @@ use std::alloc::Allocator;
 /// What is done to a table in one hold of its lock. It has no memory of its own.
 #[derive(Clone, Copy, Debug, PartialEq, Eq, Hash)]
 pub enum Action {
-    /// Makes the wish come true for the key and consolidates its leaf, in the place where that
-    /// lies.
+    /// Changes the key as wished, and consolidates its leaf in place.
     Change {
         key: Key,
         wished: Wished,

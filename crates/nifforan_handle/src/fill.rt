@@ -56,9 +56,10 @@ fn take_ahead(map: &mut Map<Global>, pairs: usize)
 }
 
 impl Handle {
-    /// Opens a map with the pairs, whose keys must rise, at a closed handle. With any status but
-    /// `OK` the handle stays as it is: those of `create`, `UNSORTED` if a key isn't above the one
-    /// before, or a fault. The count is that of the pairs, or with `UNSORTED` of those that rise.
+    /// Opens a closed handle on a map of these pairs, whose keys must rise. Any status but `OK`
+    /// leaves the handle as it is: a status of `create`, `UNSORTED` if a key isn't above the one
+    /// before it, or a fault. The count is the number of pairs or, with `UNSORTED`, of those that
+    /// rise.
     pub fn from_sorted(&mut self, alloc: Global, settings: &Settings, pairs: &[Pair]) -> Filled
         ensures { OpensSorted settings.now (are_pairs pairs.now) result
             self.old.held self.new.held }

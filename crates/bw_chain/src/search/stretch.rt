@@ -23,8 +23,8 @@ use bw_delta::{Chain, EntrySlice, Node};
 use bw_keys::{Fence, Key};
 use std::alloc::Allocator;
 
-/// The pairs of a base page, and the stretch of keys, from the low to the end, at which they say
-/// what the chain does.
+/// The pairs of a base page, with the range of keys, from the low to the end, in which they are all
+/// that the chain holds.
 #[derive(Clone, Copy)]
 struct Stretch<'a> {
     pairs: EntrySlice<'a, u64>,
@@ -32,8 +32,9 @@ struct Stretch<'a> {
     end: Fence,
 }
 
-/// Returns the chain's pairs from the key on that lie side by side, up to the first key that a
-/// record names: all of them if none does. It takes one walk down the records, and no memory.
+/// Returns those of the chain's pairs that begin at the key and lie side by side. They end before
+/// the first key that a record names, or with the page if no record names one. The call walks down
+/// the records once and takes no memory.
 #[tactic(auto, using(crate::proofs::Bridges::both_kinds))]
 pub fn pairs_from<A: Allocator + Copy>(chain: &Chain<A>, key: Key) -> EntrySlice<'_, u64>
     requires sound { IsSound chain.now }

@@ -36,12 +36,11 @@ use bw_step::{Book, Denied, Performed, Receipt, Stage, Unperformed};
 use std::alloc::Allocator;
 
 impl<A: Allocator + Copy> Table<A> {
-    /// Carries out the wish for a key and consolidates its leaf, as a change and a consolidation
-    /// one after the other do. It isn't done where a page on the way to the leaf is in the middle
-    /// of a split or a merge, where more than the record of its split stands on the leaf, where a
-    /// number is used up, and where memory is short. The walk to the leaf and the change are built
-    /// in, and it is called: `perform` with it built in would be too large to be built into its own
-    /// callers.
+    /// Changes a key as wished and consolidates its leaf, with the effect of a change step and a
+    /// consolidation step. Changes nothing if a page on the way to the leaf is in the middle of a
+    /// split or a merge, if the leaf has more than the record of its split, if a number is used up,
+    /// or if memory is short. It isn't inlined: `perform` would grow too large to be inlined into
+    /// its own callers.
     #[inline(never)]
     pub(super) fn perform_change(
         &mut self,
@@ -72,9 +71,9 @@ impl<A: Allocator + Copy> Table<A> {
         !self.slot_in_row(page).is_flat() || !self.can_count_on(page)
     }
 
-    /// The same on a page, without a walk. Returns `None` and changes nothing where it isn't such a
-    /// leaf, where its range doesn't hold the key, where a number is used up, and where memory for a
-    /// new pair is short.
+    /// Changes a key as wished on a page that the caller names, without a walk. Returns `None` and
+    /// changes nothing if the page isn't a posted leaf whose range holds the key, if it has more
+    /// than the record of its split, if a number is used up, or if memory for a new pair is short.
     #[inline(always)]
     pub fn change_leaf(&mut self, page: Pid, key: Key, wished: Wished) -> Option<Receipt>
         ensures done { IfSome result (λ receipt.
@@ -126,11 +125,10 @@ impl<A: Allocator + Copy> Table<A> {
 }
 
 impl<A: Allocator + Copy> Table<A> {
-    /// Names a page that no parent names yet in its parent, and consolidates the parent, as the two
-    /// steps one after the other do. Fails and changes nothing with `StepByStep` where the parent
-    /// isn't a posted page without records whose range holds the low of the child, where it has a
-    /// term that begins there, and where a number is used up, and with `NoMemory` where memory is
-    /// short.
+    /// Names a page that no parent names yet in its parent, and consolidates the parent, with the
+    /// effect of the two steps. Fails and changes nothing with `StepByStep` if the parent isn't a
+    /// posted page without records whose range holds the low of the child, if it has a term that
+    /// begins there, or if a number is used up, and with `NoMemory` if memory is short.
     pub fn post_at_once(&mut self, parent: Pid, child: Pid) -> Result<(), Unperformed>
         ensures posted { IsPosted self.old parent.0 child (is_ok result) self.new }
         ensures why { IfErr result (IsWhyUndone (MayPost self.old.slots parent.0 child.0)) }
@@ -231,12 +229,12 @@ impl<A: Allocator + Copy> Slot<A> {
 }
 
 impl<A: Allocator + Copy> Table<A> {
-    /// Splits a page before the entry with the number, counted from 0, and consolidates it, as the
-    /// two steps one after the other do. The new page has room for as many entries as it may get
-    /// before it is split. Returns the new page. Fails and changes nothing with `StepByStep` where
-    /// the page isn't a posted one without records, where that entry is its first or isn't there or
-    /// leads to a page that is leaving, where no slot is free, and where a number is used up, and
-    /// with `NoMemory` where memory is short.
+    /// Splits a page before the entry with the number, counted from 0, and consolidates it, with the
+    /// effect of the two steps. The new page has room for as many entries as it may get before it is
+    /// split. Returns the new page. Fails and changes nothing with `StepByStep` if the page isn't
+    /// posted or has records, if the entry is the first, is missing, or leads to a page that is
+    /// leaving, if no slot is free, or if a number is used up, and with `NoMemory` if memory is
+    /// short.
     pub fn split_at_once(&mut self, page: Pid, number: usize) -> Result<Pid, Unperformed>
         ensures done { IfOk result (λ new.
             IsSplitAtOnce self.old page.0 number (Shaped kinds.Split page (Some new)) self.new) }
@@ -294,7 +292,7 @@ impl<A: Allocator + Copy> Table<A> {
         self.slot(page)?.key_at(number)
     }
 
-    /// The free page for the upper part of the page, where that may be split at the separator.
+    /// The free page for the upper part of the page, if the page may be split at the separator.
     fn slot_to_split_to(&self, page: Pid, separator: Key) -> Option<Pid>
         ensures may { IfSome result (λ new. MaySplitAtOnce self.now page.0 separator) }
         ensures last { IfSome result (λ new. Some new.0 ≡ last_id self.now.free) }

@@ -161,8 +161,8 @@ impl<A: Allocator + Copy> Slot<A> {
 }
 
 impl<A: Allocator + Copy> Table<A> {
-    /// Names an unposted page in the page of the next level whose range holds its low. It isn't
-    /// done without the spare memory, where there is no such page, and where the term is refused.
+    /// Names an unposted page in the page of the next level whose range holds its low. Changes
+    /// nothing without the spare memory, if there is no such page, or if the term is refused.
     pub(super) fn perform_term(
         &mut self,
         child: Pid,
@@ -197,9 +197,8 @@ impl<A: Allocator + Copy> Table<A> {
     }
 
     /// Names an unposted page in the page of the next level whose range holds its low, and
-    /// consolidates that parent, as the two steps one after the other do. Changes nothing and
-    /// leaves it to single steps where there is no such parent, and where [`Table::post_at_once`]
-    /// can't do both.
+    /// consolidates that parent, with the effect of the two steps. Changes nothing and leaves it to
+    /// single steps if there is no such parent or if [`Table::post_at_once`] can't do both.
     pub(super) fn perform_post(&mut self, child: Pid) -> Result<Performed, Unperformed>
         ensures { Performs (actions.Post child) self.old result self.new }
     {
