@@ -1,5 +1,5 @@
 -- Workers by their numbers, and one more of them after the others.
-use Rattle.std.proofs.Common.{◌≡◌, ℕ, ◌+◌, ◌≤◌, List, [], ◌∷◌, ◌++◌, length, map, false, ap, sym, subst, ◌∙◌, append_assoc, arith}
+use Rattle.std.proofs.Common.{◌≡◌, ℕ, ◌+◌, ◌≤◌, List, [], ◌∷◌, ◌++◌, length, map, false, refl, ap, sym, subst, ◌∙◌, append_assoc, arith, length-append}
 use Rattle.std.proofs.lemmas.Bool.Decides.{nat_tests}
 use Rattle.std.proofs.lemmas.List.{map-append}
 use Rattle.bw_keys.specs.Limits.{is_out_of}
@@ -10,10 +10,13 @@ use Rattle.bw_crew.specs.Workers.{Promised, AllAsPromised, AreNumbered, AreAsPro
 pub few_workers : (most workers n : ℕ) → is_out_of 1 most workers ≡ false → n ≡ workers → most ≤ 64 → n ≤ 64
 few_workers most workers n fine many few = grind (arith, nat_tests)
 
--- where nothing is asked of a value, all are good
-pub nothing_asked : {X : Type 0} → (first : ℕ) (xs : List X) → ByNumber (λ worker x. Unit {0}) first xs
-nothing_asked first [] = tt
-nothing_asked first (x ∷ xs) = (tt, nothing_asked (first + 1) xs)
+pub one_longer : {X : Type 0} → (xs more : List X) (x : X) → more ≡ xs ++ x ∷ [] → length more ≡ length xs + 1
+one_longer xs more x grown = ap length grown ∙ length-append xs (x ∷ [])
+
+-- what is so whatever the worker is so of each
+pub all_so : {A X : Type 0} → (first : ℕ) (xs : List X) → A → ByNumber (λ worker x. A) first xs
+all_so first [] a = tt
+all_so first (x ∷ xs) a = (a, all_so (first + 1) xs a)
 
 by_number_snoc : {X : Type 0} → (fact : ℕ → X → Type 0) (first : ℕ) (xs : List X) (x : X) (worker : ℕ) → ByNumber fact first xs
     → fact worker x → worker ≡ first + length xs → ByNumber fact first (xs ++ x ∷ [])
@@ -36,6 +39,15 @@ pub one_more_has : {X Z : Type 0} → (has : X → Z) (xs : List X) (x : X) (res
 one_more_has has xs x rest all so_far =
     ap (λ (l : List _). l ++ rest) (map-append has xs (x ∷ [])) ∙ (append_assoc (map has xs) (has x ∷ []) rest ∙ so_far)
 
+-- one trail more stands for the next hand's
+pub trails_more : {L H : Type 0}
+    → (added : L → List Receipt) (trail : H → List Receipt) (trails more : List L) (t : L) (hand : H) (rest : List H)
+    (all : List (List Receipt)) → more ≡ trails ++ t ∷ [] → added t ≡ trail hand → map added trails ++ map trail (hand ∷ rest) ≡ all
+    → map added more ++ map trail rest ≡ all
+trails_more added trail trails more t hand rest all grown same so_far =
+    rw grown (one_more_has added trails t (map trail rest) all (ap (λ (it : List Receipt). map added trails ++ it ∷ map trail rest) same
+    ∙ so_far))
+
 by_number_map : {S K : Type 0} → (fact : ℕ → K → Type 0) (has : S → K) (first : ℕ) (xs : List S) → ByNumber fact first (map has xs)
     → ByNumber (λ worker x. fact worker (has x)) first xs
 by_number_map fact has first [] all = tt
@@ -46,30 +58,36 @@ pub by_number_of : {S K : Type 0} → (fact : ℕ → K → Type 0) (has : S →
     → ByNumber fact first ys → ByNumber (λ worker x. fact worker (has x)) first xs
 by_number_of fact has first xs ys same all = by_number_map fact has first xs (subst (ByNumber fact first) (sym same) all)
 
-promised_each : {X O L : Type 0}
-    → (added : L → List Receipt) (promised : Promised O) (output : X → O) (trail : X → L) (first : ℕ) (xs : List X)
-    → ByNumber (λ worker x. promised worker (output x) (added (trail x))) first xs
-    → AreAsPromised promised first (map output xs) (map added (map trail xs))
-promised_each added promised output trail first [] all = tt
-promised_each added promised output trail first (x ∷ xs) all = (all.0, promised_each added promised output trail (first + 1) xs all.1)
+promised_each : {X O : Type 0} → (promised : Promised O) (output : X → O) (trail : X → List Receipt) (first : ℕ) (xs : List X)
+    → ByNumber (λ worker x. promised worker (output x) (trail x)) first xs
+    → AreAsPromised promised first (map output xs) (map trail xs)
+promised_each promised output trail first [] all = tt
+promised_each promised output trail first (x ∷ xs) all = (all.0, promised_each promised output trail (first + 1) xs all.1)
 
 -- what is promised of each worker is so of the lists of what they bring back
 pub all_as_promised : {X O L : Type 0}
-    → (added : L → List Receipt) (promised : Promised O) (output : X → O) (trail : X → L) (xs : List X) (outputs : List O) (trails : List L)
-    → outputs ≡ map output xs → trails ≡ map trail xs
-    → ByNumber (λ worker x. promised worker (output x) (added (trail x))) 0 xs → AllAsPromised added promised outputs trails
-all_as_promised {O = O} {L = L} added promised output trail xs outputs trails one two all =
+    → (added : L → List Receipt) (promised : Promised O) (output : X → O) (trail : X → List Receipt) (xs : List X) (outputs : List O)
+    (trails : List L) → outputs ≡ map output xs → map added trails ≡ map trail xs
+    → ByNumber (λ worker x. promised worker (output x) (trail x)) 0 xs → AllAsPromised added promised outputs trails
+all_as_promised {O = O} added promised output trail xs outputs trails one two all =
     subst (λ (os : List O). AreAsPromised promised 0 os (map added trails)) (sym one)
-    (subst (λ (ts : List L). AreAsPromised promised 0 (map output xs) (map added ts)) (sym two)
-    (promised_each added promised output trail 0 xs all))
+    (subst (λ (ts : List (List Receipt)). AreAsPromised promised 0 (map output xs) ts) (sym two)
+    (promised_each promised output trail 0 xs all))
 
-pub counted_more : {L : Type 0}
-    → (added : L → List Receipt) (shares more : List ShareValue) (trails trailed : List L) (share : ShareValue) (trail : L)
-    → more ≡ shares ++ share ∷ [] → trailed ≡ trails ++ trail ∷ [] → shares ≡ map (λ trail. share_by (added trail)) trails
-    → share ≡ share_by (added trail) → more ≡ map (λ trail. share_by (added trail)) trailed
-counted_more added shares more trails trailed share trail one two same is =
-    one ∙ ((λ j. same j ++ is j ∷ []) ∙ sym (ap (map (λ trail. share_by (added trail))) two ∙ map-append (λ trail. share_by (added trail))
-    trails (trail ∷ [])))
+pub each_share : {L : Type 0} → (added : L → List Receipt) (trails : List L)
+    → map (λ trail. share_by (added trail)) trails ≡ map share_by (map added trails)
+each_share added [] = refl
+each_share added (trail ∷ trails) = ap (λ (rest : List ShareValue). share_by (added trail) ∷ rest) (each_share added trails)
+
+-- one share more is the sum of its trail
+pub summed_more : {L : Type 0} → (added : L → List Receipt) (before shares more : List ShareValue) (trails trailed : List L)
+    (share : ShareValue) (trail : L) → more ≡ shares ++ share ∷ [] → trailed ≡ trails ++ trail ∷ []
+    → shares ≡ before ++ map (λ trail. share_by (added trail)) trails → share ≡ share_by (added trail)
+    → more ≡ before ++ map (λ trail. share_by (added trail)) trailed
+summed_more {L = L} added before shares more trails trailed share trail one two so_far is =
+    let told : L → ShareValue = λ trail. share_by (added trail) in
+    one ∙ ((λ j. so_far j ++ is j ∷ []) ∙ (append_assoc before (map told trails) (share_by (added trail) ∷ [])
+    ∙ ap (λ (rest : List ShareValue). before ++ rest) (sym (ap (map told) two ∙ map-append told trails (trail ∷ [])))))
 
 -- a fact that the promise has of each worker's number and output, whatever its trail
 pub by_number_promised : {O L : Type 0}
@@ -81,11 +99,3 @@ by_number_promised added promised fact first (o ∷ outputs) (t ∷ trails) has 
     (has first o (added t) all.0, by_number_promised added promised fact (first + 1) outputs trails has all.1)
 by_number_promised added promised fact first [] (t ∷ trails) has all = absurd all
 by_number_promised added promised fact first (o ∷ outputs) [] has all = absurd all
-
--- where each output has its worker's number, the outputs stand by the workers' numbers
-pub numbered_by_promise : {O L : Type 0} → (added : L → List Receipt) (number : O → ℕ) (outputs : List O) (trails : List L)
-    → AllAsPromised added (λ worker output trail. number output ≡ worker) outputs trails
-    → AreNumbered number 0 outputs
-numbered_by_promise added number outputs trails all =
-    by_number_promised added (λ worker output trail. number output ≡ worker) (λ worker output. number output ≡ worker) 0 outputs trails
-    (λ worker output trail is. is) all

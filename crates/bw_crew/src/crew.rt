@@ -1,6 +1,6 @@
 //! The workers' threads.
 
-ghost use Rattle.std.specs.Prelude.{◌≡◌, ◌≤◌, ◌<◌, [], IfOk, All, length, vec_capacity};
+ghost use Rattle.std.specs.Prelude.{◌≡◌, ◌≤◌, ◌<◌, [], IfOk, All, length, vec_capacity, ℕ};
 ghost use Rattle.bw_crew.specs.Workers.{AreNumbered, ByNumber};
 
 use crate::fault::CrewFault;
@@ -11,10 +11,15 @@ use std::sync::Wait;
 use std::thread;
 use std::thread::{Promise, PromisedHandle, Threads};
 
+/// What a worker brings back: its hand, or its hands, and what it returned.
+#[derive(Drop)]
+pub struct Worked<W, O> {
+    pub hands: W,
+    pub output: O,
+}
+
 /// What each worker of a crew does, in a thread of its own, with a kit of its own.
 pub trait Part<K> {
-    ghost use Rattle.std.specs.Prelude.{◌<◌, ℕ};
-
     /// What a worker brings back.
     type Output: Drop;
 
@@ -31,7 +36,7 @@ pub trait Part<K> {
         ensures promised { promised self.now worker result };
 }
 
-/// That what comes back from a thread is as promised of the worker with this number.
+/// The promise that a thread brings back what is promised of the worker with this number.
 #[derive(Drop)]
 struct AsPromised<K, P> {
     worker: u32,
@@ -46,8 +51,8 @@ impl<O, K, P: Part<K, Output = O>> Promise<O> for AsPromised<K, P> {
 /// Does the part with each kit, side by side, each in a thread of its own, and returns what the
 /// workers bring back, in the order of the kits.
 ///
-/// Fails where memory is wanting before the first thread starts, and where a thread can't be
-/// started: those that were started do their part to the end.
+/// Fails if memory runs out before the first thread starts, or if a thread can't be started. The
+/// threads that did start do their part to the end.
 pub fn run_all<
     K: Drop + Send,
     O: Drop + Send,
@@ -69,7 +74,7 @@ pub fn run_all<
             ensures promised { IfOk result
                 (λ outputs. ByNumber (P.promised part.entry.now) 0 outputs.items) }
         {
-            // asked for here, since what was done is given up where memory is wanting after it
+            // taken now: if memory ran out after the work, the work would be lost
             let room = Vec::with_capacity(machine, kits.len())?;
             let mut handles = Vec::with_capacity(machine, kits.len())?;
             let mut worker = 0u32;
@@ -89,7 +94,7 @@ pub fn run_all<
                 ) else {
                     return Err(CrewFault::NoThread);
                 };
-                handles.push(handle)?;
+                handles.push_reserved(handle);
                 worker += 1;
             }
             Ok(join_all(rt, room, part, handles))
@@ -97,8 +102,8 @@ pub fn run_all<
     )
 }
 
-/// Waits for all threads, and returns what they bring back. Asks for no memory, so that what was
-/// done isn't given up for want of it.
+/// Waits for all threads, and returns what they bring back. Takes no memory, so no lack of it can
+/// lose their work.
 fn join_all<K, O: Drop, P: Part<K, Output = O>, R: Threads>(
     rt: &R,
     room: Vec<O>,

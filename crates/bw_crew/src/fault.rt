@@ -4,7 +4,7 @@ ghost use Rattle.std.specs.Prelude.{◌≡◌};
 ghost use Rattle.bw_crew.specs.declared.fault.CrewFault.TheVariants as crew;
 
 use bw_delta::NoMemory as Want;
-use std::alloc::{AllocError, AllocFailed};
+use std::alloc::AllocError;
 use thiserror::Error;
 
 /// Why the workers of a crew didn't do their task. Those whose threads were started did it, and
@@ -31,14 +31,6 @@ impl From<AllocError> for CrewFault {
     ghost from_gives = { λ _ fault. fault ≡ crew.NoMemory };
 
     fn from(_: AllocError) -> CrewFault {
-        CrewFault::NoMemory
-    }
-}
-
-impl<T: Drop> From<AllocFailed<T>> for CrewFault {
-    ghost from_gives = { λ _ fault. fault ≡ crew.NoMemory };
-
-    fn from(_: AllocFailed<T>) -> CrewFault {
         CrewFault::NoMemory
     }
 }

@@ -7,7 +7,7 @@ mod fault;
 mod member;
 mod worker;
 
-pub use crew::{Part, run_all};
+pub use crew::{Part, Worked, run_all};
 pub use fault::CrewFault;
 pub use member::Member;
 pub use worker::{Notes, Worker};

@@ -1,8 +1,10 @@
 //! A worker of a shared tree, whose share is the sum of its trail.
 
-ghost use Rattle.std.specs.Prelude.{◌≡◌, []};
+ghost use Rattle.std.specs.Prelude.{◌≡◌, [], refl};
 ghost use Rattle.bw_tree.specs.Shares.{no_changes};
-ghost use Rattle.bw_crew.specs.Workers.{share_by};
+ghost use Rattle.bw_crew.specs.Workers.{share_by, MemberValue};
+ghost use Rattle.bw_work.specs.Hands.{Sums};
+ghost use Rattle.std.proofs.Common.{◌∙◌};
 
 use crate::worker::Notes;
 use bw_delta::{Chain, NoMemory};
@@ -24,11 +26,6 @@ pub struct Member<'t, S: Shared<Global, Step<Global>>, G: Gate, L: Trail> {
 }
 
 impl<'t, S: Shared<Global, Step<Global>>, G: Gate, L: Trail> Model for Member<'t, S, G, L> {
-    ghost use Rattle.std.specs.Prelude.{[]};
-    ghost use Rattle.bw_tree.specs.Shares.{no_changes};
-    ghost use Rattle.bw_work.specs.Hands.{Sums};
-    ghost use Rattle.bw_crew.specs.Workers.{MemberValue};
-
     ghost Value = { MemberValue };
 
     ghost view = { λ m. record {
@@ -69,9 +66,6 @@ impl<'t, S: Shared<Global, Step<Global>>, G: Gate, L: Trail> Member<'t, S, G, L>
 
 impl<'t, S: Shared<Global, Step<Global>>, G: Gate, L: Trail> Steps<Global, Step<Global>>
     for Member<'t, S, G, L> {
-    ghost use Rattle.std.specs.Prelude.{◌≡◌, refl};
-    ghost use Rattle.std.proofs.Common.{◌∙◌};
-
     ghost seen = { λ m. m.seen };
 
     ghost kept = { L.kept };

@@ -7,12 +7,12 @@ use bw_step::{Look, Step};
 use bw_work::Queries;
 use std::alloc::Global;
 
-/// One of the workers that share a tree. It makes the calls of [`Calls`], each of them of atomic
-/// steps under the tree's lock. Steps of other workers may come between any two of them. It asks
-/// what [`Queries`] has, and walks along the map by [`Pages`](crate::Pages).
+/// One of the workers that share a tree. It makes the calls of [`Calls`] by atomic steps under the
+/// tree's lock, and steps of other workers may come between any two of them. It asks the questions
+/// of [`Queries`], and walks along the map by [`Pages`](crate::Pages).
 ///
-/// A fault in the place of a reply says that the map is as the call found it. It costs no share,
-/// and the worker may go on.
+/// A fault in place of a reply says that the map is as the call found it. The worker keeps its share
+/// and may go on.
 pub trait Worker: Calls<Global> + Queries {}
 
 impl<W: Calls<Global> + Queries> Worker for W {}
@@ -22,8 +22,7 @@ pub trait Notes: Steps<Global, Step<Global>> + Queries {
     ghost use Rattle.std.specs.Prelude.{◌≡◌, OnOk, OnErr};
     ghost use Rattle.bw_crew.specs.Workers.{AddsNote};
 
-    /// Adds a look to the trail, as a receipt. Fails where memory is wanting, and then changes
-    /// nothing.
+    /// Adds a look to the trail, as a receipt. Changes nothing if memory is short.
     fn note(&mut self, key: Key, look: Look) -> Result<(), NoMemory>
         ensures seen { OnOk result (AddsNote key look (Self.seen self.old) (Self.seen self.new)) }
         ensures unseen { OnErr result (Self.seen self.new ≡ Self.seen self.old) };

@@ -20,9 +20,6 @@ some_more xs rise i (suc n) j is less =
     let same : j ≡ i + n + 1 = omega (arith, is) in
     subst (λ k. slice_index xs i ≤ slice_index xs k) (sym same) (omega (arith, before, next))
 
-pub not_falling : (xs : List ℕ) → IsStrictlyIncreasing xs → IsNonDecreasing xs
-not_falling xs rise = IsNonDecreasingBy-from_default (λ x. x) xs 0 (λ i j le less. some_more xs rise i (j - i) j (omega (arith, le)) less)
-
 -- where the range ends, by what begins next
 abbrev pub fence_at : Option ℕ → Fence
 fence_at None = Top

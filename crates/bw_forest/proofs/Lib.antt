@@ -1,7 +1,7 @@
-mod Bounding
+pub mod Bounding
 mod Closing
-mod Fits
-mod Joining
-mod Mapping
+pub mod Fits
+pub mod Joining
+pub mod Mapping
 mod Opening
 mod Quantiles

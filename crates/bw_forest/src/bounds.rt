@@ -1,10 +1,9 @@
 //! Where the ranges of a forest's trees begin, and which of them holds a key.
 
-ghost use Rattle.std.specs.Prelude.{◌≡◌, false, ◌<◌, ◌≤◌, ◌↔◌, ◌+◌, ◌-◌, ◌*◌, ◌^◌, [], Some, length, min, slice_get};
-ghost use Rattle.std.specs.Prelude.{IsOk, IfOk, IfErr, IfSome, IsTrue, vec_capacity};
+ghost use Rattle.std.specs.Prelude.{◌≡◌, false, ◌<◌, ◌≤◌, ◌↔◌, ◌+◌, ◌-◌, ◌*◌, ◌^◌, [], Some, length, min, slice_get, IsOk, IfOk, IfErr, IfSome, IsTrue, vec_capacity, ℕ, List};
 ghost use Rattle.std.specs.List.Sorted.{IsNonDecreasing, IsStrictlyIncreasing};
-ghost use Rattle.bw_forest.specs.Bounds.{AreBounds, AreAtQuantiles, AreEven, AreOfSample, quantile};
-ghost use Rattle.bw_forest.specs.Bounds.{IsBad, IsBadNumber, IsTreeOf, begun, is_bad_number, ranges_of};
+ghost use Rattle.bw_forest.specs.Bounds.{AreBounds, AreAtQuantiles, AreEven, AreOfSample, quantile, IsBad, IsBadNumber, IsTreeOf, begun, is_bad_number, ranges_of};
+ghost use Rattle.std.specs.Coded.{coded_list, coded_ℕ};
 
 use crate::fault::BadBounds;
 use crate::limits::MAX_TREES;
@@ -12,9 +11,9 @@ use bw_keys::{Fence, Key, Range};
 use std::alloc::Global;
 use std::marker::Model;
 
-/// The ranges of a forest's trees, which part the keys: the first begins at 0, each where the one
-/// before it ends, and the last has every key from its low on. Contracts see them as where they
-/// begin.
+/// The ranges of a forest's trees, which partition the keys: the first begins at 0, each of the others
+/// where the one before it ends, and the last has no end. Contracts see them as the list of keys at
+/// which they begin.
 #[derive(Drop)]
 pub struct Bounds {
     lows: Vec<Key>,
@@ -24,10 +23,6 @@ pub struct Bounds {
 }
 
 impl Model for Bounds {
-    ghost use Rattle.std.specs.Prelude.{ℕ, List};
-    ghost use Rattle.std.specs.Coded.{coded_list, coded_ℕ};
-    ghost use Rattle.bw_forest.specs.Bounds.{AreBounds};
-
     ghost Value = { List ℕ };
 
     ghost coded = { coded_list coded_ℕ };
@@ -154,28 +149,14 @@ fn guess(lows: &[Key], scale: u64, key: Key) -> Option<usize>
     if scale == 0 {
         return None;
     }
-    let tree = scaled(key, scale).min(lows.len() - 1);
-    if begins_last(lows, tree, key) {
+    // the upper half of the product
+    let scaled = ((u128::from(key) * u128::from(scale)) >> 64) as usize;
+    let tree = scaled.min(lows.len() - 1);
+    if lows[tree] <= key && is_past(lows, tree + 1, key) {
         Some(tree)
     } else {
         None
     }
-}
-
-/// Returns the upper half of the product.
-#[inline(always)]
-fn scaled(key: Key, scale: u64) -> usize {
-    ((u128::from(key) * u128::from(scale)) >> 64) as usize
-}
-
-/// Reports whether the bound at the place is the last one at or below the key.
-#[inline(always)]
-fn begins_last(lows: &[Key], place: usize, key: Key) -> bool
-    requires rise { IsStrictlyIncreasing lows.now }
-    requires inside { place < length lows.now }
-    ensures { IsTrue result → begun key lows.now ≡ place + 1 }
-{
-    lows[place] <= key && is_past(lows, place + 1, key)
 }
 
 /// Reports whether the bound at the place is above the key. One that isn't there is above all keys.
@@ -207,8 +188,8 @@ fn count_begun(lows: &[Key], key: Key) -> usize
     passed + count_few(lows, passed, left, key)
 }
 
-/// Counts those from the place on that lie at or below the key, in whole quarters, of which it looks
-/// at three.
+/// Counts the bounds from the place on that lie at or below the key, in whole quarters of the list,
+/// by a look at three of them.
 #[inline(always)]
 fn count_quarters(lows: &[Key], place: usize, quarter: usize, key: Key) -> usize
     requires rise { IsStrictlyIncreasing lows.now }

@@ -4,8 +4,7 @@ ghost use Rattle.std.specs.Prelude.{◌≡◌, All, length, map, min, IfOk};
 ghost use Rattle.bw_tree.specs.Stocks.{most};
 ghost use Rattle.bw_tree.specs.Trees.{IsTree};
 ghost use Rattle.bw_forest.specs.Bounds.{ranges_of};
-ghost use Rattle.bw_forest.specs.Forests.{HasForestMap, IsForest, IsForestMap, IsForestValueAt};
-ghost use Rattle.bw_forest.specs.Forests.{AreAlike, config_of, pairs_of, ranges_in, tables_of};
+ghost use Rattle.bw_forest.specs.Forests.{HasForestMap, IsForest, IsForestMap, IsForestValueAt, AreAlike, config_of, pairs_of, ranges_in, tables_of, ForestValue, forest_code};
 
 use crate::bounds::Bounds;
 use crate::closed_tree::ClosedTree;
@@ -23,8 +22,6 @@ pub struct ClosedForest<A: Allocator + Copy> {
 }
 
 impl<A: Allocator + Copy> Model for ClosedForest<A> {
-    ghost use Rattle.bw_forest.specs.Forests.{ForestValue, IsForest, forest_code, tables_of};
-
     ghost Value = { ForestValue };
 
     ghost coded = { forest_code };

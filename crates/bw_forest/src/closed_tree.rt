@@ -2,6 +2,7 @@
 
 ghost use Rattle.std.specs.Prelude.{◌≡◌};
 ghost use Rattle.bw_tree.specs.Ranges.{LiesIn};
+ghost use Rattle.bw_forest.specs.Plots.{PlotValue, plot_code};
 
 use bw_keys::Range;
 use bw_table::Table;
@@ -16,9 +17,6 @@ pub struct ClosedTree<A: Allocator + Copy> {
 }
 
 impl<A: Allocator + Copy> Model for ClosedTree<A> {
-    ghost use Rattle.bw_forest.specs.Plots.{PlotValue, plot_code};
-    ghost use Rattle.bw_tree.specs.Ranges.{LiesIn};
-
     ghost Value = { PlotValue };
 
     ghost coded = { plot_code };

@@ -1,13 +1,11 @@
 //! A closed forest of tables that came from elsewhere.
 
-ghost use Rattle.std.specs.Prelude.{◌≡◌, ℕ, ◌≤◌, ◌↔◌, [], All, length, vec_capacity};
-ghost use Rattle.std.specs.Prelude.{IsOk, IfOk, IfErr, IfNone, IfSome, IsTrue};
+ghost use Rattle.std.specs.Prelude.{◌≡◌, ℕ, ◌≤◌, ◌↔◌, [], All, length, vec_capacity, IsOk, IfOk, IfErr, IfNone, IfSome, IsTrue};
 ghost use Rattle.bw_keys.specs.Ranges.{end_of, key_count};
 ghost use Rattle.bw_table.specs.Orders.{HasNoKeyWithin};
 ghost use Rattle.bw_tree.specs.Trees.{IsTree};
 ghost use Rattle.bw_forest.specs.Bounds.{AreBounds, ranges_of};
-ghost use Rattle.bw_forest.specs.Fitting.{FitRanges, IsAlike, IsBadTables, IsFirstWithout};
-ghost use Rattle.bw_forest.specs.Fitting.{LiesInItsRange};
+ghost use Rattle.bw_forest.specs.Fitting.{FitRanges, IsAlike, IsBadTables, IsFirstWithout, LiesInItsRange};
 ghost use Rattle.bw_forest.specs.Forests.{AreAlike, HasPairsWithin, ranges_in, tables_of};
 ghost use Rattle.bw_tree.specs.Ranges.{LiesIn};
 

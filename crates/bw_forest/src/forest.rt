@@ -1,15 +1,12 @@
 //! The trees of a forest, by ranges of keys, and one exact count over all of them.
 
-ghost use Rattle.std.specs.Prelude.{◌≡◌, ◌≢◌, ◌+◌, ◌-◌, ◌*◌, ◌≤◌, ◌↔◌, None, [], All, length, map};
-ghost use Rattle.std.specs.Prelude.{IsOk, IfOk, IfErr, OnOk, IsTrue, vec_capacity};
+ghost use Rattle.std.specs.Prelude.{◌≡◌, ◌≢◌, ◌+◌, ◌-◌, ◌*◌, ◌≤◌, ◌↔◌, None, [], All, length, map, IsOk, IfOk, IfErr, IsTrue, vec_capacity};
 ghost use Rattle.bw_keys.specs.Limits.{first_bad_field};
-ghost use Rattle.bw_tree.specs.Shares.{no_changes, shared_in, sum_of};
+ghost use Rattle.bw_tree.specs.Shares.{no_changes, sum_of};
 ghost use Rattle.bw_tree.specs.Stocks.{OpensForest, fresh};
 ghost use Rattle.bw_tree.specs.Trees.{IsTree, IsNewFault, MayBeMade};
 ghost use Rattle.bw_forest.specs.Bounds.{AreBounds, ranges_of};
-ghost use Rattle.bw_forest.specs.Forests.{HasForestMap, HasPairsWithin, IsClosedForest};
-ghost use Rattle.bw_forest.specs.Forests.{ranges_in, tables_of};
-ghost use Rattle.bw_forest.specs.Forests.{AreAlike, ComesApart, books_of, config_of, pairs_of};
+ghost use Rattle.bw_forest.specs.Forests.{AreAlike, ComesApart, HasForestMap, HasPairsWithin, IsClosedForest, books_of, config_of, pairs_of, ranges_in, tables_of};
 ghost use Rattle.bw_forest.specs.declared.fault.ForestFault.TheVariants.{MissingShare, OtherRange};
 
 use crate::bounds::Bounds;
@@ -37,27 +34,6 @@ pub struct Forest<R: Wait + Drop, A: Allocator + Copy, I: MadeBy, D: Ledger> {
     ghost placed: { map (λ tree. tree.range) trees.items ≡ ranges_of bounds },
     ghost counted: { totals ≡ fresh (length trees.items) totals.workers },
     ghost enough: { (length room.items ≡ 0) × (length trees.items ≤ vec_capacity room) },
-}
-
-/// Trees under their locks, and what their tables' books had before.
-#[derive(Drop)]
-struct Planted<R: Wait + Drop, A: Allocator + Copy, I: MadeBy, D: Ledger> {
-    trees: Vec<ForestTree<R, A, I, D>>,
-    opening: Vec<Share<I, D>>,
-}
-
-impl<R: Wait + Drop, A: Allocator + Copy, I: MadeBy, D: Ledger> Planted<R, A, I, D> {
-    fn with_room(machine: Global, trees: usize) -> Result<Planted<R, A, I, D>, NoMemory>
-        ensures empty { IfOk result (λ it.
-            (it.trees.items ≡ []) × (it.opening.items ≡ [])) }
-        ensures enough { IfOk result (λ it.
-            (trees ≤ vec_capacity it.trees) × (trees ≤ vec_capacity it.opening)) }
-    {
-        Ok(Planted {
-            trees: Vec::with_capacity(machine, trees)?,
-            opening: Vec::with_capacity(machine, trees)?,
-        })
-    }
 }
 
 impl<R: Wait + Drop + Copy, A: Allocator + Copy, I: MadeBy, D: Ledger> Forest<R, A, I, D> {
@@ -141,9 +117,10 @@ impl<R: Wait + Drop + Copy, A: Allocator + Copy, I: MadeBy, D: Ledger> Forest<R,
             return Err(Unopened { fault, forest });
         }
         let (number, workers) = (blanks.trees, blanks.workers);
-        let (Ok(room), Ok(planted), Ok(endowment)) = (
+        let (Ok(room), Ok(trees), Ok(opened), Ok(mut made)) = (
             Vec::with_capacity(machine, number as usize),
-            Planted::with_room(machine, number as usize),
+            Vec::with_capacity(machine, number as usize),
+            Vec::with_capacity(machine, number as usize),
             Endowment::open(machine, blanks),
         ) else {
             return Err(Unopened {
@@ -151,12 +128,7 @@ impl<R: Wait + Drop + Copy, A: Allocator + Copy, I: MadeBy, D: Ledger> Forest<R,
                 forest,
             });
         };
-        let Endowment {
-            totals,
-            stocks,
-            mut parts,
-        } = endowment;
-        let Ok(mut shares) = parts.lists(machine, workers, number) else {
+        let Ok(mut shares) = made.parts.lists(machine, workers, number) else {
             return Err(Unopened {
                 fault: NewFault::NoMemory,
                 forest,
@@ -166,11 +138,11 @@ impl<R: Wait + Drop + Copy, A: Allocator + Copy, I: MadeBy, D: Ledger> Forest<R,
             unreachable!()
         };
         let (bounds, closed) = forest.into_parts();
-        let Planted { trees, opening } = replant(rt, closed, stocks, opening, planted);
+        let (trees, opening) = replant(rt, closed, made.stocks, opening, trees, opened);
         let forest = Forest {
             bounds,
             trees,
-            totals,
+            totals: made.totals,
             room,
         };
         Ok((forest, shares, opening))
@@ -215,26 +187,23 @@ fn replant<R: Wait + Drop + Copy, A: Allocator + Copy, I: MadeBy, D: Ledger>(
     closed: Vec<ClosedTree<A>>,
     stocks: Vec<Stock<I, D>>,
     shares: Vec<Share<I, D>>,
-    room: Planted<R, A, I, D>,
-) -> Planted<R, A, I, D>
+    trees: Vec<ForestTree<R, A, I, D>>,
+    opening: Vec<Share<I, D>>,
+) -> (Vec<ForestTree<R, A, I, D>>, Vec<Share<I, D>>)
     requires alike { All (λ table. table.config ≡ I.config) (tables_of closed.items) }
     requires stocks { length stocks.items ≡ length closed.items }
     requires none_counted { All (λ stock. stock ≡ no_changes) stocks.items }
     requires shares { length shares.items ≡ length closed.items }
     requires none_changed { All (λ share. share ≡ no_changes) shares.items }
-    requires empty { (room.trees.items ≡ []) × (room.opening.items ≡ []) }
-    requires enough { (length closed.items ≤ vec_capacity room.trees)
-        × (length closed.items ≤ vec_capacity room.opening) }
-    ensures count { length result.trees.items ≡ length closed.items }
-    ensures ranges { map (λ tree. tree.range) result.trees.items ≡ ranges_in closed.items }
-    ensures at_each { length result.opening.items ≡ length closed.items }
-    ensures opening { result.opening.items ≡ books_of (tables_of closed.items) }
+    requires empty { (trees.items ≡ []) × (opening.items ≡ []) }
+    requires enough { (length closed.items ≤ vec_capacity trees)
+        × (length closed.items ≤ vec_capacity opening) }
+    ensures count { length result.0.items ≡ length closed.items }
+    ensures ranges { map (λ tree. tree.range) result.0.items ≡ ranges_in closed.items }
+    ensures at_each { length result.1.items ≡ length closed.items }
+    ensures opening { result.1.items ≡ books_of (tables_of closed.items) }
 {
-    let (mut stocks, mut shares) = (stocks, shares);
-    let Planted {
-        mut trees,
-        mut opening,
-    } = room;
+    let (mut stocks, mut shares, mut trees, mut opening) = (stocks, shares, trees, opening);
     for tree in closed {
         let Some(mut stock) = stocks.pop() else {
             unreachable!()
@@ -248,7 +217,7 @@ fn replant<R: Wait + Drop + Copy, A: Allocator + Copy, I: MadeBy, D: Ledger>(
         opening.push_reserved(share);
         trees.push_reserved(Tree::in_forest(rt, range, table, stock));
     }
-    Planted { trees, opening }
+    (trees, opening)
 }
 
 impl<R: Wait + Drop, A: Allocator + Copy, I: MadeBy, D: Ledger> Forest<R, A, I, D> {
@@ -274,8 +243,7 @@ impl<R: Wait + Drop, A: Allocator + Copy, I: MadeBy, D: Ledger> Forest<R, A, I, 
     ///
     /// # Errors
     ///
-    /// Fails only with [`ForestFault::OtherRange`], where a tree has another range than the one that it
-    /// was made for, and gives the ranges and the trees back.
+    /// Fails only with [`ForestFault::OtherRange`], and gives the ranges and the trees back.
     pub fn into_closed(self) -> Result<ClosedForest<A>, NotClosed<A>>
         ensures bounds { IfOk result (λ closed. closed.bounds ≡ self.bounds) }
         ensures config { IfOk result (λ closed. config_of closed.tables ≡ I.config) }
@@ -317,7 +285,7 @@ impl<R: Wait + Drop, A: Allocator + Copy, I: MadeBy, D: Ledger> Forest<R, A, I, 
     }
 }
 
-/// Returns the closed forest of these trees, or them again where one has another range.
+/// Returns the closed forest of these trees, or gives them back if one has another range.
 fn closed<A: Allocator + Copy>(
     bounds: Bounds,
     trees: Vec<ClosedTree<A>>,

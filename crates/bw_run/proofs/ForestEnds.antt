@@ -18,13 +18,12 @@ use Rattle.bw_crew.specs.Workers.{share_by}
 use Rattle.nifforan_forest.specs.declared.fault.ShareForestFault.{ShareForestFault}
 use Rattle.nifforan_forest.specs.declared.fault.ShareForestFault.TheVariants as share
 use Rattle.nifforan_forest.specs.declared.returned.Returned.{Returned}
-use Rattle.nifforan_forest.specs.Sharing.{IsShareForestFault}
 use Rattle.nifforan_forest.specs.Workers.{trails_of}
 use Rattle.bw_run.specs.declared.fault.RunFault.{RunFault}
 use Rattle.bw_run.specs.declared.fault.RunFault.TheVariants.{Config as BadConfig, Workers, Threads, Memory, Stopped, TreeAudit}
 use Rattle.bw_run.specs.Faults.{IsCrewFault}
 use Rattle.bw_run.specs.ForestAnswers.{ToldBy}
-use Rattle.bw_run.specs.ForestFaults.{EndsForest, IsForestRunFault, MayRunForest, NamesFirstBad, run_fault_of_share}
+use Rattle.bw_run.specs.ForestFaults.{EndsForest, IsForestRunFault, MayRunForest, NamesFirstBad}
 use Rattle.bw_run.specs.ForestRuns.{by_trees, in_a_row}
 use Rattle.bw_run.proofs.ForestColumns.{Have, each_by_trees, length_by_trees, row_of, sum_by_trees}
 use Rattle.bw_run.proofs.ForestLeaves.{read_many}
@@ -62,17 +61,6 @@ module _ (rows : List Row) (tables : List TableValue) (trails : List (List (List
     },
   )
   forest_ends config workers trees n fault many made few each ends = absurd ends
-
--- what is told of the sharing is so of the run
-pub share_ends : (config : Config) (workers trees : ℕ) (rows : List Row) (fault : ShareForestFault) → MayRunForest config workers trees
-    → IsShareForestFault config workers fault
-    → IsForestRunFault config workers trees rows (run_fault_of_share fault)
-share_ends config workers trees rows (share.BadConfig bad) made is = is
-share_ends config workers trees rows share.BadWorkers made is = is
-share_ends config workers trees rows share.NoMemory made is = made
-share_ends config workers trees rows share.NoMemoryForWorkers made is = made
-share_ends config workers trees rows share.NoThread made is = made
-share_ends config workers trees rows share.OtherRange made is = made
 
 -- a closed forest counts what shares have together, whichever they are
 pub closed_same : (made : Config) (shares others : List ShareValue) (forest : ForestValue) → sum_of shares ≡ sum_of others

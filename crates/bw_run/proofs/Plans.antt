@@ -4,7 +4,7 @@ use Rattle.std.specs.Prelude.{slice_set, replicate, if◌then◌else◌}
 use Rattle.std.proofs.lemmas.Bool.Decides.{nat_tests}
 use Rattle.bw_procedures.specs.declared.act.Act.{Act}
 use Rattle.bw_texts.specs.declared.trace.row.Row.{Row}
-use Rattle.bw_run.specs.Rows.{AddsAct, acts_of}
+use Rattle.bw_run.specs.Rows.{acts_of}
 
 next_test : (a b : ℕ) → (suc a == suc b) ≡ (a == b)
 next_test a b = grind (arith, nat_tests)
@@ -44,7 +44,19 @@ own_first true so_far item items = append_assoc so_far (item ∷ []) items
 own_first false so_far item items = ap (λ (l : List _). l ++ items) (append-nil so_far)
 
 -- what a worker has so far and what its rows to come ask for is in all the same
-pub plan_step : (plan more : List (List Act)) (row : Row) (rest : List Row) → AddsAct plan row more → (worker : ℕ)
+pub plan_step : (plan more : List (List Act)) (row : Row) (rest : List Row) (worker : ℕ)
+    → get_or more worker [] ≡ get_or plan worker [] ++ (if row.worker == worker then row.act ∷ [] else [])
     → get_or more worker [] ++ acts_of worker rest ≡ get_or plan worker [] ++ acts_of worker (row ∷ rest)
-plan_step plan more row rest adds worker =
-    ap (λ (l : List Act). l ++ acts_of worker rest) (adds worker) ∙ own_first (row.worker == worker) (get_or plan worker []) row.act (acts_of worker rest)
+plan_step plan more row rest worker adds =
+    ap (λ (l : List Act). l ++ acts_of worker rest) adds ∙ own_first (row.worker == worker) (get_or plan worker []) row.act (acts_of worker rest)
+
+-- so many empty lists are as many of what each has
+pub none_of : {X T U : Type 0} → (items : X → List T) (own : List T → List U) (lists : List X) (n : ℕ) → own [] ≡ []
+    → map items lists ≡ replicate n [] → map (λ list. own (items list)) lists ≡ replicate n []
+none_of items own [] zero none are = refl
+none_of items own [] (suc n) none are = absurd (cc are)
+none_of items own (x ∷ xs) zero none are = absurd (cc are)
+none_of items own (x ∷ xs) (suc n) none are =
+    let first : items x ≡ [] = cc are in
+    let rest : map items xs ≡ replicate n [] = cc are in
+    cc (ap own first, none, none_of items own xs n none rest)

@@ -1,17 +1,17 @@
 -- What the parts of a run say of the whole.
-use Rattle.std.proofs.Common.{◌≡◌, ℕ, ◌<◌, Bool, true, List, [], ◌∷◌, ◌++◌, length, map, refl, ap, sym, subst, ◌∙◌, Result, Ok, Err}
+use Rattle.std.proofs.Common.{◌≡◌, ℕ, ◌<◌, List, ◌∷◌, ◌++◌, length, map, refl, ap, sym, subst, ◌∙◌, Result, Ok, Err}
 use Rattle.std.specs.Prelude.{IfErr}
 use Rattle.std.specs.Result.{IsErrAnd}
-use Rattle.std.proofs.lemmas.List.{length-map, map-append}
+use Rattle.std.proofs.lemmas.List.{length-map}
 use Rattle.bw_keys.specs.declared.config.Config.{Config}
 use Rattle.bw_step.specs.declared.receipt.Receipt.{Receipt}
 use Rattle.bw_law.specs.Tables.{TableValue, joined_pairs}
 use Rattle.bw_table.specs.Views.{ArePairsOf}
 use Rattle.bw_tree.specs.Trees.{IsTree}
 use Rattle.bw_run.specs.declared.fault.RunFault.{RunFault}
-use Rattle.bw_run.specs.declared.fault.RunFault.TheVariants.{Config as BadConfig, Workers, NoReader, Threads, Memory, Stopped, Audit}
+use Rattle.bw_run.specs.declared.fault.RunFault.TheVariants.{Config as BadConfig, Workers, Memory, Audit}
 use Rattle.bw_texts.specs.declared.trace.row.Row.{Row}
-use Rattle.bw_run.specs.Faults.{EndsBadly, IsCrewFault, IsRunFault, IsVerdictOn, MayRun, StopsWithin}
+use Rattle.bw_run.specs.Faults.{EndsBadly, IsCrewFault, IsRunFault, IsVerdictOn}
 
 pub same_length : {X Y Z : Type 0} → (f : X → Z) (g : Y → Z) (xs : List X) (ys : List Y) → map f xs ≡ map g ys → length xs ≡ length ys
 same_length f g xs ys same = sym (length-map xs f) ∙ (ap length same ∙ length-map ys g)
@@ -27,26 +27,6 @@ pub crew_in_run : (config : Config) (workers readers : ℕ) (rows : List Row) (f
 crew_in_run config workers readers rows (BadConfig bad) is = is
 crew_in_run config workers readers rows Workers is = is
 crew_in_run config workers readers rows fault is = absurd is
-
--- as many workers are as many, whatever their number is called
-pub stops_same : (may_close : Bool) (n workers : ℕ) (rows : List Row) (fault : RunFault) → n ≡ workers → StopsWithin may_close n rows fault → StopsWithin may_close workers rows fault
-stops_same may_close n workers rows fault many stops = subst (λ (k : ℕ). StopsWithin may_close k rows fault) many stops
-
--- a worker that stopped is one of the run's, and a reader is one
-pub stops_run : (config : Config) (workers readers n : ℕ) (rows : List Row) (may_close : Bool) (fault : RunFault) → n ≡ workers → MayRun config workers readers → (may_close ≡ true → 0 < readers)
-    → StopsWithin may_close n rows fault → IsRunFault config workers readers rows fault
-stops_run config workers readers n rows may_close NoReader many made some stops = (made, some stops)
-stops_run config workers readers n rows may_close Threads many made some stops = made
-stops_run config workers readers n rows may_close Memory many made some stops = made
-stops_run config workers readers n rows may_close (Stopped worker number fault) many made some stops = (made, subst (λ k. worker < k) many stops.0, stops.1)
-stops_run config workers readers n rows may_close fault many made some stops = absurd stops
-
--- the history that was found bad is that of the run's workers
-pub ends_run : (config : Config) (workers readers n : ℕ) (rows : List Row) (fault : RunFault) → n ≡ workers → MayRun config workers readers → EndsBadly n fault → IsRunFault config workers readers rows fault
-ends_run config workers readers n rows Memory many made ends = made
-ends_run config workers readers n rows (Audit worker receipt) many made ends =
-    (made, record { trails = ends.trails; pairs = ends.pairs; count = ends.count ∙ many; verdict = ends.verdict })
-ends_run config workers readers n rows fault many made ends = absurd ends
 
 verdict_ends : (workers : ℕ) (trails : List (List Receipt)) (pairs : List (ℕ × ℕ)) (fault : RunFault) → length trails ≡ workers → IsVerdictOn trails pairs fault → EndsBadly workers fault
 verdict_ends workers trails pairs Memory many verdict = tt

@@ -1,13 +1,13 @@
 -- What a run on a forest that came to its end leaves.
-use Rattle.std.specs.Prelude.{◌≡◌, ℕ, ◌<◌, All, List, [], ◌∷◌, ◌++◌, length, map, replicate, slice_get, slice_index_or, Some, Result, IfOk}
+use Rattle.std.specs.Prelude.{◌≡◌, ℕ, ◌<◌, List, [], ◌∷◌, ◌++◌, map, replicate, slice_get, slice_index_or, Some}
 use Rattle.bw_delta.specs.declared.fault.NoMemory.{NoMemory}
 use Rattle.bw_step.specs.declared.receipt.Receipt.{Receipt}
 use Rattle.bw_step.specs.Trails.{lists_of}
 use Rattle.bw_law.specs.Tables.{TableValue}
 use Rattle.bw_table.specs.Views.{ArePairsOf}
-use Rattle.bw_tree.specs.Shares.{ShareValue, sum_of}
+use Rattle.bw_tree.specs.Shares.{ShareValue}
 use Rattle.bw_audit.specs.Legal.{IsLegal}
-use Rattle.bw_crew.specs.Workers.{ByNumber, share_by}
+use Rattle.bw_crew.specs.Workers.{share_by}
 use Rattle.bw_procedures.specs.declared.act.Act.{Act}
 use Rattle.bw_texts.specs.declared.trace.row.Row.{Row}
 use Rattle.bw_run.specs.declared.forest.ending.FinishedForest.{FinishedForest}

@@ -1,5 +1,5 @@
 -- A trace as its workers see it.
-use Rattle.std.specs.Prelude.{◌≡◌, ℕ, ◌-◌, ◌<◌, ◌≤◌, ◌==◌, if◌then◌else◌, List, [], ◌∷◌, ◌++◌, length, map, slice_index_or}
+use Rattle.std.specs.Prelude.{◌≡◌, ℕ, ◌-◌, ◌<◌, ◌≤◌, ◌==◌, if◌then◌else◌, List, [], ◌∷◌, length, map, slice_index_or}
 use Rattle.bw_procedures.specs.declared.reply.Reply.{Reply}
 use Rattle.bw_procedures.specs.declared.act.Act.{Act}
 use Rattle.bw_procedures.specs.declared.act.Act.TheVariants as acts
@@ -21,14 +21,6 @@ pub record IsRowOf (rows : List Row) (worker number : ℕ) : Type 0 where
   pub from_one : 0 < number
   pub within : number ≤ length rows
   pub own : (d : Row) → (slice_index_or rows (number - 1) d).worker ≡ worker
-
--- the worker of the row has its act after its other acts, and the others have the same
-abbrev pub AddsAct : List (List Act) → Row → List (List Act) → Type 0
-AddsAct plan row more = (worker : ℕ) → slice_index_or more worker [] ≡ slice_index_or plan worker [] ++ (if row.worker == worker then row.act ∷ [] else [])
-
--- the reply stood first among the worker's, and the others have the same
-abbrev pub TakesReply : List (List Reply) → ℕ → Reply → List (List Reply) → Type 0
-TakesReply columns taker reply left = (worker : ℕ) → slice_index_or columns worker [] ≡ (if taker == worker then reply ∷ slice_index_or left worker [] else slice_index_or left worker [])
 
 -- the lists have each worker's acts
 abbrev pub ArePlanned : List (List Act) → List Row → Type 0

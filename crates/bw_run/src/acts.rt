@@ -1,19 +1,15 @@
 //! A worker's acts, one after the other.
 
-ghost use Rattle.std.specs.Prelude.{◌≡◌, ◌≤◌, ◌<◌, [], IfOk, IfErr, OnOk, OnErr, length};
-ghost use Rattle.std.specs.Prelude.{vec_capacity};
+ghost use Rattle.std.specs.Prelude.{◌≡◌, ◌≤◌, ◌<◌, [], IfOk, IfErr, OnOk, OnErr, length, vec_capacity};
 ghost use Rattle.bw_step.specs.Tellings.{reported_in};
 ghost use Rattle.bw_procedures.specs.Reported.{AddsReported, GoWith};
-ghost use Rattle.bw_run.specs.Reads.{IsReadBy, IsReadByOwn};
+ghost use Rattle.bw_run.specs.Reads.{IsReadByOwn};
 ghost use Rattle.bw_run.specs.Stops.{MayStop};
 
 use crate::answers::Stop;
 use crate::looks::Looks;
 use crate::progress::Progress;
-use bw_delta::NoMemory;
-use bw_keys::Key;
 use bw_procedures::{Act, Reply, do_act};
-use bw_step::Look;
 use nifforan_shared::Notes;
 
 /// Does the acts in their order, until one is given up, appends the reply to each, and counts it. The
@@ -55,20 +51,14 @@ fn do_row<W: Notes, L: Looks>(hand: &mut W, reader: &mut Option<L>, act: Act) ->
     let machine = hand.alloc();
     match act {
         Act::Get { key } => match L::look_by(reader, key)? {
-            Some(found) => Ok(keep(hand, key, found.look)?),
+            Some(found) => {
+                // a reader's look is kept as a receipt
+                hand.note(key, found.look)?;
+                Ok(Reply::Get(found.look.found))
+            }
             None => Ok(do_act(hand, machine, act)?),
         },
         // A reader answers gets alone.
         act => Ok(do_act(hand, machine, act)?),
     }
-}
-
-/// Keeps a reader's look as a receipt, and returns the reply that reports it.
-fn keep<W: Notes>(hand: &mut W, key: Key, look: Look) -> Result<Reply, NoMemory>
-    ensures kept { IfOk result
-        (IsReadBy (λ it. it ≡ look) key (W.seen hand.old).trail (W.seen hand.new).trail) }
-    ensures nothing { OnErr result ((W.seen hand.new).trail ≡ (W.seen hand.old).trail) }
-{
-    hand.note(key, look)?;
-    Ok(Reply::Get(look.found))
 }

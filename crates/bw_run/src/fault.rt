@@ -41,7 +41,8 @@ pub enum RunFault {
     /// The receipts have no order that explains them: see [`Verdict::No`](bw_audit::Verdict::No).
     #[error("audit no {0} {1}")]
     Audit(usize, usize),
-    /// The same of a forest's first tree, by its number from 0 on, whose receipts have no such order.
+    /// The receipts of a forest's tree have no such order. The first such tree is named, by its number
+    /// from 0 on.
     #[error("audit no {1} {2} tree {0}")]
     TreeAudit(usize, usize, usize),
     /// A tree of a forest has another range than it was made for. This never happens, since no

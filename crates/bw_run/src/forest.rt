@@ -1,7 +1,7 @@
 //! Runs of a trace by worker threads on a forest: trees by ranges of keys, each under a lock of its
 //! own.
 
-ghost use Rattle.std.specs.Prelude.{◌≡◌, ◌<◌, [], All, IsOk, IfOk, IfErr, OnOk, length};
+ghost use Rattle.std.specs.Prelude.{◌≡◌, ◌<◌, All, IsOk, IfOk, IfErr, length};
 ghost use Rattle.std.specs.List.{AllByRecursion};
 ghost use Rattle.bw_forest.specs.Bounds.{AreOfSample};
 ghost use Rattle.bw_forest.specs.Forests.{IsClosedForest};
@@ -33,14 +33,11 @@ use std::alloc::Global;
 use std::sync::Wait;
 use std::thread::Threads;
 
-/// Runs a trace on a new forest of `trees` trees, 1 to `MAX_TREES`, or of fewer. Their ranges begin
-/// at quantiles of the keys that the rows name, and equal quantiles begin one range. The
-/// configuration is for each tree. `workers` workers, 1 to `MAX_WORKERS`, each in a thread of its
-/// own, do their rows in the order of the trace, side by side, and count them meanwhile. Then each
-/// tree's history, which is the trails of all workers there, is audited with the pairs that its
-/// table has.
-///
-/// If a worker gives up a row, it does no more, and the others do all of theirs.
+/// Runs a trace as [`run_counted`](crate::run_counted) does without readers, on a new forest of
+/// `trees` trees, 1 to `MAX_TREES`, or of fewer. Their ranges begin at quantiles of the keys that the
+/// rows name, and equal quantiles begin one range. The configuration is for each tree. Each tree's
+/// history, which is the trails of all workers there, is audited with the pairs that its table has.
+#[tactic(auto, using(crate::proofs::ForestEnds::crew_in_forest_run))]
 pub fn run_forest<R: Threads + Wait + Sync + Send + Copy>(
     rt: R,
     machine: Global,
@@ -66,7 +63,10 @@ pub fn run_forest<R: Threads + Wait + Sync + Send + Copy>(
     ensures fine { IsOk result → MayRunForest config workers trees }
     ensures fault { IfErr result (IsForestRunFault config workers trees rows.now) }
 {
-    check(config, workers, trees)?;
+    check_crew(config, workers)?;
+    if !(1..=MAX_TREES).contains(&trees) {
+        return Err(RunFault::Trees);
+    }
     let bounds = bounds_for(machine, rows, trees)?;
     let plan = share_out(machine, workers, rows)?;
     let job = ForestRows {
@@ -76,17 +76,4 @@ pub fn run_forest<R: Threads + Wait + Sync + Send + Copy>(
     };
     let outcome = share_forest(rt, machine, bounds, config, workers, &job)?;
     finish_forest(machine, rows, outcome)
-}
-
-/// Returns the first fault that can be found before any worker starts, apart from a lack of memory.
-#[tactic(auto, using(crate::proofs::ForestEnds::crew_in_forest_run))]
-fn check(config: Config, workers: u32, trees: u32) -> Result<(), RunFault>
-    ensures fine { OnOk result (MayRunForest config workers trees) }
-    ensures fault { IfErr result (IsForestRunFault config workers trees []) }
-{
-    check_crew(config, workers)?;
-    if !(1..=MAX_TREES).contains(&trees) {
-        return Err(RunFault::Trees);
-    }
-    Ok(())
 }

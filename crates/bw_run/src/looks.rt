@@ -1,13 +1,13 @@
 //! What answers a worker's get rows without the tree's lock.
 
-ghost use Rattle.std.specs.Prelude.{◌≡◌, true, IfOk, IfErr};
+ghost use Rattle.std.specs.Prelude.{true, IfOk, IfErr, false};
 ghost use Rattle.bw_snap.specs.Answers.{IsLookIn};
 ghost use Rattle.bw_snap.specs.Snapshots.{BeginsWith};
 ghost use Rattle.bw_run.specs.Stops.{MayStop};
 
 use crate::answers::Stop;
 use bw_keys::Key;
-use bw_snap::{Closed, Naming, Reader, Stamp};
+use bw_snap::{Closed, Naming, Stamp};
 use bw_step::Look;
 use nifforan_shared::Reading;
 use std::convert::Infallible;
@@ -24,7 +24,7 @@ pub(crate) struct Found<S> {
 
 /// A reader of a run's tree.
 pub(crate) trait Looks: Sized {
-    ghost use Rattle.std.specs.Prelude.{◌≡◌, ℕ, Bool, IfOk, IfErr};
+    ghost use Rattle.std.specs.Prelude.{ℕ, Bool, IfOk, IfErr};
     ghost use Rattle.bw_run.specs.Reads.{IsFoundBy, IsLearntBy};
     ghost use Rattle.bw_step.specs.declared.view.Look.{Look};
     ghost use Rattle.bw_run.specs.Stops.{MayStop};
@@ -51,8 +51,6 @@ pub(crate) trait Looks: Sized {
 
 /// There is no reader: each read takes the tree's lock.
 impl Looks for Infallible {
-    ghost use Rattle.std.specs.Prelude.{false};
-
     type Stamp = Infallible;
 
     ghost finds = { λ reader key look. ⊥ };
@@ -74,10 +72,6 @@ impl Looks for Infallible {
 
 /// Publishes first what the calling thread has changed, and has the reader learn of that.
 impl<'t, R: Wait + Copy, N: Naming, D: Ledger> Looks for Reading<'t, R, N, D> {
-    ghost use Rattle.std.specs.Prelude.{true};
-    ghost use Rattle.bw_snap.specs.Answers.{IsLookIn};
-    ghost use Rattle.bw_snap.specs.Snapshots.{BeginsWith};
-
     type Stamp = Stamp<N>;
 
     ghost finds = { λ reading key look. IsLookIn N.config key reading.reader look };
@@ -109,17 +103,9 @@ fn publish_and_look<R: Wait + Copy, N: Naming, D: Ledger>(
 {
     let stamp = reading.tree.publish()?;
     let published = Snapshot::of(&stamp);
-    match look_after(&mut reading.reader, stamp, key) {
+    reading.reader.learn(stamp);
+    match reading.reader.look(key) {
         Ok(look) => Ok(Found { look, published }),
         Err(Closed) => Err(Stop::Closed),
     }
-}
-
-/// Looks the key up, once the reader has learnt of what the stamp covers.
-fn look_after<N: Naming>(reader: &mut Reader<N>, stamp: Stamp<N>, key: Key) -> Result<Look, Closed>
-    ensures look { IfOk result (IsLookIn N.config key reader.new) }
-    ensures learnt { BeginsWith reader.new stamp }
-{
-    reader.learn(stamp);
-    reader.look(key)
 }

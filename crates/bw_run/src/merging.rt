@@ -1,9 +1,9 @@
 //! The workers' replies, brought into the order of the trace.
 
-ghost use Rattle.std.specs.Prelude.{◌≡◌, ◌<◌, [], IfOk, length, map, slice_index_or};
+ghost use Rattle.std.specs.Prelude.{◌≡◌, ◌<◌, IfOk, length, map};
 ghost use Rattle.std.specs.List.{AllByRecursion};
 ghost use Rattle.bw_run.specs.Answers.{columns_of};
-ghost use Rattle.bw_run.specs.Rows.{AreFull, IsMerged, TakesReply};
+ghost use Rattle.bw_run.specs.Rows.{AreFull, IsMerged};
 
 use crate::answers::Answers;
 use bw_delta::NoMemory;
@@ -26,24 +26,12 @@ pub(crate) fn merge(
     let mut columns = replies_of(machine, answers)?;
     let mut merged = Vec::with_capacity(machine, rows.len())?;
     for row in rows {
-        merged.push(take_reply(&mut columns, row.worker))?;
+        let Some(reply) = columns[row.worker as usize].next() else {
+            unreachable!()
+        };
+        merged.push(reply)?;
     }
     Ok(merged)
-}
-
-/// Takes the worker's next reply.
-fn take_reply(columns: &mut Vec<IntoIter<Reply, Global>>, worker: u32) -> Reply
-    requires within { worker < length columns.old.items }
-    requires some { 0 < length
-        (slice_index_or (map (λ column. column.rest.items) columns.old.items) worker []) }
-    ensures count { length columns.new.items ≡ length columns.old.items }
-    ensures taken { TakesReply (map (λ column. column.rest.items) columns.old.items) worker result
-        (map (λ column. column.rest.items) columns.new.items) }
-{
-    match columns[worker as usize].next() {
-        Some(reply) => reply,
-        None => unreachable!(),
-    }
 }
 
 /// Returns each worker's replies, to be taken one by one.

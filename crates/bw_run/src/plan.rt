@@ -1,8 +1,8 @@
 //! The rows of a trace, shared out to the workers.
 
-ghost use Rattle.std.specs.Prelude.{◌≡◌, ◌<◌, [], IfOk, OnOk, length, map, replicate};
+ghost use Rattle.std.specs.Prelude.{◌≡◌, ◌<◌, [], IfOk, length, map, replicate};
 ghost use Rattle.std.specs.List.{AllByRecursion};
-ghost use Rattle.bw_run.specs.Rows.{AddsAct, ArePlanned};
+ghost use Rattle.bw_run.specs.Rows.{ArePlanned};
 
 use bw_delta::NoMemory;
 use bw_procedures::Act;
@@ -20,32 +20,20 @@ pub(crate) fn share_out(
     ensures planned { IfOk result (λ plan.
         ArePlanned (map (λ acts. acts.items) plan.items) rows.now) }
 {
-    let mut plan = no_acts(machine, workers)?;
+    let mut plan = empty_lists(machine, workers as usize)?;
     for row in rows {
-        add_act(&mut plan, *row)?;
+        plan[row.worker as usize].push(row.act)?;
     }
     Ok(plan)
 }
 
-/// Appends the row's act to those of its worker.
-fn add_act(plan: &mut Vec<Vec<Act>>, row: Row) -> Result<(), NoMemory>
-    requires { row.worker < length plan.old.items }
-    ensures count { length plan.new.items ≡ length plan.old.items }
-    ensures added { OnOk result
-        (AddsAct (map (λ acts. acts.items) plan.old.items) row
-        (map (λ acts. acts.items) plan.new.items)) }
+/// Returns so many empty lists.
+pub(crate) fn empty_lists<T: Drop>(machine: Global, count: usize) -> Result<Vec<Vec<T>>, NoMemory>
+    ensures { IfOk result (λ lists. map (λ list. list.items) lists.items ≡ replicate count []) }
 {
-    plan[row.worker as usize].push(row.act)?;
-    Ok(())
-}
-
-/// Returns an empty list for each worker.
-fn no_acts(machine: Global, workers: u32) -> Result<Vec<Vec<Act>>, NoMemory>
-    ensures { IfOk result (λ plan. map (λ acts. acts.items) plan.items ≡ replicate workers []) }
-{
-    let mut plan = Vec::with_capacity(machine, workers as usize)?;
-    for _ in 0..workers {
-        plan.push(Vec::new(machine))?;
+    let mut lists = Vec::with_capacity(machine, count)?;
+    for _ in 0..count {
+        lists.push(Vec::new(machine))?;
     }
-    Ok(plan)
+    Ok(lists)
 }

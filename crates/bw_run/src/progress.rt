@@ -33,7 +33,7 @@ impl Progress {
         self.faults.load(Ordering::SeqCst)
     }
 
-    /// Counts the last one of a worker's replies, of which there are so many.
+    /// Counts a worker's last reply, the one that makes its replies this many.
     pub(crate) fn count(&self, replies: usize, last: &Reply) {
         if replies % usize::from(STRIDE) == 0 {
             self.rows.fetch_add(u64::from(STRIDE), Ordering::SeqCst);

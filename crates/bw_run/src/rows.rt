@@ -5,7 +5,8 @@ ghost use Rattle.std.specs.List.{AllByRecursion};
 ghost use Rattle.bw_step.specs.Trails.{lists_of};
 ghost use Rattle.bw_tree.specs.Shares.{no_changes};
 ghost use Rattle.bw_run.specs.Faults.{StopsWithin};
-ghost use Rattle.bw_run.specs.Answers.{AreAnswered, columns_of};
+ghost use Rattle.bw_run.specs.Answers.{AreAnswered, columns_of, AreAnswersTo};
+ghost use Rattle.bw_run.specs.Rows.{acts_of};
 
 use crate::acts::do_acts;
 use crate::answers::Answers;
@@ -32,10 +33,6 @@ struct Rows<'r> {
 }
 
 impl<'r, L: Looks + Drop> Task<Kit<L>> for Rows<'r> {
-    ghost use Rattle.std.specs.Prelude.{◌≡◌};
-    ghost use Rattle.bw_run.specs.Rows.{acts_of};
-    ghost use Rattle.bw_run.specs.Answers.{AreAnswersTo};
-
     type Output = Answers;
 
     // the audit asks for all of them
@@ -47,11 +44,7 @@ impl<'r, L: Looks + Drop> Task<Kit<L>> for Rows<'r> {
         AreAnswersTo L.may_close (acts_of worker task.rows.now) answers trail };
 
     fn run<W: Notes>(&self, _worker: u32, hand: &mut W, kit: Kit<L>) -> Answers {
-        let Kit {
-            acts,
-            mut replies,
-            mut reader,
-        } = kit;
+        let (acts, mut replies, mut reader) = (kit.acts, kit.replies, kit.reader);
         let stop = do_acts(hand, &mut reader, &acts, &mut replies, self.progress).err();
         Answers { replies, stop }
     }

@@ -1,10 +1,9 @@
 //! Runs of a trace by worker threads.
 
-ghost use Rattle.std.specs.Prelude.{◌≡◌, ◌<◌, [], IsOk, IfOk, IfErr, OnOk, length};
+ghost use Rattle.std.specs.Prelude.{◌≡◌, ◌<◌, IsOk, IfOk, IfErr, length};
 ghost use Rattle.std.specs.List.{AllByRecursion};
 ghost use Rattle.bw_step.specs.Trails.{lists_of};
-ghost use Rattle.bw_tree.specs.Trees.{OpensFor};
-ghost use Rattle.bw_tree.specs.Trees.{IsTree, CountsPairs, MayBeMade};
+ghost use Rattle.bw_tree.specs.Trees.{OpensFor, IsTree, CountsPairs, MayBeMade};
 ghost use Rattle.bw_crew.specs.Workers.{changes_in};
 ghost use Rattle.bw_run.specs.Faults.{IsRunFault, MayRun};
 ghost use Rattle.bw_run.specs.Runs.{IsRunOf, IsLegalRun, TellsItsReplies};
@@ -19,7 +18,7 @@ use bw_snap::{Announcements, MAX_READERS, Naming, ReadTree, SnapFault};
 use bw_texts::Row;
 use bw_tree::{Blanks, MadeBy, Tree};
 use bw_work::Gate;
-use nifforan_shared::{Gathered, readings_of};
+use nifforan_shared::readings_of;
 use std::alloc::Global;
 use std::convert::Infallible;
 use std::marker::Brand;
@@ -62,6 +61,7 @@ pub fn run<R: Threads + Wait + Sync + Send + Copy, G: Gate + Sync>(
 }
 
 /// Runs a trace as [`run`] does, and counts its rows meanwhile.
+#[tactic(auto, using(crate::proofs::Runs::crew_in_run))]
 pub fn run_counted<R: Threads + Wait + Sync + Send + Copy, G: Gate + Sync>(
     rt: R,
     machine: Global,
@@ -78,7 +78,10 @@ pub fn run_counted<R: Threads + Wait + Sync + Send + Copy, G: Gate + Sync>(
     ensures fine { IsOk result → MayRun config workers readers }
     ensures fault { IfErr result (IsRunFault config workers readers rows.now) }
 {
-    check(config, workers, readers)?;
+    check_crew(config, workers)?;
+    if readers > workers.min(MAX_READERS) {
+        return Err(RunFault::Readers);
+    }
     let blanks = Blanks::new(workers);
     if readers == 0 {
         return run_locked::<Brand, Brand, R, G>(rt, machine, config, blanks, rows, gate, progress);
@@ -94,19 +97,6 @@ pub fn run_counted<R: Threads + Wait + Sync + Send + Copy, G: Gate + Sync>(
         gate,
         progress,
     )
-}
-
-/// Returns the first fault that can be found before any worker starts, apart from a lack of memory.
-#[tactic(auto, using(crate::proofs::Runs::crew_in_run))]
-fn check(config: Config, workers: u32, readers: u32) -> Result<(), RunFault>
-    ensures fine { OnOk result (MayRun config workers readers) }
-    ensures fault { IfErr result (IsRunFault config workers readers []) }
-{
-    check_crew(config, workers)?;
-    if readers > workers.min(MAX_READERS) {
-        return Err(RunFault::Readers);
-    }
-    Ok(())
 }
 
 /// Runs the rows on a tree whose lock all reads take, with these blank ledgers.
@@ -136,15 +126,11 @@ fn run_locked<
         return Err(RunFault::Memory);
     };
     let readers = Vec::<Infallible>::new(machine);
-    let Gathered {
-        shares,
-        trails,
-        outputs,
-    } = do_rows(&rt, machine, &tree, shares, readers, rows, gate, progress)?;
-    let Ok(table) = tree.close(shares) else {
+    let all = do_rows(&rt, machine, &tree, shares, readers, rows, gate, progress)?;
+    let Ok(table) = tree.close(all.shares) else {
         unreachable!()
     };
-    finish(machine, rows, table, outputs, trails)
+    finish(machine, rows, table, all.outputs, all.trails)
 }
 
 /// Runs the rows on a tree with `readers` readers, with these blank ledgers and announcements.
@@ -187,13 +173,9 @@ fn run_read<
         Err(_) => return Err(RunFault::Memory),
     };
     let readers = readings_of(machine, &tree, readers)?;
-    let Gathered {
-        shares,
-        trails,
-        outputs,
-    } = do_rows(&rt, machine, &tree, shares, readers, rows, gate, progress)?;
-    let Ok(table) = tree.close(shares) else {
+    let all = do_rows(&rt, machine, &tree, shares, readers, rows, gate, progress)?;
+    let Ok(table) = tree.close(all.shares) else {
         unreachable!()
     };
-    finish(machine, rows, table, outputs, trails)
+    finish(machine, rows, table, all.outputs, all.trails)
 }

@@ -15,6 +15,7 @@ use Rattle.bw_delta.specs.contracts.chain.Spare as Spare
 use Rattle.bw_step.specs.contracts.step.Step as Step
 use Rattle.bw_tree.proofs.stock.Stock.TheSendSync as stock
 use Rattle.bw_tree.proofs.stock.Totals.TheSendSync as totals
+use Rattle.bw_tree.proofs.Crossing.{Table-send}
 use Rattle.bw_tree.specs.declared.made_by.MadeBy as made_by
 use Rattle.bw_snap.specs.declared.front.Naming as naming
 use Rattle.bw_snap.specs.contracts.front.Front as Front
@@ -42,9 +43,6 @@ Front-sync = search (seen.the_sync, sendable, crosses) depth 60
 
 Note-send : IsSend (Note.the_field).row
 Note-send = search (Step-send, Front-send, sendable, crosses) depth 60
-
-Table-send : IsSend (Table.the_field Heap.the_row ghosts).row
-Table-send = search (chain.send-Chain, base.the_send, heap.the_send, sendable, crosses) depth 60 fits 10000
 
 Table-sync : IsSync (Table.the_field Heap.the_row ghosts).row
 Table-sync = search (chain.sync-Chain, base.the_sync, heap.the_sync, sendable, crosses) depth 60 fits 10000

@@ -25,9 +25,6 @@ pub leads_on : (a b c : TableValue) (xs ys : List Proposal) → LeadTo a xs b �
 leads_on a b c [] ys r s = subst (λ (table : TableValue). LeadTo table ys c) r s
 leads_on a b c (x ∷ xs) ys r s = (r.0, leads_on (after a x) b c xs ys r.1 s)
 
-pub leads_one_more : (a b c : TableValue) (xs : List Proposal) (step : Proposal) → LeadTo a xs b → refusal b step ≡ None → c ≡ after b step → LeadTo a (xs ++ step ∷ []) c
-leads_one_more a b c xs step r accepted is = leads_on a b c xs (step ∷ []) r (accepted, is)
-
 -- an accepted step is taken
 is_taken : (table : TableValue) (step : Proposal) → refusal table step ≡ None → next_table table step ≡ after table step
 is_taken table step accepted = ap (λ (o : Option Refused). if is_none o then after table step else table) accepted

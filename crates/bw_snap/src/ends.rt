@@ -161,7 +161,7 @@ pub fn comes_late<N: Naming>(reader: ReadingEnd<N>, front: &Front) -> (ReadingEn
     (reader, true)
 }
 
-/// Returns a new reader that has learnt all that the writing end has seen, where there is a place for
+/// Returns a new reader that has learnt all that the writing end has seen, if there is a place for
 /// one.
 pub fn caught_up<N: Naming>(writer: &mut WritingEnd<N>) -> Option<ReadingEnd<N>>
     ensures desk { writer.new.desk.shown ≡ writer.old.desk.shown }

@@ -41,7 +41,7 @@ pub enum ScanFault {
     NoMemory,
 }
 
-/// A call of which the question is a part may be made again.
+/// The call that asked may be made again.
 impl From<Closed> for Fault {
     ghost from_gives = { λ _ fault. fault ≡ faults.Contended };
 
@@ -50,7 +50,7 @@ impl From<Closed> for Fault {
     }
 }
 
-/// The same of a scan that a closed table had no entry for.
+/// A call may be made again if its scan met a closed table without an entry for it.
 impl From<ScanFault> for Fault {
     ghost from_gives = { λ scan fault. fault ≡ call_fault scan };
 

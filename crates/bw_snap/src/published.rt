@@ -175,8 +175,8 @@ impl<R: Wait + Drop, N: Naming, D: Ledger> Published<R, N, D> {
         }
     }
 
-    /// Performs the action as `Booked::perform` does, and leaves it pending for the published copies, which
-    /// take memory for it. Want of memory is reported also where there is no room for the note before.
+    /// Performs the action as `Booked::perform` does, and leaves it pending for the published copies,
+    /// which take memory for it. Reports a lack of memory also if there is no room for the note.
     #[inline(always)]
     pub fn perform(
         &mut self,
@@ -321,8 +321,8 @@ fn note<N: Naming>(
     append(writer, note)
 }
 
-/// Returns the action as the copies carry it out, with the page that it found. A look is no note. A
-/// record that inserted is that of a put, so that no copy has to look what a set did.
+/// Returns the action as the copies carry it out, with the page that it found, or `None` for a look.
+/// A record that inserted becomes a put's, so no copy has to find out what a set did.
 #[inline(always)]
 fn note_of(action: Action, done: Performed) -> Option<(Pid, Action)>
     ensures { result ≡ held_note done.page done.receipt action }

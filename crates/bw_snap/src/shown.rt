@@ -66,8 +66,8 @@ impl Absorb<Note> for Shown {
         Ok(())
     }
 
-    /// Takes the note itself, so a step needs no memory here. An action comes back where there is
-    /// none for it.
+    /// Takes the note itself, so a step needs no memory here. An action for which memory is short comes
+    /// back.
     fn absorb_second(&mut self, note: Note, _other: &Shown) -> Result<(), Note> {
         match note {
             Note::Step(step) => take(&mut self.table, step),
@@ -82,7 +82,7 @@ impl Absorb<Note> for Shown {
     }
 }
 
-/// Takes the step, where the table accepts it.
+/// Takes the step if the table accepts it.
 fn take(table: &mut Table<Global>, step: Step<Global>)
     ensures { table.new ≡ next_table table.old (proposal_of step) }
 {

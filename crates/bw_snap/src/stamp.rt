@@ -5,8 +5,8 @@ use crate::ends::ReadingEnd;
 use crate::front::{Front, Naming};
 use std::marker::Model;
 
-/// A list that was published, with a reading end that begins there, where there was a place for one.
-/// Contracts see it as that list.
+/// A published list, with a reading end that begins there if there was a place for one. Contracts see
+/// it as that list.
 #[derive(Drop)]
 pub struct Stamp<N: Naming> {
     pub(crate) inner: Option<ReadingEnd<N>>,

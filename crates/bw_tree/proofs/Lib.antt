@@ -1,3 +1,4 @@
 pub mod AtOnce
+pub mod Crossing
 pub mod Staying
 pub mod Trees

@@ -1,9 +1,8 @@
 //! A table whose book is what its stock counted, at every moment outside its own calls.
 
-ghost use Rattle.std.specs.Prelude.{◌≡◌, ◌≢◌, ◌+◌, ◌-◌, ◌<◌, ◌↔◌, None, Some, All, length};
-ghost use Rattle.std.specs.Prelude.{IsOk, IfOk, IfErr, OnOk, OnErr};
+ghost use Rattle.std.specs.Prelude.{◌≡◌, ◌≢◌, ◌+◌, ◌-◌, ◌<◌, ◌↔◌, None, Some, All, length, IsOk, IfOk, IfErr, OnOk, OnErr};
 ghost use Rattle.bw_step.specs.ProposalView.{proposal_of};
-ghost use Rattle.bw_law.specs.Tables.{new_table};
+ghost use Rattle.bw_law.specs.Tables.{new_table, TableValue};
 ghost use Rattle.bw_law.specs.Laws.{MapAfter};
 ghost use Rattle.bw_law.specs.Refusals.{refusal};
 ghost use Rattle.bw_table.specs.Actions.{IsPerformed, IsWhyNot};
@@ -12,8 +11,8 @@ ghost use Rattle.bw_tree.specs.Shares.{no_changes, shared_in, CountsIn, CountsPe
 ghost use Rattle.bw_tree.specs.Stocks.{closing};
 ghost use Rattle.bw_step.specs.Actions.{Reports};
 ghost use Rattle.bw_step.specs.Steps.{IsReceiptOf};
-ghost use Rattle.bw_tree.specs.Trees.{IsTree, IsClosed, Leads};
-ghost use Rattle.bw_tree.specs.Trees.{OpensFor, IsNewFault, MayBeMade, is_bad_number};
+ghost use Rattle.bw_tree.specs.Trees.{IsTree, IsClosed, Leads, OpensFor, IsNewFault, MayBeMade, IsBookOf};
+ghost use Rattle.bw_table.specs.Codes.{table_code};
 
 use crate::fault::{MissingShare, NewFault, Unshared};
 use crate::keys::{AnyKey, Keys};
@@ -39,12 +38,6 @@ pub struct Booked<A: Allocator + Copy, I: MadeBy, D: Ledger, K: Keys = AnyKey> {
 }
 
 impl<A: Allocator + Copy, I: MadeBy, D: Ledger, K: Keys> Model for Booked<A, I, D, K> {
-    ghost use Rattle.std.specs.Prelude.{◌≡◌};
-    ghost use Rattle.bw_law.specs.Tables.{TableValue};
-    ghost use Rattle.bw_table.specs.Codes.{table_code};
-    ghost use Rattle.bw_tree.specs.Stocks.{closing};
-    ghost use Rattle.bw_tree.specs.Trees.{IsBookOf};
-
     ghost Value = { TableValue };
 
     ghost coded = { table_code };
@@ -83,11 +76,11 @@ impl<A: Allocator + Copy, I: MadeBy, D: Ledger> Booked<A, I, D> {
     }
 
     /// Returns the table with its pairs, a share of nothing for each worker, 1 to `MAX_WORKERS`, and
-    /// the opening share, which is no worker's: all that the table's book has already. The blank
-    /// ledgers have a part for each worker and one for the opening share, which [`close`](Booked::close)
-    /// wants too.
+    /// an opening share, which belongs to no worker: it has what the table's book counted before. The
+    /// blank ledgers have a part for each worker and one for the opening share, which
+    /// [`close`](Booked::close) takes back too.
     ///
-    /// Where it fails, the table comes back as it was.
+    /// A failed call gives the table back as it was.
     pub fn from_table(
         machine: Global,
         table: Table<A>,
@@ -233,14 +226,8 @@ pub fn check(config: &Config, workers: u32) -> Result<(), NewFault>
     if let Err(bad) = config.check() {
         return Err(NewFault::BadConfig(bad));
     }
-    if has_too_few_or_many(workers) {
+    if !(1..=MAX_WORKERS).contains(&workers) {
         return Err(NewFault::BadWorkers);
     }
     Ok(())
-}
-
-fn has_too_few_or_many(workers: u32) -> bool
-    ensures { result ≡ is_bad_number workers }
-{
-    !(1..=MAX_WORKERS).contains(&workers)
 }

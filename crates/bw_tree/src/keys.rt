@@ -1,3 +1,6 @@
+ghost use Rattle.std.specs.Prelude.{true, false};
+ghost use Rattle.bw_tree.specs.Ranges.{all_keys};
+
 use bw_keys::{Key, Range};
 
 /// The keys that a tree takes: any where it is alone, those of a range where it is one of a forest.
@@ -22,9 +25,6 @@ pub trait Keys: Copy {
 pub struct AnyKey;
 
 impl Keys for AnyKey {
-    ghost use Rattle.std.specs.Prelude.{true};
-    ghost use Rattle.bw_tree.specs.Ranges.{all_keys};
-
     ghost alone = { true };
 
     ghost range = { λ _. all_keys };
@@ -36,8 +36,6 @@ impl Keys for AnyKey {
 }
 
 impl Keys for Range {
-    ghost use Rattle.std.specs.Prelude.{false};
-
     ghost alone = { false };
 
     ghost range = { λ range. range };

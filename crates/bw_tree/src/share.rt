@@ -2,6 +2,7 @@
 //! counts is known to contracts alone.
 
 ghost use Rattle.std.specs.Prelude.{◌≡◌, ◌+◌, ◌*◌};
+ghost use Rattle.bw_tree.specs.Shares.{ShareValue, share_code};
 
 use std::marker::{Model, PhantomData};
 use std::sync::ledger;
@@ -44,8 +45,7 @@ impl Blanks {
     }
 }
 
-/// The ledger that `L` stands for. It has a part more than `L` says: the stock's, where a tree is
-/// alone.
+/// The ledger that `L` stands for, with one more part than `L` says: the stock of a tree alone.
 pub struct Stocked<L> {
     of: PhantomData<L>,
 }
@@ -68,9 +68,6 @@ pub struct Share<I: Ledger, D: Ledger> {
 }
 
 impl<I: Ledger, D: Ledger> Model for Share<I, D> {
-    ghost use Rattle.std.specs.Prelude.{◌≡◌};
-    ghost use Rattle.bw_tree.specs.Shares.{ShareValue, share_code};
-
     ghost Value = { ShareValue };
 
     ghost coded = { share_code };

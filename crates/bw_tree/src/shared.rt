@@ -12,7 +12,8 @@ use std::sync::ledger::Ledger;
 /// such tree can't keep the lock between calls.
 ///
 /// What a tree must have is its configuration and the atomic steps. The calls that do more in one hold
-/// of the lock are provided, by an answer that sends the worker to the steps.
+/// of the lock are provided, by an answer that sends the worker to the steps: a search then goes by
+/// [`visit`](Shared::visit).
 ///
 /// `P` is the step over `A`.
 pub trait Shared<A: Allocator + Copy, P: Proposes> {
@@ -59,9 +60,8 @@ pub trait Shared<A: Allocator + Copy, P: Proposes> {
     /// key.
     fn look(&self, pid: Pid, key: Key) -> Option<Look>;
 
-    /// Returns the leaf whose range holds the key, where no page on the way to it is in the middle
-    /// of a split or a merge. None also where the tree can't find it in one hold of its lock: a search
-    /// then goes by [`visit`](Shared::visit).
+    /// Returns the leaf whose range holds the key, unless a page on the way to it is in the middle
+    /// of a split or a merge, or the tree can't find the leaf in one hold of its lock.
     fn leaf_at_once(&self, _key: Key) -> Option<View>
         ensures leaf { IfSome result (λ view. view.level ≡ 0) }
         ensures range { IfSome result (λ view. (view.low ≤ _key) × (_key < end_of view.high)) }
@@ -69,8 +69,7 @@ pub trait Shared<A: Allocator + Copy, P: Proposes> {
         None
     }
 
-    /// Returns what the map has at the key. None where the tree can't look it up in one hold of its
-    /// lock: a search then goes by [`visit`](Shared::visit).
+    /// Returns what the map has at the key, or `None` if one hold of the tree's lock can't tell.
     fn look_at_once(&self, _key: Key) -> Option<Look> {
         None
     }

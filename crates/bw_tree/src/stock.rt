@@ -2,10 +2,9 @@
 //! a stock of what it may still count, and each insertion and each removal moves one from there to the
 //! share of the worker that did it.
 
-ghost use Rattle.std.specs.Prelude.{◌≡◌, ◌+◌, ◌*◌, ◌<◌, ◌≤◌, ◌↔◌, All, length};
-ghost use Rattle.std.specs.Prelude.{IsOk, IfOk, OnOk, OnErr};
-ghost use Rattle.bw_tree.specs.Shares.{no_changes, shared_in, counted, sum_of, together, Opens};
-ghost use Rattle.bw_tree.specs.Stocks.{Fits, fresh};
+ghost use Rattle.std.specs.Prelude.{◌≡◌, ◌+◌, ◌*◌, ◌<◌, ◌≤◌, ◌↔◌, All, length, IsOk, IfOk, OnOk, OnErr, ℕ};
+ghost use Rattle.bw_tree.specs.Shares.{no_changes, shared_in, counted, sum_of, together, Opens, ShareValue, share_code};
+ghost use Rattle.bw_tree.specs.Stocks.{Fits, fresh, most, counted_of, TotalsValue, counted_by, totals_code};
 
 use crate::fault::MissingShare;
 use crate::share::{Blanks, Share, Stocked};
@@ -25,10 +24,6 @@ pub struct Stock<I: Ledger, D: Ledger> {
 }
 
 impl<I: Ledger, D: Ledger> Model for Stock<I, D> {
-    ghost use Rattle.std.specs.Prelude.{◌≡◌, ◌≤◌};
-    ghost use Rattle.bw_tree.specs.Shares.{ShareValue, share_code};
-    ghost use Rattle.bw_tree.specs.Stocks.{most, counted_of};
-
     ghost Value = { ShareValue };
 
     ghost coded = { share_code };
@@ -82,9 +77,6 @@ pub struct Totals<I: Ledger, D: Ledger> {
 }
 
 impl<I: Ledger, D: Ledger> Model for Totals<I, D> {
-    ghost use Rattle.std.specs.Prelude.{◌≡◌, ◌+◌, ◌*◌, ◌≤◌};
-    ghost use Rattle.bw_tree.specs.Stocks.{TotalsValue, counted_by, most, totals_code};
-
     ghost Value = { TotalsValue };
 
     ghost coded = { totals_code };
@@ -113,8 +105,6 @@ pub struct Parts<I: Ledger, D: Ledger> {
 }
 
 impl<I: Ledger, D: Ledger> Model for Parts<I, D> {
-    ghost use Rattle.std.specs.Prelude.{◌≡◌, ℕ};
-
     ghost Value = { ℕ };
 
     ghost view = { λ p. p.insertions.parts };
@@ -182,14 +172,9 @@ impl<I: Ledger, D: Ledger> Endowment<I, D> {
             All (λ stock. stock ≡ no_changes) made.stocks.items) }
         ensures parts { IfOk result (λ made. made.parts ≡ blanks.workers * blanks.trees) }
     {
-        let Blanks {
-            trees,
-            workers,
-            insertions,
-            removals,
-        } = blanks;
-        let (mut insertions, mut all_insertions) = insertions.open::<Stocked<I>>();
-        let (mut removals, mut all_removals) = removals.open::<Stocked<D>>();
+        let (trees, workers) = (blanks.trees, blanks.workers);
+        let (mut insertions, mut all_insertions) = blanks.insertions.open::<Stocked<I>>();
+        let (mut removals, mut all_removals) = blanks.removals.open::<Stocked<D>>();
         let mut stocks = Vec::with_capacity(machine, trees as usize)?;
         for _tree in 0..trees {
             let mut to_insert = all_insertions.split_off(1, 0);
@@ -235,16 +220,12 @@ pub(crate) fn open_one<I: Ledger, D: Ledger>(
     ensures shares { IfOk result (λ made. All (λ share. share ≡ no_changes) made.2.items) }
 {
     let workers = blanks.workers;
-    let Endowment {
-        totals,
-        mut stocks,
-        mut parts,
-    } = Endowment::open(machine, blanks)?;
-    let shares = parts.shares(machine, workers)?;
-    let Some(stock) = stocks.pop() else {
+    let mut made = Endowment::open(machine, blanks)?;
+    let shares = made.parts.shares(machine, workers)?;
+    let Some(stock) = made.stocks.pop() else {
         unreachable!()
     };
-    Ok((stock, totals, shares))
+    Ok((stock, made.totals, shares))
 }
 
 impl<I: Ledger, D: Ledger> Totals<I, D> {
@@ -255,12 +236,8 @@ impl<I: Ledger, D: Ledger> Totals<I, D> {
           counted = together self.old.counted stock;
         } }
     {
-        let Stock {
-            insertions,
-            removals,
-        } = stock;
-        self.left_insertions.merge(insertions);
-        self.left_removals.merge(removals);
+        self.left_insertions.merge(stock.insertions);
+        self.left_removals.merge(stock.removals);
     }
 
     /// Closes the ledgers when all stocks are back: what the trees counted is what the shares have.
@@ -300,11 +277,7 @@ fn gather<I: Ledger, D: Ledger>(
 {
     let mut shares = shares;
     'shares: while let Some(share) = shares.pop() {
-        let Share {
-            insertions: more_insertions,
-            removals: more_removals,
-        } = share;
-        insertions.merge(more_insertions);
-        removals.merge(more_removals);
+        insertions.merge(share.insertions);
+        removals.merge(share.removals);
     }
 }

@@ -1,10 +1,11 @@
 //! One worker's hand on a tree that others share.
 
-ghost use Rattle.std.specs.Prelude.{◌≡◌, [], Some, Ok, OnOk, OnErr, length};
+ghost use Rattle.std.specs.Prelude.{◌≡◌, [], Some, Ok, OnOk, OnErr, length, refl};
 ghost use Rattle.bw_step.specs.ProposalView.{proposal_of};
 ghost use Rattle.bw_procedures.specs.declared.steps.Keep.TheVariants as keeps;
 ghost use Rattle.bw_procedures.specs.Seen.{Installed, Looked, ends_of};
-ghost use Rattle.bw_work.specs.Hands.{Sums};
+ghost use Rattle.bw_work.specs.Hands.{Sums, sums_stay, sums_join};
+ghost use Rattle.std.proofs.Common.{◌∙◌};
 
 use crate::gate::Gate;
 use bw_delta::{Chain, NoMemory};
@@ -19,11 +20,9 @@ use std::alloc::{Allocator, Global};
 /// A worker: a tree that it shares with others, its share of the tree's book, its gate, and its
 /// account.
 ///
-/// Its trail keeps a receipt, of some 40 bytes, for each accepted step and each look. So a worker
-/// that lives long calls [`take_trail`](Hand::take_trail) from time to time. The trails that it
-/// gets, one after the other and with that of [`finish`](Hand::finish) as the last, are the trail
-/// that `finish` alone would have returned. An auditor wants all of them. Where nobody will ask for
-/// the receipts, a worker [with a trail](Hand::with_trail) of [`GivenUp`](crate::GivenUp)
+/// Its trail keeps receipts as that of [`Sole`](bw_alone::Sole) does, so a worker that lives long
+/// calls [`take_trail`](Hand::take_trail) from time to time. Where nobody will ask for the
+/// receipts, a worker [with a trail](Hand::with_trail) of [`GivenUp`](crate::GivenUp)
 /// takes the same steps and asks for no memory for them. One of [`Packed`](crate::Packed) receipts
 /// writes to a third or half of it, and unpacks them later.
 ///
@@ -38,7 +37,7 @@ use std::alloc::{Allocator, Global};
 /// (share, trail, done)
 /// ```
 ///
-/// Where a share is lost all the same, the tree's `into_table` returns the table.
+/// If a share is lost all the same, the tree's `into_table` still returns the table.
 #[derive(Drop)]
 pub struct Hand<'t, A: Allocator + Copy, S: Shared<A, Step<A>>, G: Gate, T: Trail = Vec<Receipt>> {
     pub(crate) tree: &'t S,
@@ -73,8 +72,8 @@ impl<'t, A: Allocator + Copy, S: Shared<A, Step<A>>, G: Gate> Hand<'t, A, S, G> 
 }
 
 impl<'t, A: Allocator + Copy, S: Shared<A, Step<A>>, G: Gate, T: Trail> Hand<'t, A, S, G, T> {
-    /// A worker with the receipts of the trail, which says what becomes of further ones. Its chains
-    /// will lie in `alloc`.
+    /// Returns a worker that continues the trail, which says what becomes of its receipts. The chains
+    /// that it makes lie in `alloc`.
     pub fn with_trail(
         trail: T,
         alloc: A,
@@ -148,10 +147,6 @@ impl<'t, A: Allocator + Copy, S: Shared<A, Step<A>>, G: Gate, T: Trail> Hand<'t,
 
 impl<'t, A: Allocator + Copy, S: Shared<A, Step<A>>, G: Gate, T: Trail> Steps<A, Step<A>>
     for Hand<'t, A, S, G, T> {
-    ghost use Rattle.std.specs.Prelude.{◌≡◌, refl};
-    ghost use Rattle.std.proofs.Common.{◌∙◌};
-    ghost use Rattle.bw_work.specs.Hands.{Sums, sums_stay, sums_join};
-
     ghost seen = { λ h. h.account.seen };
 
     ghost kept = { T.kept };

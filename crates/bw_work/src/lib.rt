@@ -1,5 +1,5 @@
 //! The workers of a tree: one that has its table for itself, and one that shares its tree with
-//! others. Each of them takes the atomic steps of which the calls are made.
+//! others. Each carries out calls as a series of atomic steps.
 #![tactic(auto)]
 
 mod calls;

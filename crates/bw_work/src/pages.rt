@@ -1,6 +1,9 @@
 //! The map's pairs from a key on, leaf by leaf.
 
 ghost use Rattle.std.specs.Prelude.{◌≡◌, Some};
+ghost use Rattle.std.specs.Iterator.{at_most};
+ghost use Rattle.bw_procedures.specs.Calls.{OnlySpends};
+ghost use Rattle.bw_work.specs.Walks.{IsNextPage, keys_left};
 
 use bw_keys::Key;
 use bw_procedures::{Calls, Fault, Slice};
@@ -22,7 +25,7 @@ pub struct Pages<'h, A: Allocator + Copy, W: Calls<A>> {
 }
 
 impl<'h, A: Allocator + Copy, W: Calls<A>> Pages<'h, A, W> {
-    /// The pages from the key on. Their pairs will lie in the machine's memory.
+    /// Returns the pages from the key on. Their pairs will lie in the machine's memory.
     pub fn of(hand: &'h mut W, machine: Global, key: Key) -> Pages<'h, A, W>
         ensures hand { result.hand.ghost_name ≡ hand.entry.ghost_name }
         ensures next { result.next ≡ Some key }
@@ -37,11 +40,6 @@ impl<'h, A: Allocator + Copy, W: Calls<A>> Pages<'h, A, W> {
 }
 
 impl<'h, A: Allocator + Copy, W: Calls<A>> Iterator for Pages<'h, A, W> {
-    ghost use Rattle.std.specs.Prelude.{◌≡◌};
-    ghost use Rattle.std.specs.Iterator.{at_most};
-    ghost use Rattle.bw_procedures.specs.Calls.{OnlySpends};
-    ghost use Rattle.bw_work.specs.Walks.{IsNextPage, keys_left};
-
     type Item = Result<Slice, Fault>;
 
     // each page begins where the one before it ended, and adds no receipt

@@ -1,30 +1,9 @@
 -- Why a forest wasn't shared, once its configuration and its workers were found fine.
-use Rattle.std.proofs.Common.{◌≡◌, ◌≢◌, ℕ, ◌+◌, ◌*◌, ◌≤◌, List, sym, subst, arith}
+use Rattle.std.proofs.Common.{◌≡◌, ℕ, ◌+◌, ◌*◌, ◌≤◌, List, sym, subst, arith}
 use Rattle.bw_keys.specs.declared.config.Config.{Config}
-use Rattle.bw_crew.specs.declared.fault.CrewFault.{CrewFault}
-use Rattle.bw_crew.specs.declared.fault.CrewFault.TheVariants as crew
 use Rattle.bw_forest.specs.Forests.{ForestValue, config_of}
-use Rattle.bw_tree.specs.Trees.{MayBeMade}
-use Rattle.nifforan_forest.specs.declared.fault.ShareForestFault.{ShareForestFault}
-use Rattle.nifforan_forest.specs.declared.fault.ShareForestFault.TheVariants.{BadConfig, BadWorkers, NoMemory, NoMemoryForWorkers, NoThread, OtherRange}
 use Rattle.nifforan_forest.specs.declared.unshared.UnsharedForest.{UnsharedForest}
-use Rattle.nifforan_forest.specs.Sharing.{ComesBack, IsForestBack, IsLate, IsShareForestFault, share_fault_of}
-
-pub late_crew : (fault : CrewFault) → IsLate (share_fault_of fault)
-late_crew crew.NoMemory = tt
-late_crew crew.NoThread = tt
-
-pub late_fault : (config : Config) (workers : ℕ) (fault : ShareForestFault) → MayBeMade config workers → IsLate fault
-    → IsShareForestFault config workers fault
-late_fault config workers (BadConfig bad) made late = absurd late
-late_fault config workers BadWorkers made late = absurd late
-late_fault config workers NoMemory made late = absurd late
-late_fault config workers NoMemoryForWorkers made late = made
-late_fault config workers NoThread made late = made
-late_fault config workers OtherRange made late = made
-
-pub not_bad : (fault : ShareForestFault) → IsLate fault → fault ≢ BadWorkers
-not_bad fault late is = subst IsLate is late
+use Rattle.nifforan_forest.specs.Sharing.{ComesBack, IsForestBack, IsLate}
 
 -- one place for each tree is there if there are some for each worker at each tree
 pub at_least_one : (workers more trees : ℕ) → workers ≡ more + 1 → trees ≤ workers * trees

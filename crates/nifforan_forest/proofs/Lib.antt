@@ -8,5 +8,4 @@ pub mod Sweeping
 pub mod Trees
 pub mod Asking
 pub mod Gathering
-pub mod Crossing
 pub mod Back

@@ -108,7 +108,7 @@ impl<'b, H: ForestHand> ForestWorker<'b, H> {
     {
         let first = self.bounds.tree_of(key);
         for tree in first..self.hands.len() {
-            if let Some(pair) = self.hands[tree].next_in_tree(key) {
+            if let Some(pair) = self.hands[tree].next_at(key) {
                 return Some(pair);
             }
         }
@@ -126,7 +126,7 @@ impl<'b, H: ForestHand> ForestWorker<'b, H> {
         let mut end = self.bounds.tree_of(key) + 1;
         'trees: while end > 0 {
             end -= 1;
-            if let Some(pair) = self.hands[end].previous_in_tree(key) {
+            if let Some(pair) = self.hands[end].previous_at(key) {
                 return Some(pair);
             }
         }
@@ -160,7 +160,7 @@ impl<'b, H: ForestHand> ForestWorker<'b, H> {
     {
         let mut all = 0u64;
         for tree in 0..self.hands.len() {
-            all = all.saturating_add(self.hands[tree].len_of_tree());
+            all = all.saturating_add(self.hands[tree].len());
         }
         all
     }

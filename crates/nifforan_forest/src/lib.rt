@@ -4,15 +4,14 @@
 
 mod across;
 mod crew;
-mod divides;
 mod fault;
 mod fences;
 mod hand;
+mod hands;
 mod job;
 mod outcome;
 mod returned;
 mod scan;
-mod seat;
 mod sharing;
 mod unshared;
 mod worker;
@@ -26,9 +25,8 @@ pub use bw_keys::{BadConfig, Config, Fence, Field, Key, MAX_WORKERS, Range};
 pub use bw_procedures::{Cleared, Del, Done, Fault, GivenUp, Put, Set, Trail};
 pub use bw_step::Receipt;
 pub use bw_table::Table;
-pub use divides::Divides;
 pub use fault::ShareForestFault;
-pub use hand::ForestHand;
+pub use hand::{Divides, ForestHand};
 pub use job::ForestJob;
 pub use outcome::ForestOutcome;
 pub use returned::Returned;

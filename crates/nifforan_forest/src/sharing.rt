@@ -1,19 +1,17 @@
 //! Forests that are shared for the length of one call.
 
-ghost use Rattle.std.specs.Prelude.{◌≡◌, ◌+◌, ◌*◌, ◌≤◌, ◌++◌, [], All, IsOk, IfOk, IfErr, OnOk};
-ghost use Rattle.std.specs.Prelude.{length, map, vec_capacity};
+ghost use Rattle.std.specs.Prelude.{◌≡◌, ◌+◌, ◌*◌, ◌≤◌, ◌++◌, [], All, IsOk, IfOk, IfErr, OnOk, length, map, vec_capacity};
 ghost use Rattle.bw_crew.specs.Workers.{share_by};
 ghost use Rattle.bw_forest.specs.Forests.{IsClosedForest, config_of};
 ghost use Rattle.bw_tree.specs.Shares.{no_changes};
 ghost use Rattle.bw_tree.specs.Stocks.{OpensForest};
 ghost use Rattle.bw_tree.specs.Trees.{MayBeMade};
-ghost use Rattle.nifforan_forest.specs.Sharing.{ComesBack, IsClosedForestShared, IsForestBack};
-ghost use Rattle.nifforan_forest.specs.Sharing.{IsForestShared, IsLate, IsShareForestFault};
+ghost use Rattle.nifforan_forest.specs.Sharing.{ComesBack, IsClosedForestShared, IsForestBack, IsForestShared, IsLate, IsShareForestFault};
 ghost use Rattle.nifforan_forest.specs.Workers.{AllReturn, trails_of};
 
-use crate::crew::{Gathered, work_all};
-use crate::divides::Divides;
+use crate::crew::work_all;
 use crate::fault::ShareForestFault;
+use crate::hand::Divides;
 use crate::job::ForestJob;
 use crate::outcome::ForestOutcome;
 use crate::unshared::UnsharedForest;
@@ -240,12 +238,20 @@ fn share_open<
     ensures late { IfErr result (λ it. IsLate it.fault) }
     ensures back { IfErr result (ComesBack I.bounds I.config) }
 {
-    let gathered = work_all(&rt, machine, forest.bounds(), forest.trees(), shares, job);
-    let Gathered { shares, workers } = match gathered {
+    let gathered = work_all(
+        &rt,
+        machine,
+        forest.bounds(),
+        forest.trees(),
+        shares,
+        opening,
+        job,
+    );
+    let (shares, workers) = match gathered {
         Ok(gathered) => gathered,
         Err(fault) => return Err(give_back(forest, fault)),
     };
-    match forest.close(joined(opening, shares)) {
+    match forest.close(shares) {
         Ok(forest) => Ok(ForestOutcome { forest, workers }),
         Err(apart) => Err(UnsharedForest {
             fault: ShareForestFault::OtherRange,

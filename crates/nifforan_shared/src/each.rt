@@ -1,5 +1,7 @@
 //! A job for each worker.
 
+ghost use Rattle.bw_crew.specs.Workers.{promised_of_each};
+
 use crate::job::{Job, ReadingJob};
 use crate::reading::Reads;
 use bw_crew::Worker;
@@ -14,8 +16,6 @@ pub struct Each<'j, J> {
 }
 
 impl<'j, J: Job> Job for Each<'j, J> {
-    ghost use Rattle.bw_crew.specs.Workers.{promised_of_each};
-
     type Output = Option<J::Output>;
 
     type Trail = J::Trail;
@@ -30,8 +30,6 @@ impl<'j, J: Job> Job for Each<'j, J> {
 }
 
 impl<'j, J: ReadingJob> ReadingJob for Each<'j, J> {
-    ghost use Rattle.bw_crew.specs.Workers.{promised_of_each};
-
     type Output = Option<J::Output>;
 
     type Trail = J::Trail;

@@ -6,7 +6,6 @@ ghost use Rattle.nifforan_shared.specs.declared.fault.ShareFault.TheVariants as 
 use bw_crew::CrewFault;
 use bw_delta::NoMemory as Want;
 use bw_keys::BadConfig;
-use std::alloc::AllocError;
 use thiserror::Error;
 
 /// Why a tree wasn't shared. The first two are found before any thread starts, in this order.
@@ -43,14 +42,6 @@ impl From<Want> for ShareFault {
     ghost from_gives = { λ _ fault. fault ≡ faults.NoMemory };
 
     fn from(_: Want) -> ShareFault {
-        ShareFault::NoMemory
-    }
-}
-
-impl From<AllocError> for ShareFault {
-    ghost from_gives = { λ _ fault. fault ≡ faults.NoMemory };
-
-    fn from(_: AllocError) -> ShareFault {
         ShareFault::NoMemory
     }
 }

@@ -1,15 +1,14 @@
-//! What the workers of a crew do on one tree, each with a hand and a share of its own.
+//! The workers of a crew on one tree, each with a hand of its own, and what they bring back.
 
-ghost use Rattle.std.specs.Prelude.{◌≡◌, ◌<◌, ◌≤◌, IfOk, All, length, vec_capacity};
+ghost use Rattle.std.specs.Prelude.{◌≡◌, ◌<◌, ◌≤◌, [], IfOk, All, length, map, vec_capacity};
 ghost use Rattle.bw_tree.specs.Shares.{no_changes};
-ghost use Rattle.bw_crew.specs.Workers.{AllAsPromised, ByNumber};
+ghost use Rattle.bw_crew.specs.Workers.{AllAsPromised, ByNumber, share_by};
 
-use crate::gathering::{Gathered, Worked, gather};
-use crate::seats::{Seat, seats_of};
 use crate::task::Task;
-use bw_crew::{CrewFault, Member, Part, run_all};
-use bw_procedures::Trail;
-use bw_step::Step;
+use bw_crew::{CrewFault, Member, Notes, Part, Worked, run_all};
+use bw_delta::NoMemory;
+use bw_procedures::{Steps, Trail};
+use bw_step::{Receipt, Step};
 use bw_tree::{Ordered, Share};
 use bw_work::Gate;
 use std::alloc::Global;
@@ -17,43 +16,61 @@ use std::sync::Wait;
 use std::sync::ledger::Ledger;
 use std::thread::Threads;
 
-/// A task on a tree that its workers share.
+/// What a worker begins with: a hand that has taken no step, and its kit.
 #[derive(Drop)]
-struct OnTree<'t, T, G, J> {
-    machine: Global,
-    tree: &'t T,
-    gate: &'t G,
+struct Seat<W: Steps<Global, Step<Global>>, K> {
+    hands: W,
+    kit: K,
+    ghost new: { (W.seen hands).trail ≡ [] },
+}
+
+/// A task that workers share.
+#[derive(Drop)]
+struct Shared<'t, J> {
     task: &'t J,
 }
 
-impl<
-    't,
-    I: Ledger,
-    D: Ledger,
-    K: Drop,
-    O: Drop,
-    L: Trail,
-    T: Ordered<Global, Step<Global>, Insertions = I, Removals = D>,
-    G: Gate,
-    J: Task<K, Output = O, Trail = L>,
-> Part<Seat<I, D, K>> for OnTree<'t, T, G, J> {
-    type Output = Worked<I, D, O, L>;
+impl<'t, W: Notes + Drop, K: Drop, O: Drop, J: Task<K, Output = O>> Part<Seat<W, K>>
+    for Shared<'t, J> {
+    type Output = Worked<W, O>;
 
     ghost given = { λ part worker seat. J.given part.task.now worker seat.kit };
 
     ghost promised = { λ part worker worked.
-        J.promised part.task.now worker worked.output (L.added worked.trail) };
+        J.promised part.task.now worker worked.output (W.seen worked.hands).trail };
 
-    fn run(&self, worker: u32, seat: Seat<I, D, K>) -> Worked<I, D, O, L> {
-        let Seat { share, kit } = seat;
-        let mut hand = Member::new(self.machine, self.tree, share, worker, self.gate);
-        let output = self.task.run(worker, &mut hand, kit);
-        let (share, trail) = hand.finish();
-        Worked {
-            share,
-            trail,
-            output,
-        }
+    fn run(&self, worker: u32, seat: Seat<W, K>) -> Worked<W, O> {
+        let Seat { mut hands, kit } = seat;
+        let output = self.task.run(worker, &mut hands, kit);
+        Worked { hands, output }
+    }
+}
+
+/// The workers' shares, trails and outputs, by the workers' numbers.
+#[derive(Drop)]
+pub struct Gathered<I: Ledger, D: Ledger, O, L: Trail = Vec<Receipt>> {
+    pub shares: Vec<Share<I, D>>,
+    pub trails: Vec<L>,
+    pub outputs: Vec<O>,
+    ghost trailed: { length trails.items ≡ length shares.items },
+    ghost answered: { length outputs.items ≡ length shares.items },
+    ghost counted: { shares.items ≡ map (λ trail. share_by (L.added trail)) trails.items },
+}
+
+impl<I: Ledger, D: Ledger, O: Drop, L: Trail> Gathered<I, D, O, L> {
+    /// Makes room for what `workers` workers bring back, and for one more share.
+    pub fn with_room(machine: Global, workers: usize) -> Result<Gathered<I, D, O, L>, NoMemory>
+        requires few { workers ≤ 64 }
+        ensures empty { IfOk result (λ room. room.shares.items ≡ []) }
+        ensures shares { IfOk result (λ room. workers < vec_capacity room.shares) }
+        ensures trails { IfOk result (λ room. workers ≤ vec_capacity room.trails) }
+        ensures outputs { IfOk result (λ room. workers ≤ vec_capacity room.outputs) }
+    {
+        Ok(Gathered {
+            shares: Vec::with_capacity(machine, workers + 1)?,
+            trails: Vec::with_capacity(machine, workers)?,
+            outputs: Vec::with_capacity(machine, workers)?,
+        })
     }
 }
 
@@ -92,13 +109,70 @@ pub fn work_all<
         AllAsPromised L.added (J.promised task.now) all.outputs.items all.trails.items) }
 {
     let room = Gathered::with_room(machine, kits.len())?;
-    let seats = seats_of(machine, shares, kits)?;
-    let part = OnTree {
-        machine,
-        tree,
-        gate,
-        task,
-    };
-    let all = run_all(rt, machine, &part, seats)?;
-    Ok(gather(room, all))
+    let seats = seats_of(machine, tree, gate, shares, kits)?;
+    let worked = run_all(rt, machine, &Shared { task }, seats)?;
+    Ok(gather(room, worked))
+}
+
+/// Returns a seat for each kit.
+fn seats_of<'t, K: Drop, L: Trail, T: Ordered<Global, Step<Global>>, G: Gate>(
+    machine: Global,
+    tree: &'t T,
+    gate: &'t G,
+    shares: Vec<Share<T::Insertions, T::Removals>>,
+    kits: Vec<K>,
+) -> Result<Vec<Seat<Member<'t, T, G, L>, K>>, NoMemory>
+    requires few { length kits.items ≤ 64 }
+    requires shares { length shares.items ≡ length kits.items }
+    requires new { All (λ share. share ≡ no_changes) shares.items }
+    ensures count { IfOk result (λ seats. length seats.items ≡ length kits.items) }
+    ensures kits { IfOk result (λ seats. map (λ seat. seat.kit) seats.items ≡ kits.items) }
+{
+    let mut shares = shares;
+    let mut seats = Vec::with_capacity(machine, kits.len())?;
+    let mut worker = 0u32;
+    for kit in kits {
+        let Some(share) = shares.pop() else {
+            unreachable!()
+        };
+        let hands = Member::new(machine, tree, share, worker, gate);
+        seats.push(Seat { hands, kit })?;
+        worker += 1;
+    }
+    Ok(seats)
+}
+
+/// Sorts what the workers bring back into the room. Needs no memory, so that nothing done is lost
+/// for want of it.
+fn gather<'t, O: Drop, L: Trail, T: Ordered<Global, Step<Global>>, G: Gate>(
+    room: Gathered<T::Insertions, T::Removals, O, L>,
+    all: Vec<Worked<Member<'t, T, G, L>, O>>,
+) -> Gathered<T::Insertions, T::Removals, O, L>
+    requires empty { room.shares.items ≡ [] }
+    requires shares { length all.items < vec_capacity room.shares }
+    requires trails { length all.items ≤ vec_capacity room.trails }
+    requires outputs { length all.items ≤ vec_capacity room.outputs }
+    ensures count { length result.shares.items ≡ length all.entry.items }
+    ensures spare { length all.entry.items < vec_capacity result.shares }
+    ensures trails { map L.added result.trails.items
+        ≡ map (λ worked. worked.hands.seen.trail) all.entry.items }
+    ensures outputs { result.outputs.items ≡ map (λ worked. worked.output) all.entry.items }
+{
+    let Gathered {
+        mut shares,
+        mut trails,
+        mut outputs,
+    } = room;
+    for worked in all {
+        let Worked { hands, output } = worked;
+        let (share, trail) = hands.finish();
+        shares.push_reserved(share);
+        trails.push_reserved(trail);
+        outputs.push_reserved(output);
+    }
+    Gathered {
+        shares,
+        trails,
+        outputs,
+    }
 }

@@ -1,14 +1,14 @@
 //! What the workers of a shared tree do.
 
+ghost use Rattle.std.specs.Prelude.{◌≡◌, ◌<◌, []};
+ghost use Rattle.bw_crew.specs.Workers.{Promised};
+
 use crate::reading::Reads;
 use bw_crew::Worker;
 use bw_procedures::Trail;
 
 /// What each worker of a tree does, in a thread of its own.
 pub trait Job {
-    ghost use Rattle.std.specs.Prelude.{◌≡◌, ◌<◌, []};
-    ghost use Rattle.bw_crew.specs.Workers.{Promised};
-
     /// What a worker returns.
     type Output: Drop;
 
@@ -29,9 +29,6 @@ pub trait Job {
 
 /// What each worker of a tree with readers does, in a thread of its own.
 pub trait ReadingJob {
-    ghost use Rattle.std.specs.Prelude.{◌≡◌, ◌<◌, []};
-    ghost use Rattle.bw_crew.specs.Workers.{Promised};
-
     /// What a worker returns.
     type Output: Drop;
 

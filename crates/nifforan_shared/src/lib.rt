@@ -4,12 +4,10 @@
 
 mod each;
 mod fault;
-mod gathering;
 mod hands;
 mod job;
 mod outcome;
 mod reading;
-mod seats;
 mod sharing;
 mod task;
 
@@ -26,8 +24,7 @@ pub use bw_tree::Unshared;
 pub use bw_work::{Pages, Queries};
 pub use each::Each;
 pub use fault::ShareFault;
-pub use gathering::Gathered;
-pub use hands::work_all;
+pub use hands::{Gathered, work_all};
 pub use job::{Job, ReadingJob};
 pub use outcome::Outcome;
 pub use reading::{Reading, Reads, readings_of};

@@ -1,6 +1,11 @@
 //! The reader that a job is given.
 
-ghost use Rattle.std.specs.Prelude.{◌≡◌, IfOk, length};
+ghost use Rattle.std.specs.Prelude.{◌≡◌, List, IfOk, OnOk, OnErr, length};
+ghost use Rattle.bw_keys.specs.declared.config.Config.{Config};
+ghost use Rattle.bw_keys.specs.Ranges.{end_of};
+ghost use Rattle.bw_step.specs.Proposals.{Proposal};
+ghost use Rattle.bw_snap.specs.Answers.{IsFoundIn, AreFoundIn, IsFirstIn, IsLastIn, IsNextIn, IsPreviousIn, IsNumberIn, IsLenIn, IsListedIn, IsRangeIn};
+ghost use Rattle.bw_snap.specs.Snapshots.{BeginsWith};
 
 use bw_delta::NoMemory;
 use bw_keys::{Fence, Key};
@@ -13,15 +18,6 @@ use std::sync::ledger::Ledger;
 /// Reads what was published of a tree, without the tree's lock: the map after a list of accepted
 /// steps that begins with each list it has read before.
 pub trait Reads {
-    ghost use Rattle.std.specs.Prelude.{◌≡◌, List, IfOk, OnOk, OnErr};
-    ghost use Rattle.bw_keys.specs.declared.config.Config.{Config};
-    ghost use Rattle.bw_step.specs.Proposals.{Proposal};
-    ghost use Rattle.bw_keys.specs.Ranges.{end_of};
-    ghost use Rattle.bw_snap.specs.Answers.{IsFoundIn, AreFoundIn, IsFirstIn, IsLastIn};
-    ghost use Rattle.bw_snap.specs.Answers.{IsNextIn, IsPreviousIn};
-    ghost use Rattle.bw_snap.specs.Answers.{IsNumberIn, IsLenIn, IsListedIn, IsRangeIn};
-    ghost use Rattle.bw_snap.specs.Snapshots.{BeginsWith};
-
     /// What a publication hands out, and nothing else does.
     type Stamp;
 

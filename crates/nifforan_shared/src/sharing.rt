@@ -1,24 +1,21 @@
 //! Trees that are shared for the length of one call.
 
-ghost use Rattle.std.specs.Prelude.{◌≡◌, ◌+◌, ◌<◌, ◌≤◌, IsOk, IfOk, IfErr, OnOk, All, length, vec_capacity};
-ghost use Rattle.bw_tree.specs.Shares.{no_changes};
+ghost use Rattle.std.specs.Prelude.{◌≡◌, ◌+◌, IsOk, IfOk, IfErr, OnOk};
 ghost use Rattle.bw_tree.specs.Trees.{OpensFor};
 ghost use Rattle.nifforan_shared.specs.Sharing.{IsShared, IsTableShared, IsBack, MayShare, IsShareFault};
-ghost use Rattle.bw_crew.specs.Workers.{AllAsPromised};
+ghost use Rattle.nifforan_shared.specs.declared.fault.ShareFault.TheVariants as faults;
 
 use crate::fault::ShareFault;
-use crate::gathering::Gathered;
-use crate::hands::work_all;
+use crate::hands::{Gathered, work_all};
 use crate::job::{Job, ReadingJob};
 use crate::outcome::Outcome;
 use crate::reading::readings_of;
 use crate::task::{ByHand, WithReader};
-use bw_crew::CrewFault;
 use bw_keys::{Config, MAX_WORKERS};
 use bw_procedures::Trail;
 use bw_snap::{Announcements, MAX_READERS, Naming, ReadTree};
 use bw_table::Table;
-use bw_tree::{Blanks, MadeBy, Share, Tree, Unshared};
+use bw_tree::{Blanks, MadeBy, Tree, Unshared};
 use bw_work::Open;
 use std::alloc::Global;
 use std::marker::Brand;
@@ -130,7 +127,20 @@ fn check(config: Config, workers: u32, most: u32) -> Result<(), ShareFault>
     Ok(())
 }
 
+/// Gives back a table that wasn't shared for want of memory.
+fn out_of_memory(table: Table<Global>) -> Unshared<Global, ShareFault>
+    ensures fault { result.fault ≡ faults.NoMemory }
+    ensures back { IsBack table result }
+{
+    table.law();
+    Unshared {
+        fault: ShareFault::NoMemory,
+        table,
+    }
+}
+
 /// Shares a table with these blank ledgers, which have parts for one more than the workers.
+#[tactic(auto, using(bw_crew::proofs::Workers::few_workers))]
 fn share_locked<
     I: MadeBy + Send + Sync,
     D: Ledger + Send + Sync,
@@ -154,22 +164,20 @@ fn share_locked<
         IsShareFault 64 table.config workers unshared.fault) }
     ensures back { IfErr result (IsBack table) }
 {
-    table.law();
+    let Ok(kits) = Vec::from_elem(machine, (), workers as usize) else {
+        return Err(out_of_memory(table));
+    };
     let made = Tree::<R, Global, I, D>::from_table(rt, machine, table, blanks);
     let (tree, shares, opening) = match made {
         Ok(made) => made,
-        Err(unshared) => {
-            return Err(Unshared {
-                fault: ShareFault::NoMemory,
-                table: unshared.table,
-            });
-        }
+        Err(unshared) => return Err(out_of_memory(unshared.table)),
     };
+    let gathered = work_all(&rt, machine, &tree, &Open, &ByHand { job }, shares, kits);
     let Gathered {
         mut shares,
         trails,
         outputs,
-    } = match work_by_hand(&rt, machine, &tree, shares, job) {
+    } = match gathered {
         Ok(gathered) => gathered,
         Err(fault) => {
             return Err(Unshared {
@@ -187,33 +195,6 @@ fn share_locked<
         outputs,
         trails,
     })
-}
-
-/// Does the job with each share, without readers.
-#[tactic(auto, using(bw_crew::proofs::Workers::few_workers))]
-fn work_by_hand<
-    I: MadeBy + Send + Sync,
-    D: Ledger + Send + Sync,
-    O: Drop + Send,
-    L: Trail + Send,
-    J: Job<Output = O, Trail = L> + Sync,
-    R: Threads + Wait + Sync + Send + Copy,
->(
-    rt: &R,
-    machine: Global,
-    tree: &Tree<R, Global, I, D>,
-    shares: Vec<Share<I, D>>,
-    job: &J,
-) -> Result<Gathered<I, D, O, L>, CrewFault>
-    requires few { length shares.items ≤ 64 }
-    requires new { All (λ share. share ≡ no_changes) shares.items }
-    ensures count { IfOk result (λ all. length all.shares.items ≡ length shares.items) }
-    ensures spare { IfOk result (λ all. length shares.items < vec_capacity all.shares) }
-    ensures promised { IfOk result (λ all.
-        AllAsPromised L.added (J.promised job.now) all.outputs.items all.trails.items) }
-{
-    let kits = Vec::from_elem(machine, (), shares.len())?;
-    work_all(rt, machine, tree, &Open, &ByHand { job }, shares, kits)
 }
 
 /// Shares a tree with a reader for each worker, with these blank ledgers and announcements.

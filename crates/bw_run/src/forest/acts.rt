@@ -1,7 +1,6 @@
 //! The acts of a worker of a forest, one after the other.
 
-ghost use Rattle.std.specs.Prelude.{◌≡◌, ◌≤◌, ◌<◌, [], IfOk, IfErr, OnOk, OnErr, length, map};
-ghost use Rattle.std.specs.Prelude.{false, vec_capacity};
+ghost use Rattle.std.specs.Prelude.{◌≡◌, ◌≤◌, ◌<◌, [], IfOk, IfErr, OnOk, OnErr, length, map, false, vec_capacity};
 ghost use Rattle.bw_run.specs.ForestAnswers.{SweepsAct, TellsAct, TellInTurn};
 ghost use Rattle.bw_run.specs.Stops.{MayStop};
 

@@ -7,14 +7,13 @@ ghost use Rattle.bw_tree.specs.Shares.{sum_of};
 ghost use Rattle.bw_crew.specs.Workers.{ByNumber, share_by};
 ghost use Rattle.bw_run.specs.ForestAnswers.{AreForestAnswersTo};
 ghost use Rattle.bw_run.specs.ForestFaults.{EndsForest};
-ghost use Rattle.bw_run.specs.ForestRuns.{EachIsLegal, TellsByTrees, by_trees, in_a_row};
-ghost use Rattle.bw_run.specs.ForestRuns.{shares_at, trails_at};
+ghost use Rattle.bw_run.specs.ForestRuns.{EachIsLegal, TellsByTrees, by_trees, in_a_row, shares_at, trails_at};
 ghost use Rattle.bw_run.specs.Rows.{acts_of};
 
 use crate::answers::Answers;
 use crate::fault::RunFault;
 use crate::forest::histories::judge_each;
-use crate::forest::trails::{Sorted, sort_out};
+use crate::forest::trails::sort_out;
 use crate::merging::merge;
 use crate::stopping::check_stops;
 use bw_delta::NoMemory;
@@ -26,7 +25,7 @@ use nifforan_forest::ForestOutcome;
 use std::alloc::Global;
 use std::convert::Infallible;
 
-/// A run on a forest that came to its end, and of which the audit found each tree's history legal.
+/// A finished run on a forest, whose audit found each tree's history legal.
 #[derive(Drop)]
 pub struct FinishedForest {
     /// The trees, in the order of their ranges.
@@ -68,7 +67,7 @@ pub(crate) fn finish_forest(
         (map (λ it. lists_of it.trails.items) outcome.workers.items))) }
 {
     let ForestOutcome { forest, workers } = outcome;
-    let Sorted { answers, trails } = sort_out(machine, forest.bounds().trees() as usize, workers)?;
+    let (answers, trails) = sort_out(machine, forest.bounds().trees() as usize, workers)?;
     check_stops::<Infallible>(rows, &answers)?;
     judge_each(machine, forest.trees(), &trails)?;
     let replies = merge(machine, rows, answers)?;

@@ -1,6 +1,7 @@
 //! The rows of a trace, done by the workers of a forest.
 
-ghost use Rattle.std.specs.Prelude.{◌≡◌, IfOk, map};
+ghost use Rattle.std.specs.Prelude.{IfOk, map, [], slice_index_or};
+ghost use Rattle.bw_run.specs.ForestAnswers.{AreForestAnswersTo};
 
 use crate::answers::Answers;
 use crate::forest::acts::do_acts;
@@ -20,9 +21,6 @@ pub(crate) struct ForestRows<'r> {
 }
 
 impl<'r> ForestJob for ForestRows<'r> {
-    ghost use Rattle.std.specs.Prelude.{[], IfOk, map, slice_index_or};
-    ghost use Rattle.bw_run.specs.ForestAnswers.{AreForestAnswersTo};
-
     /// Fails if there is no memory for the replies.
     type Output = Result<Answers, NoMemory>;
 

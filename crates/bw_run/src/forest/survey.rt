@@ -1,6 +1,6 @@
 //! What a whole forest looks like.
 
-ghost use Rattle.std.specs.Prelude.{◌≡◌, ◌++◌, IfOk, OnOk, IsTrue};
+ghost use Rattle.std.specs.Prelude.{◌≡◌, ◌++◌, IfOk, OnOk};
 ghost use Rattle.std.specs.List.{filter_map};
 ghost use Rattle.bw_forest.specs.Bounds.{ranges_of};
 ghost use Rattle.bw_run.specs.ForestSurveys.{IsForestSurvey, cut_to, lower_of, with_book};

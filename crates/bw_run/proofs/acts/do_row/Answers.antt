@@ -1,8 +1,7 @@
-use Rattle.std.proofs.Common.{◌≡◌}
-use Rattle.bw_step.specs.declared.view.Look.{Look}
-use Rattle.bw_run.proofs.Receipts.{read_tells}
+use Rattle.bw_procedures.proofs.Receipts.{get_tells}
 use Rattle.bw_run.proofs.acts.do_row.Goals as goal
 
-pub returns-in_ok-keep-in-Some-clause-reported : goal.returns-in_ok-keep-in-Some-clause-reported
-returns-in_ok-keep-in-Some-clause-reported g c =
-    read_tells _ (λ (it : Look). it ≡ c.in-Some.found.look) c.in-Get.key c.args.act (g.W.Steps.seen c.args.hand.now).trail (g.W.Steps.seen c.keep.new.hand).trail c.in-Get.is c.in_ok-keep-in-Some.ensures.kept
+pub returns-in_ok-note-in-Some-clause-reported : goal.returns-in_ok-note-in-Some-clause-reported
+returns-in_ok-note-in-Some-clause-reported g c =
+    let look = c.in-Some.found.look in
+    rw c.in-Get.is (get_tells c.in-Get.key look.found _ _ (look.at, c.in_ok-note-in-Some.ensures.seen.1))

@@ -1,4 +1,4 @@
-use Rattle.std.proofs.Common.{◌≡◌, ◌<◌, ◌≤◌, ℕ, List, Result, Ok, Err, Vec, Global, length, map, ap, sym, subst, ◌∙◌, arith}
+use Rattle.std.proofs.Common.{rules, ◌≡◌, ◌<◌, ◌≤◌, ℕ, List, Result, Ok, Err, Vec, Global, length, map, ap, sym, subst, ◌∙◌, arith}
 use Rattle.std.specs.Prelude.{All, IfErr, IfOk}
 use Rattle.std.specs.List.{AllByRecursion}
 use Rattle.std.proofs.lemmas.List.{length-map}
@@ -132,4 +132,4 @@ returns-clause-fault g c =
     err_then c.finish_forest.result (EndsForest n c.args.rows.now outcome.forest.tables trails)
     (IsForestRunFault c.args.config c.args.workers c.args.trees c.args.rows.now)
     (λ fault ends. forest_ends c.args.rows.now outcome.forest.tables trails c.args.config c.args.workers c.args.trees n fault
-    shared.returned c.in_ok-check.ensures.fine few each ends) c.finish_forest.ensures.fault
+    shared.returned (c.in_ok-check_crew.ensures.fine, search rules) few each ends) c.finish_forest.ensures.fault

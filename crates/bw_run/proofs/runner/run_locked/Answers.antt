@@ -2,7 +2,7 @@ use denote.Param.Send.{sendable}
 use Rattle.std.proofs.Common.{◌<◌, ℕ, arith, subst, sym, ◌∙◌}
 use Rattle.std.proofs.Crossing.{crosses}
 use Rattle.std.specs.List.{AllByRecursion}
-use Rattle.nifforan_shared.proofs.Crossing.{Tree-sync}
+use Rattle.bw_tree.proofs.Crossing.{Tree-sync}
 use Rattle.bw_texts.specs.declared.trace.row.Row.{Row}
 use Rattle.nifforan_shared.proofs.Trails.{counts_trails}
 use Rattle.bw_crew.proofs.Workers.{few_workers}
@@ -19,10 +19,10 @@ do_rows-requires-clause-workers g c κs within = subst (λ (n : ℕ). AllByRecur
 
 pub finish-requires-clause-workers : goal.finish-requires-clause-workers
 finish-requires-clause-workers g c =
-    let all = c.in_ok-shares.field-0 in
-    subst (λ (n : ℕ). AllByRecursion (λ (row : Row). row.worker < n) c.args.rows.now) (sym (all.answered ∙ (c.in_ok-shares.ensures.count ∙ c.in-Ok.ensures.count))) c.requires.workers
+    let all = c.in_ok-all.all in
+    subst (λ (n : ℕ). AllByRecursion (λ (row : Row). row.worker < n) c.args.rows.now) (sym (all.answered ∙ (c.in_ok-all.ensures.count ∙ c.in-Ok.ensures.count))) c.requires.workers
 
 pub finish-requires-clause-counted : goal.finish-requires-clause-counted
 finish-requires-clause-counted g c =
-    let all = c.in_ok-shares.field-0 in
+    let all = c.in_ok-all.all in
     counts_trails (λ trail. trail.items) c.in-Ok-close.table all.shares.items all.trails.items all.counted c.in-Ok-close.ensures.closed.pairs

@@ -1,7 +1,7 @@
 use denote.Param.Send.{sendable}
 use Rattle.std.proofs.Crossing.{crosses}
-use Rattle.nifforan_forest.proofs.Crossing.{Tree-sync}
+use Rattle.bw_tree.proofs.Crossing.{ForestTree-sync}
 use Rattle.nifforan_forest.proofs.sharing.share_open.Goals as goal
 
 pub work_all-gathered-requires-sync-S : goal.work_all-gathered-requires-sync-S
-work_all-gathered-requires-sync-S g c κs within = search (Tree-sync, sendable, crosses) depth 60 fits 10000
+work_all-gathered-requires-sync-S g c κs within = search (ForestTree-sync, sendable, crosses) depth 60 fits 10000

@@ -3,7 +3,7 @@ use Rattle.std.proofs.Common.{rules, ◌≡◌, length, ◌∙◌}
 use Rattle.std.proofs.Crossing.{crosses}
 use Rattle.bw_snap.proofs.Crossing.{Reader-send, ReadTree-sync}
 use Rattle.nifforan_shared.proofs.Trails.{counts_trails}
-use Rattle.bw_crew.proofs.Workers.{nothing_asked}
+use Rattle.bw_crew.proofs.Workers.{all_so}
 use Rattle.nifforan_shared.proofs.sharing.share_read.Goals as goal
 
 pub work_all-requires-send-K : goal.work_all-requires-send-K
@@ -13,7 +13,7 @@ pub work_all-requires-sync-T : goal.work_all-requires-sync-T
 work_all-requires-sync-T g c κs within = search (ReadTree-sync, sendable, crosses) depth 60 fits 10000
 
 pub work_all-requires-clause-given : goal.work_all-requires-clause-given
-work_all-requires-clause-given g c κs within = nothing_asked 0 c.in_ok-kits.kits.items
+work_all-requires-clause-given g c κs within = all_so 0 c.in_ok-kits.kits.items tt
 
 pub returns-clause-shared : goal.returns-clause-shared
 returns-clause-shared g c =

@@ -21,7 +21,7 @@ use Rattle.bw_run.proofs.forest.ending.finish_forest.Goals as goal
 
 pub check_stops-requires : goal.check_stops-requires
 check_stops-requires c =
-    let answers = c.in_ok-answers.field-0.answers.items in
+    let answers = c.in_ok-answers.answers.items in
     let stops = stops_promised c.args.outcome.forest.bounds (λ it. it.output) (λ it. lists_of it.trails.items) c.args.rows.now 0
     c.args.outcome.workers.items answers c.in_ok-answers.ensures.answers c.requires.promised in
     subst (λ (all : List Answers). ByNumber (λ worker. StopsIn false (acts_of worker c.args.rows.now)) 0 all)
@@ -33,7 +33,7 @@ judge_each-requires-clause-trees c = subst (λ (tables : List TableValue). All I
 
 pub judge_each-requires-clause-each : goal.judge_each-requires-clause-each
 judge_each-requires-clause-each c =
-    let sorted = c.in_ok-answers.field-0.trails.items in
+    let sorted = c.in_ok-answers.trails.items in
     let bounds = c.args.outcome.forest.bounds in
     let many = many_sorted c.trees.result c.args.outcome.workers.items sorted c.in_ok-answers.ensures.trails in
     ap length c.deref-2.ensures.value
@@ -58,13 +58,13 @@ returns-in_err-judge_each-clause-fault c =
 
 pub merge-requires-clause-workers : goal.merge-requires-clause-workers
 merge-requires-clause-workers c =
-    let answers = c.in_ok-answers.field-0.answers.items in
+    let answers = c.in_ok-answers.answers.items in
     let many = same_length (λ it. it.output) Ok c.args.outcome.workers.items answers c.in_ok-answers.ensures.answers in
     subst (λ (n : ℕ). AllByRecursion (λ (row : Row). row.worker < n) c.args.rows.now) many c.requires.workers
 
 pub merge-requires-clause-full : goal.merge-requires-clause-full
 merge-requires-clause-full c =
-    let answers = c.in_ok-answers.field-0.answers.items in
+    let answers = c.in_ok-answers.answers.items in
     let none = subst (λ (all : List Answers). All (λ each. each.stop ≡ None) all) c.deref.ensures.value
     c.in_ok-check_stops.ensures.all in
     full c.args.outcome.forest.bounds (λ it. it.output) (λ it. lists_of it.trails.items) c.args.rows.now c.args.outcome.workers.items
@@ -76,24 +76,24 @@ returns-clause-shares c =
     let number : c.trees.result ≡ length c.args.outcome.forest.bounds = c.trees.ensures.count ∙ ap length c.bounds.ensures in
     let have = have_trails c.trees.result workers (subst (λ (n : ℕ). All (λ it. length it.trails.items ≡ n) workers)
     (sym number) c.requires.trails) in
-    shares_sorted c.trees.result workers c.in_ok-answers.field-0.trails.items have c.in_ok-answers.ensures.trails
+    shares_sorted c.trees.result workers c.in_ok-answers.trails.items have c.in_ok-answers.ensures.trails
 
 pub returns-clause-trails : goal.returns-clause-trails
 returns-clause-trails c =
-    many_sorted c.trees.result c.args.outcome.workers.items c.in_ok-answers.field-0.trails.items c.in_ok-answers.ensures.trails
+    many_sorted c.trees.result c.args.outcome.workers.items c.in_ok-answers.trails.items c.in_ok-answers.ensures.trails
     ∙ (c.trees.ensures.count ∙ ap length c.bounds.ensures)
 
 pub returns-clause-each : goal.returns-clause-each
 returns-clause-each c =
     let workers = c.args.outcome.workers.items in
     let number : c.trees.result ≡ length c.args.outcome.forest.bounds = c.trees.ensures.count ∙ ap length c.bounds.ensures in
-    each_sorted c.trees.result workers c.in_ok-answers.field-0.trails.items
+    each_sorted c.trees.result workers c.in_ok-answers.trails.items
     (subst (λ (n : ℕ). All (λ it. length it.trails.items ≡ n) workers) (sym number) c.requires.trails)
     c.in_ok-answers.ensures.trails
 
 pub returns-clause-legal : goal.returns-clause-legal
 returns-clause-legal c =
-    let sorted = c.in_ok-answers.field-0.trails.items in
+    let sorted = c.in_ok-answers.trails.items in
     subst (λ (tables : List TableValue). EachIsLegal tables (map (λ its. lists_of its.items) sorted)) c.trees-2.ensures.tables
     (subst (λ (ts : List _). EachIsLegal (tables_of c.trees-2.result.now) (map (λ its. lists_of its.items) ts)) c.deref-2.ensures.value
     c.in_ok-judge_each.ensures.legal)
@@ -101,7 +101,7 @@ returns-clause-legal c =
 pub returns-clause-reported : goal.returns-clause-reported
 returns-clause-reported c = λ worker inside.
     let workers = c.args.outcome.workers.items in
-    let answers = c.in_ok-answers.field-0.answers.items in
+    let answers = c.in_ok-answers.answers.items in
     let number : c.trees.result ≡ length c.args.outcome.forest.bounds = c.trees.ensures.count ∙ ap length c.bounds.ensures in
     let have = have_trails c.trees.result workers (subst (λ (n : ℕ). All (λ it. length it.trails.items ≡ n) workers)
     (sym number) c.requires.trails) in
@@ -114,5 +114,5 @@ returns-clause-reported c = λ worker inside.
     let tells = told c.args.outcome.forest.bounds (λ it. it.output) (λ it. lists_of it.trails.items) c.args.rows.now workers answers
     c.in_ok-answers.ensures.answers c.requires.promised none worker within in
     let own = c.in_ok-replies.ensures.own worker in_columns in
-    told_sorted c.trees.result workers c.in_ok-answers.field-0.trails.items have c.in_ok-answers.ensures.trails worker inside
+    told_sorted c.trees.result workers c.in_ok-answers.trails.items have c.in_ok-answers.ensures.trails worker inside
     c.args.outcome.forest.bounds (acts_of worker c.args.rows.now) _ _ own tells

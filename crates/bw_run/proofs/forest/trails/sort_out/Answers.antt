@@ -1,9 +1,10 @@
-use Rattle.std.proofs.Common.{rules, ◌≡◌, ◌∷◌, ◌++◌, [], length, map, ap, sym, ◌∙◌, append_assoc}
-use Rattle.std.proofs.lemmas.List.{map-append}
+use Rattle.std.proofs.Common.{rules, ◌≡◌, ◌∷◌, ◌++◌, [], length, map, refl, ap, sym, ◌∙◌, append_assoc}
+use Rattle.std.proofs.lemmas.List.{length-map, length-replicate, map-append}
 use Rattle.std.proofs.lemmas.List.Elements.{All-tail}
 use Rattle.bw_step.specs.Trails.{lists_of}
 use Rattle.bw_run.specs.ForestRuns.{by_trees, with_last}
 use Rattle.bw_run.proofs.ForestColumns.{by_trees_more, ok_more}
+use Rattle.bw_run.proofs.Plans.{none_of}
 use Rattle.bw_run.proofs.forest.trails.sort_out.Goals as goal
 
 pub loop-worker-preserved : goal.loop-worker-preserved
@@ -27,4 +28,16 @@ loop-worker-preserved c =
             ∙ (sym (by_trees_more c.args.trees (map (λ it. lists_of it.trails.items) done) (lists_of worker.trails.items))
             ∙ ap (by_trees c.args.trees) (sym (map-append (λ it. lists_of it.trails.items) done (worker ∷ []))))),
       );
+    }
+
+pub loop-worker-init : goal.loop-worker-init
+loop-worker-init c =
+    let whole : c.into_iter-worker-iterator.result.rest.items ≡ c.args.workers.items = search rules in
+    let many : length c.in_ok-by_tree.by_tree.items ≡ c.args.trees =
+    sym (length-map c.in_ok-by_tree.by_tree.items (λ its. its.items)) ∙ (ap length c.in_ok-by_tree.ensures ∙ length-replicate c.args.trees []) in
+    record {
+      answers = search rules;
+      count = many;
+      each = rw whole c.requires.each;
+      trails = ([], sym whole, none_of (λ its. its.items) (λ trails. lists_of trails) c.in_ok-by_tree.by_tree.items c.args.trees refl c.in_ok-by_tree.ensures);
     }

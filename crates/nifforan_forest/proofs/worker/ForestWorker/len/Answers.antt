@@ -15,10 +15,10 @@ loop-tree-preserved g c =
     let less : c.loop-tree.tree < length hands = search rules in
     let is : slice_get hands c.loop-tree.tree ≡ Some c.index.result.now =
     slice_get_read hands (length hands) c.loop-tree.tree c.index.result.now refl less c.index.ensures in (
-      inv.0 + c.len_of_tree.result,
-      together_then g.H.ForestHand.has_pairs hands c.loop-tree.tree inv.0 c.len_of_tree.result
-          c.index.result.now is c.len_of_tree.ensures inv.1,
-      capped c.loop-tree.all inv.0 c.len_of_tree.result _ inv.2
+      inv.0 + c.len.result,
+      together_then g.H.Queries.has_pairs hands c.loop-tree.tree inv.0 c.len.result
+          c.index.result.now is c.len.ensures inv.1,
+      capped c.loop-tree.all inv.0 c.len.result _ inv.2
           c.saturating_add-all.ensures,
     )
 
@@ -27,4 +27,4 @@ returns g c =
     let inv = c.loop-tree.invariant in
     let hands = c.args.self.now.hands.items in
     let all : length hands ≤ c.loop-tree.tree = search rules in
-    (inv.0, subst (λ xs. HaveTogether g.H.ForestHand.has_pairs xs inv.0) (take_all hands c.loop-tree.tree all) inv.1, inv.2)
+    (inv.0, subst (λ xs. HaveTogether g.H.Queries.has_pairs xs inv.0) (take_all hands c.loop-tree.tree all) inv.1, inv.2)

@@ -4,4 +4,4 @@ use Rattle.nifforan_forest.specs.Answers.{HaveTogether}
 use Rattle.nifforan_forest.proofs.worker.ForestWorker.len.Given as goal
 
 abbrev pub invariant-loop-tree : goal.invariant-loop-tree
-invariant-loop-tree g l = (all : ℕ) × HaveTogether g.H.ForestHand.has_pairs (take l.tree l.self.hands.items) all × (l.all ≡ min all most)
+invariant-loop-tree g l = (all : ℕ) × HaveTogether g.H.Queries.has_pairs (take l.tree l.self.hands.items) all × (l.all ≡ min all most)

@@ -11,8 +11,8 @@ loop-tree-preserved g c =
     let less : c.loop-tree.tree < length hands = search rules in
     let is : slice_get hands c.loop-tree.tree ≡ Some c.index.result.now =
     slice_get_read hands (length hands) c.loop-tree.tree c.index.result.now refl less c.index.ensures in
-    none_more (λ hand pair. g.H.ForestHand.comes_next hand c.args.key pair) hands c.tree_of-first.result c.loop-tree.tree
-    c.index.result.now is (rw c.in_default.is at c.next_in_tree.ensures.next) c.loop-tree.invariant
+    none_more (λ hand pair. g.H.Queries.comes_next hand c.args.key pair) hands c.tree_of-first.result c.loop-tree.tree
+    c.index.result.now is (rw c.in_default.is at c.next_at.ensures.next) c.loop-tree.invariant
 
 pub returns-in-Some-clause-next : goal.returns-in-Some-clause-next
 returns-in-Some-clause-next g c =
@@ -30,7 +30,7 @@ returns-in-Some-clause-next g c =
         past,
         is,
         rw c.in-Some.is at
-            c.next_in_tree.ensures.next,
+            c.next_at.ensures.next,
         c.loop-tree.invariant,
       ),
     )

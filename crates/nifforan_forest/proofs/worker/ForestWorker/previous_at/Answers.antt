@@ -23,14 +23,14 @@ trees-preserved g c =
     let is : slice_get hands tree ≡ Some c.index.result.now =
     slice_get_read hands (length hands) tree c.index.result.now refl less c.index.ensures in
     let same : tree + 1 ≡ c.trees.end = omega (arith, c.trees-test.true) in
-    let answers = λ (hand : g.row.H.Denot) (pair : Option (ℕ × ℕ)). g.H.ForestHand.comes_before hand c.args.key pair in
+    let answers = λ (hand : g.row.H.Denot) (pair : Option (ℕ × ℕ)). g.H.Queries.comes_before hand c.args.key pair in
     record {
       none = (
         none.0,
         none.1,
         omega (arith, none.2),
         none_before answers hands tree (none.0 + 1) c.index.result.now is
-            (rw c.in_default.is at c.previous_in_tree.ensures.previous)
+            (rw c.in_default.is at c.previous_at.ensures.previous)
             (subst (λ k. HaveNone answers hands k (none.0 + 1)) (sym same) none.3),
       );
       there = omega (arith, c.trees.invariant.there);
@@ -45,7 +45,7 @@ returns-in-Some-clause-previous g c =
     let is : slice_get hands tree ≡ Some c.index.result.now =
     slice_get_read hands (length hands) tree c.index.result.now refl less c.index.ensures in
     let same : tree + 1 ≡ c.trees.end = omega (arith, c.trees-test.true) in
-    let answers = λ (hand : g.row.H.Denot) (pair : Option (ℕ × ℕ)). g.H.ForestHand.comes_before hand c.args.key pair in (
+    let answers = λ (hand : g.row.H.Denot) (pair : Option (ℕ × ℕ)). g.H.Queries.comes_before hand c.args.key pair in (
       none.0,
       none.1,
       (
@@ -53,7 +53,7 @@ returns-in-Some-clause-previous g c =
         c.index.result.now,
         omega (arith, none.2),
         is,
-        rw c.in-Some.is at c.previous_in_tree.ensures.previous,
+        rw c.in-Some.is at c.previous_at.ensures.previous,
         subst
             (λ k. HaveNone answers hands k (none.0 + 1)) (sym same) none.3,
       ),

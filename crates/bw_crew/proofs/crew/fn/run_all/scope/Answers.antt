@@ -9,8 +9,8 @@ loop-kit-preserved g c =
     let rest = c.next.new.self.rest.items in
     let split : c.loop-kit.kit-iterator.rest.items ≡ c.in-Some.kit ∷ rest = search rules in
     let given = rw split at inv.given in
-    let grown = c.in_ok-push.ensures.items in
-    let more : length c.push.new.self.items ≡ length c.loop-kit.handles.items + 1 =
+    let grown = c.push_reserved.ensures.items in
+    let more : length c.push_reserved.new.self.items ≡ length c.loop-kit.handles.items + 1 =
     omega (arith, ap length grown, length-append c.loop-kit.handles.items (c.in-Ok.handle ∷ [])) in
     let number : c.in-Ok.handle.promise.worker ≡ c.loop-kit.worker = search rules in
     let same : c.in-Ok.handle.promise.part.value ≡ c.captures.part.now = search rules in
@@ -18,10 +18,11 @@ loop-kit-preserved g c =
       count = omega (arith, more, ap length split, inv.count);
       done = omega (arith, more, length-append c.loop-kit.yielded (c.in-Some.kit ∷ []), inv.done);
       worker = omega (arith, more, inv.worker);
+      room = rw c.push_reserved.ensures.capacity inv.room;
       given = given.1;
       numbered =
-          numbered_more (λ handle. handle.promise.worker) c.loop-kit.handles.items c.push.new.self.items c.in-Ok.handle grown inv.numbered
-          (omega (arith, number, inv.worker));
+          numbered_more (λ handle. handle.promise.worker) c.loop-kit.handles.items c.push_reserved.new.self.items c.in-Ok.handle grown
+          inv.numbered (omega (arith, number, inv.worker));
       part =
           rw grown (All-push (λ handle. handle.promise.part.value ≡ c.captures.part.now) c.loop-kit.handles.items c.in-Ok.handle inv.part
           same);
