@@ -22,6 +22,7 @@ h2 { margin: 1.2rem 0 .3rem; font-size: 1rem; }
 p { margin: .3rem 0; }
 code, kbd { font-family: ui-monospace, SFMono-Regular, Menlo, Consolas, "DejaVu Sans Mono", monospace; font-size: .9em; }
 #span, #keys, #row, #proved { color: var(--faint); font-size: .9rem; }
+#lost { color: var(--ink); }
 #controls { display: flex; flex-wrap: wrap; gap: .5rem; align-items: center; margin: .9rem 0; }
 button, select { min-width: 2.4rem; padding: .35rem .6rem; border: 1px solid var(--edge); border-radius: 6px; background: var(--key); color: inherit; font: inherit; cursor: pointer; }
 button[aria-disabled=true] { opacity: .45; cursor: default; }
@@ -31,7 +32,8 @@ button[aria-disabled=true] { opacity: .45; cursor: default; }
 #told { margin: 0; font-size: 1.15rem; font-weight: 600; }
 #row { overflow-wrap: anywhere; }
 #changed { border-left: 4px solid var(--mark); padding-left: .6rem; }
-#stage { margin: 0; overflow-x: auto; }
+#stage { margin: .6rem -1.25rem; overflow-x: auto; }
+#stage:focus-visible { outline-offset: -3px; }
 #stage svg { display: block; width: 100%; height: auto; }
 #stage .ground, #stage [data-part=legend] { display: none; }
 #stage rect.new { stroke: var(--mark); stroke-width: 3; stroke-dasharray: none; }
@@ -40,7 +42,7 @@ button[aria-disabled=true] { opacity: .45; cursor: default; }
 #words { display: flex; flex-wrap: wrap; gap: .4rem; }
 #words button { display: inline-flex; gap: .4rem; align-items: center; padding: .15rem .5rem; font-size: .9rem; }
 #words svg { width: 22px; height: 14px; flex: none; }
-#words svg text { font-size: 10px; }
+#words svg text { font-size: 11px; }
 [popover] { max-width: min(26rem, 100vw - 2rem); margin: auto; padding: .8rem 1rem; border: 2px solid var(--accent); border-radius: 8px; background: var(--paper); color: var(--ink); }
 table { width: 100%; border-collapse: collapse; font-size: .9rem; }
 caption { padding: .25rem 0; font-weight: 600; text-align: left; }
@@ -57,11 +59,12 @@ tbody br { display: none; }
 footer { margin-top: 1.2rem; }
 .acts { background: var(--key); box-shadow: inset 4px 0 var(--mark); }
 @media (min-width: 62rem) {
-main { display: grid; grid-template: auto 1fr auto / minmax(20rem, 27rem) minmax(0, 1fr); gap: 0 1.5rem; align-items: start; }
-#stage { grid-area: 1 / 2 / 3 / 3; position: sticky; top: .5rem; }
+main { display: grid; grid-template: auto auto 1fr auto / minmax(20rem, 27rem) minmax(0, 1fr); gap: 0 1.5rem; align-items: start; }
+#said { grid-area: 2 / 1; }
+#stage { grid-area: 1 / 2 / 4 / 3; position: sticky; top: .5rem; margin: 0; }
 #stage svg { max-height: calc(100vh - 2rem); }
-#tell { grid-area: 2 / 1; }
-footer { grid-area: 3 / 1 / 4 / 3; }
+#tell { grid-area: 3 / 1; }
+footer { grid-area: 4 / 1 / 5 / 3; }
 }
 "#;
 
@@ -75,8 +78,8 @@ pub(crate) const TOP: &str = r#"</style>
 <body>
 <main>
 <header>
-<h1>A Bw-tree, step by step</h1>
-<p id="span">"#;
+<h1 id="title">A Bw-tree, step by step</h1>
+<p id="span"><b id="lost" role="alert"></b>"#;
 
 /// The table of what the workers do, up to the first of them.
 pub(crate) const CREW: &str = r#"<table>
@@ -86,7 +89,7 @@ pub(crate) const CREW: &str = r#"<table>
 "#;
 
 /// Up to the film. The words of the drawing are explained at a touch.
-pub(crate) const BODY: &str = r#"</p>
+pub(crate) const BODY: &str = r#"<span id="start"></span></p>
 <noscript><p>The film needs JavaScript, which is off here.</p></noscript>
 <div id="controls" role="group" aria-label="Film">
 <button id="first" type="button" aria-label="First moment">|◀&#xFE0E;</button>
@@ -98,11 +101,13 @@ pub(crate) const BODY: &str = r#"</p>
 <input id="place" type="range" min="0" value="0" step="1" aria-label="Moment">
 </div>
 </header>
-<figure id="stage" tabindex="0" aria-label="Drawing of the table"></figure>
-<div id="tell">
 <div id="said" role="status" aria-live="polite" aria-atomic="true">
 <p id="told"></p>
 <p id="note"></p>
+</div>
+<figure id="stage" tabindex="0" aria-label="Drawing of the table"></figure>
+<div id="tell">
+<div id="also" role="status" aria-live="polite" aria-atomic="true">
 <p id="changed"></p>
 <p id="proved"></p>
 <p id="row"></p>
@@ -173,6 +178,7 @@ pub(crate) const SCRIPT: &str = r#"<script>
     const made = new Map();
     return key => made.has(key) ? made.get(key) : made.set(key, make(key)).get(key);
   };
+  const kinds = frames.map(it => it.dataset.told.split(':')[0]);
   const number = text => Number(text) || 0;
   const texts = nodes => nodes.map(it => it.textContent);
 
@@ -213,7 +219,7 @@ pub(crate) const SCRIPT: &str = r#"<script>
       const added = now.boxes.filter(it => !kept.includes(it.text));
       parts.push(...added.map(it => it.rect));
       const record = added.filter(it => !it.rect.classList.contains('base')).pop();
-      if (record) said.push(`page ${page} has a record more: ${record.text}`);
+      if (record) said.push(`page ${page} has one more record: ${record.text}`);
       else if (added.length) said.push(`page ${page} has a new base page`);
       const lines = now.head.filter((_, i) => !then.heads.includes(now.heads[i]));
       parts.push(...lines);
@@ -264,13 +270,15 @@ pub(crate) const SCRIPT: &str = r#"<script>
     svg.removeAttribute('width');
     svg.setAttribute('viewBox', `${left} 12 ${width - left} ${height - 12}`);
     svg.setAttribute('preserveAspectRatio', 'xMidYMin meet');
-    svg.style.minWidth = `${Math.round((width - left) * (slim ? .72 : .9))}px`;
+    svg.style.minWidth = `${width - left}px`;
     for (const it of svg.querySelectorAll('[data-part=level]')) it.style.display = slim ? 'none' : '';
     svg.querySelector('[data-part=table]').setAttribute('transform', slim ? 'translate(72)' : '');
   }
 
-  // Comments of a script: what begins with a worker stands in that worker's line until the next such comment.
-  const words_of = note => note.split(/(?=\bWorker \d+:)/).map(it => it.trim()).filter(it => it);
+  // Comments of a script: what begins with a worker stands in that worker's line until the next such comment, and what
+  // begins with 'Film:' is the title.
+  const words_of = note => note.split(/(?=\b(?:Worker \d+|Film):)/).map(it => it.trim()).filter(it => it);
+  const is_title = words => /^Film:./.test(words);
   const worker_of = words => (/^Worker (\d+): */.exec(words) || [])[1];
   const workers = [...new Set(frames.flatMap(it => words_of(it.dataset.note).map(worker_of)))].filter(it => it !== undefined).sort();
 
@@ -285,13 +293,9 @@ pub(crate) const SCRIPT: &str = r#"<script>
     return acts;
   }
 
-  function crew_length(moment) {
+  function crew_of(moment) {
     const table = frames[moment].content.querySelector('table');
-    return (table ? table.textContent.length : 0) + [...acts_at(moment).values()].map(([words]) => words.length + 1).reduce((a, b) => a + b, 0);
-  }
-
-  function crew_of(moment, table) {
-    const made = table ? [table] : [];
+    const made = table ? [table.cloneNode(true)] : [];
     if (workers.length) {
       const own = document.createElement('table');
       own.innerHTML = '<caption>What each worker does</caption><thead><tr><th scope="col">Worker</th><th scope="col">Does</th></tr></thead><tbody></tbody>';
@@ -310,48 +314,41 @@ pub(crate) const SCRIPT: &str = r#"<script>
     return made;
   }
 
-  // What is said of a moment, and what the workers do.
-  function words_at(moment) {
-    const { dataset, content } = frames[moment];
-    const { told, note, row, proved } = dataset;
-    const own = words_of(note).filter(it => worker_of(it) === undefined).join(' ');
+  // What is said of a moment above the drawing, and what is said besides.
+  function said_at(moment) {
+    const { told, note, row, proved, moment: number } = frames[moment].dataset;
+    const own = words_of(note).filter(it => worker_of(it) === undefined && !is_title(it)).join(' ');
     const changed = told_at(moment).join('; ');
-    const said = {
-      told: `${dataset.moment}: ${told}`,
-      note: own || meanings[told.split(':')[0]] || '',
-      changed: changed && `Marked in the drawing: ${changed}.`,
-      proved,
-      row,
+    return {
+      said: { told: `${number}: ${told}`, note: own || meanings[kinds[moment]] || '' },
+      also: { changed: changed && `Marked in the drawing: ${changed}.`, proved, row },
     };
-    const table = content.querySelector('table');
-    return { said, crew: crew_of(moment, table && table.cloneNode(true)) };
   }
 
-  function tell({ said, crew }) {
-    for (const name in said) at(name).textContent = said[name];
-    at('changed').hidden = !said.changed;
-    at('crew').replaceChildren(...crew);
+  function tell(moment) {
+    const { said, also } = said_at(moment);
+    for (const [name, words] of Object.entries({ ...said, ...also })) at(name).textContent = words;
+    at('changed').hidden = !also.changed;
+    at('crew').replaceChildren(...crew_of(moment));
+    return said.told;
   }
 
-  // The moments with the longest texts.
-  function longest(length_at) {
-    const all = frames.map((_, moment) => [length_at(moment), moment]).sort(([a], [b]) => b - a);
-    return all.slice(0, 16).map(([, moment]) => moment);
+  // Whether a screen reader tells each moment.
+  function announce(how) {
+    for (const name of ['said', 'also']) at(name).setAttribute('aria-live', how);
   }
 
   // Keeps room for what is said of any moment, so that nothing moves when the film plays.
   function keep_room() {
-    for (const name of ['said', 'crew']) at(name).style.minHeight = '';
-    const most = { said: 0, crew: 0 };
-    at('said').setAttribute('aria-live', 'off');
-    const words = longest(moment => Object.values(words_at(moment).said).join(' ').length);
-    const acts = longest(moment => crew_length(moment));
-    for (const moment of new Set([...words, ...acts])) {
-      tell(words_at(moment));
-      for (const name in most) most[name] = Math.max(most[name], at(name).offsetHeight);
+    const most = { said: 0, also: 0, crew: 0 };
+    for (const name in most) at(name).style.minHeight = '';
+    announce('off');
+    for (const moment of frames.keys()) {
+      tell(moment);
+      for (const name in most) most[name] = Math.max(most[name], Math.ceil(at(name).getBoundingClientRect().height));
     }
     for (const name in most) at(name).style.minHeight = `${most[name]}px`;
-    if (!timer) at('said').setAttribute('aria-live', 'polite');
+    if (!timer) announce('polite');
   }
 
   function show(wanted) {
@@ -360,11 +357,8 @@ pub(crate) const SCRIPT: &str = r#"<script>
     if (place > 0) for (const it of news_of(place, svg, pages_of(svg)).parts) it.classList.add('new');
     size(svg);
     at('stage').replaceChildren(svg);
-    const words = words_at(place);
-    tell(words);
-    const { told } = words.said;
     at('place').value = place;
-    at('place').setAttribute('aria-valuetext', told);
+    at('place').setAttribute('aria-valuetext', tell(place));
     for (const name of ['first', 'back']) at(name).setAttribute('aria-disabled', place === 0);
     for (const name of ['next', 'last']) at(name).setAttribute('aria-disabled', place === last);
     const first = at('stage').querySelector('[data-page] .new, [data-page] rect.new');
@@ -380,12 +374,12 @@ pub(crate) const SCRIPT: &str = r#"<script>
     timer = 0;
     at('play').textContent = 'Play';
     at('play').setAttribute('aria-pressed', 'false');
-    at('said').setAttribute('aria-live', 'polite');
+    announce('polite');
   }
 
   function play() {
     if (timer) return pause();
-    at('said').setAttribute('aria-live', 'off');
+    announce('off');
     at('play').textContent = 'Pause';
     at('play').setAttribute('aria-pressed', 'true');
     timer = setInterval(() => show(place + 1), Number(at('pace').value));
@@ -397,7 +391,31 @@ pub(crate) const SCRIPT: &str = r#"<script>
     show(wanted);
   }
 
-  const begin = () => go(frames.findIndex(frame => frame.dataset.moment === location.hash.slice(1)));
+  // What the film's steps come to, which is its title where no comment gives one.
+  function title_of_steps() {
+    const many = { change: ['Insert', 'Modify', 'Delete'], split: ['Split'], merge: ['Merge'] };
+    const counts = Object.entries(many).map(([name, own]) => [name, kinds.filter(it => own.includes(it)).length]);
+    const told = counts.filter(([, count]) => count).map(([name, count]) => `${count} ${name}${count > 1 ? 's' : ''}`);
+    return told.length ? `A Bw-tree: ${new Intl.ListFormat('en-GB').format(told)}` : document.title;
+  }
+
+  // Where the film opens: at the comment with its title, or else at the first page that is half done. A film from a later
+  // moment on opens at that.
+  const titles = frames.map(it => words_of(it.dataset.note).find(is_title));
+  const titled = titles.findIndex(it => it);
+  const undone = kinds.findIndex(it => it === 'Split' || it === 'Mark');
+  const opening = last < 0 || frames[0].dataset.moment !== '0' ? 0 : Math.max(0, titled < 0 ? undone : titled);
+
+  // Goes to the moment behind the address, or says that there is none.
+  function begin() {
+    const asked = location.hash.slice(1);
+    const found = frames.findIndex(it => it.dataset.moment === asked);
+    const is_past = Number(asked) > Number(frames[last].dataset.moment);
+    at('lost').textContent = asked && found < 0 ? `There is no moment ${asked} on this page. ` : '';
+    at('start').textContent = opening && !asked ? ` The page opens at ${opening}; step back for those before.` : '';
+    go(found < 0 ? is_past ? last : opening : found);
+  }
+
   const acts = {
     Home: () => go(0), ArrowLeft: () => go(place - 1), ' ': play, ArrowRight: () => go(place + 1), End: () => go(last),
   };
@@ -411,6 +429,14 @@ pub(crate) const SCRIPT: &str = r#"<script>
     acts[event.key]();
   }
 
+  // An explanation opens below what was touched, or above that low in the window.
+  function put_beside(told, box) {
+    const is_low = box.bottom > innerHeight * .6;
+    const [top, up] = is_low ? [box.top - 6, '-100%'] : [box.bottom + 6, 0];
+    const left = `max(1rem, min(${box.left}px, 100% - 27rem))`;
+    told.style.cssText = `position: absolute; margin: 0; inset: ${top + scrollY}px auto auto ${left}; translate: 0 ${up}`;
+  }
+
   // A touch of a word or a part of the drawing explains it.
   function explain(event) {
     const it = event.target.closest('text, rect, path');
@@ -421,11 +447,13 @@ pub(crate) const SCRIPT: &str = r#"<script>
     const word = is('gone') ? 'gone' : /^(unposted|marked|merged)/.test(words) ? words.split(' ')[0] : cell && is('soft') ? 'version' : cell ? 'slot'
       : is('side') ? 'side' : is('coming') ? 'unposted' : is('going') ? 'merged' : is('line') ? 'term' : is('base') ? 'base' : is('change') || is('shape') ? 'record'
       : it.closest('[data-part=table]') ? 'slot' : it.closest('[data-page]') ? 'chain' : '';
-    if (word) at(`word-${word}`).showPopover();
+    if (!word) return;
+    put_beside(at(`word-${word}`), new DOMRect(event.clientX, event.clientY - 8, 0, 16));
+    at(`word-${word}`).showPopover();
   }
 
   if (last < 0) {
-    for (const name of ['controls', 'said', 'stage', 'keys', 'words']) at(name).hidden = true;
+    for (const name of ['controls', 'said', 'also', 'stage', 'keys', 'words']) at(name).hidden = true;
     return;
   }
   at('place').max = last;
@@ -437,10 +465,12 @@ pub(crate) const SCRIPT: &str = r#"<script>
   at('place').oninput = event => go(Number(event.target.value));
   at('pace').onchange = () => { if (timer) { pause(); play(); } };
   at('stage').onclick = explain;
+  for (const it of at('words').children) it.onclick = () => put_beside(at(it.getAttribute('popovertarget')), it.getBoundingClientRect());
   addEventListener('keydown', press);
   addEventListener('hashchange', begin);
   let width = innerWidth;
   addEventListener('resize', () => { if (innerWidth !== width) { width = innerWidth; keep_room(); show(place); } });
+  document.title = at('title').textContent = titled < 0 ? title_of_steps() : titles[titled].slice(5).trim();
   keep_room();
   begin();
 })();

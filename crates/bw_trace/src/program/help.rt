@@ -76,11 +76,13 @@ pub(crate) const OF_FILM: &str =
     "Rows, scripts of steps and options are those of draw. It prints a page of HTML that needs no other
 file: the drawing after each step, the row or line that asked for the step, and the comment that
 follows that line in a script. A comment that begins with 'Worker 2:' says what that worker does from
-there on. Moment 0 is the new table, and each step makes the next moment, with its changes marked. A
+there on. One that begins with 'Film:', the last of its moment, gives the page its title, and the page
+opens there; without one, it opens at the first split or mark. With --from above 0, it opens at that
+moment. Moment 0 is the new table, and each step makes the next moment, with its changes marked. A
 page has at most 200 moments, from --from on; on a terminal, standard error says if there are more.
-The rows of a trace are done one after the other, each to its end, and --readers changes nothing.
-With --workers 2 or more, the page says at each moment which row each worker did last, with the
-answer, which row it does now, and which is next.
+The rows of a trace are done one after the other, each to its end, and --readers changes nothing. With
+--workers 2 or more, the page says at each moment which row each worker did last, with the answer,
+which row it does now, and which is next.
 
 Example:
   bwtree make --rows 20 | bwtree film --fanout 4 --chain 4 > film.html";
