@@ -2,9 +2,10 @@
 
 use crate::assert_same::assert_same;
 use crate::shared::Pair;
+use nifforan_balance::balanced;
 use nifforan_forest::{
-    Bounds, Config, Fault, ForestHand, ForestJob, ForestOutcome, ForestWorker, GivenUp,
-    share_closed_forest, share_forest,
+    Bounds, ClosedForest, Config, Fault, ForestHand, ForestJob, ForestOutcome, ForestWorker,
+    GivenUp, share_closed_forest, share_forest,
 };
 use std::alloc::Global;
 use std::test::Fail;
@@ -106,21 +107,24 @@ const FOUND: &str = "Ok((None, Some((10, 10)), Some((400, 400)), 29, false, \
 
 const EMPTY: &str = "Ok((Some(0), None, None, 0, true, []))";
 
-#[test]
-fn a_forest_is_asked_across_its_trees(rt: HostRuntime) -> Result<(), Fail> {
-    let machine = rt.alloc();
-    let config = Config {
+fn small() -> Config {
+    Config {
         fanout: 4,
         chain: 2,
         ..Config::default()
-    };
+    }
+}
+
+#[test]
+fn a_forest_is_asked_across_its_trees(rt: HostRuntime) -> Result<(), Fail> {
+    let machine = rt.alloc();
     for workers in [0, 1, 4, 64] {
         let bounds = Bounds::even(machine, 4, 400)?;
         let fill = Ask {
             machine,
             workers: workers.into(),
         };
-        let filled = share_forest(rt, machine, bounds, config, workers.max(1), &fill)?;
+        let filled = share_forest(rt, machine, bounds, small(), workers.max(1), &fill)?;
         let wanted = if workers == 0 { EMPTY } else { FOUND };
         let ask = Ask {
             machine,
@@ -128,6 +132,62 @@ fn a_forest_is_asked_across_its_trees(rt: HostRuntime) -> Result<(), Fail> {
         };
         match share_closed_forest(rt, machine, filled.forest, 1, &ask) {
             Ok(asked) => assert_same(&rt, told(machine, &asked)?.as_str(), wanted, workers),
+            Err(unshared) => return Err(unshared.fault.into()),
+        }
+    }
+    Ok(())
+}
+
+/// The workers that fill a forest, the number of trees over which it is made anew, where their ranges begin then, and
+/// how many pairs each has.
+const BALANCED: [(u64, u32, &str); 5] = [
+    (0, 5, "[0] [0]"),
+    (1, 1, "[0] [29]"),
+    (1, 3, "[0, 210, 310] [9, 10, 10]"),
+    (
+        1,
+        8,
+        "[0, 40, 80, 220, 260, 300, 330, 370] [3, 4, 3, 4, 4, 3, 4, 4]",
+    ),
+    (
+        1,
+        64,
+        "[0, 20, 30, 40, 50, 60, 70, 80, 90, 210, 220, 230, 240, 250, 260, 270, 280, 290, 300, 310, 320, 330, 340, \
+        350, 360, 370, 380, 390, 400] \
+        [1, 1, 1, 1, 1, 1, 1, 1, 1, 1, 1, 1, 1, 1, 1, 1, 1, 1, 1, 1, 1, 1, 1, 1, 1, 1, 1, 1, 1]",
+    ),
+];
+
+/// Returns where the ranges begin, and how many pairs each tree has, as text.
+fn shape(machine: Global, forest: &ClosedForest<Global>) -> Result<String, Fail> {
+    let mut counts = Vec::new(machine);
+    for tree in forest.trees() {
+        let book = tree.table().book();
+        counts.push(book.inserted.wrapping_sub(book.removed))?;
+    }
+    Ok(format!(in machine; "{:?} {:?}", forest.bounds().lows(), counts)?)
+}
+
+#[test]
+fn a_forest_is_made_anew_in_balance(rt: HostRuntime) -> Result<(), Fail> {
+    let machine = rt.alloc();
+    for (workers, trees, wanted) in BALANCED {
+        let bounds = Bounds::even(machine, 4, 4000)?;
+        let fill = Ask { machine, workers };
+        let config = Config {
+            pages: 64,
+            ..small()
+        };
+        let filled = share_forest(rt, machine, bounds, config, 1, &fill)?;
+        let made = balanced(machine, &filled.forest, trees)?;
+        assert_same(&rt, shape(machine, &made)?.as_str(), wanted, trees);
+        let ask = Ask {
+            machine,
+            workers: 0,
+        };
+        let answers = if workers == 0 { EMPTY } else { FOUND };
+        match share_closed_forest(rt, machine, made, 1, &ask) {
+            Ok(asked) => assert_same(&rt, told(machine, &asked)?.as_str(), answers, trees),
             Err(unshared) => return Err(unshared.fault.into()),
         }
     }

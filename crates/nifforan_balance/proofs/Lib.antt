@@ -1,0 +1,3 @@
+pub mod Dividing
+pub mod Bordering
+pub mod Filling
