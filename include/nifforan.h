@@ -39,8 +39,8 @@ extern "C" {
 #endif
 
 /* The version of this header: 10000 times its first number, plus 100 times its second, plus its third; and as a text. */
-#define NIFFORAN_VERSION 300
-#define NIFFORAN_VERSION_TEXT "0.3.0"
+#define NIFFORAN_VERSION 400
+#define NIFFORAN_VERSION_TEXT "0.4.0"
 
 /* The version of the library that the program is linked with, as NIFFORAN_VERSION. */
 uint32_t nifforan_version(void);

@@ -5,7 +5,7 @@ ghost use Rattle.nifforan_handle.specs.Statuses.{EndsWithZero};
 use crate::status;
 
 /// The library's version: 10,000 times its first number, 100 times its second, and its third.
-pub const VERSION: u32 = 300;
+pub const VERSION: u32 = 400;
 
 /// The room of a text, with the 0 that ends it.
 pub const TEXT_SIZE: usize = 64;

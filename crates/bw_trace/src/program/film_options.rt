@@ -49,7 +49,7 @@ impl FilmOptions {
     }
 }
 
-/// Fails if there is no moment with this number, of so many in all.
+/// Fails if there are too few moments for one with this number.
 pub(crate) fn check_from(from: u64, moments: u64) -> Result<(), Field>
     ensures there { OnOk result (from < moments) }
     ensures past { IfErr result (λ field. (field ≡ fields.From moments) × (moments ≤ from)) }

@@ -1,7 +1,7 @@
 //! The help of the program and of its commands, after their options.
 
 /// The program's version.
-pub(crate) const VERSION: &str = "0.3.0";
+pub(crate) const VERSION: &str = "0.4.0";
 
 pub(crate) const OF_ALL: &str = r"Example:
   printf '0,put,5,50\n0,get,5,\n' | bwtree run --replies

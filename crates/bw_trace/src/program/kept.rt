@@ -1,4 +1,4 @@
-//! Inputs of which what is read is kept, to show what was found there.
+//! Inputs that keep what was read, so that a fault's sentence can quote it.
 
 use std::alloc::Global;
 use std::io;

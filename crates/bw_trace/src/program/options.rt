@@ -109,7 +109,7 @@ fn make_command<'a>(alloc: Global) -> Made<'a> {
     with_flag(alloc, made, "skew", help)
 }
 
-/// Returns the span of a trace that is to be drawn.
+/// Returns the span of keys for a trace to be drawn at random.
 pub(crate) fn span_of(options: &ArgMatches, skew: bool) -> Result<u64, Field>
     ensures inside { IfOk result (λ span. (1 ≤ span) × (span ≤ 4294967295)) }
 {
